@@ -1,0 +1,4 @@
+pub mod Cause
+pub mod Past
+pub mod Source
+pub mod Status
