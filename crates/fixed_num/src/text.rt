@@ -1,4 +1,7 @@
 ghost use Rattle.std.specs.Prelude.{◌≡◌, ◌==◌, ℕ, ◌+◌, ◌↔◌, List, [], ◌++◌, length, string_bytes, string_len, IsTrue, IfOk, OnOk, OnErr};
+ghost use Rattle.std.specs.Str.{bytes_eq};
+ghost use Rattle.std.specs.Cmp.{partial_equiv_from_equiv};
+ghost use Rattle.std.specs.Cmp.Lexicographic.{nat_list_eq_equiv};
 
 use std::alloc::{AllocError, Global};
 use std::marker::Model;
@@ -92,6 +95,30 @@ impl Text {
     }
 }
 
+impl Clone for Text {
+    ghost is_clone = { λ text copy. copy ≡ text };
+
+    fn clone(&self) -> Result<Text, AllocError> {
+        Ok(Text {
+            string: self.string.clone()?,
+        })
+    }
+}
+
+impl PartialEq for Text {
+    ghost eq = { bytes_eq };
+
+    ghost laws = { partial_equiv_from_equiv nat_list_eq_equiv };
+
+    fn eq(&self, other: &Text) -> bool {
+        self.as_str() == other.as_str()
+    }
+}
+
+impl Eq for Text {
+    ghost laws = { nat_list_eq_equiv };
+}
+
 #[cfg(test)]
 mod tests {
     use super::*;
@@ -107,6 +134,9 @@ mod tests {
         assert_eq!(rt; text.len(), 8);
         let copy = Text::from_str(rt.alloc(), "größer")?;
         assert_eq!(rt; copy.as_bytes(), text.as_bytes());
+        assert!(rt; copy == text);
+        assert!(rt; copy == copy.clone()?);
+        assert!(rt; copy != Text::new(rt.alloc()));
         text.clear();
         assert!(rt; text.is_empty());
         let again = Text::from_string(copy.into_string());

@@ -1,0 +1,5 @@
+pub mod RoundingLemmas
+pub mod UnitsLemmas
+pub mod UnitsTextLemmas
+pub mod ReadingLemmas
+pub mod ReadsBack
