@@ -1,4 +1,14 @@
+pub mod Calls
 pub mod Cause
+pub mod DiskLaw
+pub mod Entry
+pub mod HostState
+pub mod Images
+pub mod Keep
+pub mod MemoryHost
+pub mod MemorySource
+pub mod Moments
 pub mod Past
+pub mod Replay
 pub mod Source
 pub mod Status

@@ -5,10 +5,23 @@
 //! memory do, or keep silent, as a real file must: each fact about bytes is stated for those that tell.
 #![tactic(auto)]
 
+mod calls;
+mod contents;
+mod entry;
+mod file;
 mod host;
+mod keep;
+mod memory_host;
+mod memory_source;
+mod replay;
 mod source;
 mod status;
 
+pub use calls::{CallList, ModelFault};
+pub use file::File;
 pub use host::{Failed, Host};
+pub use keep::Keep;
+pub use memory_host::MemoryHost;
+pub use memory_source::MemorySource;
 pub use source::Source;
 pub use status::Status;

@@ -1,0 +1,56 @@
+-- the moments of one call of a host, from what the call ensures
+use Rattle.std.proofs.Common.{◌≡◌, ℕ, ◌≤◌, List, ◌∷◌, ◌++◌, length, min, take, Result, Ok, Err, sym, ap, ◌∙◌, subst, inl, inr, ⊎_elim, arith}
+use Rattle.std.specs.Result.{OnOk, OnErr}
+use Rattle.std.proofs.Math.Nat.{min-eq_left, min-eq_right}
+use Rattle.std.proofs.lemmas.Bool.{cases_lt}
+use Rattle.std.proofs.lemmas.List.{take_all, take-take, length-take}
+use Rattle.host_model.specs.declared.file.File.{File}
+use Rattle.host_model.specs.Images.{Synced}
+use Rattle.host_model.specs.Past.{Event, On, Told, told, IsDisk, MayAdd}
+use Rattle.host_model.specs.Moments.{Throughout, begins, goes_on, EveryStop}
+
+-- nothing happened
+pub unmoved : (P : List Event → Type 0) (old new : List Event) → new ≡ old → P old → Throughout P old new
+unmoved P old new same here = subst (λ past. Throughout P old past) (sym same) (begins here)
+
+-- one event happened
+pub moved : (P : List Event → Type 0) (event : Event) (old new : List Event) → new ≡ event ∷ old → P old → P (event ∷ old) → Throughout P old new
+moved P event old new same here there = subst (λ past. Throughout P old past) (sym same) (goes_on event old (begins here) there)
+
+-- a call that failed left one such event, or none
+pub may_have_moved : {X : Type 0} (P : List Event → Type 0) (event : X → Event) (old new : List Event) → MayAdd event old new
+    → P old → ((x : X) → P (event x ∷ old)) → Throughout P old new
+may_have_moved P event old new (inl same) here there = unmoved P old new same here
+may_have_moved P event old new (inr (x, same)) here there = moved P (event x) old new same here (there x)
+
+-- a write or a cut: `done` and `torn` are the clauses of the call
+pub changed : {T E X : Type 0} (P : List Event → Type 0) (honest : Type 0) (result : Result T E) (done : Event) (torn : X → Event) (old new : List Event) → honest
+    → OnOk result (honest → new ≡ done ∷ old) → OnErr result (honest → MayAdd torn old new)
+    → P old → P (done ∷ old) → ((x : X) → P (torn x ∷ old)) → Throughout P old new
+changed P honest (Ok value) done torn old new h ok err here there broken = moved P done old new (ok h) here there
+changed P honest (Err fault) done torn old new h ok err here there broken = may_have_moved P torn old new (err h) here broken
+
+-- a sync
+pub settled : {T E : Type 0} (P : List Event → Type 0) (honest : Type 0) (result : Result T E) (file : File) (old new : List Event) → honest
+    → OnOk result (honest → new ≡ On file Synced ∷ old) → OnErr result (honest → new ≡ old)
+    → P old → P (On file Synced ∷ old) → Throughout P old new
+settled P honest (Ok value) file old new h ok err here there = moved P (On file Synced) old new (ok h) here there
+settled P honest (Err fault) file old new h ok err here there = unmoved P old new (err h) here
+
+take-take_min : {A : Type 0} (m n : ℕ) (xs : List A) → take m (take n xs) ≡ take (min m n) xs
+take-take_min m n xs =
+    ⊎_elim
+    (λ less. let size : length (take n xs) ≤ m = omega (arith, length-take n xs) in
+    take_all m (take n xs) size ∙ ap (λ k. take k xs) (sym (min-eq_right (omega arith))))
+    (λ more. take-take m n xs more ∙ ap (λ k. take k xs) (sym (min-eq_left more)))
+    (cases_lt n m)
+
+-- a tell: the disk stays, and the output gains a front of what is told
+pub said : {T E : Type 0} (P : (File → List ℕ) → List ℕ → Type 0) (honest : Type 0) (result : Result T E) (bytes : List ℕ) (old new : List Event) → honest
+    → OnOk result (honest → new ≡ Told bytes ∷ old) → OnErr result (honest → MayAdd (λ n. Told (take n bytes)) old new)
+    → EveryStop P old → ((disk : File → List ℕ) (n : ℕ) → IsDisk old disk → P disk (told old ++ take n bytes))
+    → Throughout (EveryStop P) old new
+said P honest result bytes old new h ok err here there =
+    changed (EveryStop P) honest result (Told bytes) (λ n. Told (take n bytes)) old new h ok err here
+    (λ disk text images cut. subst (λ t. P disk t) (sym cut.1) (there disk cut.0 images))
+    (λ n disk text images cut. subst (λ t. P disk t) (sym (cut.1 ∙ ap (λ l. told old ++ l) (take-take_min cut.0 n bytes))) (there disk (min cut.0 n) images))

@@ -1,0 +1,7 @@
+pub mod CallLemmas
+pub mod FileLemmas
+mod HostLemmas
+mod LeftLemmas
+pub mod MomentLemmas
+mod Rows
+mod StopLemmas
