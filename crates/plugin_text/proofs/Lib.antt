@@ -1,0 +1,9 @@
+pub mod CutLemmas
+pub mod DefinitionLemmas
+pub mod FieldsLemmas
+pub mod LineLemmas
+pub mod LongLemmas
+pub mod NumberLemmas
+pub mod PartsLemmas
+pub mod SearchLemmas
+pub mod TextLemmas

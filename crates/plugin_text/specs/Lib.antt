@@ -1,0 +1,13 @@
+pub mod Answer
+pub mod Block
+pub mod Chart
+pub mod Dimension
+pub mod Fault
+pub mod Fields
+pub mod Id
+pub mod Keyword
+pub mod Line
+pub mod Lines
+pub mod Number
+pub mod Splitter
+pub mod Text

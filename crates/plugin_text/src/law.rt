@@ -1,0 +1,21 @@
+ghost use Rattle.std.specs.Prelude.{◌≡◌, ℕ, List, [], ◌∷◌, ◌++◌};
+ghost use Rattle.plugin_text.specs.Lines.{parts, lines, rest, HasNoLongLine, IsLongAfter};
+
+/// The laws of a text that is cut in two at any place. It does nothing.
+pub fn any_cut()
+    // The parts of a text are its lines and then its rest.
+    ensures whole { (text : List ℕ) → parts text ≡ lines text ++ rest text ∷ [] }
+
+    // The lines do not depend on the cut: what follows a text goes on after its rest.
+    ensures parts { (text more : List ℕ) → parts (text ++ more) ≡ lines text ++ parts (rest text ++ more) }
+    ensures lines { (text more : List ℕ) → lines (text ++ more) ≡ lines text ++ lines (rest text ++ more) }
+    ensures rest { (text more : List ℕ) → rest (text ++ more) ≡ rest (rest text ++ more) }
+
+    // A text that has a long line has it, however the text goes on.
+    ensures long { (text more : List ℕ) (before : List (List ℕ)) → IsLongAfter text before → IsLongAfter (text ++ more) before }
+
+    // After a text with no long line, a long line is where what follows it has one.
+    ensures short { (text more : List ℕ) → HasNoLongLine text → HasNoLongLine (rest text ++ more) → HasNoLongLine (text ++ more) }
+    ensures later { (text more : List ℕ) (before : List (List ℕ)) → HasNoLongLine text
+        → IsLongAfter (rest text ++ more) before → IsLongAfter (text ++ more) (lines text ++ before) }
+{}

@@ -1,0 +1,208 @@
+ghost use Rattle.std.specs.Prelude.{◌≡◌, ◌<◌, ℕ, List, [], ◌++◌, None, Some, IsErrOf, IfErr, IfSome, OnOk};
+ghost use Rattle.std.specs.Result.{result_err};
+ghost use Rattle.plugin_text.specs.Fault.{EndsSplitting};
+ghost use Rattle.plugin_text.specs.Lines.{parts, lines, rest, HasNoLongLine, IsLongAfter, BeginsWithLines, IsRest};
+
+use crate::cut::cut_lines;
+use crate::fault::LineFault;
+use fixed_num::{ByteList, ListOf};
+use std::alloc::Global;
+use std::marker::Model;
+
+/// The most bytes that a line may have, without its line feed.
+pub const LINE_LIMIT: usize = 8192;
+
+/// Lines in their order, each without its line feed.
+pub type LineList = ListOf<ByteList>;
+
+/// Cuts a stream that comes in pieces into its lines.
+///
+/// A line is the bytes before a line feed; a carriage return before it is one of them. The splitter
+/// keeps what follows the last line feed, which is never longer than a line may be.
+#[derive(Debug, Drop)]
+pub struct Splitter {
+    alloc: Global,
+    rest: ByteList,
+    refused: Option<LineFault>,
+}
+
+impl Model for Splitter {
+    ghost use Rattle.plugin_text.specs.Splitter.{Held};
+    ghost use Rattle.plugin_text.specs.Lines.{IsRest};
+
+    ghost Value = { Held };
+
+    ghost view = { λ splitter. record { rest = splitter.rest; refused = splitter.refused } };
+
+    ghost invariant = { λ splitter. IsRest splitter.rest };
+}
+
+impl Splitter {
+    /// A splitter at the start of a stream. It takes no memory.
+    pub fn new(alloc: Global) -> Splitter
+        ensures empty { result.rest ≡ [] }
+        ensures open { result.refused ≡ None }
+    {
+        Splitter {
+            alloc,
+            rest: ByteList::new(alloc),
+            refused: None,
+        }
+    }
+
+    /// Takes the next piece of the stream, and adds the lines that end in it to `out`.
+    ///
+    /// At `LineTooLong` the lines before the long one have been added, at `Memory` a front of the
+    /// lines. From then on the splitter answers that refusal and changes nothing. What its rest is
+    /// after a refusal is left open.
+    pub fn feed(&mut self, piece: &[u8], out: &mut LineList) -> Result<(), LineFault>
+        ensures lines { OnOk result (out.new ≡ out.old ++ lines (self.old.rest ++ piece.now)) }
+        ensures rest { OnOk result (self.new.rest ≡ rest (self.old.rest ++ piece.now)) }
+        ensures short { OnOk result (HasNoLongLine (self.old.rest ++ piece.now)) }
+
+        // However the stream goes on, its parts are these lines and then those of the new rest.
+        ensures onward { OnOk result ((more : List ℕ) → parts (self.old.rest ++ piece.now ++ more)
+            ≡ lines (self.old.rest ++ piece.now) ++ parts (self.new.rest ++ more)) }
+
+        ensures long { self.old.refused ≡ None → IsErrOf result LineFault.LineTooLong
+            → (handed : List (List ℕ)) × (out.new ≡ out.old ++ handed) × IsLongAfter (self.old.rest ++ piece.now) handed }
+        ensures memory { self.old.refused ≡ None → IsErrOf result LineFault.Memory
+            → (handed : List (List ℕ)) × (out.new ≡ out.old ++ handed) × BeginsWithLines (self.old.rest ++ piece.now) handed }
+
+        // There is no other refusal.
+        ensures only { self.old.refused ≡ None → IfErr result EndsSplitting }
+
+        // A refusal is the answer from then on.
+        ensures refused { self.new.refused ≡ result_err result }
+        ensures repeated { IfSome self.old.refused (λ fault. IsErrOf result fault) }
+        ensures unchanged { IfSome self.old.refused (λ _. (self.new ≡ self.old) × (out.new ≡ out.old)) }
+
+        ensures held { IsRest self.new.rest }
+    {
+        if let Some(fault) = self.refused {
+            return Err(fault);
+        }
+        let result = cut_lines(self.alloc, &mut self.rest, piece, out);
+        self.refused = result.err();
+        result
+    }
+
+    /// What follows the last line feed of the stream so far: at most `LINE_LIMIT` bytes.
+    pub fn rest(&self) -> &[u8]
+        ensures value { result.now ≡ self.now.rest }
+        ensures held { IsRest self.now.rest }
+    {
+        self.rest.as_slice()
+    }
+
+    /// The refusal at which the splitter stopped.
+    pub fn refused(&self) -> Option<LineFault>
+        ensures { result ≡ self.now.refused }
+    {
+        self.refused
+    }
+}
+
+#[cfg(test)]
+mod tests {
+    use super::*;
+    use std::test::Fail;
+
+    const TEXT: &[u8] =
+        b"CHART test.one '' 'One' 'units'\nDIMENSION a\nBEGIN test.one\nSET a = 42\nEND\nMOMENT 60\n";
+
+    /// The lines of a text that comes in pieces of one size, and how many bytes follow them.
+    fn lines_in_pieces(
+        alloc: Global,
+        text: &[u8],
+        size: usize,
+    ) -> Result<(LineList, usize), LineFault>
+        requires { 0 < size }
+    {
+        let mut splitter = Splitter::new(alloc);
+        let mut lines = LineList::new(alloc);
+        for piece in text.chunks(size) {
+            splitter.feed(piece, &mut lines)?;
+        }
+        Ok((lines, splitter.rest().len()))
+    }
+
+    fn is_lines(lines: &LineList, wanted: &[&[u8]]) -> bool {
+        lines.len() == wanted.len()
+            && lines
+                .as_slice()
+                .iter()
+                .zip(wanted)
+                .all(|(line, want)| line.as_slice() == *want)
+    }
+
+    #[test]
+    fn gives_the_same_lines_for_every_cut(rt: HostRuntime) -> Result<(), Fail> {
+        let wanted = [
+            b"CHART test.one '' 'One' 'units'".as_slice(),
+            b"DIMENSION a".as_slice(),
+            b"BEGIN test.one".as_slice(),
+            b"SET a = 42".as_slice(),
+            b"END".as_slice(),
+            b"MOMENT 60".as_slice(),
+        ];
+        for size in [1, 2, 13, 32, 100] {
+            let (lines, left) = lines_in_pieces(rt.alloc(), TEXT, size)?;
+            assert!(rt; is_lines(&lines, &wanted), "in pieces of {size}");
+            assert_eq!(rt; left, 0, "in pieces of {size}");
+        }
+        Ok(())
+    }
+
+    #[test]
+    fn takes_every_byte_but_the_line_feed(rt: HostRuntime) -> Result<(), Fail> {
+        let wanted = [
+            b"a\r".as_slice(),
+            b"".as_slice(),
+            b"".as_slice(),
+            b" b".as_slice(),
+        ];
+        let (lines, left) = lines_in_pieces(rt.alloc(), b"a\r\n\n\n b\ncde", 4)?;
+        assert!(rt; is_lines(&lines, &wanted));
+        assert_eq!(rt; left, 3);
+        Ok(())
+    }
+
+    #[test]
+    fn stops_at_a_long_line(rt: HostRuntime) -> Result<(), Fail> {
+        let longest = [b'x'; LINE_LIMIT];
+        let mut splitter = Splitter::new(rt.alloc());
+        let mut lines = LineList::new(rt.alloc());
+        splitter.feed(&longest, &mut lines)?;
+        assert_eq!(rt; splitter.rest().len(), 8192);
+        splitter.feed(b"\n", &mut lines)?;
+        assert!(rt; is_lines(&lines, &[longest.as_slice()]));
+        splitter.feed(&longest, &mut lines)?;
+        assert_eq!(rt;
+            splitter.feed(b"x", &mut lines),
+            Err(LineFault::LineTooLong)
+        );
+        assert_eq!(rt; splitter.refused(), Some(LineFault::LineTooLong));
+        assert_eq!(rt;
+            splitter.feed(b"\n", &mut lines),
+            Err(LineFault::LineTooLong)
+        );
+        assert_eq!(rt; lines.len(), 1);
+        Ok(())
+    }
+
+    #[test]
+    fn hands_out_the_lines_before_a_long_one(rt: HostRuntime) -> Result<(), Fail> {
+        let mut piece = Vec::from_slice(rt.alloc(), b"a\nb\n")?;
+        piece.extend_from_slice(&[b'x'; 8193])?;
+        piece.extend_from_slice(b"\nc\n")?;
+        let mut splitter = Splitter::new(rt.alloc());
+        let mut lines = LineList::new(rt.alloc());
+        assert_eq!(rt;
+            splitter.feed(&piece, &mut lines),
+            Err(LineFault::LineTooLong)
+        );
+        assert!(rt; is_lines(&lines, &[b"a".as_slice(), b"b".as_slice()]));
+        Ok(())
+    }
+}
