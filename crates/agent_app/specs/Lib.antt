@@ -1,0 +1,11 @@
+pub mod Command
+pub mod Conversion
+pub mod Convert
+pub mod Dimension
+pub mod Fields
+pub mod HasRead
+pub mod Looking
+pub mod Plain
+pub mod Point
+pub mod Reading
+pub mod Telling

@@ -1,0 +1,59 @@
+//! The commands of the program, over an outside that may fail at any call.
+//!
+//! `agent_main` is the top call. Its contract says, for every input and whatever fails: what is told is
+//! the front of a stated function of the bytes that were taken, and all of it unless the output or
+//! memory failed; and why the run ended with the status that it answers. It stands on `plugin_text`
+//! and `words` for the text of collectors and on `host_model` for the outside.
+#![tactic(auto)]
+
+ghost use Rattle.std.specs.Prelude.{◌≡◌, ◌↔◌, None, Some};
+ghost use Rattle.agent_app.specs.Command.{command_of};
+ghost use Rattle.agent_app.specs.Convert.{Converts, EndsAsText};
+
+use command::Command;
+use convert::convert;
+use fixed_num::WordsList;
+use host_model::{Host, Source, Status};
+use std::alloc::Global;
+
+mod command;
+mod conversion;
+mod convert;
+mod dimension;
+mod fields;
+mod id;
+mod number;
+mod plain;
+mod reader;
+mod refusal;
+mod stop;
+
+/// Does what the words of a command line ask for, and says how it ended.
+///
+/// `convert` reads the text of collectors from `source` and tells its points, a line each: the moment,
+/// the chart, the dimension and the value. A text that is refused tells `REFUSED`, the number of the
+/// line and the number of the refusal, after the points of the beats before. No more than 2^40 bytes
+/// are taken of the input. Want of memory may end a run at any place, with `Status::Memory`.
+pub fn agent_main<S: Source, H: Host>(
+    alloc: Global,
+    words: &WordsList,
+    source: &mut S,
+    host: &mut H,
+) -> Status
+    ensures usage { (result ≡ Status.Usage) ↔ (command_of words.now ≡ None) }
+    ensures untouched { result ≡ Status.Usage → (source.new ≡ source.old) × (host.new ≡ host.old) }
+
+    // What was told, and why the run ended.
+    ensures converts { command_of words.now ≡ Some Command.Convert →
+        Converts result H.honest (S.left source.old) (S.left source.new) (H.past host.old) (H.past host.new)
+        (S.faults source.old) (S.faults source.new) (H.tell_faults host.old) (H.tell_faults host.new) }
+
+    // Where nothing outside fails, the status is that of the text, or there was no memory.
+    ensures complete { command_of words.now ≡ Some Command.Convert →
+        EndsAsText result (S.left source.old) (S.faults source.old) (S.faults source.new) (H.tell_faults host.old) (H.tell_faults host.new) }
+{
+    match Command::read(words) {
+        None => Status::Usage,
+        Some(Command::Convert) => convert(alloc, source, host),
+    }
+}
