@@ -1,0 +1,43 @@
+//! The words of the command line.
+ghost use Rattle.std.specs.Prelude.{◌≡◌};
+ghost use Rattle.nda.specs.Notice.{notice_of};
+
+use fixed_num::{Text, WordsList};
+use host_model::Status;
+use std::env;
+use std::io::ErrorKind;
+
+/// What a command line that names no command may ask for.
+#[derive(Clone, Copy, Debug, PartialEq, Eq)]
+pub enum Notice {
+    Help,
+    Version,
+}
+
+/// What the words ask the program to say of itself, where they do: a sole `--help` or `--version`.
+pub fn notice_of(words: &WordsList) -> Option<Notice>
+    ensures { result ≡ notice_of words.now }
+{
+    match words.as_slice() {
+        [word] if word.as_str() == "--help" => Some(Notice::Help),
+        [word] if word.as_str() == "--version" => Some(Notice::Version),
+        _ => None,
+    }
+}
+
+/// The words after the program's name. A word that is not UTF-8 is in no form.
+pub fn read_words(rt: &HostRuntime) -> Result<WordsList, Status> {
+    let mut args = match env::args(rt) {
+        Ok(args) => args,
+        Err(error) if error.kind() == ErrorKind::OutOfMemory => return Err(Status::Memory),
+        Err(_) => return Err(Status::Usage),
+    };
+    let mut words = WordsList::new(rt.alloc());
+    let _name = args.next();
+    for word in args {
+        if words.push(Text::from_string(word)).is_err() {
+            return Err(Status::Memory);
+        }
+    }
+    Ok(words)
+}
