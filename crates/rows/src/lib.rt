@@ -1,0 +1,11 @@
+//! The tests that cross crates, and tests only: each file holds the tables of one subject.
+#![tactic(auto)]
+
+#[cfg(test)]
+mod convert;
+#[cfg(test)]
+mod faults;
+#[cfg(test)]
+mod run;
+#[cfg(test)]
+mod usage;

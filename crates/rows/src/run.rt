@@ -1,0 +1,72 @@
+//! Runs of the top call over an outside in memory.
+
+use agent_app::agent_main;
+use fixed_num::{Text, WordsList};
+use host_model::{CallList, MemoryHost, MemorySource, Source, Status};
+use std::alloc::Global;
+use std::test::Fail;
+
+/// A text that is converted to one point.
+pub const ONE_POINT: &str =
+    "CHART test.one '' 'One' 'units'\nDIMENSION a\nBEGIN test.one\nSET a = 42\nEND\nMOMENT 60\n";
+
+/// What is told of `ONE_POINT`.
+pub const POINT: &str = "60 test.one a 42\n";
+
+/// How a run ended.
+#[derive(Debug, Drop)]
+pub struct Ending {
+    pub status: Status,
+    /// All that was told.
+    pub told: String,
+    /// Whether bytes of the input were taken.
+    pub has_taken: bool,
+}
+
+/// The outside of a run: the input, and the numbers of the calls that fail.
+#[derive(Clone, Copy)]
+pub struct Outside<'a> {
+    pub input: &'a [u8],
+    pub pull_fails: &'a [u64],
+    pub tell_fails: &'a [u64],
+}
+
+impl<'a> Outside<'a> {
+    /// An outside that does not fail.
+    pub fn sound(input: &'a [u8]) -> Outside<'a> {
+        Outside {
+            input,
+            pull_fails: &[],
+            tell_fails: &[],
+        }
+    }
+}
+
+fn words_list(alloc: Global, words: &[&str]) -> Result<WordsList, Fail> {
+    let mut list = WordsList::new(alloc);
+    for word in words {
+        list.push(Text::from_str(alloc, word)?)?;
+    }
+    Ok(list)
+}
+
+fn calls(alloc: Global, numbers: &[u64]) -> Result<CallList, Fail> {
+    Ok(CallList::from_vec(numbers.to_vec(alloc)?))
+}
+
+/// Runs the top call, and looks at what it left.
+pub fn run(alloc: Global, words: &[&str], outside: Outside) -> Result<Ending, Fail> {
+    let words = words_list(alloc, words)?;
+    let pull_fails = calls(alloc, outside.pull_fails)?;
+    let tell_fails = calls(alloc, outside.tell_fails)?;
+    let mut source = MemorySource::new(alloc, outside.input, pull_fails)?;
+    let mut host = MemoryHost::new(alloc, tell_fails)?;
+    let status = agent_main(alloc, &words, &mut source, &mut host);
+    let mut left = vec![in alloc; 0; outside.input.len()]?;
+    let count = source.pull(&mut left).unwrap_or(0);
+    Ok(Ending {
+        status,
+        told: String::from_utf8(host.told().to_vec(alloc)?)?,
+        has_taken: count < outside.input.len(),
+    })
+}
