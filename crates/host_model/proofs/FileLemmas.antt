@@ -1,7 +1,7 @@
 -- what a crash may leave of one file, from what has happened to it since its last sync
-use Rattle.std.proofs.Common.{◌≡◌, ℕ, ◌+◌, ◌<◌, ◌≤◌, List, [], ◌∷◌, length, max, take, drop, refl, sym, ◌∙◌, inl, inr, arith}
-use Rattle.std.proofs.lemmas.List.{length-take, length-drop, get_or-take, get_or-drop, ext_get_or}
-use Rattle.host_model.specs.Images.{Change, Wrote, Cut, Synced, contents, synced, least, greatest, IsUntouched, IsImage, IsSynced}
+use Rattle.std.proofs.Common.{◌≡◌, ℕ, ◌+◌, ◌<◌, ◌≤◌, List, [], ◌∷◌, ◌++◌, length, max, take, drop, refl, sym, ap, ◌∙◌, inl, inr, arith}
+use Rattle.std.proofs.lemmas.List.{append-nil, append_assoc, length-append, length-take, length-drop, get_or-take, get_or-drop, ext_get_or, take_all, drop_all, take_at, drop_at, take-take, take-append-le}
+use Rattle.host_model.specs.Images.{Change, Wrote, Cut, Synced, contents, written, synced, least, greatest, IsUntouched, IsImage, IsSynced}
 
 -- a file with no change since its last sync has one image, and that is what it reads as
 pub contents-synced : (past : List Change) → IsSynced past → contents past ≡ synced past
@@ -143,3 +143,45 @@ around_kept from to past bytes all within image =
           ∙ image.kept (to + place) there (omega arith) (untouched_outside from to past all (to + place) (omega arith))
           ∙ sym (get_or-drop to old place 0));
     }
+
+-- what a write leaves, where its place is within the file or at its end
+
+pub length-written : (old : List ℕ) (at : ℕ) (bytes : List ℕ) → at ≤ length old → length (written old at bytes) ≡ max (length old) (at + length bytes)
+length-written old at bytes within =
+    omega (
+      arith,
+      length-append (take at old ++ bytes) (drop (at + length bytes) old),
+      length-append (take at old) bytes,
+      length-take at old,
+      length-drop (at + length bytes) old,
+    )
+
+-- bytes written at the end are added
+pub written-end : (old bytes : List ℕ) → written old (length old) bytes ≡ old ++ bytes
+written-end old bytes =
+    let whole : take (length old) old ≡ old = take_all (length old) old (omega arith) in
+    let nothing : drop (length old + length bytes) old ≡ [] = drop_all (length old + length bytes) old (omega arith) in
+    rw (whole, nothing) (append-nil (old ++ bytes))
+
+-- what stands before the place stays
+pub take-written : (old : List ℕ) (at : ℕ) (bytes : List ℕ) (from : ℕ) → from ≤ at → at ≤ length old → take from (written old at bytes) ≡ take from old
+take-written old at bytes from before within =
+    let size : length (take at old) ≡ at = omega (arith, length-take at old) in
+    take-append-le from (take at old ++ bytes) (drop (at + length bytes) old) (omega (arith, length-append (take at old) bytes))
+    ∙ take-append-le from (take at old) bytes (omega arith)
+    ∙ take-take from at old before
+
+-- what stands behind the written bytes stays
+pub drop-written : (old : List ℕ) (at : ℕ) (bytes : List ℕ) → at ≤ length old → drop (at + length bytes) (written old at bytes) ≡ drop (at + length bytes) old
+drop-written old at bytes within =
+    let size : length (take at old ++ bytes) ≡ at + length bytes = omega (arith, length-append (take at old) bytes, length-take at old) in
+    drop_at (take at old ++ bytes) (drop (at + length bytes) old) (at + length bytes) size
+
+-- the written bytes are there
+pub read-written : (old : List ℕ) (at : ℕ) (bytes : List ℕ) → at ≤ length old → take (length bytes) (drop at (written old at bytes)) ≡ bytes
+read-written old at bytes within =
+    let size : length (take at old) ≡ at = omega (arith, length-take at old) in
+    let rest : drop at (written old at bytes) ≡ bytes ++ drop (at + length bytes) old =
+    ap (λ (l : List ℕ). drop at l) (append_assoc (take at old) bytes (drop (at + length bytes) old))
+    ∙ drop_at (take at old) (bytes ++ drop (at + length bytes) old) at size in
+    ap (λ (l : List ℕ). take (length bytes) l) rest ∙ take_at bytes (drop (at + length bytes) old) (length bytes) refl

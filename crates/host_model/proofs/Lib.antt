@@ -4,4 +4,5 @@ mod HostLemmas
 mod LeftLemmas
 pub mod MomentLemmas
 mod Rows
+pub mod RunLemmas
 mod StopLemmas
