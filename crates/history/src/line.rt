@@ -60,3 +60,84 @@ impl Clone for Line {
         })
     }
 }
+
+#[cfg(test)]
+mod tests {
+    use super::*;
+    use crate::chart::ChartKind;
+    use crate::dimension::Algorithm;
+    use std::alloc::Global;
+    use std::process::Abort;
+    use std::test::Fail;
+
+    fn chart(alloc: Global) -> Result<ChartDef, AllocError> {
+        Ok(ChartDef {
+            id: Text::from_str(alloc, "disk.root")?,
+            name: Text::from_str(alloc, "root")?,
+            title: Text::from_str(alloc, "Space")?,
+            units: Text::from_str(alloc, "GiB")?,
+            family: Text::from_str(alloc, "/")?,
+            context: Text::from_str(alloc, "disk.space")?,
+            kind: ChartKind::Stacked,
+            priority: 2000,
+            update_every: 5,
+            store_first: true,
+        })
+    }
+
+    fn dimension(alloc: Global) -> Result<DimDef, AllocError> {
+        Ok(DimDef {
+            id: Text::from_str(alloc, "avail")?,
+            name: Text::from_str(alloc, "free")?,
+            algorithm: Algorithm::Incremental,
+            multiplier: -8,
+            divisor: 1024,
+            hidden: true,
+            noreset: false,
+        })
+    }
+
+    fn check_copy(rt: &impl Abort, line: Line) -> Result<(), AllocError> {
+        let copy = line.clone()?;
+        assert!(rt; copy == line);
+        Ok(())
+    }
+
+    #[test]
+    fn copies_definitions(rt: HostRuntime) -> Result<(), Fail> {
+        check_copy(&rt, Line::Chart(chart(rt.alloc())?))?;
+        check_copy(&rt, Line::Dimension(dimension(rt.alloc())?))?;
+        Ok(())
+    }
+
+    #[test]
+    fn copies_other_lines(rt: HostRuntime) -> Result<(), Fail> {
+        let id = Text::from_str(rt.alloc(), "avail")?;
+        check_copy(&rt, Line::Begin(id.clone()?))?;
+        check_copy(&rt, Line::Query(id.clone()?))?;
+        check_copy(
+            &rt,
+            Line::Set {
+                id,
+                value: Some(-5),
+                anomalous: true,
+            },
+        )?;
+        check_copy(&rt, Line::Moment(60))?;
+        check_copy(&rt, Line::End)?;
+        Ok(())
+    }
+
+    #[test]
+    fn tells_definitions_apart(rt: HostRuntime) -> Result<(), Fail> {
+        let first = chart(rt.alloc())?;
+        let mut other = first.clone()?;
+        other.update_every = 1;
+        assert!(rt; first != other);
+        let first = dimension(rt.alloc())?;
+        let mut other = first.clone()?;
+        other.noreset = true;
+        assert!(rt; first != other);
+        Ok(())
+    }
+}
