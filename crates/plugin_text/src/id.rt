@@ -1,11 +1,21 @@
 ghost use Rattle.std.specs.Prelude.{◌≡◌, Ok, Err, IfOk, IfErr, OnOk};
 ghost use Rattle.std.specs.List.{after_first};
-ghost use Rattle.plugin_text.specs.Id.{is_dot, chart_id, dimension_id};
+ghost use Rattle.plugin_text.specs.Id.{is_dot, short_id, chart_id, dimension_id};
 
 use crate::fault::LineFault;
 
 /// How many bytes an id may have.
 pub const ID_LIMIT: usize = 200;
+
+fn check_length(id: &str) -> Result<(), LineFault>
+    ensures id { OnOk result (short_id id.now ≡ Ok id.now) }
+    ensures fault { IfErr result (λ fault. short_id id.now ≡ Err fault) }
+{
+    if id.len() > ID_LIMIT {
+        return Err(LineFault::LongId);
+    }
+    Ok(())
+}
 
 /// The part of a chart's id behind its first dot, or why the word is no such id.
 pub fn chart_part(id: &str) -> Result<&str, LineFault>
@@ -19,13 +29,11 @@ pub fn chart_part(id: &str) -> Result<&str, LineFault>
     if before.is_empty() || part.is_empty() {
         return Err(LineFault::MissingWord);
     }
-    if id.len() > ID_LIMIT {
-        return Err(LineFault::LongId);
-    }
+    check_length(id)?;
     Ok(part)
 }
 
-/// Whether a word is an id of a dimension, or why it is none.
+/// Tells why a word is no id of a dimension, if it is none.
 pub fn check_dimension_id(id: &str) -> Result<(), LineFault>
     ensures id { OnOk result (dimension_id id.now ≡ Ok id.now) }
     ensures fault { IfErr result (λ fault. dimension_id id.now ≡ Err fault) }
@@ -33,8 +41,5 @@ pub fn check_dimension_id(id: &str) -> Result<(), LineFault>
     if id.is_empty() {
         return Err(LineFault::MissingWord);
     }
-    if id.len() > ID_LIMIT {
-        return Err(LineFault::LongId);
-    }
-    Ok(())
+    check_length(id)
 }
