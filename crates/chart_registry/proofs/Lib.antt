@@ -1,0 +1,6 @@
+pub mod ChartsLemmas
+pub mod DefiningLemmas
+pub mod DimensionsLemmas
+pub mod Places
+pub mod RegistryLemmas
+pub mod RowsLemmas

@@ -1,0 +1,3 @@
+pub mod Defining
+pub mod Kept
+pub mod Rows

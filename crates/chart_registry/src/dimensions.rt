@@ -1,0 +1,72 @@
+ghost use Rattle.std.specs.Prelude.{◌≡◌, ◌<◌, ◌∷◌, [], ◌++◌, length, slice_get, slice_set, Some, None, IfOk, OnOk, OnErr};
+ghost use Rattle.std.specs.Option.{option_map};
+ghost use Rattle.chart_registry.specs.Rows.{rows, row_at, marks, chart_defs, open_dims, redefined, series_in, AreById, EntersSeries};
+
+use crate::charts::{self, Chart};
+use history::{DimDef, OpenDim};
+use indexmap::IndexMap;
+use std::alloc::AllocError;
+
+/// A dimension as it is kept: its last definition with its chart's id, and its chart's number.
+#[derive(Drop)]
+pub(crate) struct Dimension {
+    pub(crate) owner: u32,
+    pub(crate) definition: OpenDim,
+}
+
+// A dimension of the chart with this number.
+fn dimension_of(chart: &Chart, number: u32, def: &DimDef) -> Result<Dimension, AllocError>
+    ensures { IfOk result (λ made. made ≡ record { owner = number; definition = record { chart = chart.now.def.id; def = def.now } }) }
+{
+    Ok(Dimension {
+        owner: number,
+        definition: OpenDim {
+            chart: chart.def.id.clone()?,
+            def: def.clone()?,
+        },
+    })
+}
+
+// Keeps a new definition of the dimension with this series, which has the same id.
+pub(crate) fn replace(
+    dimensions: &mut Vec<Dimension>,
+    series: u32,
+    def: &DimDef,
+) -> Result<(), AllocError>
+    requires { option_map (λ mark. mark.id) (slice_get (marks dimensions.old.items) series) ≡ Some def.now.id }
+    ensures marks { marks dimensions.new.items ≡ marks dimensions.old.items }
+    ensures ok { OnOk result (open_dims dimensions.new.items ≡ redefined (open_dims dimensions.old.items) series def.now) }
+    ensures err { OnErr result (open_dims dimensions.new.items ≡ open_dims dimensions.old.items) }
+{
+    let copy = def.clone()?;
+    dimensions[series as usize].definition.def = copy;
+    Ok(())
+}
+
+// Keeps a dimension with an id that none of its chart has yet. Its series is the next number.
+pub(crate) fn add(
+    charts: &mut IndexMap<String, Chart>,
+    dimensions: &mut Vec<Dimension>,
+    number: u32,
+    def: &DimDef,
+) -> Result<u32, AllocError>
+    requires there { number < length (chart_defs charts.old) }
+    requires few { length dimensions.old.items < 65536 }
+    requires absent { series_in (row_at (rows charts.old) number).series def.now.id ≡ None }
+    ensures by_id { AreById charts.old → AreById charts.new }
+    ensures defs { chart_defs charts.new ≡ chart_defs charts.old }
+    ensures series { IfOk result (λ series. series ≡ length dimensions.old.items) }
+    ensures rows { IfOk result (λ series. EntersSeries (rows charts.old) number def.now.id series (rows charts.new)) }
+    ensures ok { OnOk result (dimensions.new.items ≡ dimensions.old.items
+        ++ record { owner = number; definition = record { chart = (row_at (rows charts.old) number).id; def = def.now } } ∷ []) }
+    ensures rows_err { OnErr result (rows charts.new ≡ rows charts.old) }
+    ensures err { OnErr result (dimensions.new.items ≡ dimensions.old.items) }
+{
+    let dimension = dimension_of(charts::chart_at(charts, number), number, def)?;
+    let id = def.id.clone()?.into_string();
+    dimensions.reserve(1)?;
+    let series = dimensions.len() as u32;
+    charts::enter(charts, number, id, series)?;
+    dimensions.push(dimension).unwrap();
+    Ok(series)
+}
