@@ -8,10 +8,10 @@ use Rattle.host_model.specs.declared.status.Status.TheVariants.{Ok as Done, Refu
 use Rattle.agent_app.specs.declared.conversion.Conversion.{Conversion}
 use Rattle.agent_app.specs.declared.refusal.Refusal.{Refusal}
 use Rattle.agent_app.specs.Conversion.{HasConverted}
-use Rattle.agent_app.specs.Convert.{converted, all_told, output_of, input_limit, HasStatusCause, Converts, EndsAsText, status_of}
+use Rattle.agent_app.specs.Convert.{converted, all_told, output_of, input_limit, HasStatusCause, IsUnasked, Converts, EndsAsText, status_of}
 use Rattle.agent_app.specs.Reading.{Reading}
 use Rattle.agent_app.specs.Telling.{StepsOn, Stops, Converting}
-use Rattle.agent_app.proofs.TellingLemmas.{rose-later, nothing_refused, status-limit, option_map-same}
+use Rattle.agent_app.proofs.TellingLemmas.{rose-later, nothing_refused, status-limit, option_map-same, both-none}
 
 -- bytes taken one after another were taken together
 Takes-append : (left middle right : Option (List ℕ)) (first second : List ℕ) → Takes left first middle → Takes middle second right → Takes left (first ++ second) right
@@ -34,13 +34,18 @@ Converting-start conversion honest left past source_faults tell_faults has = rec
   takes = sym (option_map-same left);
   spent = refl;
   tells = λ is_honest. sym (append-nil (told past));
+  silent = λ none. (refl, refl);
   source_count = omega arith;
   tell_count = omega arith;
 }
 
+-- a host that was not asked, and then not asked again
+later-unasked : (past past' past'' : List Event) (tf tf' tf'' : ℕ) → IsUnasked past past' tf tf' → IsUnasked past' past'' tf' tf'' → IsUnasked past past'' tf tf''
+later-unasked past past' past'' tf tf' tf'' before after = (after.0 ∙ before.0, after.1 ∙ before.1)
+
 -- a run that goes on by a step
 pub Converting-step : (old new : Conversion) (honest : Type 0) (budget size : ℕ) (left middle right : Option (List ℕ)) (past past' past'' : List Event) (sf sf' sf'' tf tf' tf'' : ℕ)
-    → (before : Converting old honest budget left middle past past' sf sf' tf tf') → StepsOn new honest size before.taken before.made middle right past' past'' → size ≤ budget → sf' ≤ sf'' → tf' ≤ tf''
+    → (before : Converting old honest budget left middle past past' sf sf' tf tf') → StepsOn new honest size before.taken before.made middle right past' past'' (IsUnasked past' past'' tf' tf'') → size ≤ budget → sf' ≤ sf'' → tf' ≤ tf''
     → Converting new honest (budget - size) left right past past'' sf sf'' tf tf''
 Converting-step old new honest budget size left middle right past past' past'' sf sf' sf'' tf tf' tf'' before step fits source tell = record {
   taken = before.taken ++ step.bytes;
@@ -49,6 +54,7 @@ Converting-step old new honest budget size left middle right past past' past'' s
   takes = Takes-append left middle right before.taken step.bytes before.takes step.takes;
   spent = omega (arith, length-append before.taken step.bytes, before.spent, step.size_is);
   tells = λ is_honest. step.goes_on.tells is_honest ∙ ap (λ (bytes : List ℕ). bytes ++ step.goes_on.more) (before.tells is_honest) ∙ append_assoc (told past) before.made step.goes_on.more;
+  silent = λ none. let each = both-none before.made step.goes_on.more none in later-unasked past past' past'' tf tf' tf'' (before.silent each.0) (step.goes_on.silent each.1);
   source_count = omega (arith, before.source_count);
   tell_count = omega (arith, before.tell_count);
 }
@@ -66,7 +72,7 @@ later-cause _ ended refusal text source_rose tell_rose source_rose' tell_rose' s
 
 -- a run that stops at a step
 pub Converts-stop : (old : Conversion) (honest : Type 0) (status : Status) (budget : ℕ) (left middle right : Option (List ℕ)) (past past' past'' : List Event) (sf sf' sf'' tf tf' tf'' : ℕ)
-    → (before : Converting old honest budget left middle past past' sf sf' tf tf') → Stops status honest before.taken before.made middle right past' past'' (Rose sf' sf'') (Rose tf' tf'') → sf' ≤ sf'' → tf' ≤ tf''
+    → (before : Converting old honest budget left middle past past' sf sf' tf tf') → Stops status honest before.taken before.made middle right past' past'' (Rose sf' sf'') (Rose tf' tf'') (IsUnasked past' past'' tf' tf'') → sf' ≤ sf'' → tf' ≤ tf''
     → Converts status honest left right past past'' sf sf'' tf tf''
 Converts-stop old honest status budget left middle right past past' past'' sf sf' sf'' tf tf' tf'' before step source tell = record {
   taken = before.taken ++ step.bytes;
@@ -81,6 +87,9 @@ Converts-stop old honest status budget left middle right past past' past'' sf sf
     tells = tells.tells ∙ ap (λ (bytes : List ℕ). bytes ++ tells.sent) (before.tells is_honest) ∙ append_assoc (told past) before.made tells.sent;
     all = tells.all;
   };
+  silent = λ none.
+      let each = both-none before.made step.stops.waiting (sym step.stops.output ∙ none) in
+      later-unasked past past' past'' tf tf' tf'' (before.silent each.0) (step.stops.silent each.1);
   cause = later-cause status step.ended (converted step.ended (before.taken ++ step.bytes)).refusal (before.taken ++ step.bytes) (Rose sf' sf'') (Rose tf' tf'') (Rose sf sf'') (Rose tf tf'')
       (rose-later sf sf' sf'' before.source_count source) (rose-later tf tf' tf'' before.tell_count tell) step.stops.cause;
   source_count = omega (arith, before.source_count);
@@ -88,7 +97,7 @@ Converts-stop old honest status budget left middle right past past' past'' sf sf
 }
 
 pub EndsAsText-stop : (old : Conversion) (honest : Type 0) (status : Status) (budget : ℕ) (left middle right : Option (List ℕ)) (past past' past'' : List Event) (sf sf' sf'' tf tf' tf'' : ℕ)
-    → (before : Converting old honest budget left middle past past' sf sf' tf tf') → Stops status honest before.taken before.made middle right past' past'' (Rose sf' sf'') (Rose tf' tf'') → sf' ≤ sf'' → tf' ≤ tf''
+    → (before : Converting old honest budget left middle past past' sf sf' tf tf') → Stops status honest before.taken before.made middle right past' past'' (Rose sf' sf'') (Rose tf' tf'') (IsUnasked past' past'' tf' tf'') → sf' ≤ sf'' → tf' ≤ tf''
     → EndsAsText status left sf sf'' tf tf''
 EndsAsText-stop old honest status budget None middle right past past' past'' sf sf' sf'' tf tf' tf'' before step source tell = tt
 EndsAsText-stop old honest status budget (Some text) middle right past past' past'' sf sf' sf'' tf tf' tf'' before step source tell = λ no_source no_tell.
@@ -115,6 +124,7 @@ Converts-limit conversion honest left right past past' sf sf' tf tf' budget befo
         tells = before.tells is_honest;
         all = λ all. refl;
       };
+      silent = λ none. before.silent (both-none before.made [] (sym (ap all_told whole) ∙ none)).0;
       cause = (refl, ap (λ (reading : Reading Refusal). reading.refusal) whole, omega (arith, before.spent));
       source_count = before.source_count;
       tell_count = before.tell_count;
@@ -138,6 +148,7 @@ Converts-memory honest left past source_faults tell_faults = record {
   within = omega arith;
   at_end = λ ended. cc;
   output = λ is_honest. record { sent = []; unsent = output_of false []; whole = refl; tells = sym (append-nil (told past)); all = λ all. cc };
+  silent = λ none. (refl, refl);
   cause = tt;
   source_count = omega arith;
   tell_count = omega arith;

@@ -1,5 +1,5 @@
 -- What was told, and what the run ends with.
-use Rattle.std.proofs.Common.{◌≡◌, ℕ, ◌+◌, ◌-◌, ◌<◌, ◌≤◌, Bool, true, false, nat_lt, List, [], ◌++◌, length, take, drop, Option, Some, None, IfSome, ◌⊎◌, inl, inr, refl, ap, sym, subst, ◌∙◌, append_assoc, append-nil, length-append, arith}
+use Rattle.std.proofs.Common.{◌≡◌, ℕ, ◌+◌, ◌-◌, ◌<◌, ◌≤◌, Bool, true, false, nat_lt, List, [], ◌∷◌, ◌++◌, length, take, drop, Option, Some, None, IfSome, ◌⊎◌, inl, inr, refl, ap, sym, subst, ◌∙◌, append_assoc, append-nil, length-append, arith}
 use Rattle.std.proofs.lemmas.List.{take-append-drop, take_all, take-append-le}
 use Rattle.std.proofs.lemmas.Bool.{cases_lt}
 use Rattle.std.proofs.lemmas.Bool.Decides.{nat_tests}
@@ -14,7 +14,7 @@ use Rattle.agent_app.specs.declared.conversion.Conversion.{Conversion}
 use Rattle.agent_app.specs.declared.refusal.Refusal.{Refusal}
 use Rattle.agent_app.specs.Conversion.{HasConverted, IsRefused, IsRefusedAfter, GoesOnAfter}
 use Rattle.plugin_text.specs.Lines.{parts}
-use Rattle.agent_app.specs.Convert.{converted, all_told, output_of, refusal_line, refusal_number, input_limit, TellsOutput, HasStatusCause, status_of, status_within, plain_rules}
+use Rattle.agent_app.specs.Convert.{converted, all_told, output_of, refusal_line, refusal_number, input_limit, TellsOutput, HasStatusCause, IsUnasked, status_of, status_within, plain_rules}
 use Rattle.agent_app.specs.Reading.{Reading, reading}
 use Rattle.agent_app.specs.Telling.{TellsFront, HasRefusalCause, TellsOn, StopsTelling, Stops}
 
@@ -67,9 +67,19 @@ pub rose-sooner : (old middle new : ℕ) → Rose old middle → middle ≤ new 
 rose-sooner old middle new (inl rose) after = inl (omega arith)
 rose-sooner old middle new (inr stands) after = inr stands
 
+-- two lists that are empty together are each empty
+pub both-none : (first second : List ℕ) → first ++ second ≡ [] → (first ≡ []) × (second ≡ [])
+both-none [] second none = (refl, none)
+both-none (byte ∷ first) second none = cc
+
+-- with a refusal something is told
+refusal_told : (said : List ℕ) (line : ℕ) (refusal : Refusal) → said ++ refusal_line (line, refusal) ≡ [] → ⊥
+refusal_told [] line refusal none = cc
+refusal_told (byte ∷ said) line refusal none = cc
+
 -- a telling of bytes that failed, with more to be told behind them
-pub fault_stops : (honest tell_rose source_rose : Type 0) (text made bytes waiting : List ℕ) (left : Option (List ℕ)) (past past' : List Event) → output_of false text ≡ made ++ (bytes ++ waiting) → (honest → TellsFront bytes past past') → tell_rose → StopsTelling TellFault honest false text made left past past' source_rose tell_rose
-fault_stops honest tell_rose source_rose text made bytes waiting left past past' output front rose = record {
+pub fault_stops : (honest tell_rose source_rose unasked : Type 0) (text made bytes waiting : List ℕ) (left : Option (List ℕ)) (past past' : List Event) → output_of false text ≡ made ++ (bytes ++ waiting) → (honest → TellsFront bytes past past') → tell_rose → (bytes ≡ [] → unasked) → StopsTelling TellFault honest false text made left past past' source_rose tell_rose unasked
+fault_stops honest tell_rose source_rose unasked text made bytes waiting left past past' output front rose silent = record {
   waiting = bytes ++ waiting;
   output = output;
   tells = λ is_honest. let told_front = front is_honest in record {
@@ -79,16 +89,18 @@ fault_stops honest tell_rose source_rose text made bytes waiting left past past'
     tells = told_front.tells;
     all = λ whole. cc;
   };
+  silent = λ none. silent (both-none bytes waiting none).0;
   cause = rose;
   whole = λ more left_is source tell. absurd (tell rose);
 }
 
 -- no memory, with nothing told since
-pub memory_stops : (honest tell_rose source_rose : Type 0) (ended : Bool) (text made waiting : List ℕ) (left : Option (List ℕ)) (past : List Event) → output_of ended text ≡ made ++ waiting → StopsTelling Memory honest ended text made left past past source_rose tell_rose
-memory_stops honest tell_rose source_rose ended text made waiting left past output = record {
+pub memory_stops : (honest tell_rose source_rose : Type 0) (ended : Bool) (text made waiting : List ℕ) (left : Option (List ℕ)) (past : List Event) (tell_faults : ℕ) → output_of ended text ≡ made ++ waiting → StopsTelling Memory honest ended text made left past past source_rose tell_rose (IsUnasked past past tell_faults tell_faults)
+memory_stops honest tell_rose source_rose ended text made waiting left past tell_faults output = record {
   waiting = waiting;
   output = output;
   tells = λ is_honest. record { sent = []; unsent = waiting; whole = refl; tells = sym (append-nil (told past)); all = λ whole. cc };
+  silent = λ none. (refl, refl);
   cause = tt;
   whole = λ more left_is source tell. inr refl;
 }
@@ -107,41 +119,44 @@ refusal-status Memory expected line refusal tell_rose cause is tell = inr refl
 refusal-status _ expected line refusal tell_rose cause is tell = absurd cause
 
 -- the text is refused, and what was read of it is told with the refusal
-pub refusal_stops : (honest tell_rose source_rose : Type 0) (status : Status) (ended : Bool) (text made said : List ℕ) (line : ℕ) (refusal : Refusal) (left : Option (List ℕ)) (past past' : List Event)
+pub refusal_stops : (honest tell_rose source_rose unasked : Type 0) (status : Status) (ended : Bool) (text made said : List ℕ) (line : ℕ) (refusal : Refusal) (left : Option (List ℕ)) (past past' : List Event)
     → converted ended text ≡ record { told = made ++ said; refusal = Some (line, refusal) }
     → ((more : List ℕ) → left ≡ Some more → status_of (text ++ more) ≡ Refused line (refusal_number refusal))
     → (honest → TellsOutput status (said ++ refusal_line (line, refusal)) past past') → HasRefusalCause status line refusal tell_rose
-    → StopsTelling status honest ended text made left past past' source_rose tell_rose
-refusal_stops honest tell_rose source_rose status ended text made said line refusal left past past' refused whole tells cause = record {
+    → StopsTelling status honest ended text made left past past' source_rose tell_rose unasked
+refusal_stops honest tell_rose source_rose unasked status ended text made said line refusal left past past' refused whole tells cause = record {
   waiting = said ++ refusal_line (line, refusal);
   output = ap all_told refused ∙ append_assoc made said (refusal_line (line, refusal));
   tells = tells;
+  silent = λ none. absurd (refusal_told said line refusal none);
   cause = rw refused (refusal-cause status line refusal ended text tell_rose source_rose cause);
   whole = λ more left_is source tell. refusal-status status (status_of (text ++ more)) line refusal tell_rose cause (whole more left_is) tell;
 }
 
 -- the text ends, and none of it is refused
-pub end_stops : (honest tell_rose source_rose : Type 0) (text made : List ℕ) (left : Option (List ℕ)) (past : List Event)
+pub end_stops : (honest tell_rose source_rose : Type 0) (text made : List ℕ) (left : Option (List ℕ)) (past : List Event) (tell_faults : ℕ)
     → converted true text ≡ record { told = made; refusal = None }
     → ((more : List ℕ) → left ≡ Some more → status_of (text ++ more) ≡ Done)
-    → StopsTelling Done honest true text made left past past source_rose tell_rose
-end_stops honest tell_rose source_rose text made left past whole status = record {
+    → StopsTelling Done honest true text made left past past source_rose tell_rose (IsUnasked past past tell_faults tell_faults)
+end_stops honest tell_rose source_rose text made left past tell_faults whole status = record {
   waiting = [];
   output = ap all_told whole;
   tells = λ is_honest. record { sent = []; unsent = []; whole = refl; tells = sym (append-nil (told past)); all = λ whole. refl };
+  silent = λ none. (refl, refl);
   cause = (refl, ap (λ (reading : Reading Refusal). reading.refusal) whole);
   whole = λ more left_is source tell. inl (sym (status more left_is));
 }
 
 -- the source failed
-pub source_stops : (honest tell_rose source_rose : Type 0) (conversion : Conversion) (text made : List ℕ) (has : HasConverted conversion text made) (left : Option (List ℕ)) (past : List Event)
-    → source_rose → StopsTelling ReadFault honest false text made left past past source_rose tell_rose
-source_stops honest tell_rose source_rose conversion text made has left past rose =
+pub source_stops : (honest tell_rose source_rose : Type 0) (conversion : Conversion) (text made : List ℕ) (has : HasConverted conversion text made) (left : Option (List ℕ)) (past : List Event) (tell_faults : ℕ)
+    → source_rose → StopsTelling ReadFault honest false text made left past past source_rose tell_rose (IsUnasked past past tell_faults tell_faults)
+source_stops honest tell_rose source_rose conversion text made has left past tell_faults rose =
     let whole = nothing_refused conversion text made has in
     record {
       waiting = [];
       output = ap all_told whole;
       tells = λ is_honest. record { sent = []; unsent = []; whole = refl; tells = sym (append-nil (told past)); all = λ whole. refl };
+      silent = λ none. (refl, refl);
       cause = (refl, ap (λ (reading : Reading Refusal). reading.refusal) whole, rose);
       whole = λ more left_is source tell. absurd (source rose);
     }
@@ -158,41 +173,42 @@ piece_output new text made out out' on none =
     (ahead.0, (rw (append-nil text) at ahead.1) ∙ append_assoc made on.told ahead.0 ∙ rw (on.added, none) refl)
 
 -- a piece that was told
-pub piece_tells : (honest : Type 0) (new : Conversion) (text made out out' : List ℕ) (past past' : List Event) (on : GoesOnAfter new text made out out') → out ≡ [] → (honest → told past' ≡ told past ++ out') → TellsOn new honest text made past past'
-piece_tells honest new text made out out' past past' on none tells = record {
+pub piece_tells : (honest unasked : Type 0) (new : Conversion) (text made out out' : List ℕ) (past past' : List Event) (on : GoesOnAfter new text made out out') → out ≡ [] → (honest → told past' ≡ told past ++ out') → (out' ≡ [] → unasked) → TellsOn new honest text made past past' unasked
+piece_tells honest unasked new text made out out' past past' on none tells silent = record {
   more = on.told;
   has = on.has;
   tells = λ is_honest. tells is_honest ∙ rw (on.added, none) refl;
+  silent = λ untold. silent (on.added ∙ rw (none, untold) refl);
 }
 
 -- a piece in which a line is refused
-pub piece_refusal : (honest tell_rose : Type 0) (status : Status) (text made out out' : List ℕ) (line : ℕ) (refusal : Refusal) (left : Option (List ℕ)) (past past' : List Event)
+pub piece_refusal : (honest tell_rose unasked : Type 0) (status : Status) (text made out out' : List ℕ) (line : ℕ) (refusal : Refusal) (left : Option (List ℕ)) (past past' : List Event)
     → (refused : IsRefusedAfter text made line refusal out out') → out ≡ [] → length text ≤ input_limit
     → (honest → TellsOutput status (out' ++ refusal_line (line, refusal)) past past') → HasRefusalCause status line refusal tell_rose
-    → StopsTelling status honest false text made left past past' ⊥ tell_rose
-piece_refusal honest tell_rose status text made out out' line refusal left past past' refused none within tells cause =
-    refusal_stops honest tell_rose ⊥ status false text made refused.told line refusal left past past'
+    → StopsTelling status honest false text made left past past' ⊥ tell_rose unasked
+piece_refusal honest tell_rose unasked status text made out out' line refusal left past past' refused none within tells cause =
+    refusal_stops honest tell_rose ⊥ unasked status false text made refused.told line refusal left past past'
     (rw (append-nil text) at (refused.refused false []))
     (λ more left_is. status-refused input_limit text (made ++ refused.told) line refusal refused.refused within more)
     (λ is_honest. rw (refused.added, none) at (tells is_honest)) cause
 
 -- the end of a text that is refused there
-pub end_refusal : (honest tell_rose : Type 0) (status : Status) (text made out : List ℕ) (line : ℕ) (refusal : Refusal) (left : Option (List ℕ)) (past past' : List Event)
+pub end_refusal : (honest tell_rose unasked : Type 0) (status : Status) (text made out : List ℕ) (line : ℕ) (refusal : Refusal) (left : Option (List ℕ)) (past past' : List Event)
     → converted true text ≡ record { told = made; refusal = Some (line, refusal) } → out ≡ [] → length text < input_limit → IfSome left (λ rest. rest ≡ [])
     → (honest → TellsOutput status (out ++ refusal_line (line, refusal)) past past') → HasRefusalCause status line refusal tell_rose
-    → StopsTelling status honest true text made left past past' ⊥ tell_rose
-end_refusal honest tell_rose status text made out line refusal left past past' whole none within nothing tells cause =
-    refusal_stops honest tell_rose ⊥ status true text made [] line refusal left past past'
+    → StopsTelling status honest true text made left past past' ⊥ tell_rose unasked
+end_refusal honest tell_rose unasked status text made out line refusal left past past' whole none within nothing tells cause =
+    refusal_stops honest tell_rose ⊥ unasked status true text made [] line refusal left past past'
     (rw (append-nil made) whole)
     (λ more left_is. rw (nothing_left left more nothing left_is, append-nil text) (status-ended input_limit text made (Some (line, refusal)) whole within))
     (λ is_honest. rw none at (tells is_honest)) cause
 
 -- the end of a text of which nothing is refused
-pub end_tells : (honest tell_rose : Type 0) (text made : List ℕ) (left : Option (List ℕ)) (past : List Event)
+pub end_tells : (honest tell_rose : Type 0) (text made : List ℕ) (left : Option (List ℕ)) (past : List Event) (tell_faults : ℕ)
     → converted true text ≡ record { told = made; refusal = None } → length text < input_limit → IfSome left (λ rest. rest ≡ [])
-    → StopsTelling Done honest true text made left past past ⊥ tell_rose
-end_tells honest tell_rose text made left past whole within nothing =
-    end_stops honest tell_rose ⊥ text made left past whole
+    → StopsTelling Done honest true text made left past past ⊥ tell_rose (IsUnasked past past tell_faults tell_faults)
+end_tells honest tell_rose text made left past tell_faults whole within nothing =
+    end_stops honest tell_rose ⊥ text made left past tell_faults whole
     (λ more left_is. rw (nothing_left left more nothing left_is, append-nil text) (status-ended input_limit text made None whole within))
 
 any_source : (status : Status) (ended : Bool) (refusal : Option (ℕ × Refusal)) (text : List ℕ) (source_rose tell_rose : Type 0) → HasStatusCause status ended refusal text ⊥ tell_rose → HasStatusCause status ended refusal text source_rose tell_rose
@@ -204,33 +220,34 @@ any_source InputLimit ended refusal text source_rose tell_rose cause = cause
 any_source Memory ended refusal text source_rose tell_rose cause = cause
 any_source _ ended refusal text source_rose tell_rose cause = absurd cause
 
-any_source_stops : (status : Status) (honest : Type 0) (ended : Bool) (text made : List ℕ) (left : Option (List ℕ)) (past past' : List Event) (source_rose tell_rose : Type 0) → StopsTelling status honest ended text made left past past' ⊥ tell_rose → StopsTelling status honest ended text made left past past' source_rose tell_rose
-any_source_stops status honest ended text made left past past' source_rose tell_rose stops = record {
+any_source_stops : (status : Status) (honest : Type 0) (ended : Bool) (text made : List ℕ) (left : Option (List ℕ)) (past past' : List Event) (source_rose tell_rose unasked : Type 0) → StopsTelling status honest ended text made left past past' ⊥ tell_rose unasked → StopsTelling status honest ended text made left past past' source_rose tell_rose unasked
+any_source_stops status honest ended text made left past past' source_rose tell_rose unasked stops = record {
   waiting = stops.waiting;
   output = stops.output;
   tells = stops.tells;
+  silent = stops.silent;
   cause = any_source status ended (converted ended text).refusal text source_rose tell_rose stops.cause;
   whole = λ more left_is source tell. stops.whole more left_is (λ never. never) tell;
 }
 
 -- the run stops in the bytes that it took
-pub stops_in : (status : Status) (honest : Type 0) (taken bytes made : List ℕ) (left left' : Option (List ℕ)) (past past' : List Event) (source_rose tell_rose : Type 0)
-    → Takes left bytes left' → length taken + length bytes ≤ input_limit → StopsTelling status honest false (taken ++ bytes) made left' past past' ⊥ tell_rose
-    → Stops status honest taken made left left' past past' source_rose tell_rose
-stops_in status honest taken bytes made left left' past past' source_rose tell_rose takes within stops = record {
+pub stops_in : (status : Status) (honest : Type 0) (taken bytes made : List ℕ) (left left' : Option (List ℕ)) (past past' : List Event) (source_rose tell_rose unasked : Type 0)
+    → Takes left bytes left' → length taken + length bytes ≤ input_limit → StopsTelling status honest false (taken ++ bytes) made left' past past' ⊥ tell_rose unasked
+    → Stops status honest taken made left left' past past' source_rose tell_rose unasked
+stops_in status honest taken bytes made left left' past past' source_rose tell_rose unasked takes within stops = record {
   bytes = bytes;
   ended = false;
   takes = takes;
   within = omega (arith, length-append taken bytes);
   at_end = λ ended. cc;
-  stops = any_source_stops status honest false (taken ++ bytes) made left' past past' source_rose tell_rose stops;
+  stops = any_source_stops status honest false (taken ++ bytes) made left' past past' source_rose tell_rose unasked stops;
 }
 
 -- the run stops at the end of the input
-pub stops_at_end : (status : Status) (honest : Type 0) (taken bytes made : List ℕ) (left left' : Option (List ℕ)) (past past' : List Event) (source_rose tell_rose : Type 0)
-    → Takes left bytes left' → bytes ≡ [] → length taken < input_limit → IfSome left' (λ rest. rest ≡ []) → StopsTelling status honest true taken made left' past past' ⊥ tell_rose
-    → Stops status honest taken made left left' past past' source_rose tell_rose
-stops_at_end status honest taken bytes made left left' past past' source_rose tell_rose takes none within nothing stops =
+pub stops_at_end : (status : Status) (honest : Type 0) (taken bytes made : List ℕ) (left left' : Option (List ℕ)) (past past' : List Event) (source_rose tell_rose unasked : Type 0)
+    → Takes left bytes left' → bytes ≡ [] → length taken < input_limit → IfSome left' (λ rest. rest ≡ []) → StopsTelling status honest true taken made left' past past' ⊥ tell_rose unasked
+    → Stops status honest taken made left left' past past' source_rose tell_rose unasked
+stops_at_end status honest taken bytes made left left' past past' source_rose tell_rose unasked takes none within nothing stops =
     let same : taken ≡ taken ++ [] = sym (append-nil taken) in
     record {
       bytes = [];
@@ -238,8 +255,8 @@ stops_at_end status honest taken bytes made left left' past past' source_rose te
       takes = rw none at takes;
       within = rw (append-nil taken) (omega arith);
       at_end = λ ended. (rw (append-nil taken) within, nothing);
-      stops = subst (λ (text : List ℕ). StopsTelling status honest true text made left' past past' source_rose tell_rose) same
-          (any_source_stops status honest true taken made left' past past' source_rose tell_rose stops);
+      stops = subst (λ (text : List ℕ). StopsTelling status honest true text made left' past past' source_rose tell_rose unasked) same
+          (any_source_stops status honest true taken made left' past past' source_rose tell_rose unasked stops);
     }
 
 pub option_map-same : (left : Option (List ℕ)) → option_map (λ (rest : List ℕ). [] ++ rest) left ≡ left
@@ -247,10 +264,10 @@ option_map-same None = refl
 option_map-same (Some rest) = refl
 
 -- the run stops where the source fails
-pub stops_at_fault : (honest : Type 0) (conversion : Conversion) (taken made : List ℕ) (has : HasConverted conversion taken made) (left left' : Option (List ℕ)) (past : List Event) (source_rose tell_rose : Type 0)
+pub stops_at_fault : (honest : Type 0) (conversion : Conversion) (taken made : List ℕ) (has : HasConverted conversion taken made) (left left' : Option (List ℕ)) (past : List Event) (tell_faults : ℕ) (source_rose tell_rose : Type 0)
     → left' ≡ left → length taken ≤ input_limit → source_rose
-    → Stops ReadFault honest taken made left left' past past source_rose tell_rose
-stops_at_fault honest conversion taken made has left left' past source_rose tell_rose same within rose =
+    → Stops ReadFault honest taken made left left' past past source_rose tell_rose (IsUnasked past past tell_faults tell_faults)
+stops_at_fault honest conversion taken made has left left' past tell_faults source_rose tell_rose same within rose =
     let text : taken ≡ taken ++ [] = sym (append-nil taken) in
     record {
       bytes = [];
@@ -258,6 +275,6 @@ stops_at_fault honest conversion taken made has left left' past source_rose tell
       takes = sym same ∙ sym (option_map-same left');
       within = rw (append-nil taken) within;
       at_end = λ ended. cc;
-      stops = subst (λ (all : List ℕ). StopsTelling ReadFault honest false all made left' past past source_rose tell_rose) text
-          (source_stops honest tell_rose source_rose conversion taken made has left' past rose);
+      stops = subst (λ (all : List ℕ). StopsTelling ReadFault honest false all made left' past past source_rose tell_rose (IsUnasked past past tell_faults tell_faults)) text
+          (source_stops honest tell_rose source_rose conversion taken made has left' past tell_faults rose);
     }

@@ -89,6 +89,10 @@ HasStatusCause InputLimit ended refusal taken source_rose host_rose = (ended ≡
 HasStatusCause Memory ended refusal taken source_rose host_rose = Unit {0}
 HasStatusCause _ ended refusal taken source_rose host_rose = ⊥
 
+-- the host was not asked: what it has been through and its count of failures are as before
+abbrev pub IsUnasked : (past past' : List Event) → (tell_faults tell_faults' : ℕ) → Type 0
+IsUnasked past past' tell_faults tell_faults' = (past' ≡ past) × (tell_faults' ≡ tell_faults)
+
 -- A run of `convert`: it took these bytes of the source, and told the output of just these.
 pub record Converts (status : Status) (honest : Type 0) (left left' : Option (List ℕ)) (past past' : List Event) (source_faults source_faults' tell_faults tell_faults' : ℕ) : Type 0 where
   pub taken : List ℕ
@@ -98,6 +102,8 @@ pub record Converts (status : Status) (honest : Type 0) (left left' : Option (Li
   pub within : length taken ≤ input_limit
   pub at_end : ended ≡ true → (length taken < input_limit) × IfSome left' (λ bytes. bytes ≡ [])
   pub output : honest → TellsOutput status (output_of ended taken) past past'
+  -- where nothing is told of the bytes that were taken, the host was not asked
+  pub silent : output_of ended taken ≡ [] → IsUnasked past past' tell_faults tell_faults'
   pub cause : HasStatusCause status ended (converted ended taken).refusal taken (Rose source_faults source_faults') (Rose tell_faults tell_faults')
   -- no count of failures fell
   pub source_count : source_faults ≤ source_faults'

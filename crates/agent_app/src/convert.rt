@@ -3,7 +3,7 @@ ghost use Rattle.std.specs.Prelude.{◌≡◌, ◌+◌, ◌<◌, ◌≤◌, ◌+
 ghost use Rattle.host_model.specs.Cause.{HasCause, Rose};
 ghost use Rattle.host_model.specs.Past.{told};
 ghost use Rattle.agent_app.specs.Conversion.{HasConverted};
-ghost use Rattle.agent_app.specs.Convert.{refusal_line, TellsOutput, Converts, EndsAsText, input_limit};
+ghost use Rattle.agent_app.specs.Convert.{refusal_line, TellsOutput, Converts, EndsAsText, IsUnasked, input_limit};
 ghost use Rattle.agent_app.specs.Telling.{TellsFront, HasRefusalCause, TellsOn, StopsTelling, StepsOn, Stops};
 
 use crate::conversion::Conversion;
@@ -25,6 +25,7 @@ fn tell_waiting<H: Host>(host: &mut H, out: &mut String) -> Result<(), Failed>
     ensures emptied { OnOk result (string_bytes out.new ≡ []) }
     ensures torn { OnErr result (H.honest → TellsFront (string_bytes out.old) (H.past host.old) (H.past host.new)) }
     ensures cause { HasCause (H.tell_faults host.old) (H.tell_faults host.new) (IsErr result) }
+    ensures silent { string_bytes out.old ≡ [] → host.new ≡ host.old }
 {
     if !out.is_empty() {
         host.tell(out.as_bytes())?;
@@ -66,9 +67,11 @@ fn convert_piece<H: Host>(
     requires room { (taken made : List ℕ) × HasConverted conversion.old taken made × (length taken + length piece.now ≤ input_limit) }
     requires waiting { string_bytes out.old ≡ [] }
     ensures goes_on { OnOk result ((taken made : List ℕ) → HasConverted conversion.old taken made →
-        TellsOn conversion.new H.honest (taken ++ piece.now) made (H.past host.old) (H.past host.new)) }
+        TellsOn conversion.new H.honest (taken ++ piece.now) made (H.past host.old) (H.past host.new)
+        (IsUnasked (H.past host.old) (H.past host.new) (H.tell_faults host.old) (H.tell_faults host.new))) }
     ensures stops { IfErr result (λ status. (taken made : List ℕ) → HasConverted conversion.old taken made → length taken + length piece.now ≤ input_limit →
-        (left : Option (List ℕ)) → StopsTelling status H.honest false (taken ++ piece.now) made left (H.past host.old) (H.past host.new) ⊥ (Rose (H.tell_faults host.old) (H.tell_faults host.new))) }
+        (left : Option (List ℕ)) → StopsTelling status H.honest false (taken ++ piece.now) made left (H.past host.old) (H.past host.new) ⊥ (Rose (H.tell_faults host.old) (H.tell_faults host.new))
+        (IsUnasked (H.past host.old) (H.past host.new) (H.tell_faults host.old) (H.tell_faults host.new))) }
     ensures emptied { OnOk result (string_bytes out.new ≡ []) }
     ensures count { H.tell_faults host.old ≤ H.tell_faults host.new }
 {
@@ -86,7 +89,8 @@ fn convert_piece<H: Host>(
 fn convert_end<H: Host>(conversion: &Conversion, out: &mut String, host: &mut H) -> Status
     requires waiting { string_bytes out.old ≡ [] }
     ensures stops { (taken made : List ℕ) → HasConverted conversion.now taken made → length taken < input_limit →
-        (left : Option (List ℕ)) → IfSome left (λ more. more ≡ []) → StopsTelling result H.honest true taken made left (H.past host.old) (H.past host.new) ⊥ (Rose (H.tell_faults host.old) (H.tell_faults host.new)) }
+        (left : Option (List ℕ)) → IfSome left (λ more. more ≡ []) → StopsTelling result H.honest true taken made left (H.past host.old) (H.past host.new) ⊥ (Rose (H.tell_faults host.old) (H.tell_faults host.new))
+        (IsUnasked (H.past host.old) (H.past host.new) (H.tell_faults host.old) (H.tell_faults host.new)) }
     ensures count { H.tell_faults host.old ≤ H.tell_faults host.new }
 {
     match conversion.refusal_at_end() {
@@ -107,11 +111,13 @@ fn convert_next<S: Source, H: Host>(
     requires some { 0 < length piece.old }
     requires waiting { string_bytes out.old ≡ [] }
     ensures goes_on { IfOk result (λ n. (taken made : List ℕ) → HasConverted conversion.old taken made →
-        StepsOn conversion.new H.honest n taken made (S.left source.old) (S.left source.new) (H.past host.old) (H.past host.new)) }
+        StepsOn conversion.new H.honest n taken made (S.left source.old) (S.left source.new) (H.past host.old) (H.past host.new)
+        (IsUnasked (H.past host.old) (H.past host.new) (H.tell_faults host.old) (H.tell_faults host.new))) }
     ensures within { IfOk result (λ n. (0 < n) × (n ≤ length piece.old)) }
     ensures stops { IfErr result (λ status. (taken made : List ℕ) → HasConverted conversion.old taken made → length taken + length piece.old ≤ input_limit →
         Stops status H.honest taken made (S.left source.old) (S.left source.new) (H.past host.old) (H.past host.new)
-        (Rose (S.faults source.old) (S.faults source.new)) (Rose (H.tell_faults host.old) (H.tell_faults host.new))) }
+        (Rose (S.faults source.old) (S.faults source.new)) (Rose (H.tell_faults host.old) (H.tell_faults host.new))
+        (IsUnasked (H.past host.old) (H.past host.new) (H.tell_faults host.old) (H.tell_faults host.new))) }
     ensures emptied { OnOk result (string_bytes out.new ≡ []) }
     ensures source_count { S.faults source.old ≤ S.faults source.new }
     ensures tell_count { H.tell_faults host.old ≤ H.tell_faults host.new }
