@@ -1,0 +1,27 @@
+//! Algorithms: the points that the values of a row give.
+//!
+//! Each dimension of a chart has an algorithm: the value as it is, its rise in a second, or its share in
+//! the sum of the row's values or of the row's rises. `row_points` works out the storage number of each
+//! value of a row from the value, the last one before it and the dimension's definition, exactly as the
+//! definitions of `history` say: the fraction is exact, and packed once. All of it is integer arithmetic
+//! in 128 bits, and no sum or product comes near their limit. A call takes memory for its result and for
+//! one list of samples that it gives back.
+//!
+//! The crate stands on the definitions of `history`, on the values of `entry_codec`, and on the packing
+//! of `storage_number`.
+#![tactic(auto)]
+
+mod fault;
+mod last;
+mod law;
+mod row;
+mod sample;
+#[cfg(test)]
+mod tests;
+mod total;
+mod word;
+
+pub use fault::AlgoFault;
+pub use last::{Last, LastList};
+pub use law::any_last;
+pub use row::{DimList, ROW_LIMIT, WordList, row_points};
