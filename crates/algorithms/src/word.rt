@@ -1,9 +1,9 @@
-ghost use Rattle.std.specs.Prelude.{◌≡◌, ℕ, ◌^◌, ◌≤◌, ℤ, pos, ◌*ℤ◌, ◌<ℤ◌, unsigned_abs};
-ghost use Rattle.history.specs.Points.{ratio, word_by};
+ghost use Rattle.std.specs.Prelude.{◌≡◌, ℕ, ◌^◌, ◌≤◌, false, ℤ, pos, ◌*ℤ◌, ◌<ℤ◌, unsigned_abs};
+ghost use Rattle.history.specs.Points.{ratio, rise, word_by};
 ghost use Rattle.algorithms.specs.Words.{packed};
 ghost use Rattle.algorithms.specs.Samples.{cell_at};
 
-use crate::sample::{self, Sample};
+use crate::sample::{self, Earlier, Sample};
 use fixed_num::Frac;
 use history::Algorithm;
 use storage_number::pack;
@@ -65,15 +65,23 @@ fn absolute(sample: &Sample) -> u32
 }
 
 /// The word of a value's rise in a second: at most 2^64 times 2^31, over at most 2^63.
+fn rate(sample: &Sample, before: Earlier, reset: bool) -> u32
+    ensures { result ≡ packed
+        (ratio (rise before.value sample.now.value *ℤ sample.now.multiplier) (sample.now.divisor *ℤ pos before.seconds))
+        sample.now.anomalous reset }
+{
+    let num = times(sample::rise(before.value, sample.value), sample.multiplier);
+    let den = divisor_in(sample.divisor, before.seconds);
+    packed(num, den, sample.anomalous, reset)
+}
+
+/// The word of a value's rise in a second, where there is a value before.
 fn incremental(sample: &Sample) -> Option<u32>
     ensures { result ≡ word_by packed Algorithm.Incremental (pos 0) (pos 0) (cell_at sample.now) }
 {
+    let reset = sample.is_reset();
     match sample.before {
-        Some(before) => {
-            let num = times(sample::rise(before.value, sample.value), sample.multiplier);
-            let den = divisor_in(sample.divisor, before.seconds);
-            Some(packed(num, den, sample.anomalous, sample.is_reset()))
-        }
+        Some(before) => Some(rate(sample, before, reset)),
         None => None,
     }
 }

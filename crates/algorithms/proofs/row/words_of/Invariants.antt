@@ -1,0 +1,11 @@
+use Rattle.std.proofs.Common.{◌≡◌, take, map}
+use Rattle.history.specs.declared.dimension.Algorithm.{Algorithm}
+use Rattle.history.specs.Points.{Cell, word_by, total, total_difference}
+use Rattle.algorithms.specs.declared.sample.Sample.{Sample}
+use Rattle.algorithms.specs.Samples.{cell_at}
+use Rattle.algorithms.specs.Words.{packed}
+use Rattle.algorithms.proofs.row.words_of.Given as goal
+
+abbrev pub invariant-loop-sample : goal.invariant-loop-sample
+invariant-loop-sample l =
+    l.words.items ≡ map (λ (sample : Sample). word_by packed sample.algorithm l.values l.rises (cell_at sample)) (take l.sample-index l.samples)

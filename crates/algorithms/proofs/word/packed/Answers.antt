@@ -1,0 +1,8 @@
+use Rattle.std.proofs.Common.{◌≡◌, rules}
+use Rattle.history.specs.Points.{ratio}
+use Rattle.algorithms.specs.Words.{packed}
+use Rattle.algorithms.proofs.word.packed.Goals as goal
+
+pub returns : goal.returns
+unfolding packed
+returns c = search rules
