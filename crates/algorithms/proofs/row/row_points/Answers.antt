@@ -8,8 +8,8 @@ pub words_of-requires : goal.words_of-requires
 words_of-requires c =
     let same : map cell_at c.in_ok-samples.samples.items ≡ cells c.args.update_every c.args.store_first c.args.moment c.args.now.now c.args.last.now c.args.dims.now = search rules in
     let counted : length c.in_ok-samples.samples.items ≡ length c.args.now.now =
-        length-samples _ c.args.update_every c.args.store_first c.args.moment c.args.now.now c.args.last.now c.args.dims.now
-        same c.requires.lasts c.requires.defs in
+    length-samples _ c.args.update_every c.args.store_first c.args.moment c.args.now.now c.args.last.now c.args.dims.now
+    same c.requires.lasts c.requires.defs in
     omega (arith, ap length c.as_slice-4.ensures.value, c.requires.limit)
 
 pub returns-clause-count : goal.returns-clause-count
