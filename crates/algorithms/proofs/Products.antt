@@ -1,5 +1,5 @@
 -- Products of bounded numbers.
-use Rattle.std.proofs.Common.{◌≡◌, ℕ, ◌*◌, ◌^◌, ◌≤◌, Bool, ℤ, ◌*ℤ◌, unsigned_abs, FitsSigned, arith, refl}
+use Rattle.std.proofs.Common.{◌≡◌, ◌*◌, ◌^◌, ◌≤◌, Bool, ℤ, ◌*ℤ◌, unsigned_abs, FitsSigned, arith, refl}
 use Rattle.std.specs.Int.{w32, w128}
 use Rattle.std.proofs.lemmas.Int.{ints, fits_signed_mul, unsigned_abs-mul}
 use Rattle.std.proofs.Math.Nat.{mul-le-mul}

@@ -1,6 +1,7 @@
 -- The cells of a row: what the value, the last row and the definition of each dimension make together.
 use Rattle.std.specs.Prelude.{ℕ, zero, suc, ◌-◌, nat_lt, Bool, List, [], ◌∷◌, ℤ, pos, negsuc, Option, Some, None, if◌then◌else◌}
 use Rattle.entry_codec.specs.declared.row.Value.{Value}
+use Rattle.history.specs.declared.beat.OpenValue.{OpenValue}
 use Rattle.history.specs.declared.dimension.DimDef.{DimDef}
 use Rattle.history.specs.Points.{Before, Cell, Collected, one_for_zero}
 use Rattle.algorithms.specs.declared.last.Last.{Last}
@@ -8,6 +9,10 @@ use Rattle.algorithms.specs.declared.last.Last.{Last}
 -- a last row of a history
 abbrev pub last_of : Collected → Last
 last_of collected = record { moment = collected.moment; value = collected.value }
+
+-- a value of a history by the number of its dimension
+abbrev pub numbered : ℕ → OpenValue → Value
+numbered series value = record { series = series; value = value.value; anomalous = value.anomalous }
 
 -- what a value with no last row counts from: under store_first, 0 one step earlier
 abbrev pub first_before : ℕ → Bool → Option Before

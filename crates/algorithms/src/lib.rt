@@ -23,5 +23,5 @@ mod word;
 
 pub use fault::AlgoFault;
 pub use last::{Last, LastList};
-pub use law::any_last;
+pub use law::{any_cell, any_last};
 pub use row::{DimList, ROW_LIMIT, WordList, row_points};

@@ -1,6 +1,5 @@
 use Rattle.std.proofs.Common.{◌≡◌, take, map}
-use Rattle.history.specs.declared.dimension.Algorithm.{Algorithm}
-use Rattle.history.specs.Points.{Cell, word_by, total, total_difference}
+use Rattle.history.specs.Points.{word_by}
 use Rattle.algorithms.specs.declared.sample.Sample.{Sample}
 use Rattle.algorithms.specs.Samples.{cell_at}
 use Rattle.algorithms.specs.Words.{packed}

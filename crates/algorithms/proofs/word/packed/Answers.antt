@@ -1,5 +1,4 @@
-use Rattle.std.proofs.Common.{◌≡◌, rules}
-use Rattle.history.specs.Points.{ratio}
+use Rattle.std.proofs.Common.{rules}
 use Rattle.algorithms.specs.Words.{packed}
 use Rattle.algorithms.proofs.word.packed.Goals as goal
 
