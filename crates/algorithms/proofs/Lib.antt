@@ -1,3 +1,4 @@
 pub mod CellLemmas
 pub mod Products
 pub mod RowLemmas
+pub mod Rows
