@@ -1,0 +1,4 @@
+pub mod Taking
+pub mod Numbers
+pub mod Combined
+pub mod Fields

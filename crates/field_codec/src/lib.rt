@@ -1,0 +1,26 @@
+//! Fields to bytes and back: whole numbers, flags, texts and bytes, one after the other.
+//!
+//! A `Writer` holds the bytes of what was put, and a `Reader` the bytes that are left. A whole number has
+//! its lowest byte first, a flag is a byte 0 or 1, a text is a u16 of length and its UTF-8 bytes, and
+//! bytes are a u32 of length and themselves. Each kind of field has its spelling, a function of the
+//! value, and its reading, a function of the bytes: what is put is the spelling, what is taken is the
+//! reading, and the law of both is proved for every value and all that follows. A refused call changes
+//! nothing, and reading takes no memory.
+//!
+//! It stands on the kit's `byteorder` for the order of bytes, and on `fixed_num` for lists.
+#![tactic(auto)]
+
+mod fault;
+mod front;
+mod law;
+mod reader;
+mod writer;
+
+pub use fault::FieldFault;
+pub use fixed_num::ByteList;
+pub use law::every_field;
+pub use reader::Reader;
+pub use writer::Writer;
+
+#[cfg(test)]
+mod tests;
