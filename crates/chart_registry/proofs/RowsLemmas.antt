@@ -72,7 +72,8 @@ table-own marks row mark series own none adds table = record {
 -- ---- one more chart
 module _ (rows : List Row) (marks : List Mark) (known : AreKept rows marks) where
   module _ (id : List ℕ) (none : position (bytes_eq id) (ids rows) ≡ None) where
-    apart : All (λ mark. belongs id mark ≡ false) marks
+    -- a chart that is not there has no dimensions
+    pub apart : All (λ mark. belongs id mark ≡ false) marks
     apart k d within = by (belongs id (get_or marks k d)) refl
       where
         by : (b : Bool) → belongs id (get_or marks k d) ≡ b → belongs id (get_or marks k d) ≡ false

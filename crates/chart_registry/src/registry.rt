@@ -1,4 +1,4 @@
-ghost use Rattle.std.specs.Prelude.{◌≡◌, ℕ, ◌<◌, ◌≤◌, [], ◌∷◌, length, count_by, find, slice_get, Option, Some, None, is_some, IfOk, IfSome, OnOk, OnErr, MatchResult};
+ghost use Rattle.std.specs.Prelude.{◌≡◌, ℕ, ◌<◌, ◌≤◌, [], ◌∷◌, length, count_by, find, slice_get, Option, Some, None, false, is_some, IfOk, IfSome, IfNone, OnOk, OnErr, MatchResult};
 ghost use Rattle.std.specs.List.{list_any};
 ghost use Rattle.std.specs.Option.{option_and_then, option_map};
 ghost use Rattle.history.specs.Registry.{empty, is_chart, is_of, is_dimension, chart_of, series_of, with_definitions};
@@ -71,13 +71,14 @@ impl Registry {
         self.dimensions.len() as u32
     }
 
-    /// The number of the chart with this id.
+    /// The number of the chart with this id. A chart that is not there has no dimensions.
     pub fn chart_of(&self, id: &str) -> Option<u32>
         ensures value { result ≡ chart_of self.now id.now }
         ensures found { is_some result ≡ list_any (is_chart id.now) self.now.charts }
         ensures chart { option_and_then (slice_get self.now.charts) result ≡ find (is_chart id.now) self.now.charts }
         ensures id { IfSome result (λ number. chart_id self.now number ≡ id.now) }
         ensures within { IfSome result (λ number. number < length self.now.charts) }
+        ensures unowned { IfNone result (list_any (is_of id.now) self.now.dimensions ≡ false) }
     {
         charts::number_of(&self.charts, id)
     }
