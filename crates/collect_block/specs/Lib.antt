@@ -1,0 +1,4 @@
+pub mod Feed
+pub mod BeatTables
+pub mod Places
+pub mod Tables
