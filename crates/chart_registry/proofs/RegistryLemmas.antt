@@ -1,6 +1,6 @@
 -- What the kept charts and dimensions say of the registry that they stand for.
-use Rattle.std.proofs.Common.{◌≡◌, ℕ, zero, suc, ◌+◌, ◌<◌, Bool, true, false, ◌||◌, ◌&&◌, nat_eq, nat_le, List, [], ◌∷◌, length, map, set, get_or, slice_get, position, Option, Some, None, IfSome, is_some, refl, sym, ap, subst, ◌∙◌, arith, add-zero, if◌then◌else◌}
-use Rattle.std.specs.List.{find, list_any, count_by}
+use Rattle.std.proofs.Common.{◌≡◌, ℕ, zero, suc, ◌+◌, ◌<◌, Bool, true, false, ◌||◌, nat_eq, nat_le, List, [], ◌∷◌, length, map, set, get_or, slice_get, position, Option, Some, None, IfSome, is_some, refl, sym, ap, subst, ◌∙◌, arith, add-zero, if◌then◌else◌}
+use Rattle.std.specs.List.{list_any, count_by}
 use Rattle.std.specs.Option.{option_and_then, option_map, option_map_or}
 use Rattle.std.specs.Str.{bytes_eq}
 use Rattle.std.proofs.lemmas.Bool.{and_parts, leb-false, true≢false}
@@ -10,7 +10,6 @@ use Rattle.std.proofs.lemmas.Slice.Eq.{bytes_eq-Decides}
 use Rattle.history.specs.declared.beat.OpenDim.{OpenDim}
 use Rattle.history.specs.declared.chart.ChartDef.{ChartDef}
 use Rattle.history.specs.declared.dimension.DimDef.{DimDef}
-use Rattle.history.specs.declared.fault.BlockFault.{BlockFault}
 use Rattle.history.specs.declared.fault.BlockFault.TheVariants as block
 use Rattle.history.specs.Put.{put}
 use Rattle.history.specs.Registry.{Registry as Definitions, is_chart, is_of, is_dimension, same_dimension, chart_of, series_of}
