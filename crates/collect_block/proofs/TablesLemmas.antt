@@ -227,3 +227,6 @@ module _ {S : Type 0} (es : List (String Global × IndexMap (String Global) ℕ 
         adds = subst (λ old. AddsPlace old id place (table_in ns chart)) (sym before) (subst (AddsPlace [] id place) (sym now) adds);
         others = λ other e. ap (λ found. option_map_or (λ (table : IndexMap (String Global) ℕ S). table.entries) found []) (finds other ∙ ap (λ b. cond b (Some table) (place_in es other)) e);
       }
+
+abbrev pub length_of_table : {S : Type 0} → Option (IndexMap (String Global) ℕ S) → ℕ
+length_of_table found = length (option_map_or (λ table. table.entries) found [])
