@@ -13,7 +13,6 @@ use Rattle.std.proofs.lemmas.Slice.Eq.{bytes_eq-Decides}
 use Rattle.history.specs.declared.beat.OpenDim.{OpenDim}
 use Rattle.history.specs.declared.beat.OpenRow.{OpenRow}
 use Rattle.history.specs.declared.chart.ChartDef.{ChartDef}
-use Rattle.history.specs.Put.{put}
 use Rattle.history.specs.Registry.{is_chart, is_of, is_dimension, same_dimension}
 use Rattle.indexmap.specs.IndexMap.{IndexMap}
 use Rattle.indexmap.specs.Layout.{set_value_at}
@@ -49,14 +48,13 @@ find-nowhere p xs none = sym (find-position p xs) ∙ ap (option_and_then (slice
 
 -- ---- charts
 module _ (defs : List ChartDef) (def : ChartDef) where
-
   -- a definition in the place of an earlier one leaves the places
   pub chart-replaced : (n : ℕ) → position (is_chart def.id) defs ≡ Some n → (id : List ℕ) → position (is_chart id) (set defs n def) ≡ position (is_chart id) defs
   chart-replaced n found id =
       let old = get_or defs n def in
       let same : def.id ≡ old.id = same_text def.id old.id (passes-place (is_chart def.id) defs n found def) in
       let ids : map (λ (chart : ChartDef). chart.id) (set defs n def) ≡ map (λ (chart : ChartDef). chart.id) defs
-          = map-set_kept (λ (chart : ChartDef). chart.id) defs n old def (slice_get-get_or defs n def (place-within (is_chart def.id) defs n found)) same in
+      = map-set_kept (λ (chart : ChartDef). chart.id) defs n old def (slice_get-get_or defs n def (place-within (is_chart def.id) defs n found)) same in
       sym (position-map (bytes_eq id) (λ (chart : ChartDef). chart.id) (set defs n def)) ∙ ap (position (bytes_eq id)) ids ∙ position-map (bytes_eq id) (λ (chart : ChartDef). chart.id) defs
 
   -- a new chart stands at the end
@@ -173,6 +171,9 @@ dimensions-kept defs old new keeps finds = record {
 }
 
 -- ---- tables of places
+abbrev pub entries_of : {S : Type 0} → Option (IndexMap (String Global) ℕ S) → List (String Global × ℕ)
+entries_of found = option_map_or (λ table. table.entries) found []
+
 lookup-set_here : {K X : Type 0} (test : K → Bool) (es : List (K × X)) (n : ℕ) (w : X) → IsFirst test (keys_of es) n → lookup test (set_value_at es n w) ≡ Some w
 lookup-set_here test [] n w h = absurd h
 lookup-set_here test (e ∷ es) zero w h = ap (λ b. cond b (Some w) (lookup test es)) h
@@ -184,49 +185,53 @@ lookup-set_other test other apart [] n w h = absurd h
 lookup-set_other test other apart (e ∷ es) zero w h = ap (λ b. cond b (Some w) (lookup other es)) (apart e.0 h) ∙ sym (ap (λ b. cond b (Some e.1) (lookup other es)) (apart e.0 h))
 lookup-set_other test other apart (e ∷ es) (suc n) w h = ap (cond (other e.0) (Some e.1)) (lookup-set_other test other apart es n w h.1)
 
+abbrev is_key : List ℕ → String Global → Bool
+is_key text key = bytes_eq text (string_bytes key)
+
+-- a key that is one text is no other
+apart : (text other : List ℕ) → bytes_eq text other ≡ false → (key : String Global) → is_key text key ≡ true → is_key other key ≡ false
+apart text other e key same = ap (bytes_eq other) (sym (same_text text (string_bytes key) same)) ∙ bytes_eq_turned text other e
+
 module _ {S : Type 0} (es : List (String Global × IndexMap (String Global) ℕ S)) (chart id : List ℕ) (place : ℕ) where
   -- a place in the table of a chart that has one
-  pub enters-known : (n : ℕ) (old new : IndexMap (String Global) ℕ S) → position (λ key. bytes_eq chart (string_bytes key)) (keys_of es) ≡ Some n → place_in es chart ≡ Some old
+  pub enters-known : (n : ℕ) (old new : IndexMap (String Global) ℕ S) → position (is_key chart) (keys_of es) ≡ Some n → place_in es chart ≡ Some old
       → AddsPlace old.entries id place new.entries → EntersPlace es chart id place (set_value_at es n new)
   enters-known n old new at here adds =
-      let first = first-from_position (λ key. bytes_eq chart (string_bytes key)) (keys_of es) n at in
+      let first = first-from_position (is_key chart) (keys_of es) n at in
       let now : table_in (set_value_at es n new) chart ≡ new.entries
-          = ap (λ found. option_map_or (λ (table : IndexMap (String Global) ℕ S). table.entries) found []) (lookup-set_here (λ key. bytes_eq chart (string_bytes key)) es n new first) in
-      let before : table_in es chart ≡ old.entries = ap (λ found. option_map_or (λ (table : IndexMap (String Global) ℕ S). table.entries) found []) here in
+      = ap entries_of (lookup-set_here (is_key chart) es n new first) in
+      let before : table_in es chart ≡ old.entries = ap entries_of here in
       record {
         adds = subst (λ table. AddsPlace table id place (table_in (set_value_at es n new) chart)) (sym before) (subst (AddsPlace old.entries id place) (sym now) adds);
-        others = λ other e. ap (λ found. option_map_or (λ (table : IndexMap (String Global) ℕ S). table.entries) found [])
-            (lookup-set_other (λ key. bytes_eq chart (string_bytes key)) (λ key. bytes_eq other (string_bytes key)) (λ key same. ap (bytes_eq other) (sym (same_text chart (string_bytes key) same)) ∙ bytes_eq_turned chart other e) es n new first);
+        others = λ other e. ap entries_of
+            (lookup-set_other (is_key chart) (is_key other) (apart chart other e) es n new first);
       }
 
   -- the table of a chart stays where it was
-  pub keeps-known : (n : ℕ) (old new : IndexMap (String Global) ℕ S) → position (λ key. bytes_eq chart (string_bytes key)) (keys_of es) ≡ Some n → place_in es chart ≡ Some old
+  pub keeps-known : (n : ℕ) (old new : IndexMap (String Global) ℕ S) → position (is_key chart) (keys_of es) ≡ Some n → place_in es chart ≡ Some old
       → new.entries ≡ old.entries → KeepsTables es (set_value_at es n new)
   keeps-known n old new at here same other = by (bytes_eq chart other) refl
     where
-      first : IsFirst (λ key. bytes_eq chart (string_bytes key)) (keys_of es) n
-      first = first-from_position (λ key. bytes_eq chart (string_bytes key)) (keys_of es) n at
+      first : IsFirst (is_key chart) (keys_of es) n
+      first = first-from_position (is_key chart) (keys_of es) n at
 
       by : (b : Bool) → bytes_eq chart other ≡ b → table_in (set_value_at es n new) other ≡ table_in es other
       by true e =
           let named = same_text chart other e in
           ap (table_in (set_value_at es n new)) (sym named)
-          ∙ ap (λ found. option_map_or (λ (table : IndexMap (String Global) ℕ S). table.entries) found []) (lookup-set_here (λ key. bytes_eq chart (string_bytes key)) es n new first)
-          ∙ same ∙ sym (ap (λ found. option_map_or (λ (table : IndexMap (String Global) ℕ S). table.entries) found []) here) ∙ ap (table_in es) named
-      by false e = ap (λ found. option_map_or (λ (table : IndexMap (String Global) ℕ S). table.entries) found [])
-          (lookup-set_other (λ key. bytes_eq chart (string_bytes key)) (λ key. bytes_eq other (string_bytes key)) (λ key same. ap (bytes_eq other) (sym (same_text chart (string_bytes key) same)) ∙ bytes_eq_turned chart other e) es n new first)
+          ∙ ap entries_of (lookup-set_here (is_key chart) es n new first)
+          ∙ same ∙ sym (ap entries_of here) ∙ ap (table_in es) named
+      by false e = ap entries_of
+          (lookup-set_other (is_key chart) (is_key other) (apart chart other e) es n new first)
 
   -- a place in a new table
   pub enters-first : (ns : List (String Global × IndexMap (String Global) ℕ S)) (table : IndexMap (String Global) ℕ S) → place_in es chart ≡ None → AddsPlace [] id place table.entries
       → ((other : List ℕ) → place_in ns other ≡ cond (bytes_eq chart other) (Some table) (place_in es other)) → EntersPlace es chart id place ns
   enters-first ns table none adds finds =
       let now : table_in ns chart ≡ table.entries
-          = ap (λ found. option_map_or (λ (table : IndexMap (String Global) ℕ S). table.entries) found []) (finds chart ∙ ap (λ b. cond b (Some table) (place_in es chart)) (bytes_eq_same chart chart refl)) in
-      let before : table_in es chart ≡ [] = ap (λ found. option_map_or (λ (table : IndexMap (String Global) ℕ S). table.entries) found []) none in
+      = ap entries_of (finds chart ∙ ap (λ b. cond b (Some table) (place_in es chart)) (bytes_eq_same chart chart refl)) in
+      let before : table_in es chart ≡ [] = ap entries_of none in
       record {
         adds = subst (λ old. AddsPlace old id place (table_in ns chart)) (sym before) (subst (AddsPlace [] id place) (sym now) adds);
-        others = λ other e. ap (λ found. option_map_or (λ (table : IndexMap (String Global) ℕ S). table.entries) found []) (finds other ∙ ap (λ b. cond b (Some table) (place_in es other)) e);
+        others = λ other e. ap entries_of (finds other ∙ ap (λ b. cond b (Some table) (place_in es other)) e);
       }
-
-abbrev pub length_of_table : {S : Type 0} → Option (IndexMap (String Global) ℕ S) → ℕ
-length_of_table found = length (option_map_or (λ table. table.entries) found [])

@@ -1,7 +1,6 @@
-use Rattle.std.proofs.Common.{arith, ◌≡◌, ℕ, List, [], ◌∷◌, ◌++◌, cond, length, Some, sym, ap, subst, ◌∙◌, string_bytes}
+use Rattle.std.proofs.Common.{arith, ◌≡◌, ℕ, List, [], ◌∷◌, ◌++◌, cond, length, Some, sym, subst, ◌∙◌, string_bytes}
 use Rattle.std.specs.Str.{bytes_eq}
 use Rattle.std.proofs.lemmas.Map.Text.{hash_map_updates_text}
-use Rattle.history.specs.declared.chart.ChartDef.{ChartDef}
 use Rattle.history.specs.Registry.{same_chart}
 use Rattle.chart_registry.proofs.Places.{put-absent}
 use Rattle.collect_block.specs.Places.{FindsCharts, place_in}
@@ -17,8 +16,8 @@ returns-clause-found c =
     let named : string_bytes c.into_string-id.result ≡ c.args.def.id = c.into_string-id.ensures ∙ c.in_ok-clone.ensures.cases in
     let place : c.len.result ≡ length defs = grind arith in
     let finds : (other : List ℕ) → place_in new.entries other ≡ cond (bytes_eq c.args.def.id other) (Some (length defs)) (place_in old.entries other)
-        = λ other. hash_map_updates_text (string_bytes c.into_string-id.result) old new (Some c.len.result) c.in_ok-insert.ensures.updates other
-          ∙ (λ i. cond (bytes_eq (named i) other) (Some (place i)) (place_in old.entries other)) in
+    = λ other. hash_map_updates_text (string_bytes c.into_string-id.result) old new (Some c.len.result) c.in_ok-insert.ensures.updates other
+    ∙ (λ i. cond (bytes_eq (named i) other) (Some (place i)) (place_in old.entries other)) in
     subst (FindsCharts new.entries) (sym pushed) (chart-added defs c.args.def old.entries new.entries c.requires.found c.requires.absent finds)
 
 pub returns-clause-ok : goal.returns-clause-ok

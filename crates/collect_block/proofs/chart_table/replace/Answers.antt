@@ -1,7 +1,7 @@
 use Rattle.std.proofs.Common.{sym}
-use Rattle.history.specs.Registry.{is_chart, same_chart}
+use Rattle.history.specs.Registry.{same_chart}
 use Rattle.chart_registry.proofs.Places.{put-present}
-use Rattle.collect_block.proofs.TablesLemmas.{place-within, chart-replaced}
+use Rattle.collect_block.proofs.TablesLemmas.{chart-replaced}
 use Rattle.collect_block.proofs.chart_table.replace.Goals as goal
 
 pub returns-clause-put : goal.returns-clause-put

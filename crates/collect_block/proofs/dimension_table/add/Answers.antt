@@ -1,5 +1,4 @@
 use Rattle.std.proofs.Common.{arith, ◌≡◌, ℕ, List, [], ◌∷◌, ◌++◌, length, sym, subst, ◌∙◌, string_bytes}
-use Rattle.history.specs.declared.beat.OpenDim.{OpenDim}
 use Rattle.history.specs.Registry.{same_dimension}
 use Rattle.chart_registry.proofs.Places.{put-absent}
 use Rattle.collect_block.specs.Places.{place_in, table_in, EntersPlace, FindsDimensions}
@@ -24,9 +23,9 @@ returns-clause-found c =
     let chart : string_bytes c.into_string-chart.result ≡ def.chart = c.into_string-chart.ensures ∙ c.in_ok-clone.ensures.cases in
     let id : string_bytes c.into_string-id.result ≡ def.def.id = c.into_string-id.ensures ∙ c.in_ok-clone-2.ensures.cases in
     let enters : EntersPlace old def.chart def.def.id (length defs) new
-        = subst (λ (place : ℕ). EntersPlace old def.chart def.def.id place new) place
-          (subst (λ (text : List ℕ). EntersPlace old def.chart text c.len.result new) id
-          (subst (λ (text : List ℕ). EntersPlace old text (string_bytes c.into_string-id.result) c.len.result new) chart c.in_ok-enter.ensures.ok)) in
+    = subst (λ (place : ℕ). EntersPlace old def.chart def.def.id place new) place
+    (subst (λ (text : List ℕ). EntersPlace old def.chart text c.len.result new) id
+    (subst (λ (text : List ℕ). EntersPlace old text (string_bytes c.into_string-id.result) c.len.result new) chart c.in_ok-enter.ensures.ok)) in
     subst (FindsDimensions new) (sym pushed) (dimension-added defs def old new c.requires.found enters c.requires.absent)
 
 pub returns-clause-ok : goal.returns-clause-ok

@@ -1,6 +1,5 @@
-use Rattle.std.proofs.Common.{arith, ◌≡◌, List, [], ◌∷◌, ◌++◌, ◌||◌, is_some, sym, ap, subst, ◌∙◌}
+use Rattle.std.proofs.Common.{arith, ◌≡◌, [], ◌∷◌, ◌++◌, ◌||◌, is_some, sym, ap, subst, ◌∙◌}
 use Rattle.std.specs.Str.{bytes_eq}
-use Rattle.history.specs.declared.beat.OpenRow.{OpenRow}
 use Rattle.collect_block.specs.Places.{place_in, FindsRows}
 use Rattle.collect_block.proofs.TablesLemmas.{row-added}
 use Rattle.collect_block.proofs.row_table.add.Goals as goal

@@ -1,4 +1,4 @@
-use Rattle.std.proofs.Common.{◌≡◌, List, ℕ, Bool, true, false, cond, ◌||◌, is_some, Some, Option, refl, ap, ◌∙◌, string_bytes}
+use Rattle.std.proofs.Common.{List, ℕ, cond, is_some, Some, ap, ◌∙◌, string_bytes}
 use Rattle.std.specs.Str.{bytes_eq}
 use Rattle.std.proofs.lemmas.Map.Text.{hash_map_updates_text}
 use Rattle.collect_block.specs.Places.{place_in}

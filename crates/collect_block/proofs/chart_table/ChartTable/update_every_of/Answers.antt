@@ -1,4 +1,4 @@
-use Rattle.std.proofs.Common.{arith, ◌≡◌, List, ℕ, sym, ap, ◌∙◌, Option, find, position, Some, None}
+use Rattle.std.proofs.Common.{arith, sym, ap, ◌∙◌, find}
 use Rattle.std.specs.Option.{option_map}
 use Rattle.history.specs.declared.chart.ChartDef.{ChartDef}
 use Rattle.history.specs.Registry.{is_chart}
