@@ -1,4 +1,4 @@
-ghost use Rattle.std.specs.Prelude.{◌≡◌, ◌≤◌, ◌%◌, ◌==◌, ◌&&◌, not, nat_lt, length, count_by, find};
+ghost use Rattle.std.specs.Prelude.{◌≡◌, ◌≤◌, ◌%◌, ◌==◌, ◌&&◌, false, not, nat_lt, length, count_by, find};
 ghost use Rattle.std.specs.List.{list_any};
 ghost use Rattle.std.specs.Option.{option_map, option_map_or};
 ghost use Rattle.chart_registry.specs.Defining.{nothing_open};
@@ -155,12 +155,10 @@ impl BeatTables {
     pub(crate) fn is_off_grid(&self, registry: &Registry, moment: u32) -> bool
         ensures { result ≡ is_off_grid registry.now (beat_of self.now) moment }
     {
-        for row in self.rows.as_slice() {
-            if is_off(self.update_every_of(registry, row.chart.as_str()), moment) {
-                return true;
-            }
-        }
-        false
+        self.rows
+            .as_slice()
+            .iter()
+            .any(|row| is_off(self.update_every_of(registry, row.chart.as_str()), moment))
     }
 }
 
@@ -203,17 +201,20 @@ fn known_dimensions_of(registry: &Registry, chart: &str) -> u32
     }
 }
 
+fn is_new_chart(registry: &Registry, def: &ChartDef) -> bool
+    ensures { result ≡ is_new_chart registry.now def.now }
+{
+    registry.chart_of(def.id.as_str()).is_none()
+}
+
 // How many of these charts the registry does not have.
 fn new_charts(registry: &Registry, charts: &[ChartDef]) -> usize
     ensures { result ≡ count_by (is_new_chart registry.now) charts.now }
 {
-    let mut count = 0;
-    for def in charts {
-        if registry.chart_of(def.id.as_str()).is_none() {
-            count += 1;
-        }
-    }
-    count
+    charts
+        .iter()
+        .filter(|def| is_new_chart(registry, def))
+        .count()
 }
 
 fn is_new_dimension(registry: &Registry, dimension: &OpenDim) -> bool
@@ -230,24 +231,20 @@ fn is_new_dimension(registry: &Registry, dimension: &OpenDim) -> bool
 fn new_dimensions(registry: &Registry, dimensions: &[OpenDim]) -> usize
     ensures { result ≡ count_by (is_new_dimension registry.now) dimensions.now }
 {
-    let mut count = 0;
-    for dimension in dimensions {
-        if is_new_dimension(registry, dimension) {
-            count += 1;
-        }
-    }
-    count
+    dimensions
+        .iter()
+        .filter(|dimension| is_new_dimension(registry, dimension))
+        .count()
 }
 
 // The same, of one chart.
 fn new_dimensions_of(registry: &Registry, dimensions: &[OpenDim], chart: &str) -> usize
     ensures { result ≡ count_by (λ dimension. is_of chart.now dimension && is_new_dimension registry.now dimension) dimensions.now }
 {
-    let mut count = 0;
-    for dimension in dimensions {
-        if dimension.chart.as_str() == chart && is_new_dimension(registry, dimension) {
-            count += 1;
-        }
-    }
-    count
+    dimensions
+        .iter()
+        .filter(|dimension| {
+            chart == dimension.chart.as_str() && is_new_dimension(registry, dimension)
+        })
+        .count()
 }
