@@ -1,7 +1,8 @@
-ghost use Rattle.std.specs.Prelude.{◌≡◌, [], find, OnOk, OnErr};
+ghost use Rattle.std.specs.Prelude.{◌≡◌, ℕ, List, [], find, position, Some, None, OnOk, OnErr};
 ghost use Rattle.std.specs.Option.{option_map};
 ghost use Rattle.history.specs.Put.{put};
 ghost use Rattle.history.specs.Registry.{is_chart, same_chart};
+ghost use Rattle.collect_block.specs.Places.{FindsCharts};
 
 use fixed_num::ListOf;
 use history::{ChartDef, ChartDefList};
@@ -62,13 +63,7 @@ impl ChartTable {
         ensures ok { OnOk result (self.new ≡ put same_chart self.old def) }
         ensures err { OnErr result (self.new ≡ self.old) }
     {
-        match self.places.get(def.id.as_str()).copied() {
-            Some(place) => {
-                self.defs[place] = def;
-                Ok(())
-            }
-            None => add(&mut self.defs, &mut self.places, def),
-        }
+        define(&mut self.defs, &mut self.places, def)
     }
 
     // Takes all definitions out.
@@ -81,12 +76,47 @@ impl ChartTable {
     }
 }
 
-// Adds a definition at the end.
+// Keeps a definition, in the place of an earlier one of the same chart.
+fn define(
+    defs: &mut Vec<ChartDef>,
+    places: &mut IndexMap<String, usize>,
+    def: ChartDef,
+) -> Result<(), AllocError>
+    requires found { FindsCharts places.old.entries defs.old.items }
+    ensures found { FindsCharts places.new.entries defs.new.items }
+    ensures ok { OnOk result (defs.new.items ≡ put same_chart defs.old.items def) }
+    ensures err { OnErr result (defs.new.items ≡ defs.old.items) }
+{
+    match places.get(def.id.as_str()).copied() {
+        Some(place) => {
+            replace(defs, place, def);
+            Ok(())
+        }
+        None => add(defs, places, def),
+    }
+}
+
+// Keeps a definition in the place of an earlier one of the same chart.
+fn replace(defs: &mut Vec<ChartDef>, place: usize, def: ChartDef)
+    requires there { position (is_chart def.id) defs.old.items ≡ Some place }
+    ensures put { defs.new.items ≡ put same_chart defs.old.items def }
+    ensures kept { (id : List ℕ) → position (is_chart id) defs.new.items ≡ position (is_chart id) defs.old.items }
+{
+    defs[place] = def;
+}
+
+// Adds the definition of a new chart at the end.
 fn add(
     defs: &mut Vec<ChartDef>,
     places: &mut IndexMap<String, usize>,
     def: ChartDef,
-) -> Result<(), AllocError> {
+) -> Result<(), AllocError>
+    requires found { FindsCharts places.old.entries defs.old.items }
+    requires absent { position (is_chart def.id) defs.old.items ≡ None }
+    ensures found { FindsCharts places.new.entries defs.new.items }
+    ensures ok { OnOk result (defs.new.items ≡ put same_chart defs.old.items def) }
+    ensures err { OnErr result (defs.new.items ≡ defs.old.items) }
+{
     let id = def.id.clone()?.into_string();
     defs.reserve(1)?;
     places.insert(id, defs.len())?;

@@ -1,6 +1,7 @@
-ghost use Rattle.std.specs.Prelude.{◌≡◌, [], ◌∷◌, ◌++◌, OnOk, OnErr, IfErr};
+ghost use Rattle.std.specs.Prelude.{◌≡◌, ◌<◌, ◌||◌, ℕ, List, [], ◌∷◌, ◌++◌, is_some, vec_len, vec_capacity, OnOk, OnErr, IfErr};
 ghost use Rattle.std.specs.List.{list_any};
 ghost use Rattle.std.specs.Str.{bytes_eq};
+ghost use Rattle.collect_block.specs.Places.{place_in, FindsRows};
 
 use fixed_num::ListOf;
 use history::{OpenRow, OpenRowList};
@@ -59,13 +60,7 @@ impl RowTable {
         ensures err { OnErr result (self.new ≡ self.old) }
         ensures returned { IfErr result (λ back. back ≡ row) }
     {
-        match enter(self.alloc, &mut self.rows, &mut self.charts, row.chart.as_str()) {
-            Ok(()) => {
-                self.rows.push(row).unwrap();
-                Ok(())
-            }
-            Err(_) => Err(row),
-        }
+        add(self.alloc, &mut self.rows, &mut self.charts, row)
     }
 
     // Takes all rows out.
@@ -78,15 +73,42 @@ impl RowTable {
     }
 }
 
+// Adds a row at the end.
+fn add(
+    alloc: Global,
+    rows: &mut Vec<OpenRow>,
+    charts: &mut IndexMap<String, ()>,
+    row: OpenRow,
+) -> Result<(), OpenRow>
+    requires found { FindsRows charts.old.entries rows.old.items }
+    ensures found { FindsRows charts.new.entries rows.new.items }
+    ensures ok { OnOk result (rows.new.items ≡ rows.old.items ++ row ∷ []) }
+    ensures err { OnErr result (rows.new.items ≡ rows.old.items) }
+    ensures returned { IfErr result (λ back. back ≡ row) }
+{
+    match make_room(alloc, rows, charts, row.chart.as_str()) {
+        Ok(()) => {
+            rows.push(row).unwrap();
+            Ok(())
+        }
+        Err(_) => Err(row),
+    }
+}
+
 // Makes room for a row of this chart, and notes that it has one.
-fn enter(
+fn make_room(
     alloc: Global,
     rows: &mut Vec<OpenRow>,
     charts: &mut IndexMap<String, ()>,
     chart: &str,
-) -> Result<(), AllocError> {
-    let chart = String::from_str(alloc, chart)?;
+) -> Result<(), AllocError>
+    ensures rows { rows.new.items ≡ rows.old.items }
+    ensures room { OnOk result (vec_len rows.new < vec_capacity rows.new) }
+    ensures ok { OnOk result ((other : List ℕ) → is_some (place_in charts.new.entries other) ≡ (bytes_eq chart.now other || is_some (place_in charts.old.entries other))) }
+    ensures err { OnErr result (charts.new.entries ≡ charts.old.entries) }
+{
+    let key = String::from_str(alloc, chart)?;
     rows.reserve(1)?;
-    charts.insert(chart, ())?;
+    charts.insert(key, ())?;
     Ok(())
 }
