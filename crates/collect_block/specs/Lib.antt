@@ -1,4 +1,5 @@
-pub mod Feed
 pub mod BeatTables
+pub mod Feed
 pub mod Places
 pub mod Tables
+pub mod Text

@@ -15,7 +15,9 @@ mod feed;
 
 mod row_table;
 mod step;
+mod text;
 
 pub use feed::Feed;
 pub use history::{BlockFault, Line, OpenBeat, OpenDim, OpenRow, OpenValue};
 pub use step::Step;
+pub use text::{End, Item, ItemList, ReadText, read_text};

@@ -2,7 +2,10 @@ ghost use Rattle.std.specs.Prelude.{◌≡◌, ◌<◌, ◌≤◌, ◌+◌, ℕ,
 ghost use Rattle.history.specs.History.{Beat, registry_of};
 ghost use Rattle.history.specs.Read.{history_at, accepted, ending, read};
 ghost use Rattle.history.specs.declared.line.Line.{Line as ALine};
-ghost use Rattle.collect_block.specs.Text.{IsAt, IsReaderOf, Took, TookAll, item_of, end_of};
+ghost use Rattle.collect_block.specs.Text.{IsAt, IsReaderOf, Stepped, Took, TookAll, item_of, end_of};
+ghost use Rattle.collect_block.specs.Feed.{IsFeedOf};
+ghost use Rattle.collect_block.specs.declared.step.Step.TheVariants as step;
+ghost use Rattle.history.specs.declared.line.Line.TheVariants as line;
 
 use crate::feed::Feed;
 use crate::step::Step;
@@ -131,6 +134,8 @@ impl Reader {
         registry: &mut Registry,
         step: Step,
     ) -> Result<Option<End>, AllocError>
+        requires { (every : ℕ) × (h : List Beat) × (past : List ALine) × (line : ALine) × Stepped self.old registry.old every h past line step }
+        ensures { IfOk result (λ found. (every : ℕ) (h : List Beat) (past : List ALine) (line : ALine) → Stepped self.old registry.old every h past line step → Took every h past line found self.new registry.new) }
     {
         match step {
             Step::Nothing => Ok(None),
@@ -152,6 +157,8 @@ impl Reader {
         beat: OpenBeat,
         moment: u32,
     ) -> Result<(), AllocError>
+        requires { (every : ℕ) × (h : List Beat) × (past : List ALine) × Stepped self.old registry.old every h past (line.Moment moment) (step.Beat beat moment) }
+        ensures { OnOk result ((every : ℕ) (h : List Beat) (past : List ALine) → Stepped self.old registry.old every h past (line.Moment moment) (step.Beat beat moment) → IsReaderOf self.new registry.new every h (line.Moment moment ∷ past)) }
     {
         if registry.apply(&beat).is_err() {
             return Err(AllocError);
