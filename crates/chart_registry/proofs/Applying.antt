@@ -47,7 +47,7 @@ or-again true y = refl
 or-again false y = or-last false y
 
 module _ {A : Type 0} (same : A → A → Bool) (p : A → Bool) (alike : (x y : A) → same x y ≡ true → p x ≡ p y) where
-  any-put : (xs : List A) (x : A) → list_any p (put same xs x) ≡ (list_any p xs || p x)
+  pub any-put : (xs : List A) (x : A) → list_any p (put same xs x) ≡ (list_any p xs || p x)
   any-put [] x = or-last (p x) false
   any-put (y ∷ ys) x = by (same x y) refl (any-put ys x)
     where
@@ -76,12 +76,15 @@ module _ {A : Type 0} (p : A → Bool) where
       by true rest = refl
       by false rest = rest
 
-same_chart-alike : (id : List ℕ) (x y : ChartDef) → same_chart x y ≡ true → is_chart id x ≡ is_chart id y
+pub same_chart-alike : (id : List ℕ) (x y : ChartDef) → same_chart x y ≡ true → is_chart id x ≡ is_chart id y
 same_chart-alike id x y same = ap (bytes_eq id) ((bytes_eq-Decides x.id y.id).0 same)
+
+pub has_chart-any : (registry : Registry) (beat : OpenBeat) (id : List ℕ) → has_chart registry beat id ≡ (list_any (is_chart id) beat.charts || list_any (is_chart id) registry.charts)
+has_chart-any registry beat id = some-find_first (is_chart id) beat.charts registry.charts
 
 -- a chart that the registry or the beat has is there once the beat's charts are
 pub has_chart-applied : (registry : Registry) (beat : OpenBeat) (id : List ℕ) → list_any (is_chart id) (with_definitions registry beat.charts []).charts ≡ has_chart registry beat id
 has_chart-applied registry beat id =
     any-put_all same_chart (is_chart id) (same_chart-alike id) registry.charts beat.charts
     ∙ or-last (list_any (is_chart id) registry.charts) (list_any (is_chart id) beat.charts)
-    ∙ sym (some-find_first (is_chart id) beat.charts registry.charts)
+    ∙ sym (has_chart-any registry beat id)
