@@ -78,3 +78,8 @@ pub record TookFront (every : ℕ) (h : List Beat) (lines : List Line) (end : En
 abbrev pub TookAll : ℕ → List Beat → List Line → Option End → Reader → Registry → Type 0
 TookAll every h lines None reader registry = TookEach every h lines reader registry
 TookAll every h lines (Some end) reader registry = TookFront every h lines end reader registry
+
+-- a reader has read this whole text, which follows a history
+pub record HasRead (every : ℕ) (h : List Beat) (lines : List Line) (ended : Bool) (rest : List ℕ) (end : End) (reader : Reader) (registry : Registry) : Type 0 where
+  pub holds : Holds reader registry every h (accepted every h [] lines)
+  pub ends : end_of end ≡ ending every h ended rest [] lines

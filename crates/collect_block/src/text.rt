@@ -2,7 +2,7 @@ ghost use Rattle.std.specs.Prelude.{◌≡◌, ◌<◌, ◌≤◌, ◌+◌, ℕ,
 ghost use Rattle.history.specs.History.{Beat, registry_of};
 ghost use Rattle.history.specs.Read.{history_at, accepted, ending, read};
 ghost use Rattle.history.specs.declared.line.Line.{Line as ALine};
-ghost use Rattle.collect_block.specs.Text.{IsAt, IsReaderOf, Stepped, Took, TookAll, item_of, end_of};
+ghost use Rattle.collect_block.specs.Text.{IsAt, IsReaderOf, HasRead, Stepped, Took, TookAll, item_of, end_of};
 ghost use Rattle.collect_block.specs.Feed.{IsFeedOf};
 ghost use Rattle.collect_block.specs.declared.step.Step.TheVariants as step;
 ghost use Rattle.history.specs.declared.line.Line.TheVariants as line;
@@ -81,10 +81,7 @@ pub fn read_text(
         copies,
         items: ListOf::new(alloc),
     };
-    let end = match reader.take_lines(registry, lines)? {
-        Some(end) => end,
-        None => reader.end(lines.len(), ended, rest),
-    };
+    let end = reader.read(registry, lines, ended, rest)?;
     Ok(ReadText {
         items: reader.items,
         end,
@@ -92,6 +89,23 @@ pub fn read_text(
 }
 
 impl Reader {
+    // Reads a whole text.
+    fn read(
+        &mut self,
+        registry: &mut Registry,
+        lines: &[Line],
+        ended: bool,
+        rest: &[u8],
+    ) -> Result<End, AllocError>
+        requires { (every : ℕ) × (h : List Beat) × IsReaderOf self.old registry.old every h [] }
+        ensures { IfOk result (λ end. (every : ℕ) (h : List Beat) → IsReaderOf self.old registry.old every h [] → HasRead every h lines.now ended rest.now end self.new registry.new) }
+    {
+        match self.take_lines(registry, lines)? {
+            Some(end) => Ok(end),
+            None => Ok(self.end(lines.len(), ended, rest)),
+        }
+    }
+
     // Takes lines up to the one that ends the text, if one does.
     fn take_lines(
         &mut self,
