@@ -26,5 +26,5 @@ pub dimension-refused : (registry : Registry) (feed : Feed) (every : ℕ) (past 
     → is_some feed.block ≡ false → feed.chart ≡ Some chart → refusal registry every past copies last (line.Dimension def) ≡ dimension_refusal registry (beat_of feed.beat) chart def
 dimension-refused registry feed every past copies last def chart is closed named =
     (λ i. if (sym (block-open feed every past is) ∙ closed) i then Some OpenBlock
-          else option_map_or (λ chart. dimension_refusal registry (beat every past) chart def) ((sym is.chart ∙ named) i) (Some NoChart))
+    else option_map_or (λ chart. dimension_refusal registry (beat every past) chart def) ((sym is.chart ∙ named) i) (Some NoChart))
     ∙ ap (λ (open_beat : OpenBeat). dimension_refusal registry open_beat chart def) (sym is.beat)

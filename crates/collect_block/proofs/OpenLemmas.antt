@@ -121,7 +121,7 @@ module _ (every : ℕ) (h : List Beat) where
   chart-owned past def owned = (
     is-there (reg past) (charts every past) (dimensions past) (rows past) (with_grid every def) def.id (with_grid-id every def),
     all-weaker (IsOwned past) (IsOwned (line.Chart def ∷ past)) (λ dimension there.
-    stays-there (reg past) (charts every past) (dimensions past) (rows past) (with_grid every def) dimension.chart there) (dimensions past) owned.1,
+        stays-there (reg past) (charts every past) (dimensions past) (rows past) (with_grid every def) dimension.chart there) (dimensions past) owned.1,
   )
 
   dimension-owned : (past : List Line) (def : DimDef) → Owned past → Owned (line.Dimension def ∷ past)

@@ -155,10 +155,10 @@ impl BeatTables {
     pub(crate) fn is_off_grid(&self, registry: &Registry, moment: u32) -> bool
         ensures { result ≡ is_off_grid registry.now (beat_of self.now) moment }
     {
-        self.rows
-            .as_slice()
-            .iter()
-            .any(|row| is_off(self.update_every_of(registry, row.chart.as_str()), moment))
+        self.rows.as_slice().iter().any(|row| is_off(
+            self.update_every_of(registry, row.chart.as_str()),
+            moment,
+        ))
     }
 }
 

@@ -7,8 +7,8 @@ ghost use Rattle.history.specs.declared.line.Line.{Line as ALine};
 ghost use Rattle.history.specs.declared.line.Line.TheVariants as line;
 ghost use Rattle.collect_block.specs.Feed.{IsFeedOf, Becomes, RefusedBy, step_of, skips};
 
-use crate::block::{Block, set_value};
 use crate::beat_tables::BeatTables;
+use crate::block::{Block, set_value};
 use crate::step::Step;
 use chart_registry::Registry;
 use fixed_num::{ListOf, Text};

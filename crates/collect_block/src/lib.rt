@@ -12,7 +12,6 @@ mod block;
 mod chart_table;
 mod dimension_table;
 mod feed;
-
 mod row_table;
 mod step;
 mod text;
@@ -21,3 +20,6 @@ pub use feed::Feed;
 pub use history::{BlockFault, Line, OpenBeat, OpenDim, OpenRow, OpenValue};
 pub use step::Step;
 pub use text::{End, Item, ItemList, ReadText, read_text};
+
+#[cfg(test)]
+mod tests;

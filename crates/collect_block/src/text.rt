@@ -143,11 +143,7 @@ impl Reader {
     }
 
     // Applies what a line leads to.
-    fn take_step(
-        &mut self,
-        registry: &mut Registry,
-        step: Step,
-    ) -> Result<Option<End>, AllocError>
+    fn take_step(&mut self, registry: &mut Registry, step: Step) -> Result<Option<End>, AllocError>
         requires { (every : ℕ) × (h : List Beat) × (past : List ALine) × (line : ALine) × Stepped self.old registry.old every h past line step }
         ensures { IfOk result (λ found. (every : ℕ) (h : List Beat) (past : List ALine) (line : ALine) → Stepped self.old registry.old every h past line step → Took every h past line found self.new registry.new) }
     {

@@ -21,11 +21,11 @@ pub loop-line-preserved : goal.loop-line-preserved
 loop-line-preserved c = (
   ap (λ n. n + 1) c.loop-line.invariant.0,
   λ every h reads.
-  let some = c.loop-line.invariant.1 every h reads in
-  let took = c.in_ok-end.ensures every h some.past some.reads (ap (λ n. n + 1) (c.loop-line.invariant.0 ∙ sym some.counts)) in
-  took-more every h c.args.lines.now c.loop-line.line-index c.line-item.result c.loop-line-test.true (sym c.line-item.is) c.loop-line.self c.loop-line.registry some
-  c.take.new.self c.take.new.registry
-  (subst (λ (found : Option End). Took every h some.past c.line-item.result found c.take.new.self c.take.new.registry) c.in_default.is took),
+      let some = c.loop-line.invariant.1 every h reads in
+      let took = c.in_ok-end.ensures every h some.past some.reads (ap (λ n. n + 1) (c.loop-line.invariant.0 ∙ sym some.counts)) in
+      took-more every h c.args.lines.now c.loop-line.line-index c.line-item.result c.loop-line-test.true (sym c.line-item.is) c.loop-line.self c.loop-line.registry some
+      c.take.new.self c.take.new.registry
+      (subst (λ (found : Option End). Took every h some.past c.line-item.result found c.take.new.self c.take.new.registry) c.in_default.is took),
 )
 
 pub returns : goal.returns
