@@ -8,4 +8,6 @@ mod faults;
 #[cfg(test)]
 mod run;
 #[cfg(test)]
+mod texts;
+#[cfg(test)]
 mod usage;
