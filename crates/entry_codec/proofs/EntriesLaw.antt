@@ -1,5 +1,6 @@
 -- The law of entries, made of the laws of their fields.
-use Rattle.std.proofs.Common.{◌≡◌, ℕ, zero, suc, ◌<◌, ◌^◌, Bool, true, false, ◌&&◌, cond, eqb, List, [], ◌∷◌, ◌++◌, length, Result, Ok, Err, refl, sym, ap, subst, ◌∙◌, arith}
+use Rattle.std.proofs.Common.{◌≡◌, ℕ, zero, suc, Bool, true, false, ◌&&◌, cond, eqb, List, [], ◌∷◌, ◌++◌, length, ◌⊎◌, inl, inr, Result, Ok, Err, refl, sym, ap, subst, ◌∙◌}
+use Rattle.std.specs.Prelude.{IfOk, IfErr}
 use Rattle.std.proofs.lemmas.Bool.{and_parts, eqb-true}
 use Rattle.std.proofs.lemmas.List.{append-nil, nil_from_length}
 use Rattle.field_codec.specs.Field.{IsBytes, IsField}
@@ -9,7 +10,7 @@ use Rattle.entry_codec.specs.declared.entry.Entry.{Entry}
 use Rattle.entry_codec.specs.declared.entry.Entry.TheVariants as entry
 use Rattle.entry_codec.specs.declared.fault.EntryFault.{EntryFault}
 use Rattle.entry_codec.specs.declared.fault.EntryFault.TheVariants.{NotCanonical}
-use Rattle.entry_codec.specs.Entries.{entry_as, entry_bytes, is_canonical, read_entry, read_fields, whole_entry, EntryRead, HasSpelling, IsShort}
+use Rattle.entry_codec.specs.Entries.{entry_as, entry_bytes, is_canonical, read_entry, read_fields, whole_entry, EntryRead, HasSpelling, IsNoSpelling, IsShort}
 use Rattle.entry_codec.proofs.Fields.{settings_field, collected_field, copied_field, gap_field}
 
 abbrev done : Entry × List ℕ → EntryRead
@@ -49,8 +50,8 @@ kind_taken : {X : Type 0} {V : X → Type 0} {s : X → List ℕ} {r : List ℕ 
 kind_taken {s = s} {r = r} field make kind bytes e rest short spelt fits is =
     let found = entry_as-ok make (r bytes) e rest is in
     let front : kind ∷ bytes ≡ entry_bytes (make found.0) ++ rest =
-        ap (λ (after : List ℕ). kind ∷ after) (field.is_spelt bytes found.0 rest fits found.1)
-        ∙ ap (λ (all : List ℕ). all ++ rest) (spelt found.0) in
+    ap (λ (after : List ℕ). kind ∷ after) (field.is_spelt bytes found.0 rest fits found.1)
+    ∙ ap (λ (all : List ℕ). all ++ rest) (spelt found.0) in
     subst (λ (made : Entry). IsShort made × (kind ∷ bytes ≡ entry_bytes made ++ rest)) found.2
     (short found.0 (field.has_spelling bytes found.0 rest fits found.1), front)
 
@@ -79,9 +80,10 @@ whole_entry-ok : (read : EntryRead) (e : Entry) → whole_entry read ≡ Ok e �
 whole_entry-ok (Ok found) e is =
     let known = chosen (eqb (length found.1) 0 && is_canonical found.0) found.0 e is in
     let tests = and_parts (eqb (length found.1) 0) (is_canonical found.0) known.0 in
-    let nothing : found.1 ≡ [] = nil_from_length found.1 (eqb-true _ _ tests.0) in
-    (ap (λ (made : Entry). done (made, found.1)) known.1 ∙ ap (λ (rest : List ℕ). done (e, rest)) nothing,
-     ap is_canonical (sym known.1) ∙ tests.1)
+    let nothing : found.1 ≡ [] = nil_from_length found.1 (eqb-true _ _ tests.0) in (
+      ap (λ (made : Entry). done (made, found.1)) known.1 ∙ ap (λ (rest : List ℕ). done (e, rest)) nothing,
+      ap is_canonical (sym known.1) ∙ tests.1,
+    )
 whole_entry-ok (Err fault) e is = absurd cc
 
 pub reads_back : (e : Entry) → HasSpelling e → read_entry (entry_bytes e) ≡ Ok e
@@ -102,8 +104,24 @@ pub one_value : (a b : Entry) → HasSpelling a → HasSpelling b → entry_byte
 one_value a b fits_a fits_b same = found_is a b (sym (reads_back a fits_a) ∙ ap read_entry same ∙ reads_back b fits_b)
 
 -- bytes that are refused are no spelling
-pub no_spelling : (bytes : List ℕ) (fault : EntryFault) → read_entry bytes ≡ Err fault → (e : Entry) → HasSpelling e → bytes ≡ entry_bytes e → ⊥
+no_spelling : (bytes : List ℕ) (fault : EntryFault) → read_entry bytes ≡ Err fault → IsNoSpelling bytes
 no_spelling bytes fault refused e fits spelt =
-    let read : Result Entry EntryFault = Ok e in
-    let both : read ≡ Err fault = sym (reads_back e fits) ∙ ap read_entry (sym spelt) ∙ refused in
-    cc
+    differ e fault (sym (reads_back e fits) ∙ ap read_entry (sym spelt) ∙ refused)
+  where
+    differ : (e : Entry) (fault : EntryFault) → found_entry e ≡ Err fault → ⊥
+    differ e fault same = cc
+
+-- what a call that read an entry knows of it
+pub found_fits : (bytes : List ℕ) (result : Result Entry EntryFault) → IsBytes bytes → IfOk result (λ e. read_entry bytes ≡ Ok e) → IfOk result HasSpelling
+found_fits bytes (Ok e) fits is = (is_read bytes e fits is).0
+found_fits bytes (Err fault) fits is = tt
+
+pub found_spelling : (bytes : List ℕ) (result : Result Entry EntryFault) → IsBytes bytes → IfOk result (λ e. read_entry bytes ≡ Ok e) → IfOk result (λ e. bytes ≡ entry_bytes e)
+found_spelling bytes (Ok e) fits is = (is_read bytes e fits is).1
+found_spelling bytes (Err fault) fits is = tt
+
+pub refused : (bytes : List ℕ) (full : EntryFault) (result : Result Entry EntryFault) → IfErr result (λ fault. (fault ≡ full) ⊎ (read_entry bytes ≡ Err fault))
+    → IfErr result (λ fault. (fault ≡ full) ⊎ IsNoSpelling bytes)
+refused bytes full (Ok e) is = tt
+refused bytes full (Err fault) (inl is_full) = inl is_full
+refused bytes full (Err fault) (inr is) = inr (no_spelling bytes fault is)

@@ -1,9 +1,9 @@
 -- The law of each thing that an entry has, made of the laws of its fields.
-use Rattle.std.proofs.Common.{◌≡◌, ℕ, zero, suc, ◌+◌, ◌^◌, ◌<◌, ◌≤◌, Bool, true, false, List, [], ◌∷◌, ◌++◌, length, drop, map, Result, Ok, Err, refl, sym, ap, subst, ◌∙◌, append_assoc, arith}
-use Rattle.std.specs.Prelude.{nat_eq, nat_lt, FitsSigned}
+use Rattle.std.proofs.Common.{◌≡◌, ℕ, zero, suc, ◌+◌, ◌^◌, ◌<◌, Bool, true, false, List, [], ◌∷◌, ◌++◌, length, drop, Ok, Err, refl, sym, ap, subst, ◌∙◌, append_assoc, arith}
+use Rattle.std.specs.Prelude.{nat_eq, nat_lt}
 use Rattle.std.specs.List.{flat_map, AllByRecursion}
 use Rattle.std.specs.Str.{IsUtf8}
-use Rattle.std.proofs.lemmas.Bool.{eqb-true, leb-true, ltb-true}
+use Rattle.std.proofs.lemmas.Bool.{eqb-true, ltb-true}
 use Rattle.std.proofs.lemmas.List.{drop_at, get_or-drop}
 use Rattle.std.proofs.lemmas.List.Concat.{flat_map-cons}
 use Rattle.field_codec.specs.declared.fault.FieldFault.TheVariants.{Range}
@@ -55,11 +55,12 @@ pub ◌⊗◌ : {X Y : Type 0} {V : X → Type 0} {W : Y → Type 0} {s : X → 
     field_from (λ (p : X × Y). V p.0 × W p.1) (λ (p : X × Y). s p.0 ++ t p.1) (λ bytes. r bytes >> q)
     (λ p rest fits. rw (append_assoc (s p.0) (t p.1) rest, first.reads_back p.0 (t p.1 ++ rest) fits.0, second.reads_back p.1 rest fits.1) refl)
     (λ bytes p rest fits e.
-        let found = then-ok (r bytes) q p rest e in
-        let front = first.is_spelt bytes p.0 found.0 fits found.1 in
-        let after_fits = IsBytes-rest (s p.0) found.0 bytes front fits in
-        ((first.has_spelling bytes p.0 found.0 fits found.1, second.has_spelling found.0 p.1 rest after_fits found.2),
-         front ∙ ap (λ (after : List ℕ). s p.0 ++ after) (second.is_spelt found.0 p.1 rest after_fits found.2) ∙ sym (append_assoc (s p.0) (t p.1) rest)))
+    let found = then-ok (r bytes) q p rest e in
+    let front = first.is_spelt bytes p.0 found.0 fits found.1 in
+    let after_fits = IsBytes-rest (s p.0) found.0 bytes front fits in (
+      (first.has_spelling bytes p.0 found.0 fits found.1, second.has_spelling found.0 p.1 rest after_fits found.2),
+      front ∙ ap (λ (after : List ℕ). s p.0 ++ after) (second.is_spelt found.0 p.1 rest after_fits found.2) ∙ sym (append_assoc (s p.0) (t p.1) rest),
+    ))
 
 -- what is made of fields
 made_of : {X Y : Type 0} {V : X → Type 0} {s : X → List ℕ} {r : List ℕ → ReadOf X} (W : Y → Type 0) (to : X → Y) (from : Y → X) → IsField V s r
@@ -96,8 +97,8 @@ items_taken {X} {V} {s} {r} field (suc count) bytes items rest fits e =
     let front : bytes ≡ s x ++ found.0 = field.is_spelt bytes x found.0 fits found.1 in
     let more = items_taken field count found.0 others rest (IsBytes-rest (s x) found.0 bytes front fits) found.2 in
     let spelt : bytes ≡ flat_map s (x ∷ others) ++ rest =
-        front ∙ ap (λ (after : List ℕ). s x ++ after) more.spelt ∙ sym (append_assoc (s x) (flat_map s others) rest)
-        ∙ ap (λ (all : List ℕ). all ++ rest) (sym (flat_map-cons s x others)) in
+    front ∙ ap (λ (after : List ℕ). s x ++ after) more.spelt ∙ sym (append_assoc (s x) (flat_map s others) rest)
+    ∙ ap (λ (all : List ℕ). all ++ rest) (sym (flat_map-cons s x others)) in
     subst (λ (read : List X). AreItems V s (suc count) bytes read rest) made.2
     (record { counted = ap suc more.counted; each = (field.has_spelling bytes x found.0 fits found.1, more.each); spelt = spelt })
 
@@ -112,16 +113,17 @@ unfolding list_bytes read_list
 list_field {X} {V} {s} {r} field =
     field_from (IsShortListOf V) (list_bytes s) (read_list r)
     (λ items rest fits.
-        rw (append_assoc (u32_bytes (length items)) (flat_map s items) rest, u32_field.reads_back (length items) (flat_map s items ++ rest) fits.count) (items_again field items rest fits.each))
+    rw (append_assoc (u32_bytes (length items)) (flat_map s items) rest, u32_field.reads_back (length items) (flat_map s items ++ rest) fits.count) (items_again field items rest fits.each))
     (λ bytes items rest fits e.
-        let found = counted_items-ok r (read_u32 bytes) items rest e in
-        let front : bytes ≡ u32_bytes found.0 ++ found.1 = u32_field.is_spelt bytes found.0 found.1 fits found.2 in
-        let taken = items_taken field found.0 found.1 items rest (IsBytes-rest (u32_bytes found.0) found.1 bytes front fits) found.3 in
-        let small : found.0 < 2 ^ 32 = u32_field.has_spelling bytes found.0 found.1 fits found.2 in
-        (record { count = subst (λ (n : ℕ). n < 2 ^ 32) (sym taken.counted) small; each = taken.each },
-         front ∙ ap (λ (after : List ℕ). u32_bytes found.0 ++ after) taken.spelt
-         ∙ ap (λ (n : ℕ). u32_bytes n ++ (flat_map s items ++ rest)) (sym taken.counted)
-         ∙ sym (append_assoc (u32_bytes (length items)) (flat_map s items) rest)))
+    let found = counted_items-ok r (read_u32 bytes) items rest e in
+    let front : bytes ≡ u32_bytes found.0 ++ found.1 = u32_field.is_spelt bytes found.0 found.1 fits found.2 in
+    let taken = items_taken field found.0 found.1 items rest (IsBytes-rest (u32_bytes found.0) found.1 bytes front fits) found.3 in
+    let small : found.0 < 2 ^ 32 = u32_field.has_spelling bytes found.0 found.1 fits found.2 in (
+      record { count = subst (λ (n : ℕ). n < 2 ^ 32) (sym taken.counted) small; each = taken.each },
+      front ∙ ap (λ (after : List ℕ). u32_bytes found.0 ++ after) taken.spelt
+          ∙ ap (λ (n : ℕ). u32_bytes n ++ (flat_map s items ++ rest)) (sym taken.counted)
+          ∙ sym (append_assoc (u32_bytes (length items)) (flat_map s items) rest),
+    ))
 
 -- ---- texts and enumerated bytes
 
@@ -311,7 +313,6 @@ copied_field =
 pub gap_field : IsField IsGap gap_bytes read_gap
 unfolding gap_bytes read_gap
 gap_field =
-    made_of IsGap gap_of (λ c. ((c.child, c.after), c.upto)) (u64_field ⊗ u32_field ⊗ u32_field)
-    (λ x fits. (record { child = fits.0.0; after = fits.0.1; upto = fits.1 }, refl))
-    (λ c fits. (((fits.child, fits.after), fits.upto), refl))
-
+    made_of IsGap gap_of (λ c. ((c.child, c.from), c.to)) (u64_field ⊗ u32_field ⊗ u32_field)
+    (λ x fits. (record { child = fits.0.0; from = fits.0.1; to = fits.1 }, refl))
+    (λ c fits. (((fits.child, fits.from), fits.to), refl))

@@ -1,5 +1,5 @@
 -- Dimensions by number: how they are spelt, and what bytes read as.
-use Rattle.std.specs.Prelude.{◌≡◌, ℕ, zero, suc, ℤ, ◌<◌, ◌^◌, Bool, true, false, nat_lt, List, ◌++◌, FitsSigned}
+use Rattle.std.specs.Prelude.{ℕ, zero, suc, ℤ, ◌<◌, ◌^◌, Bool, true, false, nat_lt, List, ◌++◌, FitsSigned}
 use Rattle.std.specs.Int.{w32}
 use Rattle.field_codec.specs.declared.fault.FieldFault.TheVariants.{Range}
 use Rattle.field_codec.specs.Reading.{ReadOf, read_as, read_passing, read_u8, read_u32, read_i32, read_flag, read_text}

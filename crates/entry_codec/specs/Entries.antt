@@ -1,5 +1,5 @@
 -- Entries: the one spelling of each, which of them have one, and what bytes read as.
-use Rattle.std.specs.Prelude.{◌≡◌, ℕ, zero, suc, ◌<◌, ◌^◌, Bool, true, false, ◌&&◌, ◌==◌, List, [], ◌∷◌, ◌++◌, length, map, Result, Ok, Err, if◌then◌else◌}
+use Rattle.std.specs.Prelude.{◌≡◌, ◌≢◌, ℕ, zero, suc, ◌<◌, ◌^◌, Bool, true, ◌&&◌, ◌==◌, List, [], ◌∷◌, ◌++◌, length, map, Result, Ok, Err, if◌then◌else◌}
 use Rattle.std.specs.List.{list_all}
 use Rattle.storage_number.specs.Word.{is_word}
 use Rattle.field_codec.specs.declared.fault.FieldFault.{FieldFault}
@@ -128,18 +128,18 @@ is_copied_canonical c =
 -- ---- a gap
 
 abbrev pub gap_of : (ℕ × ℕ) × ℕ → Gap
-gap_of ((child, after), upto) = record { child = child; after = after; upto = upto }
+gap_of ((child, from), to) = record { child = child; from = from; to = to }
 
 unfoldable pub read_gap : List ℕ → ReadOf Gap
 read_gap bytes = read_as gap_of (read_u64 bytes >> read_u32 >> read_u32)
 
 unfoldable pub gap_bytes : Gap → List ℕ
-gap_bytes g = u64_bytes g.child ++ u32_bytes g.after ++ u32_bytes g.upto
+gap_bytes g = u64_bytes g.child ++ u32_bytes g.from ++ u32_bytes g.to
 
 pub record IsGap (g : Gap) : Type 0 where
   pub child : g.child < 2 ^ 64
-  pub after : g.after < 2 ^ 32
-  pub upto : g.upto < 2 ^ 32
+  pub from : g.from < 2 ^ 32
+  pub to : g.to < 2 ^ 32
 
 -- ---- entries
 
@@ -206,3 +206,7 @@ whole_entry (Err fault) = Err fault
 
 unfoldable pub read_entry : List ℕ → Result Entry EntryFault
 read_entry bytes = whole_entry (read_fields bytes)
+
+-- no entry with a spelling has these bytes
+abbrev pub IsNoSpelling : List ℕ → Type 0
+IsNoSpelling bytes = (e : Entry) → HasSpelling e → bytes ≢ entry_bytes e

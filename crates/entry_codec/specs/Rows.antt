@@ -1,5 +1,5 @@
 -- The rows of a collected beat.
-use Rattle.std.specs.Prelude.{◌≡◌, ℕ, ℤ, ◌<◌, ◌^◌, Bool, List, ◌++◌, FitsSigned}
+use Rattle.std.specs.Prelude.{ℕ, ℤ, ◌<◌, ◌^◌, Bool, List, ◌++◌, FitsSigned}
 use Rattle.std.specs.Int.{w64}
 use Rattle.field_codec.specs.Reading.{ReadOf, read_as, read_u32, read_i64, read_flag}
 use Rattle.field_codec.specs.Spelling.{u32_bytes, i64_bytes, flag_bytes}

@@ -1,5 +1,5 @@
 -- The storage numbers of a copied beat.
-use Rattle.std.specs.Prelude.{◌≡◌, ℕ, ◌<◌, ◌^◌, List, ◌++◌}
+use Rattle.std.specs.Prelude.{ℕ, ◌<◌, ◌^◌, List, ◌++◌}
 use Rattle.field_codec.specs.Reading.{ReadOf, read_as, read_u32}
 use Rattle.field_codec.specs.Spelling.{u32_bytes}
 use Rattle.entry_codec.specs.declared.words.CopiedWord.{CopiedWord}

@@ -26,22 +26,32 @@ fn are_storage_numbers(words: &[CopiedWord]) -> bool
 fn is_collected(collected: &Collected) -> bool
     ensures { result ≡ is_collected_canonical collected.now }
 {
-    let charts = list::is_ascending(collected.charts.as_slice());
-    let dimensions = list::is_ascending(collected.dimensions.as_slice());
-    let rows = list::is_ascending(collected.rows.as_slice());
-    let values = are_values_ascending(collected.rows.as_slice());
-    charts && dimensions && rows && values
+    if !list::is_ascending(collected.charts.as_slice()) {
+        return false;
+    }
+    if !list::is_ascending(collected.dimensions.as_slice()) {
+        return false;
+    }
+    if !list::is_ascending(collected.rows.as_slice()) {
+        return false;
+    }
+    are_values_ascending(collected.rows.as_slice())
 }
 
 #[tactic(auto, unfolding(crate::specs::Entries::is_copied_canonical))]
 fn is_copied(copied: &Copied) -> bool
     ensures { result ≡ is_copied_canonical copied.now }
 {
-    let charts = list::is_ascending(copied.charts.as_slice());
-    let dimensions = list::is_ascending(copied.dimensions.as_slice());
-    let words = list::is_ascending(copied.words.as_slice());
-    let numbers = are_storage_numbers(copied.words.as_slice());
-    charts && dimensions && words && numbers
+    if !list::is_ascending(copied.charts.as_slice()) {
+        return false;
+    }
+    if !list::is_ascending(copied.dimensions.as_slice()) {
+        return false;
+    }
+    if !list::is_ascending(copied.words.as_slice()) {
+        return false;
+    }
+    are_storage_numbers(copied.words.as_slice())
 }
 
 /// Whether each list is in the order of its numbers, each number once, and each word is a storage number.

@@ -40,12 +40,12 @@ pub struct Copied {
     pub words: CopiedWordList,
 }
 
-/// A span of a child that was not copied: the moments above `after`, up to `upto`.
+/// A span of a child that was not copied: the moments above `from`, up to `to`.
 #[derive(Clone, Copy, Debug, PartialEq, Eq)]
 pub struct Gap {
     pub child: u64,
-    pub after: u32,
-    pub upto: u32,
+    pub from: u32,
+    pub to: u32,
 }
 
 /// What a journal keeps, one after the other.

@@ -1,8 +1,4 @@
-ghost use Rattle.std.specs.Prelude.{◌≡◌};
-ghost use Rattle.entry_codec.specs.declared.fault.EntryFault.TheVariants.{Memory};
-
 use field_codec::FieldFault;
-use std::alloc::AllocError;
 use thiserror::Error;
 
 /// Why bytes are no entry, or an entry has no bytes.
@@ -26,14 +22,6 @@ pub enum EntryFault {
     /// There was no memory.
     #[error("out of memory")]
     Memory,
-}
-
-impl From<AllocError> for EntryFault {
-    ghost from_gives = { λ _ fault. fault ≡ Memory };
-
-    fn from(_error: AllocError) -> EntryFault {
-        EntryFault::Memory
-    }
 }
 
 impl From<FieldFault> for EntryFault {

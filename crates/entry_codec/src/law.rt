@@ -10,5 +10,4 @@ pub fn every_entry()
     ensures has_spelling { (e : Entry) (bytes : List ℕ) → IsBytes bytes → read_entry bytes ≡ Ok e → HasSpelling e }
     ensures is_spelt { (e : Entry) (bytes : List ℕ) → IsBytes bytes → read_entry bytes ≡ Ok e → bytes ≡ entry_bytes e }
     ensures one_value { (a b : Entry) → HasSpelling a → HasSpelling b → entry_bytes a ≡ entry_bytes b → a ≡ b }
-{
-}
+{}

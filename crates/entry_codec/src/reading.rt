@@ -1,6 +1,6 @@
 ghost use Rattle.std.specs.Prelude.{◌≡◌, ℕ, ◌⊎◌, Ok, Err, IfOk, IfErr};
 ghost use Rattle.field_codec.specs.Reading.{read_bytes};
-ghost use Rattle.entry_codec.specs.Entries.{entry_bytes, read_collected, read_copied, read_entry, read_fields, read_gap, read_kind_fields, read_settings, read_tier, read_version, HasSpelling};
+ghost use Rattle.entry_codec.specs.Entries.{entry_bytes, read_collected, read_copied, read_entry, read_fields, read_gap, read_kind_fields, read_settings, read_tier, read_version, HasSpelling, IsNoSpelling};
 
 use crate::entry::{Collected, Copied, Entry, Gap, Settings, TierSettings};
 use crate::fault::EntryFault;
@@ -100,9 +100,9 @@ fn take_gap(reader: &mut Reader<'_>) -> Result<Gap, FieldFault>
     ensures fault { IfErr result (λ fault. read_gap reader.old ≡ Err fault) }
 {
     let child = reader.take_u64()?;
-    let after = reader.take_u32()?;
-    let upto = reader.take_u32()?;
-    Ok(Gap { child, after, upto })
+    let from = reader.take_u32()?;
+    let to = reader.take_u32()?;
+    Ok(Gap { child, from, to })
 }
 
 /// The fields of an entry of this kind.
@@ -129,12 +129,9 @@ fn take_entry(alloc: Global, reader: &mut Reader<'_>) -> Result<Entry, EntryFaul
     take_kind(alloc, kind, reader)
 }
 
-/// The entry whose spelling the bytes are.
 #[tactic(auto, unfolding(crate::specs::Entries::read_entry))]
-pub fn read_entry(alloc: Global, bytes: &[u8]) -> Result<Entry, EntryFault>
+fn take_whole(alloc: Global, bytes: &[u8]) -> Result<Entry, EntryFault>
     ensures value { IfOk result (λ entry. read_entry bytes.now ≡ Ok entry) }
-
-    // The first fault from the left, unless memory ran out.
     ensures fault { IfErr result (λ fault. (fault ≡ EntryFault.Memory) ⊎ (read_entry bytes.now ≡ Err fault)) }
 {
     let mut reader = Reader::new(bytes);
@@ -143,4 +140,17 @@ pub fn read_entry(alloc: Global, bytes: &[u8]) -> Result<Entry, EntryFault>
         return Err(EntryFault::NotCanonical);
     }
     Ok(entry)
+}
+
+/// The entry whose spelling the bytes are.
+pub fn read_entry(alloc: Global, bytes: &[u8]) -> Result<Entry, EntryFault>
+    ensures value { IfOk result (λ entry. read_entry bytes.now ≡ Ok entry) }
+    ensures fits { IfOk result HasSpelling }
+    ensures spelling { IfOk result (λ entry. bytes.now ≡ entry_bytes entry) }
+
+    // The first fault from the left, unless memory ran out; and the bytes are no spelling then.
+    ensures fault { IfErr result (λ fault. (fault ≡ EntryFault.Memory) ⊎ (read_entry bytes.now ≡ Err fault)) }
+    ensures refused { IfErr result (λ fault. (fault ≡ EntryFault.Memory) ⊎ IsNoSpelling bytes.now) }
+{
+    take_whole(alloc, bytes)
 }

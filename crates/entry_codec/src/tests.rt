@@ -5,7 +5,8 @@ use std::alloc::{AllocError, Global};
 use std::test::Fail;
 
 // The beat of moment 60: the chart test.one with a dimension a, and the value 42.
-const BEAT: &[u8; 122] = b"\x01\x3c\0\0\0\x01\0\0\0\0\0\0\0\x08\0test.one\x03\0one\x03\0One\x05\0units\x03\0one\x08\0test.one\0\xe8\x03\0\0\0\0\0\0\x01\0\0\0\0\x01\0\0\0\0\0\0\0\0\0\0\0\x01\0a\x01\0a\0\x01\0\0\0\x01\0\0\0\0\x01\0\0\0\0\0\0\0\x01\0\0\0\0\0\0\0\x2a\0\0\0\0\0\0\0\0";
+const BEAT: &[u8; 122] =
+    b"\x01\x3c\0\0\0\x01\0\0\0\0\0\0\0\x08\0test.one\x03\0one\x03\0One\x05\0units\x03\0one\x08\0test.one\0\xe8\x03\0\0\0\0\0\0\x01\0\0\0\0\x01\0\0\0\0\0\0\0\0\0\0\0\x01\0a\x01\0a\0\x01\0\0\0\x01\0\0\0\0\x01\0\0\0\0\0\0\0\x01\0\0\0\0\0\0\0\x2a\0\0\0\0\0\0\0\0";
 
 fn text(alloc: Global, text: &str) -> Result<Text, AllocError> {
     Text::from_str(alloc, text)
@@ -94,12 +95,16 @@ fn reads_a_collected_beat(rt: HostRuntime) -> Result<(), Fail> {
 
 #[test]
 fn reads_the_other_kinds(rt: HostRuntime) -> Result<(), Fail> {
-    let settings = b"\0\x01\x07\0\0\0\0\0\0\0\x01\0\0\0\x02\0\0\0\x03\0\0\0\x04\0\0\0\x05\0\0\0\x06\0\0\0";
+    let settings =
+        b"\0\x01\x07\0\0\0\0\0\0\0\x01\0\0\0\x02\0\0\0\x03\0\0\0\x04\0\0\0\x05\0\0\0\x06\0\0\0";
     assert!(rt; is_read_and_written_again(rt.alloc(), settings)?);
-    let copied = b"\x02\x07\0\0\0\0\0\0\0\x3c\0\0\0\x01\0\0\0\x05\0\0\0\x03\0a.b\x01\0c\x0a\0\0\0\x01\0\0\0\x06\0\0\0\x05\0\0\0\x01\0d\x01\x01\0\0\0\x06\0\0\0\0\0\0\x01";
+    let copied =
+        b"\x02\x07\0\0\0\0\0\0\0\x3c\0\0\0\x01\0\0\0\x05\0\0\0\x03\0a.b\x01\0c\x0a\0\0\0\x01\0\0\0\x06\0\0\0\x05\0\0\0\x01\0d\x01\x01\0\0\0\x06\0\0\0\0\0\0\x01";
     assert!(rt; is_read_and_written_again(rt.alloc(), copied)?);
     assert!(rt; is_read_and_written_again(rt.alloc(), b"\x03\x02\0\0\0\xff\x09")?);
-    assert!(rt; is_read_and_written_again(rt.alloc(), b"\x04\x07\0\0\0\0\0\0\0\x3c\0\0\0\x78\0\0\0")?);
+    assert!(rt;
+        is_read_and_written_again(rt.alloc(), b"\x04\x07\0\0\0\0\0\0\0\x3c\0\0\0\x78\0\0\0")?
+    );
     Ok(())
 }
 
@@ -114,11 +119,17 @@ fn says_what_is_wrong_first(rt: HostRuntime) -> Result<(), Fail> {
     assert_eq!(rt; fault_of(alloc, b""), Some(EntryFault::Short));
     assert_eq!(rt; fault_of(alloc, b"\x09"), Some(EntryFault::UnknownKind));
     assert_eq!(rt; fault_of(alloc, b"\0\x02"), Some(EntryFault::Range));
-    assert_eq!(rt; fault_of(alloc, b"\x01\x3c\0\0\0\xff\xff\xff\xff"), Some(EntryFault::Short));
+    assert_eq!(rt;
+        fault_of(alloc, b"\x01\x3c\0\0\0\xff\xff\xff\xff"),
+        Some(EntryFault::Short)
+    );
     assert_eq!(rt; fault_of(alloc, &BEAT[..121]), Some(EntryFault::Short));
     let mut longer = ListOf::from_slice(alloc, BEAT)?;
     longer.push(0)?;
-    assert_eq!(rt; fault_of(alloc, longer.as_slice()), Some(EntryFault::NotCanonical));
+    assert_eq!(rt;
+        fault_of(alloc, longer.as_slice()),
+        Some(EntryFault::NotCanonical)
+    );
     Ok(())
 }
 
@@ -127,6 +138,7 @@ fn takes_only_storage_numbers_in_order(rt: HostRuntime) {
     let alloc = rt.alloc();
     let no_word = b"\x02\x07\0\0\0\0\0\0\0\x3c\0\0\0\0\0\0\0\0\0\0\0\x01\0\0\0\x06\0\0\0\0\0\0\0";
     assert_eq!(rt; fault_of(alloc, no_word), Some(EntryFault::NotCanonical));
-    let twice = b"\x02\x07\0\0\0\0\0\0\0\x3c\0\0\0\0\0\0\0\0\0\0\0\x02\0\0\0\x06\0\0\0\0\0\0\x01\x06\0\0\0\0\0\0\x01";
+    let twice =
+        b"\x02\x07\0\0\0\0\0\0\0\x3c\0\0\0\0\0\0\0\0\0\0\0\x02\0\0\0\x06\0\0\0\0\0\0\x01\x06\0\0\0\0\0\0\x01";
     assert_eq!(rt; fault_of(alloc, twice), Some(EntryFault::NotCanonical));
 }

@@ -1,5 +1,5 @@
-ghost use Rattle.std.specs.Prelude.{◌≡◌, ◌<◌, ◌^◌, ◌++◌, ◌↔◌, length, Err, IsTrue, IfOk, OnOk, IsOkUnless};
-ghost use Rattle.entry_codec.specs.Entries.{collected_bytes, copied_bytes, entry_bytes, gap_bytes, settings_bytes, tier_bytes, HasSpelling, IsCollected, IsCopied, IsGap, IsSettings, IsShort, IsTier};
+ghost use Rattle.std.specs.Prelude.{◌≡◌, ◌<◌, ◌^◌, ◌++◌, ◌↔◌, length, Ok, Err, IsTrue, IfOk, OnOk, IsOkUnless};
+ghost use Rattle.entry_codec.specs.Entries.{collected_bytes, copied_bytes, entry_bytes, gap_bytes, read_entry, settings_bytes, tier_bytes, HasSpelling, IsCollected, IsCopied, IsGap, IsSettings, IsShort, IsTier};
 
 use crate::entry::{Collected, Copied, Entry, Gap, Settings, TierSettings};
 use crate::fault::EntryFault;
@@ -59,8 +59,8 @@ fn put_gap(gap: &Gap, writer: &mut Writer) -> Result<(), FieldFault>
     ensures memory { IsOkUnless result FieldFault.Memory }
 {
     writer.put_u64(gap.child)?;
-    writer.put_u32(gap.after)?;
-    writer.put_u32(gap.upto)
+    writer.put_u32(gap.from)?;
+    writer.put_u32(gap.to)
 }
 
 #[tactic(auto, unfolding(crate::specs::Entries::entry_bytes, field_codec::specs::Spelling::u8_bytes))]
@@ -93,7 +93,8 @@ fn put_entry(entry: &Entry, writer: &mut Writer) -> Result<(), FieldFault>
     }
 }
 
-// Reading a number says that it is in the range of its type.
+// Below, a number that is read is known to be in the range of its type.
+
 fn is_tier(tier: &TierSettings) -> bool
     ensures { IsTrue result ↔ IsTier tier.now }
 {
@@ -129,7 +130,7 @@ fn is_copied(copied: &Copied) -> bool
 fn is_gap(gap: &Gap) -> bool
     ensures { IsTrue result ↔ IsGap gap.now }
 {
-    let (_child, _after, _upto) = (gap.child, gap.after, gap.upto);
+    let (_child, _from, _to) = (gap.child, gap.from, gap.to);
     true
 }
 
@@ -154,17 +155,26 @@ pub fn has_spelling(entry: &Entry) -> bool
     is_short(entry) && canonical::is_canonical(entry)
 }
 
+fn write_short(alloc: Global, entry: &Entry) -> Result<ByteList, FieldFault>
+    requires { IsShort entry.now }
+    ensures spelling { IfOk result (λ bytes. bytes ≡ entry_bytes entry.now) }
+    ensures memory { IsOkUnless result FieldFault.Memory }
+{
+    let mut writer = Writer::new(alloc);
+    put_entry(entry, &mut writer)?;
+    Ok(writer.into_bytes())
+}
+
 /// The one spelling of an entry. `NotCanonical` where it has none.
 pub fn write_entry(alloc: Global, entry: &Entry) -> Result<ByteList, EntryFault>
     ensures spelling { IfOk result (λ bytes. bytes ≡ entry_bytes entry.now) }
     ensures written { OnOk result (HasSpelling entry.now) }
+    ensures reads_back { IfOk result (λ bytes. read_entry bytes ≡ Ok entry.now) }
     ensures refused { (result ≡ Err EntryFault.NotCanonical) ↔ (¬ (HasSpelling entry.now)) }
     ensures memory { HasSpelling entry.now → IsOkUnless result EntryFault.Memory }
 {
     if !has_spelling(entry) {
         return Err(EntryFault::NotCanonical);
     }
-    let mut writer = Writer::new(alloc);
-    put_entry(entry, &mut writer)?;
-    Ok(writer.into_bytes())
+    Ok(write_short(alloc, entry)?)
 }
