@@ -1,8 +1,44 @@
-//! The values of a beat by number, as entries keep them.
+//! Entries as bytes: what a journal keeps, one after the other.
 //!
-//! A chart and a dimension are named by the number that their registry gave them.
+//! An `Entry` is the settings of a history, a beat that was collected or copied, the state of alarms, or a
+//! gap in what was copied. Its spelling is a kind byte and its fields, and nothing follows. A list is its
+//! count and its items, in the order of their numbers, each number once, and the words of a copied beat
+//! are storage numbers: an entry of another form has no spelling.
+//!
+//! What is written is the spelling, and what is read of bytes has them as its spelling: so an entry has
+//! one spelling, two never share one, and what was written is read again. Bytes that are no spelling are
+//! refused with the first fault from the left, and after all fields with `NotCanonical`. A list grows with
+//! the items that are read, so that a count takes no memory by itself.
+//!
+//! It stands on `field_codec` for the fields, on the definitions of `history`, and on `storage_number` for
+//! which words are storage numbers.
 #![tactic(auto)]
 
+mod canonical;
+mod charts;
+mod dimensions;
+mod entry;
+mod fault;
+mod kind;
+mod law;
+mod list;
+mod marks;
+mod reading;
 mod row;
+mod rows;
+mod text;
+mod words;
+mod writing;
 
+pub use charts::{ChartList, CopiedChart, CopiedChartList, NumberedChart};
+pub use dimensions::{CopiedDimension, CopiedDimensionList, DimensionList, NumberedDimension};
+pub use entry::{Collected, Copied, Entry, Gap, Settings, TierSettings};
+pub use fault::EntryFault;
+pub use law::every_entry;
+pub use reading::read_entry;
 pub use row::{Row, RowList, Value, ValueList};
+pub use words::{CopiedWord, CopiedWordList};
+pub use writing::{has_spelling, write_entry};
+
+#[cfg(test)]
+mod tests;

@@ -1,0 +1,143 @@
+ghost use Rattle.std.specs.Prelude.{◌≡◌, ◌++◌, ◌↔◌, ◌⊎◌, Ok, Err, IsTrue, IfOk, IfErr, OnOk, IsOkUnless};
+
+use crate::list::Item;
+use crate::{kind, text};
+use field_codec::{FieldFault, Reader, Writer};
+use fixed_num::{ListOf, Text};
+use history::ChartDef;
+use std::alloc::Global;
+
+/// Charts of an entry.
+pub type ChartList = ListOf<NumberedChart>;
+
+/// Charts of a copied beat.
+pub type CopiedChartList = ListOf<CopiedChart>;
+
+/// The definition of a chart, with the number that its registry gave it.
+#[derive(Debug, Drop)]
+pub struct NumberedChart {
+    pub number: u32,
+    pub def: ChartDef,
+}
+
+/// What a copy tells of a chart.
+#[derive(Debug, Drop)]
+pub struct CopiedChart {
+    pub number: u32,
+    pub id: Text,
+    pub context: Text,
+    pub update_every: u32,
+}
+
+impl Item for NumberedChart {
+    ghost use Rattle.entry_codec.specs.Charts.{IsChart, chart_bytes, read_chart};
+
+    ghost is_item = { IsChart };
+
+    ghost item_bytes = { chart_bytes };
+
+    ghost read_item = { read_chart };
+
+    ghost item_number = { λ c. c.number };
+
+    fn number(&self) -> u32 {
+        self.number
+    }
+
+    fn is_short(&self) -> bool {
+        let def = &self.def;
+        let (_number, _priority, _update_every) = (self.number, def.priority, def.update_every);
+        text::is_short(&def.id)
+            && text::is_short(&def.name)
+            && text::is_short(&def.title)
+            && text::is_short(&def.units)
+            && text::is_short(&def.family)
+            && text::is_short(&def.context)
+    }
+
+    #[tactic(auto, unfolding(crate::specs::Charts::chart_bytes))]
+    fn put(&self, writer: &mut Writer) -> Result<(), FieldFault> {
+        writer.put_u32(self.number)?;
+        text::put(&self.def.id, writer)?;
+        text::put(&self.def.name, writer)?;
+        text::put(&self.def.title, writer)?;
+        text::put(&self.def.units, writer)?;
+        text::put(&self.def.family, writer)?;
+        text::put(&self.def.context, writer)?;
+        kind::put(self.def.kind, writer)?;
+        writer.put_i64(self.def.priority)?;
+        writer.put_u32(self.def.update_every)?;
+        writer.put_flag(self.def.store_first)
+    }
+
+    #[tactic(auto, unfolding(crate::specs::Charts::read_chart))]
+    fn take(alloc: Global, reader: &mut Reader<'_>) -> Result<NumberedChart, FieldFault> {
+        let number = reader.take_u32()?;
+        let id = text::take(alloc, reader)?;
+        let name = text::take(alloc, reader)?;
+        let title = text::take(alloc, reader)?;
+        let units = text::take(alloc, reader)?;
+        let family = text::take(alloc, reader)?;
+        let context = text::take(alloc, reader)?;
+        let kind = kind::take(reader)?;
+        let priority = reader.take_i64()?;
+        let update_every = reader.take_u32()?;
+        let store_first = reader.take_flag()?;
+        let def = ChartDef {
+            id,
+            name,
+            title,
+            units,
+            family,
+            context,
+            kind,
+            priority,
+            update_every,
+            store_first,
+        };
+        Ok(NumberedChart { number, def })
+    }
+}
+
+impl Item for CopiedChart {
+    ghost use Rattle.entry_codec.specs.Charts.{IsCopiedChart, copied_chart_bytes, read_copied_chart};
+
+    ghost is_item = { IsCopiedChart };
+
+    ghost item_bytes = { copied_chart_bytes };
+
+    ghost read_item = { read_copied_chart };
+
+    ghost item_number = { λ c. c.number };
+
+    fn number(&self) -> u32 {
+        self.number
+    }
+
+    fn is_short(&self) -> bool {
+        let (_number, _update_every) = (self.number, self.update_every);
+        text::is_short(&self.id) && text::is_short(&self.context)
+    }
+
+    #[tactic(auto, unfolding(crate::specs::Charts::copied_chart_bytes))]
+    fn put(&self, writer: &mut Writer) -> Result<(), FieldFault> {
+        writer.put_u32(self.number)?;
+        text::put(&self.id, writer)?;
+        text::put(&self.context, writer)?;
+        writer.put_u32(self.update_every)
+    }
+
+    #[tactic(auto, unfolding(crate::specs::Charts::read_copied_chart))]
+    fn take(alloc: Global, reader: &mut Reader<'_>) -> Result<CopiedChart, FieldFault> {
+        let number = reader.take_u32()?;
+        let id = text::take(alloc, reader)?;
+        let context = text::take(alloc, reader)?;
+        let update_every = reader.take_u32()?;
+        Ok(CopiedChart {
+            number,
+            id,
+            context,
+            update_every,
+        })
+    }
+}

@@ -1,0 +1,131 @@
+ghost use Rattle.std.specs.Prelude.{◌≡◌, ◌++◌, ◌↔◌, ◌⊎◌, Ok, Err, IsTrue, IfOk, IfErr, OnOk, IsOkUnless};
+
+use crate::list::Item;
+use crate::{marks, text};
+use field_codec::{FieldFault, Reader, Writer};
+use fixed_num::{ListOf, Text};
+use history::DimDef;
+use std::alloc::Global;
+
+/// Dimensions of an entry.
+pub type DimensionList = ListOf<NumberedDimension>;
+
+/// Dimensions of a copied beat.
+pub type CopiedDimensionList = ListOf<CopiedDimension>;
+
+/// The definition of a dimension, with the numbers that its registry gave it and its chart.
+#[derive(Debug, Drop)]
+pub struct NumberedDimension {
+    pub series: u32,
+    pub chart: u32,
+    pub def: DimDef,
+}
+
+/// What a copy tells of a dimension.
+#[derive(Debug, Drop)]
+pub struct CopiedDimension {
+    pub series: u32,
+    pub chart: u32,
+    pub id: Text,
+    pub hidden: bool,
+}
+
+impl Item for NumberedDimension {
+    ghost use Rattle.entry_codec.specs.Dimensions.{IsDimension, dimension_bytes, read_dimension};
+
+    ghost is_item = { IsDimension };
+
+    ghost item_bytes = { dimension_bytes };
+
+    ghost read_item = { read_dimension };
+
+    ghost item_number = { λ d. d.series };
+
+    fn number(&self) -> u32 {
+        self.series
+    }
+
+    fn is_short(&self) -> bool {
+        let def = &self.def;
+        let (_series, _chart) = (self.series, self.chart);
+        let (_multiplier, _divisor) = (def.multiplier, def.divisor);
+        text::is_short(&def.id) && text::is_short(&def.name)
+    }
+
+    #[tactic(auto, unfolding(crate::specs::Dimensions::dimension_bytes))]
+    fn put(&self, writer: &mut Writer) -> Result<(), FieldFault> {
+        writer.put_u32(self.series)?;
+        writer.put_u32(self.chart)?;
+        text::put(&self.def.id, writer)?;
+        text::put(&self.def.name, writer)?;
+        marks::put_algorithm(self.def.algorithm, writer)?;
+        writer.put_i32(self.def.multiplier)?;
+        writer.put_i32(self.def.divisor)?;
+        marks::put(self.def.hidden, self.def.noreset, writer)
+    }
+
+    #[tactic(auto, unfolding(crate::specs::Dimensions::read_dimension))]
+    fn take(alloc: Global, reader: &mut Reader<'_>) -> Result<NumberedDimension, FieldFault> {
+        let series = reader.take_u32()?;
+        let chart = reader.take_u32()?;
+        let id = text::take(alloc, reader)?;
+        let name = text::take(alloc, reader)?;
+        let algorithm = marks::take_algorithm(reader)?;
+        let multiplier = reader.take_i32()?;
+        let divisor = reader.take_i32()?;
+        let (hidden, noreset) = marks::take(reader)?;
+        let def = DimDef {
+            id,
+            name,
+            algorithm,
+            multiplier,
+            divisor,
+            hidden,
+            noreset,
+        };
+        Ok(NumberedDimension { series, chart, def })
+    }
+}
+
+impl Item for CopiedDimension {
+    ghost use Rattle.entry_codec.specs.Dimensions.{IsCopiedDimension, copied_dimension_bytes, read_copied_dimension};
+
+    ghost is_item = { IsCopiedDimension };
+
+    ghost item_bytes = { copied_dimension_bytes };
+
+    ghost read_item = { read_copied_dimension };
+
+    ghost item_number = { λ d. d.series };
+
+    fn number(&self) -> u32 {
+        self.series
+    }
+
+    fn is_short(&self) -> bool {
+        let (_series, _chart) = (self.series, self.chart);
+        text::is_short(&self.id)
+    }
+
+    #[tactic(auto, unfolding(crate::specs::Dimensions::copied_dimension_bytes))]
+    fn put(&self, writer: &mut Writer) -> Result<(), FieldFault> {
+        writer.put_u32(self.series)?;
+        writer.put_u32(self.chart)?;
+        text::put(&self.id, writer)?;
+        writer.put_flag(self.hidden)
+    }
+
+    #[tactic(auto, unfolding(crate::specs::Dimensions::read_copied_dimension))]
+    fn take(alloc: Global, reader: &mut Reader<'_>) -> Result<CopiedDimension, FieldFault> {
+        let series = reader.take_u32()?;
+        let chart = reader.take_u32()?;
+        let id = text::take(alloc, reader)?;
+        let hidden = reader.take_flag()?;
+        Ok(CopiedDimension {
+            series,
+            chart,
+            id,
+            hidden,
+        })
+    }
+}

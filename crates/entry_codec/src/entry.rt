@@ -1,0 +1,60 @@
+use crate::charts::{ChartList, CopiedChartList};
+use crate::dimensions::{CopiedDimensionList, DimensionList};
+use crate::row::RowList;
+use crate::words::CopiedWordList;
+use field_codec::ByteList;
+
+/// The two numbers that a tier is made by.
+#[derive(Clone, Copy, Debug, PartialEq, Eq)]
+pub struct TierSettings {
+    pub points: u32,
+    pub pages: u32,
+}
+
+/// What a history was made with.
+#[derive(Clone, Copy, Debug, PartialEq, Eq)]
+pub struct Settings {
+    /// The number of the history.
+    pub id: u64,
+    pub tier0: TierSettings,
+    pub tier1: TierSettings,
+    pub tier2: TierSettings,
+}
+
+/// A beat that collectors told: what it defined, and the rows of its charts.
+#[derive(Debug, Drop)]
+pub struct Collected {
+    pub moment: u32,
+    pub charts: ChartList,
+    pub dimensions: DimensionList,
+    pub rows: RowList,
+}
+
+/// A beat that was copied from a child.
+#[derive(Debug, Drop)]
+pub struct Copied {
+    pub child: u64,
+    pub moment: u32,
+    pub charts: CopiedChartList,
+    pub dimensions: CopiedDimensionList,
+    pub words: CopiedWordList,
+}
+
+/// A span of a child that was not copied: the moments above `from`, up to `to`.
+#[derive(Clone, Copy, Debug, PartialEq, Eq)]
+pub struct Gap {
+    pub child: u64,
+    pub from: u32,
+    pub to: u32,
+}
+
+/// What a journal keeps, one after the other.
+#[derive(Debug, Drop)]
+pub enum Entry {
+    Settings(Settings),
+    Collected(Collected),
+    Copied(Copied),
+    /// The state of alarms, as its own bytes.
+    Health(ByteList),
+    Gap(Gap),
+}

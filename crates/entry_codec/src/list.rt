@@ -1,0 +1,140 @@
+ghost use Rattle.std.specs.Prelude.{◌≡◌, ℕ, List, [], ◌∷◌, ◌++◌, ◌↔◌, ◌⊎◌, map, Ok, Err, IsTrue, IfOk, IfErr, OnOk, IsOkUnless};
+ghost use Rattle.std.specs.List.{flat_map, AllByRecursion};
+ghost use Rattle.std.specs.Option.{option_to_list};
+ghost use Rattle.field_codec.specs.Reading.{ReadOf};
+ghost use Rattle.entry_codec.specs.Lists.{read_list, read_items, list_bytes, is_ascending, IsShortListOf};
+
+use field_codec::{FieldFault, Reader, Writer};
+use fixed_num::ListOf;
+use std::alloc::Global;
+
+/// What entries have lists of.
+pub(crate) trait Item: Drop {
+    /// Holds of the values that have a spelling.
+    ghost is_item: { Self → Type 0 };
+
+    ghost item_bytes: { Self → List ℕ };
+
+    ghost read_item: { List ℕ → ReadOf Self };
+
+    ghost item_number: { Self → ℕ };
+
+    /// The number that the items of a list are in the order of.
+    fn number(&self) -> u32
+        ensures { result ≡ item_number self.now };
+
+    fn is_short(&self) -> bool
+        ensures { IsTrue result ↔ is_item self.now };
+
+    fn put(&self, writer: &mut Writer) -> Result<(), FieldFault>
+        requires { is_item self.now }
+        ensures put { OnOk result (writer.new ≡ writer.old ++ item_bytes self.now) }
+        ensures memory { IsOkUnless result FieldFault.Memory };
+
+    fn take(alloc: Global, reader: &mut Reader<'_>) -> Result<Self, FieldFault>
+        ensures taken { IfOk result (λ item. read_item reader.old ≡ Ok (item, reader.new)) }
+        ensures fault { IfErr result (λ fault. (fault ≡ FieldFault.Memory) ⊎ (read_item reader.old ≡ Err fault)) };
+}
+
+fn push<T: Item>(items: &mut ListOf<T>, item: T) -> Result<(), FieldFault>
+    ensures ok { OnOk result (items.new ≡ items.old ++ item ∷ []) }
+    ensures memory { IsOkUnless result FieldFault.Memory }
+{
+    items.push(item).map_err(|_| FieldFault::Memory)
+}
+
+/// So many items, one after the other.
+fn take_items<T: Item>(
+    alloc: Global,
+    count: u32,
+    reader: &mut Reader<'_>,
+) -> Result<ListOf<T>, FieldFault>
+    ensures taken { IfOk result (λ items. read_items T.read_item count reader.old ≡ Ok (items, reader.new)) }
+    ensures fault { IfErr result (λ fault. (fault ≡ FieldFault.Memory) ⊎ (read_items T.read_item count reader.old ≡ Err fault)) }
+{
+    let mut items = ListOf::new(alloc);
+    for _ in 0..count {
+        let item = T::take(alloc, reader)?;
+        push(&mut items, item)?;
+    }
+    Ok(items)
+}
+
+/// The items behind their count. The list grows with what is read, and not by the count.
+#[tactic(auto, unfolding(crate::specs::Lists::read_list))]
+pub(crate) fn take_list<T: Item>(
+    alloc: Global,
+    reader: &mut Reader<'_>,
+) -> Result<ListOf<T>, FieldFault>
+    ensures taken { IfOk result (λ items. read_list T.read_item reader.old ≡ Ok (items, reader.new)) }
+    ensures fault { IfErr result (λ fault. (fault ≡ FieldFault.Memory) ⊎ (read_list T.read_item reader.old ≡ Err fault)) }
+{
+    let count = reader.take_u32()?;
+    take_items(alloc, count, reader)
+}
+
+fn put_items<T: Item>(items: &[T], writer: &mut Writer) -> Result<(), FieldFault>
+    requires { AllByRecursion T.is_item items.now }
+    ensures put { OnOk result (writer.new ≡ writer.old ++ flat_map T.item_bytes items.now) }
+    ensures memory { IsOkUnless result FieldFault.Memory }
+{
+    for item in items {
+        item.put(writer)?;
+    }
+    Ok(())
+}
+
+#[tactic(auto, unfolding(crate::specs::Lists::list_bytes))]
+pub(crate) fn put_list<T: Item>(items: &ListOf<T>, writer: &mut Writer) -> Result<(), FieldFault>
+    requires { IsShortListOf T.is_item items.now }
+    ensures put { OnOk result (writer.new ≡ writer.old ++ list_bytes T.item_bytes items.now) }
+    ensures memory { IsOkUnless result FieldFault.Memory }
+{
+    let items = items.as_slice();
+    writer.put_u32(items.len() as u32)?;
+    put_items(items, writer)
+}
+
+fn are_short<T: Item>(items: &[T]) -> bool
+    ensures { IsTrue result ↔ AllByRecursion T.is_item items.now }
+{
+    for item in items {
+        if !item.is_short() {
+            return false;
+        }
+    }
+    true
+}
+
+/// Whether a list has a spelling: as many items as a u32 counts, and each of them has one.
+pub(crate) fn is_short_list<T: Item>(items: &ListOf<T>) -> bool
+    ensures { IsTrue result ↔ IsShortListOf T.is_item items.now }
+{
+    let items = items.as_slice();
+    items.len() <= u32::MAX as usize && are_short(items)
+}
+
+/// Whether a number may follow the last one.
+fn is_above(last: Option<u32>, number: u32) -> bool
+    ensures { result ≡ is_ascending (option_to_list last ++ number ∷ []) }
+{
+    match last {
+        None => true,
+        Some(last) => last < number,
+    }
+}
+
+/// Whether the items are in the order of their numbers, each number once.
+pub(crate) fn is_ascending<T: Item>(items: &[T]) -> bool
+    ensures { result ≡ is_ascending (map T.item_number items.now) }
+{
+    let mut last = None;
+    for item in items {
+        let number = item.number();
+        if !is_above(last, number) {
+            return false;
+        }
+        last = Some(number);
+    }
+    true
+}

@@ -1,0 +1,180 @@
+ghost use Rattle.std.specs.Prelude.{◌≡◌, ◌<◌, ◌^◌, ◌++◌, ◌↔◌, length, Ok, Err, IsTrue, IfOk, OnOk, IsOkUnless};
+ghost use Rattle.entry_codec.specs.Entries.{collected_bytes, copied_bytes, entry_bytes, gap_bytes, read_entry, settings_bytes, tier_bytes, HasSpelling, IsCollected, IsCopied, IsGap, IsSettings, IsShort, IsTier};
+
+use crate::entry::{Collected, Copied, Entry, Gap, Settings, TierSettings};
+use crate::fault::EntryFault;
+use crate::{canonical, list};
+use field_codec::{ByteList, FieldFault, Writer};
+use std::alloc::Global;
+
+#[tactic(auto, unfolding(crate::specs::Entries::tier_bytes))]
+fn put_tier(tier: &TierSettings, writer: &mut Writer) -> Result<(), FieldFault>
+    ensures put { OnOk result (writer.new ≡ writer.old ++ tier_bytes tier.now) }
+    ensures memory { IsOkUnless result FieldFault.Memory }
+{
+    writer.put_u32(tier.points)?;
+    writer.put_u32(tier.pages)
+}
+
+#[tactic(auto, unfolding(crate::specs::Entries::settings_bytes))]
+fn put_settings(settings: &Settings, writer: &mut Writer) -> Result<(), FieldFault>
+    ensures put { OnOk result (writer.new ≡ writer.old ++ settings_bytes settings.now) }
+    ensures memory { IsOkUnless result FieldFault.Memory }
+{
+    writer.put_u8(1)?;
+    writer.put_u64(settings.id)?;
+    put_tier(&settings.tier0, writer)?;
+    put_tier(&settings.tier1, writer)?;
+    put_tier(&settings.tier2, writer)
+}
+
+#[tactic(auto, unfolding(crate::specs::Entries::collected_bytes))]
+fn put_collected(collected: &Collected, writer: &mut Writer) -> Result<(), FieldFault>
+    requires { IsCollected collected.now }
+    ensures put { OnOk result (writer.new ≡ writer.old ++ collected_bytes collected.now) }
+    ensures memory { IsOkUnless result FieldFault.Memory }
+{
+    writer.put_u32(collected.moment)?;
+    list::put_list(&collected.charts, writer)?;
+    list::put_list(&collected.dimensions, writer)?;
+    list::put_list(&collected.rows, writer)
+}
+
+#[tactic(auto, unfolding(crate::specs::Entries::copied_bytes))]
+fn put_copied(copied: &Copied, writer: &mut Writer) -> Result<(), FieldFault>
+    requires { IsCopied copied.now }
+    ensures put { OnOk result (writer.new ≡ writer.old ++ copied_bytes copied.now) }
+    ensures memory { IsOkUnless result FieldFault.Memory }
+{
+    writer.put_u64(copied.child)?;
+    writer.put_u32(copied.moment)?;
+    list::put_list(&copied.charts, writer)?;
+    list::put_list(&copied.dimensions, writer)?;
+    list::put_list(&copied.words, writer)
+}
+
+#[tactic(auto, unfolding(crate::specs::Entries::gap_bytes))]
+fn put_gap(gap: &Gap, writer: &mut Writer) -> Result<(), FieldFault>
+    ensures put { OnOk result (writer.new ≡ writer.old ++ gap_bytes gap.now) }
+    ensures memory { IsOkUnless result FieldFault.Memory }
+{
+    writer.put_u64(gap.child)?;
+    writer.put_u32(gap.from)?;
+    writer.put_u32(gap.to)
+}
+
+#[tactic(auto, unfolding(crate::specs::Entries::entry_bytes, field_codec::specs::Spelling::u8_bytes))]
+fn put_entry(entry: &Entry, writer: &mut Writer) -> Result<(), FieldFault>
+    requires { IsShort entry.now }
+    ensures put { OnOk result (writer.new ≡ writer.old ++ entry_bytes entry.now) }
+    ensures memory { IsOkUnless result FieldFault.Memory }
+{
+    match entry {
+        Entry::Settings(settings) => {
+            writer.put_u8(0)?;
+            put_settings(settings, writer)
+        }
+        Entry::Collected(collected) => {
+            writer.put_u8(1)?;
+            put_collected(collected, writer)
+        }
+        Entry::Copied(copied) => {
+            writer.put_u8(2)?;
+            put_copied(copied, writer)
+        }
+        Entry::Health(bytes) => {
+            writer.put_u8(3)?;
+            writer.put_bytes(bytes.as_slice())
+        }
+        Entry::Gap(gap) => {
+            writer.put_u8(4)?;
+            put_gap(gap, writer)
+        }
+    }
+}
+
+// Below, a number that is read is known to be in the range of its type.
+
+fn is_tier(tier: &TierSettings) -> bool
+    ensures { IsTrue result ↔ IsTier tier.now }
+{
+    let (_points, _pages) = (tier.points, tier.pages);
+    true
+}
+
+fn is_settings(settings: &Settings) -> bool
+    ensures { IsTrue result ↔ IsSettings settings.now }
+{
+    let _id = settings.id;
+    is_tier(&settings.tier0) && is_tier(&settings.tier1) && is_tier(&settings.tier2)
+}
+
+fn is_collected(collected: &Collected) -> bool
+    ensures { IsTrue result ↔ IsCollected collected.now }
+{
+    let _moment = collected.moment;
+    list::is_short_list(&collected.charts)
+        && list::is_short_list(&collected.dimensions)
+        && list::is_short_list(&collected.rows)
+}
+
+fn is_copied(copied: &Copied) -> bool
+    ensures { IsTrue result ↔ IsCopied copied.now }
+{
+    let (_child, _moment) = (copied.child, copied.moment);
+    list::is_short_list(&copied.charts)
+        && list::is_short_list(&copied.dimensions)
+        && list::is_short_list(&copied.words)
+}
+
+fn is_gap(gap: &Gap) -> bool
+    ensures { IsTrue result ↔ IsGap gap.now }
+{
+    let (_child, _from, _to) = (gap.child, gap.from, gap.to);
+    true
+}
+
+fn is_short(entry: &Entry) -> bool
+    ensures { IsTrue result ↔ IsShort entry.now }
+{
+    match entry {
+        Entry::Settings(settings) => is_settings(settings),
+        Entry::Collected(collected) => is_collected(collected),
+        Entry::Copied(copied) => is_copied(copied),
+        Entry::Health(bytes) => bytes.len() <= u32::MAX as usize,
+        Entry::Gap(gap) => is_gap(gap),
+    }
+}
+
+/// Whether an entry has a spelling: its lists are in the order of their numbers, each number once, its
+/// words are storage numbers, no text is longer than 65,535 bytes, and no list and no bytes are longer
+/// than a u32 counts.
+pub fn has_spelling(entry: &Entry) -> bool
+    ensures { IsTrue result ↔ HasSpelling entry.now }
+{
+    is_short(entry) && canonical::is_canonical(entry)
+}
+
+fn write_short(alloc: Global, entry: &Entry) -> Result<ByteList, FieldFault>
+    requires { IsShort entry.now }
+    ensures spelling { IfOk result (λ bytes. bytes ≡ entry_bytes entry.now) }
+    ensures memory { IsOkUnless result FieldFault.Memory }
+{
+    let mut writer = Writer::new(alloc);
+    put_entry(entry, &mut writer)?;
+    Ok(writer.into_bytes())
+}
+
+/// The one spelling of an entry. `NotCanonical` where it has none.
+pub fn write_entry(alloc: Global, entry: &Entry) -> Result<ByteList, EntryFault>
+    ensures spelling { IfOk result (λ bytes. bytes ≡ entry_bytes entry.now) }
+    ensures written { OnOk result (HasSpelling entry.now) }
+    ensures reads_back { IfOk result (λ bytes. read_entry bytes ≡ Ok entry.now) }
+    ensures refused { (result ≡ Err EntryFault.NotCanonical) ↔ (¬ (HasSpelling entry.now)) }
+    ensures memory { HasSpelling entry.now → IsOkUnless result EntryFault.Memory }
+{
+    if !has_spelling(entry) {
+        return Err(EntryFault::NotCanonical);
+    }
+    Ok(write_short(alloc, entry)?)
+}
