@@ -1,0 +1,4 @@
+pub mod CallLemmas
+pub mod FormLemmas
+pub mod GrammarLemmas
+pub mod StoreLemmas
