@@ -4,15 +4,8 @@ use Rattle.std.specs.List.{AllByRecursion}
 use Rattle.std.proofs.lemmas.Bool.{cases_lt}
 use Rattle.std.proofs.lemmas.List.{take_at, drop_at, take-take, take-append-drop, append_cancel_left}
 use Rattle.journal_core.specs.Form.{header, length_field, opened, IsShort, StandsFor, GoesOn, FailsAt}
+use Rattle.journal_core.specs.Reading.{Tail}
 use Rattle.journal_core.proofs.FormLemmas.{length-length_field, length_field_once}
-
--- what stands behind the header of a journal with these records
-pub record Tail (bytes : List ℕ) (records : List (List ℕ)) : Type 0 where
-  pub gate : ℕ
-  pub rest : List ℕ
-  pub form : bytes ≡ opened records ++ gate ∷ rest
-  pub closed : gate ≢ 1
-  pub fits : AllByRecursion IsShort records
 
 pub tail_of : (generation : ℕ) (bytes : List ℕ) (records : List (List ℕ)) → StandsFor generation (header generation ++ bytes) records → Tail bytes records
 tail_of generation bytes records stands = record {
@@ -54,7 +47,7 @@ same_front body other rest others short short_other same =
     }
 
 -- one open record at the front
-one_open : (body rest : List ℕ) (records : List (List ℕ))
+pub one_open : (body rest : List ℕ) (records : List (List ℕ))
     → opened (body ∷ records) ++ rest ≡ 1 ∷ (length_field (length body) ++ (body ++ (opened records ++ rest)))
 one_open body rest records =
     ap (λ (l : List ℕ). 1 ∷ l)
@@ -66,12 +59,6 @@ pub record Behind (before records : List (List ℕ)) (bytes : List ℕ) : Type 0
   pub others : List (List ℕ)
   pub all : records ≡ before ++ others
   pub tail : Tail bytes others
-
--- the front of the bytes is open, and so is the first record
-first_open : (bytes : List ℕ) (body rest : List ℕ) (records : List (List ℕ)) → bytes ≡ 1 ∷ (length_field (length body) ++ (body ++ rest)) → Tail bytes records
-    → (other : List ℕ) × (others : List (List ℕ)) × (records ≡ other ∷ others)
-first_open bytes body rest [] form tail = absurd (tail.closed cc)
-first_open bytes body rest (other ∷ others) form tail = (other, others, refl)
 
 pub behind : (before records : List (List ℕ)) (bytes : List ℕ) → AllByRecursion IsShort before → Tail (opened before ++ bytes) records → Behind before records bytes
 behind [] records bytes fits tail = record { others = records; all = refl; tail = tail }

@@ -1,4 +1,7 @@
 pub mod CallLemmas
 pub mod FormLemmas
 pub mod GrammarLemmas
+pub mod HeaderLemmas
+pub mod NextLemmas
+pub mod ReadLemmas
 pub mod StoreLemmas

@@ -1,15 +1,16 @@
-ghost use Rattle.std.specs.Prelude.{◌≡◌, ℕ, ◌+◌, ◌^◌, ◌<◌, ◌≤◌, ◌↔◌, ◌⊎◌, List, [], ◌∷◌, ◌++◌, length, IfErr, IsErrOf, OnOk, OnErr};
-ghost use Rattle.host_model.specs.Past.{of};
+ghost use Rattle.std.specs.Prelude.{◌≡◌, ℕ, ◌+◌, ◌^◌, ◌<◌, ◌≤◌, ◌↔◌, ◌⊎◌, List, [], ◌∷◌, ◌++◌, length, IfOk, IfErr, IsErrOf, OnOk, OnErr};
+ghost use Rattle.host_model.specs.Images.{Synced, contents, IsImage};
+ghost use Rattle.host_model.specs.Past.{On, of};
 ghost use Rattle.host_model.specs.Cause.{HasCause};
 ghost use Rattle.host_model.specs.Moments.{Throughout, EveryImage, OnlyOn};
+ghost use Rattle.journal_core.specs.Form.{FailsAt};
 
 use crate::fault::JournalFault;
+use crate::reading::{LONGEST, RecordList, read_journal};
 use crate::store::store;
 use host_model::{File, Host};
+use std::alloc::Global;
 use std::marker::Model;
-
-/// The most bytes that a record may have.
-const LONGEST: usize = 1 << 26;
 
 /// A journal in a file of a host, whose records have been read. It holds where the journal ends, and
 /// no record.
@@ -34,6 +35,42 @@ impl Model for Journal {
 
 impl Journal {
     ghost use Rattle.journal_core.specs.Journal.{IsOpen, StandsForEither};
+
+    /// Opens the journal of this generation in a file, and gives its records. It syncs the file first
+    /// and then only reads.
+    pub fn open<H: Host>(
+        alloc: Global,
+        host: &mut H,
+        file: File,
+        generation: u64,
+    ) -> Result<(Journal, RecordList), JournalFault>
+        ensures opened { IfOk result (λ open_. H.honest → IsOpen (of file (H.past host.new)) open_.0 open_.1) }
+        ensures journal { IfOk result (λ open_. (open_.0.file ≡ file) × (open_.0.generation ≡ generation)) }
+
+        // The bytes are no journal of this generation, and that is the first place at which none goes on.
+        ensures not_a_journal { (place : ℕ) → IsErrOf result (JournalFault.NotAJournal place) → H.honest
+            → FailsAt generation (contents (of file (H.past host.new))) place }
+
+        // It begins with a sync, and nothing else happens to the disk.
+        ensures begins { H.honest → IsErrOf result JournalFault.DiskFault ⊎ (H.past host.new ≡ On file Synced ∷ H.past host.old) }
+        ensures same_bytes { H.honest → contents (of file (H.past host.new)) ≡ contents (of file (H.past host.old)) }
+        ensures any_moment { H.honest → Throughout (EveryImage file (IsImage (of file (H.past host.old)))) (H.past host.old) (H.past host.new) }
+        ensures only_here { H.honest → OnlyOn file (H.past host.old) (H.past host.new) }
+        ensures not_too_long { IsErrOf result JournalFault.TooLong → ⊥ }
+        ensures cause { HasCause (H.disk_faults host.old) (H.disk_faults host.new) (IsErrOf result JournalFault.DiskFault) }
+        ensures output { H.tell_faults host.new ≡ H.tell_faults host.old }
+    {
+        if host.sync(file).is_err() {
+            return Err(JournalFault::DiskFault);
+        }
+        let (gate, records) = read_journal(alloc, host, file, generation)?;
+        let journal = Journal {
+            file,
+            generation,
+            bytes: gate + 1,
+        };
+        Ok((journal, records))
+    }
 
     /// Adds a record. At `Ok` it is stored and synced, so that it is there after every later stop. After
     /// `DiskFault` each stop leaves the records with the new one or without it, as at every moment of

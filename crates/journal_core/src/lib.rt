@@ -14,10 +14,12 @@ mod fault;
 mod form;
 mod journal;
 mod law;
+mod reading;
 mod start;
 mod store;
 
 pub use fault::JournalFault;
 pub use journal::Journal;
 pub use law::any_journal;
+pub use reading::RecordList;
 pub use start::prepare;
