@@ -5,3 +5,4 @@ pub mod HeaderLemmas
 pub mod NextLemmas
 pub mod ReadLemmas
 pub mod StoreLemmas
+mod Rows

@@ -1,7 +1,6 @@
 -- how far the records have been read
 use Rattle.std.proofs.Common.{◌≡◌, ◌≢◌, ℕ, zero, suc, ◌+◌, ◌-◌, ◌^◌, ◌<◌, ◌≤◌, List, [], ◌∷◌, ◌++◌, length, take, drop, Option, Some, None, Result, Ok, Err, false, refl, sym, ap, ◌∙◌, subst, arith, append_assoc, length-append}
 use Rattle.std.specs.List.{AllByRecursion}
-use Rattle.std.specs.Result.{OnOk, is_err}
 use Rattle.std.proofs.Math.Seq.{take-append-add}
 use Rattle.std.proofs.lemmas.List.{take-append-drop, drop-drop, drop_at, length-take, length-drop}
 use Rattle.journal_core.specs.declared.fault.JournalFault.{JournalFault}
@@ -206,7 +205,3 @@ IfNotAJournal-weaker DiskFault weaker held = tt
 IfNotAJournal-weaker TooLong weaker held = tt
 IfNotAJournal-weaker (NotAJournal place) weaker held = weaker place held
 IfNotAJournal-weaker Memory weaker held = tt
-
-pub at_ok : {T E P : Type 0} (result : Result T E) → is_err result ≡ false → OnOk result P → P
-at_ok (Ok value) ok held = held
-at_ok (Err fault) failed held = absurd cc

@@ -13,7 +13,7 @@ length_field size = to_le_bytes w32 size
 -- records, each behind an open gate and its length
 abbrev pub opened : List (List ℕ) → List ℕ
 opened [] = []
-opened (record_ ∷ records) = 1 ∷ (length_field (length record_) ++ (record_ ++ opened records))
+opened (body ∷ records) = 1 ∷ (length_field (length body) ++ (body ++ opened records))
 
 -- a record has at most 2^26 bytes
 abbrev pub IsShort : List ℕ → Type 0

@@ -44,8 +44,8 @@ impl Journal {
         file: File,
         generation: u64,
     ) -> Result<(Journal, RecordList), JournalFault>
-        ensures opened { IfOk result (λ open_. H.honest → IsOpen (of file (H.past host.new)) open_.0 open_.1) }
-        ensures journal { IfOk result (λ open_. (open_.0.file ≡ file) × (open_.0.generation ≡ generation)) }
+        ensures opened { IfOk result (λ found. H.honest → IsOpen (of file (H.past host.new)) found.0 found.1) }
+        ensures journal { IfOk result (λ found. (found.0.file ≡ file) × (found.0.generation ≡ generation)) }
 
         // The bytes are no journal of this generation, and that is the first place at which none goes on.
         ensures not_a_journal { (place : ℕ) → IsErrOf result (JournalFault.NotAJournal place) → H.honest

@@ -12,6 +12,7 @@
 
 mod fault;
 mod form;
+mod gate;
 mod journal;
 mod law;
 mod reading;

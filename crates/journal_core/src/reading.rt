@@ -1,4 +1,4 @@
-ghost use Rattle.std.specs.Prelude.{◌≡◌, ◌≢◌, ℕ, ◌+◌, ◌-◌, ◌^◌, ◌<◌, ◌≤◌, List, ◌∷◌, ◌++◌, length, min, take, drop, slice_index, IfOk, IfErr, IsErrOf, OnOk};
+ghost use Rattle.std.specs.Prelude.{◌≡◌, ◌≢◌, ℕ, ◌+◌, ◌-◌, ◌^◌, ◌<◌, ◌≤◌, List, [], ◌∷◌, ◌++◌, length, min, take, drop, slice_index, IfOk, IfErr, IsErrOf, OnOk};
 ghost use Rattle.host_model.specs.Images.{contents};
 ghost use Rattle.host_model.specs.Past.{of};
 ghost use Rattle.host_model.specs.Cause.{HasCause};
@@ -179,7 +179,7 @@ fn read_next<H: Host>(
 ) -> Result<Option<ByteList>, JournalFault>
     requires inside { place ≤ size }
     requires size { H.honest → size ≡ length (contents (of file (H.past host.old))) }
-    ensures record_ { IfOk result (λ next. H.honest → BeginsWithRecord (drop place (contents (of file (H.past host.old)))) next) }
+    ensures begins { IfOk result (λ next. H.honest → BeginsWithRecord (drop place (contents (of file (H.past host.old)))) next) }
     ensures within { IfOk result (λ next. EndsWithin place size next) }
     ensures broken { IfErr result (λ fault. IfNotAJournal fault (λ end. H.honest
         → FailsFrom place (contents (of file (H.past host.old))) end)) }
@@ -196,6 +196,17 @@ fn read_next<H: Host>(
             Ok(Some(body))
         }
     }
+}
+
+/// Keeps a record that was read.
+fn keep(records: &mut RecordList, body: ByteList) -> Result<(), JournalFault>
+    ensures kept { OnOk result (records.new ≡ records.old ++ body ∷ []) }
+    ensures faults { IfErr result (λ fault. fault ≡ JournalFault.Memory) }
+{
+    if records.push(body).is_err() {
+        return Err(JournalFault::Memory);
+    }
+    Ok(())
 }
 
 /// Reads the records behind a header. It gives the place of the gate that ends them, too.
@@ -220,9 +231,7 @@ pub(crate) fn read_records<H: Host>(
     let mut place = 16;
     while let Some(body) = read_next(alloc, host, file, place, size)? {
         place += 5 + body.len() as u64;
-        if records.push(body).is_err() {
-            return Err(JournalFault::Memory);
-        }
+        keep(&mut records, body)?;
     }
     Ok((place, records))
 }

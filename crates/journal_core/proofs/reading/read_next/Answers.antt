@@ -13,8 +13,8 @@ returns-in-Broken-clause-broken g c h =
     let there : c.in-Broken.more ≡ c.args.place + c.in-Broken.more - c.args.place = omega arith in
     record { after = omega arith; fails = subst (TailFails (drop c.args.place bytes)) there begins }
 
-pub returns-in_ok-body-in-Record-clause-record_ : goal.returns-in_ok-body-in-Record-clause-record_
-returns-in_ok-body-in-Record-clause-record_ g c h =
+pub returns-in_ok-body-in-Record-clause-begins : goal.returns-in_ok-body-in-Record-clause-begins
+returns-in_ok-body-in-Record-clause-begins g c h =
     let bytes = contents (of c.args.file (g.H.Host.past c.args.host.now)) in
     let begins = rw c.in-Record.is at (c.in_ok-gate_at.ensures.begins h) in
     record_read bytes c.args.place c.in-Record.count c.in_ok-body-in-Record.body begins

@@ -3,7 +3,7 @@ use Rattle.std.proofs.lemmas.Result.{err_from_is_err_and}
 use Rattle.host_model.specs.Images.{contents}
 use Rattle.host_model.specs.Past.{Event, of}
 use Rattle.journal_core.specs.Reading.{BeginsWithRecord, FailsFrom}
-use Rattle.journal_core.proofs.ReadLemmas.{Reached, reached_more, reached_fails, IfNotAJournal-weaker, at_ok}
+use Rattle.journal_core.proofs.ReadLemmas.{Reached, reached_more, reached_fails, IfNotAJournal-weaker}
 use Rattle.journal_core.proofs.reading.read_records.Goals as goal
 
 pub returns-in_err-body-clause-broken : goal.returns-in_err-body-clause-broken
@@ -29,12 +29,11 @@ loop-records-preserved g c =
       read = λ h.
           let bytes = contents (of c.args.file (g.H.Host.past c.args.host.now)) in
           let body = c.in-Some.body in
-          let pushed : c.push.new.self ≡ c.loop-records.records ++ body ∷ [] = at_ok c.push.result (sym c.if-is_err.ensures.value) c.push.ensures.ok in
-          let begins = rw c.in-Some.is at (c.in_ok-body.ensures.record_ h) in
+          let begins = rw c.in-Some.is at (c.in_ok-body.ensures.begins h) in
           let here =
               subst (λ (past : List Event). BeginsWithRecord (drop place (contents (of c.args.file past))) (Some body)) (c.loop-records.invariant.same h) begins in
-          subst (λ (n : ℕ). Reached bytes (place + (5 + n)) c.push.new.self) (sym c.len.ensures)
-          (subst (Reached bytes (place + (5 + length body))) (sym pushed)
+          subst (λ (n : ℕ). Reached bytes (place + (5 + n)) c.keep.new.records) (sym c.len.ensures)
+          (subst (Reached bytes (place + (5 + length body))) (sym c.in_ok-keep.ensures.kept)
           (reached_more bytes place c.loop-records.records body (c.loop-records.invariant.read h) here within.0));
       later = omega (arith, c.loop-records.invariant.later, c.read_next.ensures.cause.later);
       said = c.read_next.ensures.output ∙ c.loop-records.invariant.said;
