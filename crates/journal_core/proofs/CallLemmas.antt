@@ -1,5 +1,5 @@
 -- what one call of a host leaves of the file, and that it leaves all else as it was
-use Rattle.std.proofs.Common.{◌≡◌, ℕ, List, ◌∷◌, Result, sym, ap, ◌∙◌, subst}
+use Rattle.std.proofs.Common.{◌≡◌, List, ◌∷◌, Result, ap, ◌∙◌}
 use Rattle.std.specs.Result.{OnOk, OnErr}
 use Rattle.host_model.specs.declared.file.File.{File}
 use Rattle.host_model.specs.Images.{Change, Synced, contents}

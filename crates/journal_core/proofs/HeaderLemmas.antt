@@ -1,7 +1,7 @@
 -- where the header of a journal is not there
-use Rattle.std.proofs.Common.{◌≡◌, ◌≢◌, ℕ, ◌+◌, ◌<◌, ◌≤◌, List, [], ◌∷◌, ◌++◌, length, min, take, drop, get_or, refl, sym, ap, ◌∙◌, arith, append_assoc, length-append}
+use Rattle.std.proofs.Common.{◌≡◌, ◌≢◌, ℕ, ◌+◌, ◌<◌, ◌≤◌, List, [], ◌∷◌, ◌++◌, length, min, take, drop, get_or, sym, ap, ◌∙◌, arith, append_assoc, length-append}
 use Rattle.std.proofs.lemmas.List.{take_all, take-take, take-append-drop, get_or-take, get_or_append_left, length-take}
-use Rattle.journal_core.specs.Form.{header, opened, StandsFor, GoesOn, IsJournal, FailsAt}
+use Rattle.journal_core.specs.Form.{header, opened, IsJournal, FailsAt}
 use Rattle.journal_core.proofs.FormLemmas.{length-header}
 
 -- a journal has each byte of the header
@@ -23,8 +23,11 @@ header_fails generation bytes place below within same differs =
     let head = header generation in
     record {
       within = within;
-      before =
-          (drop place head ++ 0 ∷ [], ([], record {
+      before = (
+        drop place head ++ 0 ∷ [],
+        (
+          [],
+          record {
             gate = 0;
             rest = [];
             form =
@@ -33,7 +36,9 @@ header_fails generation bytes place below within same differs =
                 ∙ ap (λ (l : List ℕ). l ++ 0 ∷ []) (take-append-drop place head);
             closed = λ e. cc;
             fits = tt;
-          }));
+          },
+        ),
+      );
       here = λ inside on.
           let front = take (place + 1) bytes in
           let there : place < length front = omega (arith, length-take (place + 1) bytes) in

@@ -1,9 +1,9 @@
 -- what the bytes from a gate on begin with, and where they fail
-use Rattle.std.proofs.Common.{◌≡◌, ◌≢◌, ℕ, zero, suc, lit<, ◌+◌, ◌-◌, ◌^◌, ◌<◌, ◌≤◌, ⊎_elim, List, [], ◌∷◌, ◌++◌, length, take, drop, replicate, get_or, refl, sym, ap, ◌∙◌, subst, arith, append_assoc, append-nil, length-append}
-use Rattle.std.specs.Int.{w32, to_le_bytes, from_le_bytes}
+use Rattle.std.proofs.Common.{◌≡◌, ℕ, zero, suc, lit<, ◌+◌, ◌-◌, ◌^◌, ◌<◌, ◌≤◌, ⊎_elim, List, [], ◌∷◌, ◌++◌, length, take, drop, replicate, get_or, refl, sym, ap, ◌∙◌, subst, arith, append_assoc, length-append}
+use Rattle.std.specs.Int.{w32, from_le_bytes}
 use Rattle.std.proofs.lemmas.Bool.{cases_lt}
 use Rattle.std.proofs.lemmas.Nat.{le_bytes_4}
-use Rattle.std.proofs.lemmas.List.{take_at, take_all, drop_at, drop_all, drop_more, take-append-drop, take-append-le, get_or-take, get_or-drop, get_or_append_left, get_or-append_right, get_or-replicate, get_or_past, length-take, length-drop, length-replicate, nil_from_length}
+use Rattle.std.proofs.lemmas.List.{take_at, take_all, drop_more, take-append-le, get_or-take, get_or-drop, get_or_append_left, get_or-append_right, get_or-replicate, get_or_past, length-take, length-drop, length-replicate, nil_from_length}
 use Rattle.journal_core.specs.Form.{length_field, opened, IsShort}
 use Rattle.journal_core.specs.Reading.{Tail, TailGoesOn, TailFails}
 use Rattle.journal_core.proofs.FormLemmas.{length-length_field, length_field_once}
@@ -30,8 +30,7 @@ opens size rest (body ∷ records) small tail =
     sym (take_at (length_field size) rest 4 (length-length_field size))
     ∙ ap (λ (l : List ℕ). take 4 l) same
     ∙ take_at field (body ++ behind) 4 (length-length_field (length body)) in
-    let sizes : size ≡ length body = length_field_once size (length body) small (omega (arith, tail.fits.0)) fields in
-    (
+    let sizes : size ≡ length body = length_field_once size (length body) small (omega (arith, tail.fits.0)) fields in (
       omega (arith, tail.fits.0),
       omega (
         arith,

@@ -1,11 +1,11 @@
 -- how far the records have been read
-use Rattle.std.proofs.Common.{◌≡◌, ◌≢◌, ℕ, zero, suc, ◌+◌, ◌-◌, ◌^◌, ◌<◌, ◌≤◌, List, [], ◌∷◌, ◌++◌, length, take, drop, Option, Some, None, Result, Ok, Err, false, refl, sym, ap, ◌∙◌, subst, arith, append_assoc, length-append}
+use Rattle.std.proofs.Common.{◌≡◌, ℕ, ◌+◌, ◌-◌, ◌<◌, ◌≤◌, List, [], ◌∷◌, ◌++◌, length, take, drop, Some, refl, sym, ap, ◌∙◌, subst, arith, append_assoc, length-append}
 use Rattle.std.specs.List.{AllByRecursion}
 use Rattle.std.proofs.Math.Seq.{take-append-add}
-use Rattle.std.proofs.lemmas.List.{take-append-drop, drop-drop, drop_at, length-take, length-drop}
+use Rattle.std.proofs.lemmas.List.{take-append-drop, drop-drop, drop_at, length-drop}
 use Rattle.journal_core.specs.declared.fault.JournalFault.{JournalFault}
 use Rattle.journal_core.specs.declared.fault.JournalFault.TheVariants.{DiskFault, TooLong, NotAJournal, Memory}
-use Rattle.journal_core.specs.declared.reading.Next.TheVariants.{Closed, Record, Broken}
+use Rattle.journal_core.specs.declared.reading.Next.TheVariants.{Closed, Record}
 use Rattle.journal_core.specs.Form.{header, length_field, opened, IsShort, StandsFor, GoesOn, FailsAt}
 use Rattle.journal_core.specs.Reading.{Tail, TailGoesOn, TailFails, BeginsWith, BeginsWithRecord, FailsFrom, Holds, IfNotAJournal}
 use Rattle.journal_core.proofs.FormLemmas.{length-header, length-length_field, opened-more, length-opened_more, short-more}

@@ -1,5 +1,5 @@
 -- what a record that is being stored leaves of a journal
-use Rattle.std.proofs.Common.{◌≡◌, ◌≢◌, ℕ, suc, ◌+◌, ◌^◌, ◌<◌, ◌≤◌, ◌⊎◌, inl, inr, ⊎_elim, List, [], ◌∷◌, ◌++◌, length, take, drop, get_or, Result, Ok, Err, false, ◌-◌, refl, sym, ap, ◌∙◌, subst, arith, append_assoc, length-append}
+use Rattle.std.proofs.Common.{◌≡◌, ℕ, ◌+◌, ◌<◌, ◌≤◌, inl, inr, ⊎_elim, List, [], ◌∷◌, ◌++◌, length, take, drop, get_or, Result, Ok, Err, false, ◌-◌, refl, sym, ap, ◌∙◌, subst, arith, append_assoc, length-append}
 use Rattle.std.specs.Result.{OnOk, OnErr, is_err}
 use Rattle.std.specs.List.{AllByRecursion}
 use Rattle.std.proofs.lemmas.Bool.{cases_eq}
@@ -10,7 +10,7 @@ use Rattle.host_model.specs.Past.{Event, On, of, MayAdd}
 use Rattle.host_model.specs.Moments.{Throughout, EveryImage}
 use Rattle.host_model.proofs.FileLemmas.{image_when_synced}
 use Rattle.host_model.proofs.MomentLemmas.{at_end, joined, weakened}
-use Rattle.host_model.proofs.RunLemmas.{images_in_sync, RunsFrom, RunsFrom-images, write_from, RunsWithin, RunsWithin-images, write_within}
+use Rattle.host_model.proofs.RunLemmas.{images_in_sync, RunsFrom, RunsFrom-images, write_from, RunsWithin, RunsWithin-images}
 use Rattle.journal_core.specs.Form.{header, length_field, opened, IsShort, StandsFor}
 use Rattle.journal_core.specs.Journal.{JournalState, IsOpen, StandsForEither}
 use Rattle.journal_core.specs.Store.{KeepsThrough, KeepsBeside, Stages}
@@ -79,7 +79,7 @@ staged gate field body old first second third is_field inside one two three =
     let three' : third ≡ (((front ++ field) ++ body) ++ 0 ∷ []) ++ drop 1 behind =
     three ∙ ap (λ (l : List ℕ). written l (gate + 5 + length body) (0 ∷ [])) two'
     ∙ written-behind ((front ++ field) ++ body) behind (gate + 5 + length body) (0 ∷ [])
-        (omega (arith, length-append (front ++ field) body, length-append front field)) in
+    (omega (arith, length-append (front ++ field) body, length-append front field)) in
     record {
       rest = drop 1 behind;
       form =
@@ -142,7 +142,7 @@ through_stands generation gate records old bytes stands here kept = record {
   form =
       let grouped = stands.form ∙ sym (append_assoc (header generation) (opened records) (stands.gate ∷ stands.rest)) in
       front_kept (header generation ++ opened records) stands.rest bytes stands.gate gate (front_size generation records gate here)
-          (kept.front ∙ ap (λ (l : List ℕ). take (gate + 1) l) grouped)
+      (kept.front ∙ ap (λ (l : List ℕ). take (gate + 1) l) grouped)
       ∙ append_assoc (header generation) (opened records) (stands.gate ∷ drop (gate + 1) bytes);
   closed = stands.closed;
   fits = stands.fits;

@@ -114,3 +114,6 @@ impl Journal {
         self.bytes
     }
 }
+
+#[cfg(test)]
+mod tests;

@@ -13,12 +13,7 @@ use host_model::{Failed, File, Host};
 
 /// Adds a record to the journal in a file, whose closed gate is at this place. At every moment a stop
 /// leaves the journal with the record or without it.
-pub(crate) fn store<H: Host>(
-    host: &mut H,
-    file: File,
-    gate: u64,
-    body: &[u8],
-) -> Result<(), Failed>
+pub(crate) fn store<H: Host>(host: &mut H, file: File, gate: u64, body: &[u8]) -> Result<(), Failed>
     requires room { gate ≤ 2 ^ 60 }
     requires size { length body.now ≤ 2 ^ 26 }
     requires stable { H.honest → IsSynced (of file (H.past host.old)) }

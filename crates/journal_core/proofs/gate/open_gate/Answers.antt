@@ -1,4 +1,4 @@
-use Rattle.std.proofs.Common.{ℕ, ◌+◌, List, [], ◌∷◌, arith}
+use Rattle.std.proofs.Common.{◌+◌, [], ◌∷◌, arith}
 use Rattle.host_model.specs.Images.{contents, written}
 use Rattle.host_model.specs.Past.{of}
 use Rattle.host_model.proofs.RunLemmas.{RunsWithin-start, write_within}

@@ -1,4 +1,4 @@
-use Rattle.std.proofs.Common.{◌≡◌, ◌≢◌, ℕ, ◌<◌, List, length, take, get_or, ap, arith, ◌∙◌, sym, subst}
+use Rattle.std.proofs.Common.{◌≡◌, ℕ, ◌<◌, List, length, take, get_or, ap, arith, ◌∙◌, sym, subst}
 use Rattle.host_model.specs.Images.{contents}
 use Rattle.host_model.specs.Past.{of}
 use Rattle.journal_core.specs.Form.{header}

@@ -1,4 +1,4 @@
-use Rattle.std.proofs.Common.{◌≡◌, ℕ, ◌+◌, ◌-◌, length, min, take, drop, ap, ◌∙◌, arith}
+use Rattle.std.proofs.Common.{◌≡◌, ℕ, length, min, take, drop, ap, ◌∙◌, arith}
 use Rattle.std.proofs.lemmas.List.{take_min, length-drop}
 use Rattle.host_model.specs.Images.{contents}
 use Rattle.host_model.specs.Past.{of}

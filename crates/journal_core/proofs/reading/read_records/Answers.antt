@@ -1,4 +1,4 @@
-use Rattle.std.proofs.Common.{◌≡◌, ℕ, ◌+◌, List, [], ◌∷◌, ◌++◌, length, drop, Some, sym, ◌∙◌, subst, arith}
+use Rattle.std.proofs.Common.{ℕ, ◌+◌, List, length, drop, Some, sym, ◌∙◌, subst, arith}
 use Rattle.std.proofs.lemmas.Result.{err_from_is_err_and}
 use Rattle.host_model.specs.Images.{contents}
 use Rattle.host_model.specs.Past.{Event, of}
@@ -31,7 +31,7 @@ loop-records-preserved g c =
           let body = c.in-Some.body in
           let begins = rw c.in-Some.is at (c.in_ok-body.ensures.begins h) in
           let here =
-              subst (λ (past : List Event). BeginsWithRecord (drop place (contents (of c.args.file past))) (Some body)) (c.loop-records.invariant.same h) begins in
+          subst (λ (past : List Event). BeginsWithRecord (drop place (contents (of c.args.file past))) (Some body)) (c.loop-records.invariant.same h) begins in
           subst (λ (n : ℕ). Reached bytes (place + (5 + n)) c.keep.new.records) (sym c.len.ensures)
           (subst (Reached bytes (place + (5 + length body))) (sym c.in_ok-keep.ensures.kept)
           (reached_more bytes place c.loop-records.records body (c.loop-records.invariant.read h) here within.0));

@@ -1,6 +1,6 @@
-use Rattle.std.proofs.Common.{List, sym, subst}
+use Rattle.std.proofs.Common.{sym, subst}
 use Rattle.host_model.specs.Images.{IsImage}
-use Rattle.host_model.specs.Past.{Event, of}
+use Rattle.host_model.specs.Past.{of}
 use Rattle.host_model.specs.Moments.{Throughout, EveryImage}
 use Rattle.host_model.proofs.RunLemmas.{images_in_sync}
 use Rattle.journal_core.proofs.journal.Journal.open.Goals as goal
