@@ -1,6 +1,7 @@
 -- the form of a journal, worked out by hand
-use Rattle.std.proofs.Common.{◌≡◌, ◌++◌, [], ◌∷◌, refl, lit≤}
-use Rattle.journal_core.specs.Form.{header, length_field, opened, StandsFor}
+use Rattle.std.proofs.Common.{◌≡◌, ◌++◌, [], ◌∷◌, refl, lit<, lit≤, arith}
+use Rattle.journal_core.specs.Form.{header, length_field, opened, StandsFor, FailsAt}
+use Rattle.journal_core.proofs.HeaderLemmas.{header_fails}
 
 generation_seven : header 7 ≡ 78 ∷ 68 ∷ 65 ∷ 74 ∷ 82 ∷ 78 ∷ 76 ∷ 49 ∷ 7 ∷ 0 ∷ 0 ∷ 0 ∷ 0 ∷ 0 ∷ 0 ∷ 0 ∷ []
 unfolding header
@@ -19,3 +20,11 @@ long_record = refl
 with_an_empty_record : StandsFor 7 (header 7 ++ 1 ∷ 0 ∷ 0 ∷ 0 ∷ 0 ∷ 9 ∷ 1 ∷ 2 ∷ []) ([] ∷ [])
 unfolding length_field
 with_an_empty_record = record { gate = 9; rest = 1 ∷ 2 ∷ []; form = refl; closed = λ e. cc; fits = (lit≤ tt, tt) }
+
+-- an empty file fails at its end, and a file whose first byte is another at that byte
+empty_file : FailsAt 7 [] 0
+empty_file = header_fails 7 [] 0 (lit< tt) (lit≤ tt) refl (λ inside _. absurd (omega arith))
+
+other_file : FailsAt 7 (0 ∷ 1 ∷ []) 0
+unfolding header
+other_file = header_fails 7 (0 ∷ 1 ∷ []) 0 (lit< tt) (lit≤ tt) refl (λ _ e. cc)

@@ -217,12 +217,12 @@ written_stands generation gate records body old middle new stands here short sta
     ∙ written-behind front (stands.gate ∷ tail) gate (1 ∷ []) (front_size generation records gate here)
     ∙ append_assoc front (1 ∷ []) tail)
 
--- after a stop an open journal holds its records
-pub open_images : (journal : JournalState) (past : List Event) (records : List (List ℕ)) (body : List ℕ) → IsOpen (of journal.file past) journal records
-    → EveryImage journal.file (StandsForEither journal.generation records body) past
-open_images journal past records body is_open bytes image =
-    inl (subst (λ (b : List ℕ). StandsFor journal.generation b records)
-    (sym (image_when_synced (of journal.file past) bytes is_open.synced image)) is_open.stands)
+-- whatever a stop leaves of an open journal holds its records
+pub open_stands : (journal : JournalState) (past : List Event) (records : List (List ℕ)) → IsOpen (of journal.file past) journal records
+    → EveryImage journal.file (λ bytes. StandsFor journal.generation bytes records) past
+open_stands journal past records is_open bytes image =
+    subst (λ (b : List ℕ). StandsFor journal.generation b records)
+    (sym (image_when_synced (of journal.file past) bytes is_open.synced image)) is_open.stands
 
 -- a record that was stored joins the records of the open journal
 pub after_store : {T E : Type 0} (honest : Type 0) (result : Result T E) (view journal : JournalState) (old new : List Event) (records : List (List ℕ)) (body : List ℕ)

@@ -1,14 +1,14 @@
-use Rattle.std.proofs.Common.{◌-◌, sym, subst, arith}
+use Rattle.std.proofs.Common.{◌-◌, sym, subst, inl, arith}
 use Rattle.host_model.specs.Past.{of}
 use Rattle.host_model.specs.Images.{contents}
 use Rattle.host_model.specs.Moments.{begins}
 use Rattle.journal_core.specs.Journal.{IsOpen, JournalState}
-use Rattle.journal_core.proofs.StoreLemmas.{gate_inside, open_images, after_store}
+use Rattle.journal_core.proofs.StoreLemmas.{gate_inside, open_stands, after_store}
 use Rattle.journal_core.proofs.journal.Journal.append.Goals as goal
 
 pub returns-then-body-gt-LONGEST-clause-any_moment : goal.returns-then-body-gt-LONGEST-clause-any_moment
 returns-then-body-gt-LONGEST-clause-any_moment g c h records is_open =
-    begins (open_images c.args.self.now (g.H.Host.past c.args.host.now) records c.args.body.now is_open)
+    begins (λ bytes image. inl (open_stands c.args.self.now (g.H.Host.past c.args.host.now) records is_open bytes image))
 
 pub store-requires-clause-inside : goal.store-requires-clause-inside
 store-requires-clause-inside g c h =
