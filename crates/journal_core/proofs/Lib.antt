@@ -1,0 +1,8 @@
+pub mod CallLemmas
+pub mod FormLemmas
+pub mod GrammarLemmas
+pub mod HeaderLemmas
+pub mod NextLemmas
+pub mod ReadLemmas
+pub mod StoreLemmas
+mod Rows

@@ -1,0 +1,242 @@
+-- what a record that is being stored leaves of a journal
+use Rattle.std.proofs.Common.{◌≡◌, ℕ, ◌+◌, ◌<◌, ◌≤◌, inl, inr, ⊎_elim, List, [], ◌∷◌, ◌++◌, length, take, drop, get_or, Result, Ok, Err, false, ◌-◌, refl, sym, ap, ◌∙◌, subst, arith, append_assoc, length-append}
+use Rattle.std.specs.Result.{OnOk, OnErr, is_err}
+use Rattle.std.specs.List.{AllByRecursion}
+use Rattle.std.proofs.lemmas.Bool.{cases_eq}
+use Rattle.std.proofs.lemmas.List.{take-append-drop, take_at, drop_at, drop-drop, drop_more, length-take}
+use Rattle.host_model.specs.declared.file.File.{File}
+use Rattle.host_model.specs.Images.{Wrote, Synced, contents, written, IsImage, IsSynced}
+use Rattle.host_model.specs.Past.{Event, On, of, MayAdd}
+use Rattle.host_model.specs.Moments.{Throughout, EveryImage}
+use Rattle.host_model.proofs.FileLemmas.{image_when_synced}
+use Rattle.host_model.proofs.MomentLemmas.{at_end, joined, weakened}
+use Rattle.host_model.proofs.RunLemmas.{images_in_sync, RunsFrom, RunsFrom-images, write_from, RunsWithin, RunsWithin-images}
+use Rattle.journal_core.specs.Form.{header, length_field, opened, IsShort, StandsFor}
+use Rattle.journal_core.specs.Journal.{JournalState, IsOpen, StandsForEither}
+use Rattle.journal_core.specs.Store.{KeepsThrough, KeepsBeside, Stages}
+use Rattle.journal_core.proofs.FormLemmas.{length-header, length-length_field, opened-more, length-opened_more, short-more}
+
+-- moments
+
+-- one more write from a place on
+pub then_from : {T E : Type 0} (honest : Type 0) (result : Result T E) (file : File) (from at : ℕ) (bytes after : List ℕ) (old past new : List Event) → honest → from ≤ at
+    → OnOk result (honest → new ≡ On file (Wrote at (length bytes) after) ∷ past)
+    → OnErr result (honest → MayAdd (λ now. On file (Wrote at (length bytes) now)) past new)
+    → Throughout (RunsFrom file from old) old past → Throughout (RunsFrom file from old) old new
+then_from honest result file from at bytes after old past new h behind done torn moments =
+    joined moments (write_from honest result file from at bytes after old past new h behind done torn (at_end moments))
+
+-- writes behind a gate leave what stands up to it
+pub through_moments : (file : File) (gate : ℕ) (old new : List Event) → gate < length (contents (of file old))
+    → Throughout (RunsFrom file (gate + 1) old) old new → Throughout (EveryImage file (KeepsThrough gate (contents (of file old)))) old new
+through_moments file gate old new inside moments =
+    weakened (λ past run bytes image.
+    let kept = RunsFrom-images file (gate + 1) old past (omega arith) run bytes image in
+    record { reaches = omega (arith, kept.enough); front = kept.front }) moments
+
+-- a write of a gate leaves what stands beside it
+pub beside_moments : (file : File) (gate : ℕ) (old new : List Event) → gate < length (contents (of file old))
+    → Throughout (RunsWithin file gate (gate + 1) old) old new → Throughout (EveryImage file (KeepsBeside gate (contents (of file old)))) old new
+beside_moments file gate old new inside moments =
+    weakened (λ past run bytes image.
+    let kept = RunsWithin-images file gate (gate + 1) old past (omega arith) run bytes image in
+    record { reaches = omega (arith, kept.no_shorter); front = kept.front; behind = kept.rest }) moments
+
+-- one more sync
+pub then_sync : {T E : Type 0} (P : List ℕ → Type 0) (honest : Type 0) (result : Result T E) (file : File) (old past new : List Event) → honest
+    → OnOk result (honest → new ≡ On file Synced ∷ past) → OnErr result (honest → new ≡ past)
+    → IsImage (of file past) (contents (of file past))
+    → Throughout (EveryImage file P) old past → Throughout (EveryImage file P) old new
+then_sync P honest result file old past new h done torn reads moments =
+    joined moments (images_in_sync P honest result file past new h done torn reads (at_end moments))
+
+-- lists of bytes
+
+-- bytes written behind the front of a list
+pub written-behind : (front rest : List ℕ) (at : ℕ) (bytes : List ℕ) → length front ≡ at
+    → written (front ++ rest) at bytes ≡ (front ++ bytes) ++ drop (length bytes) rest
+written-behind front rest at bytes size =
+    let before : take at (front ++ rest) ≡ front = take_at front rest at size in
+    let after : drop (at + length bytes) (front ++ rest) ≡ drop (length bytes) rest =
+    sym (drop-drop (length bytes) at (front ++ rest)) ∙ ap (λ (l : List ℕ). drop (length bytes) l) (drop_at front rest at size) in
+    rw (before, after) refl
+
+-- a length, a record and a closed gate, written behind a gate
+pub staged : (gate : ℕ) (field body old first second third : List ℕ) → field ≡ length_field (length body) → gate < length old
+    → first ≡ written old (gate + 1) field
+    → second ≡ written first (gate + 5) body
+    → third ≡ written second (gate + 5 + length body) (0 ∷ [])
+    → Stages gate body old third
+staged gate field body old first second third is_field inside one two three =
+    let size : length field ≡ 4 = ap length is_field ∙ length-length_field (length body) in
+    let front = take (gate + 1) old in
+    let front_size : length front ≡ gate + 1 = omega (arith, length-take (gate + 1) old) in
+    let one' : first ≡ (front ++ field) ++ drop (gate + 1 + length field) old = one in
+    let two' : second ≡ ((front ++ field) ++ body) ++ drop (length body) (drop (gate + 1 + length field) old) =
+    two ∙ ap (λ (l : List ℕ). written l (gate + 5) body) one'
+    ∙ written-behind (front ++ field) (drop (gate + 1 + length field) old) (gate + 5) body (omega (arith, length-append front field)) in
+    let behind = drop (length body) (drop (gate + 1 + length field) old) in
+    let three' : third ≡ (((front ++ field) ++ body) ++ 0 ∷ []) ++ drop 1 behind =
+    three ∙ ap (λ (l : List ℕ). written l (gate + 5 + length body) (0 ∷ [])) two'
+    ∙ written-behind ((front ++ field) ++ body) behind (gate + 5 + length body) (0 ∷ [])
+    (omega (arith, length-append (front ++ field) body, length-append front field)) in
+    record {
+      rest = drop 1 behind;
+      form =
+          three'
+          ∙ append_assoc ((front ++ field) ++ body) (0 ∷ []) (drop 1 behind)
+          ∙ append_assoc (front ++ field) body (0 ∷ drop 1 behind)
+          ∙ append_assoc front field (body ++ 0 ∷ drop 1 behind)
+          ∙ ap (λ (f : List ℕ). front ++ (f ++ (body ++ 0 ∷ drop 1 behind))) is_field;
+    }
+
+-- a list that keeps the front of another
+front_kept : (front rest bytes : List ℕ) (mark at : ℕ) → length front ≡ at → take (at + 1) bytes ≡ take (at + 1) (front ++ mark ∷ rest)
+    → bytes ≡ front ++ mark ∷ drop (at + 1) bytes
+front_kept front rest bytes mark at size same =
+    let through : take (at + 1) (front ++ mark ∷ rest) ≡ front ++ mark ∷ [] =
+    ap (λ (l : List ℕ). take (at + 1) l) (sym (append_assoc front (mark ∷ []) rest))
+    ∙ take_at (front ++ mark ∷ []) rest (at + 1) (omega (arith, length-append front (mark ∷ []))) in
+    sym (take-append-drop (at + 1) bytes)
+    ∙ ap (λ (l : List ℕ). l ++ drop (at + 1) bytes) (same ∙ through)
+    ∙ append_assoc front (mark ∷ []) (drop (at + 1) bytes)
+
+-- a list that keeps another but for one byte
+all_but_one : (front rest bytes : List ℕ) (mark at : ℕ) → length front ≡ at → at < length bytes
+    → take at bytes ≡ take at (front ++ mark ∷ rest) → drop (at + 1) bytes ≡ drop (at + 1) (front ++ mark ∷ rest)
+    → bytes ≡ front ++ get_or bytes at 0 ∷ rest
+all_but_one front rest bytes mark at size reaches before after =
+    let first : take at bytes ≡ front = before ∙ take_at front (mark ∷ rest) at size in
+    let last : drop (at + 1) bytes ≡ rest =
+    after
+    ∙ ap (λ (l : List ℕ). drop (at + 1) l) (sym (append_assoc front (mark ∷ []) rest))
+    ∙ drop_at (front ++ mark ∷ []) rest (at + 1) (omega (arith, length-append front (mark ∷ []))) in
+    sym (take-append-drop at bytes)
+    ∙ ap (λ (l : List ℕ). take at bytes ++ l) (drop_more bytes at 0 reaches)
+    ∙ ap (λ (l : List ℕ). l ++ get_or bytes at 0 ∷ drop (at + 1) bytes) first
+    ∙ ap (λ (l : List ℕ). front ++ get_or bytes at 0 ∷ l) last
+
+-- journals
+
+-- the bytes before the last gate
+front_size : (generation : ℕ) (records : List (List ℕ)) (at : ℕ) → at ≡ 16 + length (opened records) → length (header generation ++ opened records) ≡ at
+front_size generation records at here = omega (arith, length-append (header generation) (opened records), length-header generation)
+
+-- the place of the last gate is in the file
+pub gate_inside : (generation : ℕ) (bytes : List ℕ) (records : List (List ℕ)) (at : ℕ) → StandsFor generation bytes records → at ≡ 16 + length (opened records) → at < length bytes
+gate_inside generation bytes records at stands here =
+    omega (
+      arith,
+      ap length stands.form,
+      length-append (header generation) (opened records ++ stands.gate ∷ stands.rest),
+      length-append (opened records) (stands.gate ∷ stands.rest),
+      length-header generation,
+    )
+
+-- what stands behind the closed gate has no meaning
+pub through_stands : (generation gate : ℕ) (records : List (List ℕ)) (old bytes : List ℕ) → StandsFor generation old records → gate ≡ 16 + length (opened records)
+    → KeepsThrough gate old bytes → StandsFor generation bytes records
+through_stands generation gate records old bytes stands here kept = record {
+  gate = stands.gate;
+  rest = drop (gate + 1) bytes;
+  form =
+      let grouped = stands.form ∙ sym (append_assoc (header generation) (opened records) (stands.gate ∷ stands.rest)) in
+      front_kept (header generation ++ opened records) stands.rest bytes stands.gate gate (front_size generation records gate here)
+      (kept.front ∙ ap (λ (l : List ℕ). take (gate + 1) l) grouped)
+      ∙ append_assoc (header generation) (opened records) (stands.gate ∷ drop (gate + 1) bytes);
+  closed = stands.closed;
+  fits = stands.fits;
+}
+
+-- the bytes with a record behind the gate
+abbrev pub behind_gate : ℕ → List (List ℕ) → ℕ → List ℕ → List ℕ → List ℕ
+behind_gate generation records mark body rest = (header generation ++ opened records) ++ mark ∷ (length_field (length body) ++ (body ++ 0 ∷ rest))
+
+pub staged_bytes : (generation gate : ℕ) (records : List (List ℕ)) (body old new : List ℕ) (stands : StandsFor generation old records) → gate ≡ 16 + length (opened records)
+    → (stages : Stages gate body old new) → new ≡ behind_gate generation records stands.gate body stages.rest
+staged_bytes generation gate records body old new stands here stages =
+    let front = header generation ++ opened records in
+    let tail = length_field (length body) ++ (body ++ 0 ∷ stages.rest) in
+    let grouped = stands.form ∙ sym (append_assoc (header generation) (opened records) (stands.gate ∷ stands.rest)) in
+    let through : take (gate + 1) old ≡ front ++ stands.gate ∷ [] =
+    ap (λ (l : List ℕ). take (gate + 1) l) (grouped ∙ sym (append_assoc front (stands.gate ∷ []) stands.rest))
+    ∙ take_at (front ++ stands.gate ∷ []) stands.rest (gate + 1) (omega (arith, front_size generation records gate here, length-append front (stands.gate ∷ []))) in
+    stages.form ∙ ap (λ (l : List ℕ). l ++ tail) through ∙ append_assoc front (stands.gate ∷ []) tail
+
+-- behind an open gate the record is there
+pub opened_stands : (generation : ℕ) (records : List (List ℕ)) (body rest bytes : List ℕ) → IsShort body → AllByRecursion IsShort records
+    → bytes ≡ behind_gate generation records 1 body rest → StandsFor generation bytes (records ++ body ∷ [])
+opened_stands generation records body rest bytes short fits form = record {
+  gate = 0;
+  rest = rest;
+  form =
+      form
+      ∙ append_assoc (header generation) (opened records) (1 ∷ (length_field (length body) ++ (body ++ 0 ∷ rest)))
+      ∙ ap (λ (l : List ℕ). header generation ++ l) (sym (opened-more records body (0 ∷ rest)));
+  closed = λ e. cc;
+  fits = short-more records body fits short;
+}
+
+-- behind a gate of this byte the record is there or not
+pub either_stands : (generation mark : ℕ) (records : List (List ℕ)) (body rest bytes : List ℕ) → IsShort body → AllByRecursion IsShort records
+    → bytes ≡ behind_gate generation records mark body rest → StandsForEither generation records body bytes
+either_stands generation mark records body rest bytes short fits form =
+    ⊎_elim
+    (λ is_open. inr (opened_stands generation records body rest bytes short fits (form ∙ ap (λ (m : ℕ). behind_gate generation records m body rest) is_open)))
+    (λ closed. inl (record {
+      gate = mark;
+      rest = length_field (length body) ++ (body ++ 0 ∷ rest);
+      form = form ∙ append_assoc (header generation) (opened records) (mark ∷ (length_field (length body) ++ (body ++ 0 ∷ rest)));
+      closed = closed;
+      fits = fits;
+    }))
+    (cases_eq mark 1)
+
+-- all but the gate of a staged record
+pub beside_stands : (generation gate : ℕ) (records : List (List ℕ)) (body old middle bytes : List ℕ) (stands : StandsFor generation old records) → gate ≡ 16 + length (opened records)
+    → IsShort body → Stages gate body old middle → KeepsBeside gate middle bytes → StandsForEither generation records body bytes
+beside_stands generation gate records body old middle bytes stands here short stages kept =
+    let front = header generation ++ opened records in
+    let tail = length_field (length body) ++ (body ++ 0 ∷ stages.rest) in
+    let form = staged_bytes generation gate records body old middle stands here stages in
+    either_stands generation (get_or bytes gate 0) records body stages.rest bytes short stands.fits
+    (all_but_one front tail bytes stands.gate gate (front_size generation records gate here) kept.reaches
+    (kept.front ∙ ap (λ (l : List ℕ). take gate l) form)
+    (kept.behind ∙ ap (λ (l : List ℕ). drop (gate + 1) l) form))
+
+-- the gate of a staged record, opened
+pub written_stands : (generation gate : ℕ) (records : List (List ℕ)) (body old middle new : List ℕ) (stands : StandsFor generation old records) → gate ≡ 16 + length (opened records)
+    → IsShort body → Stages gate body old middle → new ≡ written middle gate (1 ∷ []) → StandsFor generation new (records ++ body ∷ [])
+written_stands generation gate records body old middle new stands here short stages set_open =
+    let front = header generation ++ opened records in
+    let tail = length_field (length body) ++ (body ++ 0 ∷ stages.rest) in
+    let form = staged_bytes generation gate records body old middle stands here stages in
+    opened_stands generation records body stages.rest new short stands.fits
+    (set_open
+    ∙ ap (λ (l : List ℕ). written l gate (1 ∷ [])) form
+    ∙ written-behind front (stands.gate ∷ tail) gate (1 ∷ []) (front_size generation records gate here)
+    ∙ append_assoc front (1 ∷ []) tail)
+
+-- whatever a stop leaves of an open journal holds its records
+pub open_stands : (journal : JournalState) (past : List Event) (records : List (List ℕ)) → IsOpen (of journal.file past) journal records
+    → EveryImage journal.file (λ bytes. StandsFor journal.generation bytes records) past
+open_stands journal past records is_open bytes image =
+    subst (λ (b : List ℕ). StandsFor journal.generation b records)
+    (sym (image_when_synced (of journal.file past) bytes is_open.synced image)) is_open.stands
+
+-- a record that was stored joins the records of the open journal
+pub after_store : {T E : Type 0} (honest : Type 0) (result : Result T E) (view journal : JournalState) (old new : List Event) (records : List (List ℕ)) (body : List ℕ)
+    → view ≡ journal → is_err result ≡ false → honest
+    → OnOk result (honest → (generation : ℕ) (before : List (List ℕ)) → StandsFor generation (contents (of view.file old)) before → view.bytes - 1 ≡ 16 + length (opened before)
+    → StandsFor generation (contents (of view.file new)) (before ++ body ∷ []))
+    → OnOk result (honest → IsSynced (of view.file new))
+    → IsOpen (of journal.file old) journal records
+    → IsOpen (of journal.file new) (record view { bytes = view.bytes + (5 + length body) }) (records ++ body ∷ [])
+after_store honest (Err fault) view journal old new records body same failed h stored synced is_open = absurd cc
+after_store honest (Ok value) view journal old new records body same failed h stored synced is_open =
+    subst (λ (j : JournalState). IsOpen (of j.file old) j records → IsOpen (of j.file new) (record view { bytes = view.bytes + (5 + length body) }) (records ++ body ∷ [])) same
+    (λ before. record {
+      stands = stored h view.generation records before.stands (omega (arith, before.size));
+      size = omega (arith, before.size, length-opened_more records body);
+      synced = synced h;
+    }) is_open

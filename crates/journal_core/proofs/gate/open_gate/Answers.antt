@@ -1,0 +1,31 @@
+use Rattle.std.proofs.Common.{◌+◌, [], ◌∷◌, arith}
+use Rattle.host_model.specs.Images.{contents, written}
+use Rattle.host_model.specs.Past.{of}
+use Rattle.host_model.proofs.RunLemmas.{RunsWithin-start, write_within}
+use Rattle.journal_core.specs.Store.{KeepsBeside}
+use Rattle.journal_core.proofs.StoreLemmas.{beside_moments, then_sync}
+use Rattle.journal_core.proofs.gate.open_gate.Goals as goal
+
+pub returns-in_err-write_at-clause-any_moment : goal.returns-in_err-write_at-clause-any_moment
+returns-in_err-write_at-clause-any_moment g c h =
+    let file = c.args.file in
+    let gate = c.args.gate in
+    let old = g.H.Host.past c.args.host.now in
+    let new = g.H.Host.past c.write_at.new.self in
+    beside_moments file gate old new (c.requires.inside h)
+    (write_within g.H.Host.honest c.write_at.result file gate (gate + 1) gate (1 ∷ []) (written (contents (of file old)) gate (1 ∷ [])) old old new h (omega arith) (omega arith)
+    c.write_at.ensures.done c.write_at.ensures.torn
+    (RunsWithin-start file gate (gate + 1) old (c.requires.stable h)))
+
+pub returns-clause-any_moment : goal.returns-clause-any_moment
+returns-clause-any_moment g c h =
+    let file = c.args.file in
+    let gate = c.args.gate in
+    let old = g.H.Host.past c.args.host.now in
+    let set_open = g.H.Host.past c.write_at.new.self in
+    then_sync (KeepsBeside gate (contents (of file old))) g.H.Host.honest c.sync.result file old set_open (g.H.Host.past c.sync.new.self) h c.sync.ensures.done c.sync.ensures.torn
+    (g.met.H.Host.reads_an_image c.write_at.new.self file h)
+    (beside_moments file gate old set_open (c.requires.inside h)
+    (write_within g.H.Host.honest c.write_at.result file gate (gate + 1) gate (1 ∷ []) (written (contents (of file old)) gate (1 ∷ [])) old old set_open h (omega arith) (omega arith)
+    c.write_at.ensures.done c.write_at.ensures.torn
+    (RunsWithin-start file gate (gate + 1) old (c.requires.stable h))))

@@ -1,0 +1,72 @@
+use Rattle.std.proofs.Common.{◌≡◌, ℕ, List, [], ◌∷◌, ◌++◌, length, take, sym, ap, ◌∙◌, rules}
+use Rattle.std.proofs.lemmas.Result.{on_ok_weaker}
+use Rattle.host_model.specs.Images.{Wrote, Cut, Synced, contents, written}
+use Rattle.host_model.specs.Past.{of}
+use Rattle.host_model.specs.Moments.{begins}
+use Rattle.host_model.proofs.FileLemmas.{written-end}
+use Rattle.host_model.proofs.MomentLemmas.{OnlyOn-same}
+use Rattle.journal_core.proofs.CallLemmas.{reads_after, only_changed, only_settled}
+use Rattle.journal_core.proofs.start.put_down.Goals as goal
+
+pub returns-in_err-cut-clause-any_moment : goal.returns-in_err-cut-clause-any_moment
+returns-in_err-cut-clause-any_moment g c h =
+    let file = c.args.file in
+    let old = g.H.Host.past c.args.host.now in
+    only_changed g.H.Host.honest c.cut.result file (Cut 0 (take 0 (contents (of file old)))) (λ now. Cut 0 now) old old (g.H.Host.past c.cut.new.self) h c.cut.ensures.done c.cut.ensures.torn
+    (begins (OnlyOn-same file old))
+
+pub returns-in_err-write_at-clause-any_moment : goal.returns-in_err-write_at-clause-any_moment
+returns-in_err-write_at-clause-any_moment g c h =
+    let file = c.args.file in
+    let old = g.H.Host.past c.args.host.now in
+    let cut = g.H.Host.past c.cut.new.self in
+    only_changed g.H.Host.honest c.write_at.result file (Wrote 0 (length c.args.head) (written (contents (of file cut)) 0 c.args.head)) (λ now. Wrote 0 (length c.args.head) now) old cut (g.H.Host.past c.write_at.new.self) h c.write_at.ensures.done c.write_at.ensures.torn
+    (only_changed g.H.Host.honest c.cut.result file (Cut 0 (take 0 (contents (of file old)))) (λ now. Cut 0 now) old old cut h c.cut.ensures.done c.cut.ensures.torn
+    (begins (OnlyOn-same file old)))
+
+pub returns-in_err-write_at-2-clause-any_moment : goal.returns-in_err-write_at-2-clause-any_moment
+returns-in_err-write_at-2-clause-any_moment g c h =
+    let file = c.args.file in
+    let old = g.H.Host.past c.args.host.now in
+    let cut = g.H.Host.past c.cut.new.self in
+    let headed = g.H.Host.past c.write_at.new.self in
+    only_changed g.H.Host.honest c.write_at-2.result file (Wrote 16 1 (written (contents (of file headed)) 16 (0 ∷ []))) (λ now. Wrote 16 1 now) old headed (g.H.Host.past c.write_at-2.new.self) h c.write_at-2.ensures.done c.write_at-2.ensures.torn
+    (only_changed g.H.Host.honest c.write_at.result file (Wrote 0 (length c.args.head) (written (contents (of file cut)) 0 c.args.head)) (λ now. Wrote 0 (length c.args.head) now) old cut headed h c.write_at.ensures.done c.write_at.ensures.torn
+    (only_changed g.H.Host.honest c.cut.result file (Cut 0 (take 0 (contents (of file old)))) (λ now. Cut 0 now) old old cut h c.cut.ensures.done c.cut.ensures.torn
+    (begins (OnlyOn-same file old))))
+
+pub returns-clause-any_moment : goal.returns-clause-any_moment
+returns-clause-any_moment g c h =
+    let file = c.args.file in
+    let old = g.H.Host.past c.args.host.now in
+    let cut = g.H.Host.past c.cut.new.self in
+    let headed = g.H.Host.past c.write_at.new.self in
+    let gated = g.H.Host.past c.write_at-2.new.self in
+    only_settled g.H.Host.honest c.sync.result file old gated (g.H.Host.past c.sync.new.self) h c.sync.ensures.done c.sync.ensures.torn
+    (only_changed g.H.Host.honest c.write_at-2.result file (Wrote 16 1 (written (contents (of file headed)) 16 (0 ∷ []))) (λ now. Wrote 16 1 now) old headed gated h c.write_at-2.ensures.done c.write_at-2.ensures.torn
+    (only_changed g.H.Host.honest c.write_at.result file (Wrote 0 (length c.args.head) (written (contents (of file cut)) 0 c.args.head)) (λ now. Wrote 0 (length c.args.head) now) old cut headed h c.write_at.ensures.done c.write_at.ensures.torn
+    (only_changed g.H.Host.honest c.cut.result file (Cut 0 (take 0 (contents (of file old)))) (λ now. Cut 0 now) old old cut h c.cut.ensures.done c.cut.ensures.torn
+    (begins (OnlyOn-same file old)))))
+
+-- a header and a gate, written into a file that was cut to nothing
+put_down_reads : (head first second third : List ℕ) → length head ≡ 16 → first ≡ [] → second ≡ written first 0 head → third ≡ written second 16 (0 ∷ [])
+    → third ≡ head ++ 0 ∷ []
+put_down_reads head first second third size none headed gated =
+    let all : second ≡ head = headed ∙ ap (λ (l : List ℕ). written l 0 head) none ∙ written-end [] head in
+    gated ∙ ap (λ (l : List ℕ). written l 16 (0 ∷ [])) all ∙ ap (λ (n : ℕ). written head n (0 ∷ [])) (sym size) ∙ written-end head (0 ∷ [])
+
+pub returns-clause-whole : goal.returns-clause-whole
+returns-clause-whole g c =
+    let file = c.args.file in
+    let old = g.H.Host.past c.args.host.now in
+    let cut = g.H.Host.past c.cut.new.self in
+    let headed = g.H.Host.past c.write_at.new.self in
+    let gated = g.H.Host.past c.write_at-2.new.self in
+    on_ok_weaker c.sync.result
+    (λ synced h.
+    reads_after file Synced gated (g.H.Host.past c.sync.new.self) (synced h)
+    ∙ put_down_reads c.args.head (contents (of file cut)) (contents (of file headed)) (contents (of file gated)) (search rules)
+    (reads_after file (Cut 0 (take 0 (contents (of file old)))) old cut (c.in_ok-cut.ensures.done h))
+    (reads_after file (Wrote 0 (length c.args.head) (written (contents (of file cut)) 0 c.args.head)) cut headed (c.in_ok-write_at.ensures.done h))
+    (reads_after file (Wrote 16 1 (written (contents (of file headed)) 16 (0 ∷ []))) headed gated (c.in_ok-write_at-2.ensures.done h)))
+    c.sync.ensures.done

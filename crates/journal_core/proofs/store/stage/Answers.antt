@@ -1,0 +1,92 @@
+use Rattle.std.proofs.Common.{ℕ, ◌+◌, List, [], ◌∷◌, length, sym, subst, arith}
+use Rattle.std.proofs.lemmas.Result.{on_ok_weaker}
+use Rattle.host_model.specs.Images.{Wrote, Synced, contents, written}
+use Rattle.host_model.specs.Past.{of}
+use Rattle.host_model.specs.Moments.{begins}
+use Rattle.host_model.proofs.RunLemmas.{RunsFrom-start}
+use Rattle.journal_core.specs.Store.{KeepsThrough, Stages}
+use Rattle.journal_core.proofs.CallLemmas.{reads_after}
+use Rattle.journal_core.proofs.StoreLemmas.{then_from, then_sync, through_moments, staged}
+use Rattle.journal_core.proofs.store.stage.Goals as goal
+
+pub returns-in_err-write_at-clause-any_moment : goal.returns-in_err-write_at-clause-any_moment
+returns-in_err-write_at-clause-any_moment g c h =
+    let file = c.args.file in
+    let gate = c.args.gate in
+    let field = c.length_bytes.result in
+    let old = g.H.Host.past c.args.host.now in
+    let first = g.H.Host.past c.write_at.new.self in
+    through_moments file gate old first (c.requires.inside h)
+    (then_from g.H.Host.honest c.write_at.result file (gate + 1) (gate + 1) field (written (contents (of file old)) (gate + 1) field) old old first h (omega arith) c.write_at.ensures.done c.write_at.ensures.torn
+    (begins (RunsFrom-start file (gate + 1) old (c.requires.stable h))))
+
+pub returns-in_err-write_at-2-clause-any_moment : goal.returns-in_err-write_at-2-clause-any_moment
+returns-in_err-write_at-2-clause-any_moment g c h =
+    let file = c.args.file in
+    let gate = c.args.gate in
+    let field = c.length_bytes.result in
+    let body = c.args.body.now in
+    let old = g.H.Host.past c.args.host.now in
+    let first = g.H.Host.past c.write_at.new.self in
+    let second = g.H.Host.past c.write_at-2.new.self in
+    through_moments file gate old second (c.requires.inside h)
+    (then_from g.H.Host.honest c.write_at-2.result file (gate + 1) (gate + 5) body (written (contents (of file first)) (gate + 5) body) old first second h (omega arith) c.write_at-2.ensures.done c.write_at-2.ensures.torn
+    (then_from g.H.Host.honest c.write_at.result file (gate + 1) (gate + 1) field (written (contents (of file old)) (gate + 1) field) old old first h (omega arith) c.write_at.ensures.done c.write_at.ensures.torn
+    (begins (RunsFrom-start file (gate + 1) old (c.requires.stable h)))))
+
+pub returns-in_err-write_at-3-clause-any_moment : goal.returns-in_err-write_at-3-clause-any_moment
+returns-in_err-write_at-3-clause-any_moment g c h =
+    let file = c.args.file in
+    let gate = c.args.gate in
+    let field = c.length_bytes.result in
+    let body = c.args.body.now in
+    let end = gate + 5 + length body in
+    let old = g.H.Host.past c.args.host.now in
+    let first = g.H.Host.past c.write_at.new.self in
+    let second = g.H.Host.past c.write_at-2.new.self in
+    let third = g.H.Host.past c.write_at-3.new.self in
+    through_moments file gate old third (c.requires.inside h)
+    (then_from g.H.Host.honest c.write_at-3.result file (gate + 1) end (0 ∷ []) (written (contents (of file second)) end (0 ∷ [])) old second third h (omega arith) c.write_at-3.ensures.done c.write_at-3.ensures.torn
+    (then_from g.H.Host.honest c.write_at-2.result file (gate + 1) (gate + 5) body (written (contents (of file first)) (gate + 5) body) old first second h (omega arith) c.write_at-2.ensures.done c.write_at-2.ensures.torn
+    (then_from g.H.Host.honest c.write_at.result file (gate + 1) (gate + 1) field (written (contents (of file old)) (gate + 1) field) old old first h (omega arith) c.write_at.ensures.done c.write_at.ensures.torn
+    (begins (RunsFrom-start file (gate + 1) old (c.requires.stable h))))))
+
+pub returns-clause-any_moment : goal.returns-clause-any_moment
+returns-clause-any_moment g c h =
+    let file = c.args.file in
+    let gate = c.args.gate in
+    let field = c.length_bytes.result in
+    let body = c.args.body.now in
+    let end = gate + 5 + length body in
+    let old = g.H.Host.past c.args.host.now in
+    let first = g.H.Host.past c.write_at.new.self in
+    let second = g.H.Host.past c.write_at-2.new.self in
+    let third = g.H.Host.past c.write_at-3.new.self in
+    then_sync (KeepsThrough gate (contents (of file old))) g.H.Host.honest c.sync.result file old third (g.H.Host.past c.sync.new.self) h c.sync.ensures.done c.sync.ensures.torn
+    (g.met.H.Host.reads_an_image c.write_at-3.new.self file h)
+    (through_moments file gate old third (c.requires.inside h)
+    (then_from g.H.Host.honest c.write_at-3.result file (gate + 1) end (0 ∷ []) (written (contents (of file second)) end (0 ∷ [])) old second third h (omega arith) c.write_at-3.ensures.done c.write_at-3.ensures.torn
+    (then_from g.H.Host.honest c.write_at-2.result file (gate + 1) (gate + 5) body (written (contents (of file first)) (gate + 5) body) old first second h (omega arith) c.write_at-2.ensures.done c.write_at-2.ensures.torn
+    (then_from g.H.Host.honest c.write_at.result file (gate + 1) (gate + 1) field (written (contents (of file old)) (gate + 1) field) old old first h (omega arith) c.write_at.ensures.done c.write_at.ensures.torn
+    (begins (RunsFrom-start file (gate + 1) old (c.requires.stable h)))))))
+
+pub returns-clause-staged : goal.returns-clause-staged
+returns-clause-staged g c =
+    let file = c.args.file in
+    let gate = c.args.gate in
+    let field = c.length_bytes.result in
+    let body = c.args.body.now in
+    let end = gate + 5 + length body in
+    let old = g.H.Host.past c.args.host.now in
+    let first = g.H.Host.past c.write_at.new.self in
+    let second = g.H.Host.past c.write_at-2.new.self in
+    let third = g.H.Host.past c.write_at-3.new.self in
+    on_ok_weaker c.sync.result
+    (λ synced h.
+    subst (λ (new : List ℕ). Stages gate body (contents (of file old)) new) (sym (reads_after file Synced third (g.H.Host.past c.sync.new.self) (synced h)))
+    (staged gate field body (contents (of file old)) (contents (of file first)) (contents (of file second)) (contents (of file third))
+    c.length_bytes.ensures (c.requires.inside h)
+    (reads_after file (Wrote (gate + 1) (length field) (written (contents (of file old)) (gate + 1) field)) old first (c.in_ok-write_at.ensures.done h))
+    (reads_after file (Wrote (gate + 5) (length body) (written (contents (of file first)) (gate + 5) body)) first second (c.in_ok-write_at-2.ensures.done h))
+    (reads_after file (Wrote end 1 (written (contents (of file second)) end (0 ∷ []))) second third (c.in_ok-write_at-3.ensures.done h))))
+    c.sync.ensures.done

@@ -1,0 +1,4 @@
+pub mod Form
+pub mod Journal
+pub mod Reading
+pub mod Store

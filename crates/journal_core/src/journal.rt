@@ -1,0 +1,119 @@
+ghost use Rattle.std.specs.Prelude.{◌≡◌, ℕ, ◌+◌, ◌^◌, ◌<◌, ◌≤◌, ◌↔◌, ◌⊎◌, List, [], ◌∷◌, ◌++◌, length, IfOk, IfErr, IsErrOf, OnOk, OnErr};
+ghost use Rattle.host_model.specs.Images.{Synced, contents, IsImage};
+ghost use Rattle.host_model.specs.Past.{On, of};
+ghost use Rattle.host_model.specs.Cause.{HasCause};
+ghost use Rattle.host_model.specs.Moments.{Throughout, EveryImage, OnlyOn};
+ghost use Rattle.journal_core.specs.Form.{FailsAt};
+
+use crate::fault::JournalFault;
+use crate::reading::{LONGEST, RecordList, read_journal};
+use crate::store::store;
+use host_model::{File, Host};
+use std::alloc::Global;
+use std::marker::Model;
+
+/// A journal in a file of a host, whose records have been read. It holds where the journal ends, and
+/// no record.
+#[derive(Debug, Drop)]
+pub struct Journal {
+    file: File,
+    generation: u64,
+    /// The length of the journal, up to and with its last gate.
+    bytes: u64,
+}
+
+impl Model for Journal {
+    ghost use Rattle.std.specs.Prelude.{◌≤◌};
+    ghost use Rattle.journal_core.specs.Journal.{JournalState};
+
+    ghost Value = { JournalState };
+
+    ghost view = { λ journal. record { file = journal.file; generation = journal.generation; bytes = journal.bytes } };
+
+    ghost invariant = { λ journal. 17 ≤ journal.bytes };
+}
+
+impl Journal {
+    ghost use Rattle.journal_core.specs.Journal.{IsOpen, StandsForEither};
+
+    /// Opens the journal of this generation in a file, and gives its records. It syncs the file first
+    /// and then only reads.
+    pub fn open<H: Host>(
+        alloc: Global,
+        host: &mut H,
+        file: File,
+        generation: u64,
+    ) -> Result<(Journal, RecordList), JournalFault>
+        ensures opened { IfOk result (λ found. H.honest → IsOpen (of file (H.past host.new)) found.0 found.1) }
+        ensures journal { IfOk result (λ found. (found.0.file ≡ file) × (found.0.generation ≡ generation)) }
+
+        // The bytes are no journal of this generation, and that is the first place at which none goes on.
+        ensures not_a_journal { (place : ℕ) → IsErrOf result (JournalFault.NotAJournal place) → H.honest
+            → FailsAt generation (contents (of file (H.past host.new))) place }
+
+        // It begins with a sync, and nothing else happens to the disk.
+        ensures begins { H.honest → IsErrOf result JournalFault.DiskFault ⊎ (H.past host.new ≡ On file Synced ∷ H.past host.old) }
+        ensures same_bytes { H.honest → contents (of file (H.past host.new)) ≡ contents (of file (H.past host.old)) }
+        ensures any_moment { H.honest → Throughout (EveryImage file (IsImage (of file (H.past host.old)))) (H.past host.old) (H.past host.new) }
+        ensures only_here { H.honest → OnlyOn file (H.past host.old) (H.past host.new) }
+        ensures not_too_long { IsErrOf result JournalFault.TooLong → ⊥ }
+        ensures cause { HasCause (H.disk_faults host.old) (H.disk_faults host.new) (IsErrOf result JournalFault.DiskFault) }
+        ensures output { H.tell_faults host.new ≡ H.tell_faults host.old }
+    {
+        if host.sync(file).is_err() {
+            return Err(JournalFault::DiskFault);
+        }
+        let (gate, records) = read_journal(alloc, host, file, generation)?;
+        let journal = Journal {
+            file,
+            generation,
+            bytes: gate + 1,
+        };
+        Ok((journal, records))
+    }
+
+    /// Adds a record. At `Ok` it is stored and synced, so that it is there after every later stop. After
+    /// `DiskFault` each stop leaves the records with the new one or without it, as at every moment of
+    /// the call, and the journal must be opened again.
+    pub fn append<H: Host>(&mut self, host: &mut H, body: &[u8]) -> Result<(), JournalFault>
+        requires room { self.old.bytes ≤ 2 ^ 60 }
+        requires open { H.honest → (records : List (List ℕ)) × IsOpen (of self.old.file (H.past host.old)) self.old records }
+        ensures stored { OnOk result (H.honest → (records : List (List ℕ)) → IsOpen (of self.old.file (H.past host.old)) self.old records
+            → IsOpen (of self.old.file (H.past host.new)) self.new (records ++ body.now ∷ [])) }
+        ensures any_moment { H.honest → (records : List (List ℕ)) → IsOpen (of self.old.file (H.past host.old)) self.old records
+            → Throughout (EveryImage self.old.file (StandsForEither self.old.generation records body.now)) (H.past host.old) (H.past host.new) }
+
+        // The images of all other files and the output stay.
+        ensures only_here { H.honest → OnlyOn self.old.file (H.past host.old) (H.past host.new) }
+        ensures journal { OnOk result (self.new ≡ record self.old { bytes = self.old.bytes + 5 + length body.now }) }
+        ensures journal_stays { OnErr result (self.new ≡ self.old) }
+
+        // A record that is too long is refused before the host is asked for anything.
+        ensures too_long { IsErrOf result JournalFault.TooLong ↔ (2 ^ 26 < length body.now) }
+        ensures untouched { IsErrOf result JournalFault.TooLong → host.new ≡ host.old }
+        ensures faults { IfErr result (λ fault. (fault ≡ JournalFault.DiskFault) ⊎ (fault ≡ JournalFault.TooLong)) }
+        ensures cause { HasCause (H.disk_faults host.old) (H.disk_faults host.new) (IsErrOf result JournalFault.DiskFault) }
+        ensures output { H.tell_faults host.new ≡ H.tell_faults host.old }
+        ensures reads { H.reads host.new ≡ H.reads host.old }
+    {
+        if body.len() > LONGEST {
+            return Err(JournalFault::TooLong);
+        }
+        if store(host, self.file, self.bytes - 1, body).is_err() {
+            return Err(JournalFault::DiskFault);
+        }
+        self.bytes += 5 + body.len() as u64;
+        Ok(())
+    }
+
+    /// The length of the journal in bytes, up to and with its last gate. Bytes behind it have no
+    /// meaning.
+    pub fn bytes(&self) -> u64
+        ensures { result ≡ self.now.bytes }
+    {
+        self.bytes
+    }
+}
+
+#[cfg(test)]
+mod tests;

@@ -1,0 +1,261 @@
+ghost use Rattle.std.specs.Prelude.{◌≡◌, ◌≢◌, ℕ, ◌+◌, ◌-◌, ◌^◌, ◌<◌, ◌≤◌, List, [], ◌∷◌, ◌++◌, length, min, take, drop, slice_index, IfOk, IfErr, IsErrOf, OnOk};
+ghost use Rattle.host_model.specs.Images.{contents};
+ghost use Rattle.host_model.specs.Past.{of};
+ghost use Rattle.host_model.specs.Cause.{HasCause};
+ghost use Rattle.journal_core.specs.Form.{header, opened, StandsFor, FailsAt};
+ghost use Rattle.journal_core.specs.Reading.{IfNotAJournal, BeginsWith, SeenWithin, BeginsWithRecord, EndsWithin, FailsFrom, Holds};
+
+use crate::fault::JournalFault;
+use crate::form::header_of;
+use fixed_num::{ByteList, ListOf};
+use host_model::{File, Host};
+use std::alloc::Global;
+
+/// The records of a journal, the oldest first.
+pub type RecordList = ListOf<ByteList>;
+
+/// The most bytes that a record may have.
+pub(crate) const LONGEST: usize = 1 << 26;
+
+/// What stands at the place of a gate.
+#[derive(Clone, Copy, Debug)]
+pub(crate) enum Next {
+    /// A closed gate.
+    Closed,
+    /// An open gate, and behind it the length of a record.
+    Record(u32),
+    /// Nothing that a journal has there: so many bytes from the gate on, none goes on.
+    Broken(usize),
+}
+
+/// Reads the bytes of a file of this size from a place on, as many as there are and fit.
+fn fill<H: Host>(
+    host: &mut H,
+    file: File,
+    place: u64,
+    size: u64,
+    into: &mut [u8],
+) -> Result<usize, JournalFault>
+    requires inside { place ≤ size }
+    requires size { H.honest → size ≡ length (contents (of file (H.past host.old))) }
+    ensures count { IfOk result (λ count. count ≤ length into.old) }
+    ensures within { IfOk result (λ count. place + count ≤ size) }
+    ensures end { IfOk result (λ count. H.honest → count ≡ min (length into.old) (size - place)) }
+    ensures bytes { IfOk result (λ count. H.honest
+        → take count into.new ≡ take count (drop place (contents (of file (H.past host.old))))) }
+    ensures past { H.honest → H.past host.new ≡ H.past host.old }
+    ensures faults { IfErr result (λ fault. fault ≡ JournalFault.DiskFault) }
+    ensures cause { HasCause (H.disk_faults host.old) (H.disk_faults host.new) (IsErrOf result JournalFault.DiskFault) }
+    ensures output { H.tell_faults host.new ≡ H.tell_faults host.old }
+{
+    let Ok(count) = host.read(file, place, into) else {
+        return Err(JournalFault::DiskFault);
+    };
+    Ok(count.min((size - place) as usize))
+}
+
+/// How many bytes two texts have in common at their fronts.
+fn same_front(bytes: &[u8], other: &[u8]) -> usize
+    ensures within { (result ≤ length bytes.now) × (result ≤ length other.now) }
+    ensures same { take result bytes.now ≡ take result other.now }
+    ensures differs { result < length bytes.now → result < length other.now
+        → slice_index bytes.now result ≢ slice_index other.now result }
+{
+    let end = bytes.len().min(other.len());
+    for place in 0..end {
+        if bytes[place] != other[place] {
+            return place;
+        }
+    }
+    end
+}
+
+/// Reads the header of a journal of this generation.
+fn check_header<H: Host>(
+    host: &mut H,
+    file: File,
+    size: u64,
+    generation: u64,
+) -> Result<(), JournalFault>
+    requires { H.honest → size ≡ length (contents (of file (H.past host.old))) }
+    ensures header { OnOk result (H.honest → contents (of file (H.past host.old))
+        ≡ header generation ++ drop 16 (contents (of file (H.past host.old)))) }
+    ensures sized { OnOk result (16 ≤ size) }
+    ensures broken { IfErr result (λ fault. IfNotAJournal fault (λ place. H.honest
+        → FailsAt generation (contents (of file (H.past host.old))) place)) }
+    ensures past { H.honest → H.past host.new ≡ H.past host.old }
+    ensures not_too_long { IsErrOf result JournalFault.TooLong → ⊥ }
+    ensures cause { HasCause (H.disk_faults host.old) (H.disk_faults host.new) (IsErrOf result JournalFault.DiskFault) }
+    ensures output { H.tell_faults host.new ≡ H.tell_faults host.old }
+{
+    let mut seen = [0u8; 16];
+    let count = fill(host, file, 0, size, &mut seen)?;
+    let same = same_front(&seen[..count], &header_of(generation));
+    if same < 16 {
+        return Err(JournalFault::NotAJournal(same as u64));
+    }
+    Ok(())
+}
+
+/// What the first bytes from a gate on say, of which there are five or all that the file has.
+fn next_of(seen: &[u8]) -> Next
+    requires { length seen.now ≤ 5 }
+    ensures begins { (bytes : List ℕ) → seen.now ≡ take 5 bytes → BeginsWith bytes result }
+    ensures within { SeenWithin (length seen.now) result }
+{
+    let count = seen.len();
+    if count == 0 {
+        return Next::Broken(0);
+    }
+    if seen[0] != 1 {
+        return Next::Closed;
+    }
+    if count < 5 {
+        return Next::Broken(count);
+    }
+    let size = u32::from_le_bytes([seen[1], seen[2], seen[3], seen[4]]);
+    if size as usize > LONGEST {
+        return Next::Broken(4);
+    }
+    Next::Record(size)
+}
+
+/// Reads what stands at the place of a gate.
+fn gate_at<H: Host>(host: &mut H, file: File, place: u64, size: u64) -> Result<Next, JournalFault>
+    requires inside { place ≤ size }
+    requires size { H.honest → size ≡ length (contents (of file (H.past host.old))) }
+    ensures begins { IfOk result (λ next. H.honest → BeginsWith (drop place (contents (of file (H.past host.old)))) next) }
+    ensures within { IfOk result (λ next. SeenWithin (size - place) next) }
+    ensures past { H.honest → H.past host.new ≡ H.past host.old }
+    ensures faults { IfErr result (λ fault. fault ≡ JournalFault.DiskFault) }
+    ensures cause { HasCause (H.disk_faults host.old) (H.disk_faults host.new) (IsErrOf result JournalFault.DiskFault) }
+    ensures output { H.tell_faults host.new ≡ H.tell_faults host.old }
+{
+    let mut seen = [0u8; 5];
+    let count = fill(host, file, place, size, &mut seen)?;
+    Ok(next_of(&seen[..count]))
+}
+
+/// Reads the record of this length that stands at a place.
+fn body_at<H: Host>(
+    alloc: Global,
+    host: &mut H,
+    file: File,
+    place: u64,
+    size: u64,
+    count: u32,
+) -> Result<ByteList, JournalFault>
+    requires inside { place ≤ size }
+    requires size { H.honest → size ≡ length (contents (of file (H.past host.old))) }
+    ensures body { IfOk result (λ body. H.honest
+        → body ≡ take count (drop place (contents (of file (H.past host.old))))) }
+    ensures whole { IfOk result (λ body. (length body ≡ count) × (place + count ≤ size)) }
+    ensures cut { IfErr result (λ fault. IfNotAJournal fault (λ end. H.honest → (end ≡ size) × (size - place < count))) }
+    ensures past { H.honest → H.past host.new ≡ H.past host.old }
+    ensures not_too_long { IsErrOf result JournalFault.TooLong → ⊥ }
+    ensures cause { HasCause (H.disk_faults host.old) (H.disk_faults host.new) (IsErrOf result JournalFault.DiskFault) }
+    ensures output { H.tell_faults host.new ≡ H.tell_faults host.old }
+{
+    if count as u64 > size - place {
+        return Err(JournalFault::NotAJournal(size));
+    }
+    let Ok(mut body) = vec![in alloc; 0u8; count as usize] else {
+        return Err(JournalFault::Memory);
+    };
+    let read = fill(host, file, place, size, &mut body)?;
+    if read < count as usize {
+        return Err(JournalFault::NotAJournal(place + read as u64));
+    }
+    Ok(ByteList::from_vec(body))
+}
+
+/// Reads the record behind the gate at a place, if the gate is open.
+fn read_next<H: Host>(
+    alloc: Global,
+    host: &mut H,
+    file: File,
+    place: u64,
+    size: u64,
+) -> Result<Option<ByteList>, JournalFault>
+    requires inside { place ≤ size }
+    requires size { H.honest → size ≡ length (contents (of file (H.past host.old))) }
+    ensures begins { IfOk result (λ next. H.honest → BeginsWithRecord (drop place (contents (of file (H.past host.old)))) next) }
+    ensures within { IfOk result (λ next. EndsWithin place size next) }
+    ensures broken { IfErr result (λ fault. IfNotAJournal fault (λ end. H.honest
+        → FailsFrom place (contents (of file (H.past host.old))) end)) }
+    ensures past { H.honest → H.past host.new ≡ H.past host.old }
+    ensures not_too_long { IsErrOf result JournalFault.TooLong → ⊥ }
+    ensures cause { HasCause (H.disk_faults host.old) (H.disk_faults host.new) (IsErrOf result JournalFault.DiskFault) }
+    ensures output { H.tell_faults host.new ≡ H.tell_faults host.old }
+{
+    match gate_at(host, file, place, size)? {
+        Next::Closed => Ok(None),
+        Next::Broken(more) => Err(JournalFault::NotAJournal(place + more as u64)),
+        Next::Record(count) => {
+            let body = body_at(alloc, host, file, place + 5, size, count)?;
+            Ok(Some(body))
+        }
+    }
+}
+
+/// Keeps a record that was read.
+fn keep(records: &mut RecordList, body: ByteList) -> Result<(), JournalFault>
+    ensures kept { OnOk result (records.new ≡ records.old ++ body ∷ []) }
+    ensures faults { IfErr result (λ fault. fault ≡ JournalFault.Memory) }
+{
+    if records.push(body).is_err() {
+        return Err(JournalFault::Memory);
+    }
+    Ok(())
+}
+
+/// Reads the records behind a header. It gives the place of the gate that ends them, too.
+pub(crate) fn read_records<H: Host>(
+    alloc: Global,
+    host: &mut H,
+    file: File,
+    size: u64,
+) -> Result<(u64, RecordList), JournalFault>
+    requires inside { 16 ≤ size }
+    requires size { H.honest → size ≡ length (contents (of file (H.past host.old))) }
+    ensures records { IfOk result (λ read. H.honest → Holds (contents (of file (H.past host.old))) read.0 read.1) }
+    ensures within { IfOk result (λ read. (16 ≤ read.0) × (read.0 < size)) }
+    ensures broken { IfErr result (λ fault. IfNotAJournal fault (λ end. H.honest
+        → FailsFrom 16 (contents (of file (H.past host.old))) end)) }
+    ensures past { H.honest → H.past host.new ≡ H.past host.old }
+    ensures not_too_long { IsErrOf result JournalFault.TooLong → ⊥ }
+    ensures cause { HasCause (H.disk_faults host.old) (H.disk_faults host.new) (IsErrOf result JournalFault.DiskFault) }
+    ensures output { H.tell_faults host.new ≡ H.tell_faults host.old }
+{
+    let mut records = RecordList::new(alloc);
+    let mut place = 16;
+    while let Some(body) = read_next(alloc, host, file, place, size)? {
+        place += 5 + body.len() as u64;
+        keep(&mut records, body)?;
+    }
+    Ok((place, records))
+}
+
+/// Reads a journal of this generation: the place of its last gate, and its records.
+pub(crate) fn read_journal<H: Host>(
+    alloc: Global,
+    host: &mut H,
+    file: File,
+    generation: u64,
+) -> Result<(u64, RecordList), JournalFault>
+    ensures stands { IfOk result (λ read. H.honest → StandsFor generation (contents (of file (H.past host.old))) read.1) }
+    ensures at_gate { IfOk result (λ read. H.honest → read.0 ≡ 16 + length (opened read.1)) }
+    ensures within { IfOk result (λ read. (16 ≤ read.0) × (read.0 < 2 ^ 64 - 1)) }
+    ensures broken { IfErr result (λ fault. IfNotAJournal fault (λ place. H.honest
+        → FailsAt generation (contents (of file (H.past host.old))) place)) }
+    ensures past { H.honest → H.past host.new ≡ H.past host.old }
+    ensures not_too_long { IsErrOf result JournalFault.TooLong → ⊥ }
+    ensures cause { HasCause (H.disk_faults host.old) (H.disk_faults host.new) (IsErrOf result JournalFault.DiskFault) }
+    ensures output { H.tell_faults host.new ≡ H.tell_faults host.old }
+{
+    let Ok(size) = host.len(file) else {
+        return Err(JournalFault::DiskFault);
+    };
+    check_header(host, file, size, generation)?;
+    read_records(alloc, host, file, size)
+}

@@ -1,0 +1,44 @@
+ghost use Rattle.std.specs.Prelude.{◌≡◌, [], ◌∷◌, ◌++◌, IfErr, IsErr, IsErrOf, OnOk};
+ghost use Rattle.host_model.specs.Images.{contents, IsSynced};
+ghost use Rattle.host_model.specs.Past.{of};
+ghost use Rattle.host_model.specs.Cause.{HasCause};
+ghost use Rattle.host_model.specs.Moments.{Throughout, OnlyOn};
+ghost use Rattle.journal_core.specs.Form.{header, StandsFor};
+
+use crate::fault::JournalFault;
+use crate::form::header_of;
+use host_model::{Failed, File, Host};
+
+/// Makes a file an empty journal of this generation, whatever it held, and syncs it.
+pub fn prepare<H: Host>(host: &mut H, file: File, generation: u64) -> Result<(), JournalFault>
+    ensures empty { OnOk result (H.honest → StandsFor generation (contents (of file (H.past host.new))) []) }
+    ensures whole { OnOk result (H.honest → contents (of file (H.past host.new)) ≡ header generation ++ 0 ∷ []) }
+    ensures synced { OnOk result (H.honest → IsSynced (of file (H.past host.new))) }
+
+    // At every moment nothing has happened to any other file, and nothing was told.
+    ensures any_moment { H.honest → Throughout (OnlyOn file (H.past host.old)) (H.past host.old) (H.past host.new) }
+    ensures faults { IfErr result (λ fault. fault ≡ JournalFault.DiskFault) }
+    ensures cause { HasCause (H.disk_faults host.old) (H.disk_faults host.new) (IsErrOf result JournalFault.DiskFault) }
+    ensures output { H.tell_faults host.new ≡ H.tell_faults host.old }
+    ensures reads { H.reads host.new ≡ H.reads host.old }
+{
+    if put_down(host, file, header_of(generation)).is_err() {
+        return Err(JournalFault::DiskFault);
+    }
+    Ok(())
+}
+
+/// Leaves a header and a closed gate in a file, and nothing else, and syncs it.
+fn put_down<H: Host>(host: &mut H, file: File, head: [u8; 16]) -> Result<(), Failed>
+    ensures whole { OnOk result (H.honest → contents (of file (H.past host.new)) ≡ head ++ 0 ∷ []) }
+    ensures synced { OnOk result (H.honest → IsSynced (of file (H.past host.new))) }
+    ensures any_moment { H.honest → Throughout (OnlyOn file (H.past host.old)) (H.past host.old) (H.past host.new) }
+    ensures cause { HasCause (H.disk_faults host.old) (H.disk_faults host.new) (IsErr result) }
+    ensures output { H.tell_faults host.new ≡ H.tell_faults host.old }
+    ensures reads { H.reads host.new ≡ H.reads host.old }
+{
+    host.cut(file, 0)?;
+    host.write_at(file, 0, &head)?;
+    host.write_at(file, 16, &[0])?;
+    host.sync(file)
+}

@@ -1,0 +1,58 @@
+ghost use Rattle.std.specs.Prelude.{◌≡◌, ℕ, ◌+◌, ◌^◌, ◌<◌, ◌≤◌, List, [], ◌∷◌, ◌++◌, length, IsErr, OnOk};
+ghost use Rattle.host_model.specs.Images.{contents, IsSynced};
+ghost use Rattle.host_model.specs.Past.{of};
+ghost use Rattle.host_model.specs.Cause.{HasCause};
+ghost use Rattle.host_model.specs.Moments.{Throughout, EveryImage, OnlyOn};
+ghost use Rattle.journal_core.specs.Form.{opened, StandsFor};
+ghost use Rattle.journal_core.specs.Journal.{StandsForEither};
+ghost use Rattle.journal_core.specs.Store.{KeepsThrough, Stages};
+
+use crate::form::length_bytes;
+use crate::gate::open_gate;
+use host_model::{Failed, File, Host};
+
+/// Adds a record to the journal in a file, whose closed gate is at this place. At every moment a stop
+/// leaves the journal with the record or without it.
+pub(crate) fn store<H: Host>(host: &mut H, file: File, gate: u64, body: &[u8]) -> Result<(), Failed>
+    requires room { gate ≤ 2 ^ 60 }
+    requires size { length body.now ≤ 2 ^ 26 }
+    requires stable { H.honest → IsSynced (of file (H.past host.old)) }
+    requires inside { H.honest → gate < length (contents (of file (H.past host.old))) }
+    ensures stored { OnOk result (H.honest → (generation : ℕ) (records : List (List ℕ))
+        → StandsFor generation (contents (of file (H.past host.old))) records → gate ≡ 16 + length (opened records)
+        → StandsFor generation (contents (of file (H.past host.new))) (records ++ body.now ∷ [])) }
+    ensures synced { OnOk result (H.honest → IsSynced (of file (H.past host.new))) }
+    ensures any_moment { H.honest → (generation : ℕ) (records : List (List ℕ))
+        → StandsFor generation (contents (of file (H.past host.old))) records → gate ≡ 16 + length (opened records)
+        → Throughout (EveryImage file (StandsForEither generation records body.now)) (H.past host.old) (H.past host.new) }
+    ensures only_here { H.honest → OnlyOn file (H.past host.old) (H.past host.new) }
+    ensures cause { HasCause (H.disk_faults host.old) (H.disk_faults host.new) (IsErr result) }
+    ensures output { H.tell_faults host.new ≡ H.tell_faults host.old }
+    ensures reads { H.reads host.new ≡ H.reads host.old }
+{
+    stage(host, file, gate, body)?;
+    open_gate(host, file, gate)
+}
+
+/// Writes a record behind a closed gate, with a closed gate behind it, and syncs them.
+fn stage<H: Host>(host: &mut H, file: File, gate: u64, body: &[u8]) -> Result<(), Failed>
+    requires room { gate ≤ 2 ^ 60 }
+    requires size { length body.now ≤ 2 ^ 26 }
+    requires stable { H.honest → IsSynced (of file (H.past host.old)) }
+    requires inside { H.honest → gate < length (contents (of file (H.past host.old))) }
+    ensures staged { OnOk result (H.honest → Stages gate body.now
+        (contents (of file (H.past host.old))) (contents (of file (H.past host.new)))) }
+    ensures synced { OnOk result (H.honest → IsSynced (of file (H.past host.new))) }
+    ensures any_moment { H.honest → Throughout (EveryImage file (KeepsThrough gate (contents (of file (H.past host.old)))))
+        (H.past host.old) (H.past host.new) }
+    ensures only_here { H.honest → OnlyOn file (H.past host.old) (H.past host.new) }
+    ensures cause { HasCause (H.disk_faults host.old) (H.disk_faults host.new) (IsErr result) }
+    ensures output { H.tell_faults host.new ≡ H.tell_faults host.old }
+    ensures reads { H.reads host.new ≡ H.reads host.old }
+{
+    let size = body.len();
+    host.write_at(file, gate + 1, &length_bytes(size as u32))?;
+    host.write_at(file, gate + 5, body)?;
+    host.write_at(file, gate + 5 + size as u64, &[0])?;
+    host.sync(file)
+}
