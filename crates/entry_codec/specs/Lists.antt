@@ -1,7 +1,9 @@
 -- Fields one after the other, and lists of items: how they are spelt, and what bytes read as.
-use Rattle.std.specs.Prelude.{ℕ, zero, suc, ◌<◌, ◌^◌, Bool, true, ◌&&◌, nat_lt, List, [], ◌∷◌, ◌++◌, length, Ok, Err}
+use Rattle.std.specs.Prelude.{◌≡◌, ◌⊎◌, ℕ, zero, suc, ◌<◌, ◌^◌, Bool, true, ◌&&◌, nat_lt, List, [], ◌∷◌, ◌++◌, length, Ok, Err}
 use Rattle.std.specs.List.{flat_map, AllByRecursion}
 use Rattle.std.specs.Str.{IsUtf8}
+use Rattle.field_codec.specs.declared.fault.FieldFault.{FieldFault}
+use Rattle.field_codec.specs.declared.fault.FieldFault.TheVariants.{Memory}
 use Rattle.field_codec.specs.Reading.{ReadOf, read_as, read_u32}
 use Rattle.field_codec.specs.Spelling.{u32_bytes}
 
@@ -10,6 +12,10 @@ infixl 10 ◌>>◌
 abbrev pub ◌>>◌ : {X Y : Type 0} → ReadOf X → (List ℕ → ReadOf Y) → ReadOf (X × Y)
 (Ok read) >> next = read_as (λ value. (read.0, value)) (next read.1)
 (Err fault) >> next = Err fault
+
+-- the fault of a call that reads so: memory ran out, or it is the one that reading gives
+abbrev pub IsRefusal : {X : Type 0} → ReadOf X → FieldFault → Type 0
+IsRefusal read fault = (fault ≡ Memory) ⊎ (read ≡ Err fault)
 
 -- so many items, one after the other
 unfoldable pub read_items : {X : Type 0} → (List ℕ → ReadOf X) → ℕ → List ℕ → ReadOf (List X)

@@ -1,7 +1,8 @@
 //! How a chart is drawn, as a byte.
 
-ghost use Rattle.std.specs.Prelude.{◌≡◌, ◌++◌, ◌⊎◌, Ok, Err, IfOk, IfErr, OnOk, IsOkUnless};
+ghost use Rattle.std.specs.Prelude.{◌≡◌, ◌++◌, Ok, Err, IfOk, IfErr, OnOk, IsOkUnless};
 ghost use Rattle.entry_codec.specs.Charts.{kind_bytes, read_kind};
+ghost use Rattle.entry_codec.specs.Lists.{IsRefusal};
 
 use field_codec::{FieldFault, Reader, Writer};
 use history::ChartKind;
@@ -22,7 +23,7 @@ pub(crate) fn put(kind: ChartKind, writer: &mut Writer) -> Result<(), FieldFault
 #[tactic(auto, unfolding(crate::specs::Charts::read_kind))]
 pub(crate) fn take(reader: &mut Reader<'_>) -> Result<ChartKind, FieldFault>
     ensures taken { IfOk result (λ kind. read_kind reader.old ≡ Ok (kind, reader.new)) }
-    ensures fault { IfErr result (λ fault. (fault ≡ FieldFault.Memory) ⊎ (read_kind reader.old ≡ Err fault)) }
+    ensures fault { IfErr result (IsRefusal (read_kind reader.old)) }
 {
     match reader.take_u8()? {
         0 => Ok(ChartKind::Line),

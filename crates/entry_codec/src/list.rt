@@ -1,8 +1,8 @@
-ghost use Rattle.std.specs.Prelude.{◌≡◌, ℕ, List, [], ◌∷◌, ◌++◌, ◌↔◌, ◌⊎◌, map, Ok, Err, IsTrue, IfOk, IfErr, OnOk, IsOkUnless};
+ghost use Rattle.std.specs.Prelude.{◌≡◌, ℕ, List, [], ◌∷◌, ◌++◌, ◌↔◌, map, Ok, Err, IsTrue, IfOk, IfErr, OnOk, IsOkUnless};
 ghost use Rattle.std.specs.List.{flat_map, AllByRecursion};
 ghost use Rattle.std.specs.Option.{option_to_list};
 ghost use Rattle.field_codec.specs.Reading.{ReadOf};
-ghost use Rattle.entry_codec.specs.Lists.{read_list, read_items, list_bytes, is_ascending, IsShortListOf};
+ghost use Rattle.entry_codec.specs.Lists.{IsRefusal, read_list, read_items, list_bytes, is_ascending, IsShortListOf};
 
 use field_codec::{FieldFault, Reader, Writer};
 use fixed_num::ListOf;
@@ -33,7 +33,7 @@ pub(crate) trait Item: Drop {
 
     fn take(alloc: Global, reader: &mut Reader<'_>) -> Result<Self, FieldFault>
         ensures taken { IfOk result (λ item. read_item reader.old ≡ Ok (item, reader.new)) }
-        ensures fault { IfErr result (λ fault. (fault ≡ FieldFault.Memory) ⊎ (read_item reader.old ≡ Err fault)) };
+        ensures fault { IfErr result (IsRefusal (read_item reader.old)) };
 }
 
 fn push<T: Item>(items: &mut ListOf<T>, item: T) -> Result<(), FieldFault>
@@ -50,7 +50,7 @@ fn take_items<T: Item>(
     reader: &mut Reader<'_>,
 ) -> Result<ListOf<T>, FieldFault>
     ensures taken { IfOk result (λ items. read_items T.read_item count reader.old ≡ Ok (items, reader.new)) }
-    ensures fault { IfErr result (λ fault. (fault ≡ FieldFault.Memory) ⊎ (read_items T.read_item count reader.old ≡ Err fault)) }
+    ensures fault { IfErr result (IsRefusal (read_items T.read_item count reader.old)) }
 {
     let mut items = ListOf::new(alloc);
     for _ in 0..count {
@@ -67,7 +67,7 @@ pub(crate) fn take_list<T: Item>(
     reader: &mut Reader<'_>,
 ) -> Result<ListOf<T>, FieldFault>
     ensures taken { IfOk result (λ items. read_list T.read_item reader.old ≡ Ok (items, reader.new)) }
-    ensures fault { IfErr result (λ fault. (fault ≡ FieldFault.Memory) ⊎ (read_list T.read_item reader.old ≡ Err fault)) }
+    ensures fault { IfErr result (IsRefusal (read_list T.read_item reader.old)) }
 {
     let count = reader.take_u32()?;
     take_items(alloc, count, reader)

@@ -1,7 +1,8 @@
 //! The algorithm and the marks of a dimension, each as a byte.
 
-ghost use Rattle.std.specs.Prelude.{◌≡◌, ◌++◌, ◌⊎◌, Ok, Err, IfOk, IfErr, OnOk, IsOkUnless};
+ghost use Rattle.std.specs.Prelude.{◌≡◌, ◌++◌, Ok, Err, IfOk, IfErr, OnOk, IsOkUnless};
 ghost use Rattle.entry_codec.specs.Dimensions.{algorithm_bytes, read_algorithm, marks_bytes, read_marks};
+ghost use Rattle.entry_codec.specs.Lists.{IsRefusal};
 
 use field_codec::{FieldFault, Reader, Writer};
 use history::Algorithm;
@@ -23,7 +24,7 @@ pub(crate) fn put_algorithm(algorithm: Algorithm, writer: &mut Writer) -> Result
 #[tactic(auto, unfolding(crate::specs::Dimensions::read_algorithm))]
 pub(crate) fn take_algorithm(reader: &mut Reader<'_>) -> Result<Algorithm, FieldFault>
     ensures taken { IfOk result (λ algorithm. read_algorithm reader.old ≡ Ok (algorithm, reader.new)) }
-    ensures fault { IfErr result (λ fault. (fault ≡ FieldFault.Memory) ⊎ (read_algorithm reader.old ≡ Err fault)) }
+    ensures fault { IfErr result (IsRefusal (read_algorithm reader.old)) }
 {
     match reader.take_u8()? {
         0 => Ok(Algorithm::Absolute),
@@ -52,7 +53,7 @@ pub(crate) fn put(hidden: bool, noreset: bool, writer: &mut Writer) -> Result<()
 #[tactic(auto, unfolding(crate::specs::Dimensions::read_marks))]
 pub(crate) fn take(reader: &mut Reader<'_>) -> Result<(bool, bool), FieldFault>
     ensures taken { IfOk result (λ marks. read_marks reader.old ≡ Ok ((marks.0, marks.1), reader.new)) }
-    ensures fault { IfErr result (λ fault. (fault ≡ FieldFault.Memory) ⊎ (read_marks reader.old ≡ Err fault)) }
+    ensures fault { IfErr result (IsRefusal (read_marks reader.old)) }
 {
     match reader.take_u8()? {
         0 => Ok((false, false)),

@@ -1,6 +1,7 @@
 ghost use Rattle.std.specs.Prelude.{◌≡◌, ℕ, ◌⊎◌, Ok, Err, IfOk, IfErr};
 ghost use Rattle.field_codec.specs.Reading.{read_bytes};
 ghost use Rattle.entry_codec.specs.Entries.{entry_bytes, read_collected, read_copied, read_entry, read_fields, read_gap, read_kind_fields, read_settings, read_tier, read_version, HasSpelling, IsNoSpelling};
+ghost use Rattle.entry_codec.specs.Lists.{IsRefusal};
 
 use crate::entry::{Collected, Copied, Entry, Gap, Settings, TierSettings};
 use crate::fault::EntryFault;
@@ -51,7 +52,7 @@ fn take_settings(reader: &mut Reader<'_>) -> Result<Settings, FieldFault>
 #[tactic(auto, unfolding(crate::specs::Entries::read_collected))]
 fn take_collected(alloc: Global, reader: &mut Reader<'_>) -> Result<Collected, FieldFault>
     ensures taken { IfOk result (λ collected. read_collected reader.old ≡ Ok (collected, reader.new)) }
-    ensures fault { IfErr result (λ fault. (fault ≡ FieldFault.Memory) ⊎ (read_collected reader.old ≡ Err fault)) }
+    ensures fault { IfErr result (IsRefusal (read_collected reader.old)) }
 {
     let moment = reader.take_u32()?;
     let charts = list::take_list(alloc, reader)?;
@@ -68,7 +69,7 @@ fn take_collected(alloc: Global, reader: &mut Reader<'_>) -> Result<Collected, F
 #[tactic(auto, unfolding(crate::specs::Entries::read_copied))]
 fn take_copied(alloc: Global, reader: &mut Reader<'_>) -> Result<Copied, FieldFault>
     ensures taken { IfOk result (λ copied. read_copied reader.old ≡ Ok (copied, reader.new)) }
-    ensures fault { IfErr result (λ fault. (fault ≡ FieldFault.Memory) ⊎ (read_copied reader.old ≡ Err fault)) }
+    ensures fault { IfErr result (IsRefusal (read_copied reader.old)) }
 {
     let child = reader.take_u64()?;
     let moment = reader.take_u32()?;
@@ -86,7 +87,7 @@ fn take_copied(alloc: Global, reader: &mut Reader<'_>) -> Result<Copied, FieldFa
 
 fn take_health(alloc: Global, reader: &mut Reader<'_>) -> Result<ByteList, FieldFault>
     ensures taken { IfOk result (λ bytes. read_bytes reader.old ≡ Ok (bytes, reader.new)) }
-    ensures fault { IfErr result (λ fault. (fault ≡ FieldFault.Memory) ⊎ (read_bytes reader.old ≡ Err fault)) }
+    ensures fault { IfErr result (IsRefusal (read_bytes reader.old)) }
 {
     match reader.take_bytes() {
         Ok(bytes) => Ok(ByteList::from_slice(alloc, bytes)?),

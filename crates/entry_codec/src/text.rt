@@ -1,7 +1,7 @@
-ghost use Rattle.std.specs.Prelude.{◌≡◌, ◌++◌, ◌↔◌, ◌⊎◌, Ok, Err, IsTrue, IfOk, IfErr, OnOk, IsOkUnless};
+ghost use Rattle.std.specs.Prelude.{◌≡◌, ◌++◌, ◌↔◌, Ok, Err, IsTrue, IfOk, IfErr, OnOk, IsOkUnless};
 ghost use Rattle.field_codec.specs.Reading.{read_text};
 ghost use Rattle.field_codec.specs.Spelling.{text_bytes};
-ghost use Rattle.entry_codec.specs.Lists.{IsText};
+ghost use Rattle.entry_codec.specs.Lists.{IsRefusal, IsText};
 
 use field_codec::{FieldFault, Reader, Writer};
 use fixed_num::Text;
@@ -25,7 +25,7 @@ pub(crate) fn put(text: &Text, writer: &mut Writer) -> Result<(), FieldFault>
 
 pub(crate) fn take(alloc: Global, reader: &mut Reader<'_>) -> Result<Text, FieldFault>
     ensures taken { IfOk result (λ text. read_text reader.old ≡ Ok (text, reader.new)) }
-    ensures fault { IfErr result (λ fault. (fault ≡ FieldFault.Memory) ⊎ (read_text reader.old ≡ Err fault)) }
+    ensures fault { IfErr result (IsRefusal (read_text reader.old)) }
 {
     match reader.take_text() {
         Ok(text) => Ok(Text::from_str(alloc, text)?),
