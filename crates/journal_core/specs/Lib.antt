@@ -1,4 +1,5 @@
 pub mod Form
 pub mod Journal
+pub mod Piece
 pub mod Reading
 pub mod Store

@@ -19,6 +19,7 @@ mod form;
 mod gate;
 mod journal;
 mod law;
+mod piece;
 mod reading;
 mod start;
 mod store;

@@ -3,10 +3,12 @@ ghost use Rattle.host_model.specs.Images.{contents};
 ghost use Rattle.host_model.specs.Past.{of};
 ghost use Rattle.host_model.specs.Cause.{HasCause};
 ghost use Rattle.journal_core.specs.Form.{header, opened, StandsFor, FailsAt};
+ghost use Rattle.journal_core.specs.Piece.{ReadsAhead};
 ghost use Rattle.journal_core.specs.Reading.{IfNotAJournal, BeginsWith, SeenWithin, BeginsWithRecord, EndsWithin, FailsFrom, Holds};
 
 use crate::fault::JournalFault;
 use crate::form::header_of;
+use crate::piece::{AHEAD, Piece};
 use fixed_num::{ByteList, ListOf};
 use host_model::{File, Host};
 use std::alloc::Global;
@@ -28,9 +30,11 @@ pub(crate) enum Next {
     Broken(usize),
 }
 
-/// Reads the bytes of a file of this size from a place on, as many as there are and fit.
+/// Reads the bytes of a file of this size from a place on, as many as there are and fit. What fits a
+/// piece is read ahead.
 fn fill<H: Host>(
     host: &mut H,
+    piece: &mut Piece,
     file: File,
     place: u64,
     size: u64,
@@ -38,20 +42,29 @@ fn fill<H: Host>(
 ) -> Result<usize, JournalFault>
     requires inside { place ≤ size }
     requires size { H.honest → size ≡ length (contents (of file (H.past host.old))) }
+    requires ahead { H.honest → ReadsAhead (contents (of file (H.past host.old))) piece.old }
     ensures count { IfOk result (λ count. count ≤ length into.old) }
     ensures within { IfOk result (λ count. place + count ≤ size) }
     ensures end { IfOk result (λ count. H.honest → count ≡ min (length into.old) (size - place)) }
     ensures bytes { IfOk result (λ count. H.honest
         → take count into.new ≡ take count (drop place (contents (of file (H.past host.old))))) }
+    ensures ahead { OnOk result (H.honest → ReadsAhead (contents (of file (H.past host.old))) piece.new) }
     ensures past { H.honest → H.past host.new ≡ H.past host.old }
     ensures faults { IfErr result (λ fault. fault ≡ JournalFault.DiskFault) }
     ensures cause { HasCause (H.disk_faults host.old) (H.disk_faults host.new) (IsErrOf result JournalFault.DiskFault) }
     ensures output { H.tell_faults host.new ≡ H.tell_faults host.old }
 {
-    let Ok(count) = host.read(file, place, into) else {
-        return Err(JournalFault::DiskFault);
-    };
-    Ok(count.min((size - place) as usize))
+    let want = into.len().min((size - place) as usize);
+    if want > AHEAD {
+        let Ok(count) = host.read(file, place, into) else {
+            return Err(JournalFault::DiskFault);
+        };
+        return Ok(count.min(want));
+    }
+    if !piece.covers(place, want) {
+        piece.read(host, file, place)?;
+    }
+    Ok(piece.copy(place, want, into))
 }
 
 /// How many bytes two texts have in common at their fronts.
@@ -73,23 +86,26 @@ fn same_front(bytes: &[u8], other: &[u8]) -> usize
 /// Reads the header of a journal of this generation.
 fn check_header<H: Host>(
     host: &mut H,
+    piece: &mut Piece,
     file: File,
     size: u64,
     generation: u64,
 ) -> Result<(), JournalFault>
-    requires { H.honest → size ≡ length (contents (of file (H.past host.old))) }
+    requires size { H.honest → size ≡ length (contents (of file (H.past host.old))) }
+    requires ahead { H.honest → ReadsAhead (contents (of file (H.past host.old))) piece.old }
     ensures header { OnOk result (H.honest → contents (of file (H.past host.old))
         ≡ header generation ++ drop 16 (contents (of file (H.past host.old)))) }
     ensures sized { OnOk result (16 ≤ size) }
     ensures broken { IfErr result (λ fault. IfNotAJournal fault (λ place. H.honest
         → FailsAt generation (contents (of file (H.past host.old))) place)) }
+    ensures ahead { OnOk result (H.honest → ReadsAhead (contents (of file (H.past host.old))) piece.new) }
     ensures past { H.honest → H.past host.new ≡ H.past host.old }
     ensures not_too_long { IsErrOf result JournalFault.TooLong → ⊥ }
     ensures cause { HasCause (H.disk_faults host.old) (H.disk_faults host.new) (IsErrOf result JournalFault.DiskFault) }
     ensures output { H.tell_faults host.new ≡ H.tell_faults host.old }
 {
     let mut seen = [0u8; 16];
-    let count = fill(host, file, 0, size, &mut seen)?;
+    let count = fill(host, piece, file, 0, size, &mut seen)?;
     let same = same_front(&seen[..count], &header_of(generation));
     if same < 16 {
         return Err(JournalFault::NotAJournal(same as u64));
@@ -121,18 +137,26 @@ fn next_of(seen: &[u8]) -> Next
 }
 
 /// Reads what stands at the place of a gate.
-fn gate_at<H: Host>(host: &mut H, file: File, place: u64, size: u64) -> Result<Next, JournalFault>
+fn gate_at<H: Host>(
+    host: &mut H,
+    piece: &mut Piece,
+    file: File,
+    place: u64,
+    size: u64,
+) -> Result<Next, JournalFault>
     requires inside { place ≤ size }
     requires size { H.honest → size ≡ length (contents (of file (H.past host.old))) }
+    requires ahead { H.honest → ReadsAhead (contents (of file (H.past host.old))) piece.old }
     ensures begins { IfOk result (λ next. H.honest → BeginsWith (drop place (contents (of file (H.past host.old)))) next) }
     ensures within { IfOk result (λ next. SeenWithin (size - place) next) }
+    ensures ahead { OnOk result (H.honest → ReadsAhead (contents (of file (H.past host.old))) piece.new) }
     ensures past { H.honest → H.past host.new ≡ H.past host.old }
     ensures faults { IfErr result (λ fault. fault ≡ JournalFault.DiskFault) }
     ensures cause { HasCause (H.disk_faults host.old) (H.disk_faults host.new) (IsErrOf result JournalFault.DiskFault) }
     ensures output { H.tell_faults host.new ≡ H.tell_faults host.old }
 {
     let mut seen = [0u8; 5];
-    let count = fill(host, file, place, size, &mut seen)?;
+    let count = fill(host, piece, file, place, size, &mut seen)?;
     Ok(next_of(&seen[..count]))
 }
 
@@ -140,6 +164,7 @@ fn gate_at<H: Host>(host: &mut H, file: File, place: u64, size: u64) -> Result<N
 fn body_at<H: Host>(
     alloc: Global,
     host: &mut H,
+    piece: &mut Piece,
     file: File,
     place: u64,
     size: u64,
@@ -147,10 +172,12 @@ fn body_at<H: Host>(
 ) -> Result<ByteList, JournalFault>
     requires inside { place ≤ size }
     requires size { H.honest → size ≡ length (contents (of file (H.past host.old))) }
+    requires ahead { H.honest → ReadsAhead (contents (of file (H.past host.old))) piece.old }
     ensures body { IfOk result (λ body. H.honest
         → body ≡ take count (drop place (contents (of file (H.past host.old))))) }
     ensures whole { IfOk result (λ body. (length body ≡ count) × (place + count ≤ size)) }
     ensures cut { IfErr result (λ fault. IfNotAJournal fault (λ end. H.honest → (end ≡ size) × (size - place < count))) }
+    ensures ahead { OnOk result (H.honest → ReadsAhead (contents (of file (H.past host.old))) piece.new) }
     ensures past { H.honest → H.past host.new ≡ H.past host.old }
     ensures not_too_long { IsErrOf result JournalFault.TooLong → ⊥ }
     ensures cause { HasCause (H.disk_faults host.old) (H.disk_faults host.new) (IsErrOf result JournalFault.DiskFault) }
@@ -162,7 +189,7 @@ fn body_at<H: Host>(
     let Ok(mut body) = vec![in alloc; 0u8; count as usize] else {
         return Err(JournalFault::Memory);
     };
-    let read = fill(host, file, place, size, &mut body)?;
+    let read = fill(host, piece, file, place, size, &mut body)?;
     if read < count as usize {
         return Err(JournalFault::NotAJournal(place + read as u64));
     }
@@ -173,26 +200,29 @@ fn body_at<H: Host>(
 fn read_next<H: Host>(
     alloc: Global,
     host: &mut H,
+    piece: &mut Piece,
     file: File,
     place: u64,
     size: u64,
 ) -> Result<Option<ByteList>, JournalFault>
     requires inside { place ≤ size }
     requires size { H.honest → size ≡ length (contents (of file (H.past host.old))) }
+    requires ahead { H.honest → ReadsAhead (contents (of file (H.past host.old))) piece.old }
     ensures begins { IfOk result (λ next. H.honest → BeginsWithRecord (drop place (contents (of file (H.past host.old)))) next) }
     ensures within { IfOk result (λ next. EndsWithin place size next) }
     ensures broken { IfErr result (λ fault. IfNotAJournal fault (λ end. H.honest
         → FailsFrom place (contents (of file (H.past host.old))) end)) }
+    ensures ahead { OnOk result (H.honest → ReadsAhead (contents (of file (H.past host.old))) piece.new) }
     ensures past { H.honest → H.past host.new ≡ H.past host.old }
     ensures not_too_long { IsErrOf result JournalFault.TooLong → ⊥ }
     ensures cause { HasCause (H.disk_faults host.old) (H.disk_faults host.new) (IsErrOf result JournalFault.DiskFault) }
     ensures output { H.tell_faults host.new ≡ H.tell_faults host.old }
 {
-    match gate_at(host, file, place, size)? {
+    match gate_at(host, piece, file, place, size)? {
         Next::Closed => Ok(None),
         Next::Broken(more) => Err(JournalFault::NotAJournal(place + more as u64)),
         Next::Record(count) => {
-            let body = body_at(alloc, host, file, place + 5, size, count)?;
+            let body = body_at(alloc, host, piece, file, place + 5, size, count)?;
             Ok(Some(body))
         }
     }
@@ -213,11 +243,13 @@ fn keep(records: &mut RecordList, body: ByteList) -> Result<(), JournalFault>
 pub(crate) fn read_records<H: Host>(
     alloc: Global,
     host: &mut H,
+    piece: &mut Piece,
     file: File,
     size: u64,
 ) -> Result<(u64, RecordList), JournalFault>
     requires inside { 16 ≤ size }
     requires size { H.honest → size ≡ length (contents (of file (H.past host.old))) }
+    requires ahead { H.honest → ReadsAhead (contents (of file (H.past host.old))) piece.old }
     ensures records { IfOk result (λ read. H.honest → Holds (contents (of file (H.past host.old))) read.0 read.1) }
     ensures within { IfOk result (λ read. (16 ≤ read.0) × (read.0 < size)) }
     ensures broken { IfErr result (λ fault. IfNotAJournal fault (λ end. H.honest
@@ -229,7 +261,7 @@ pub(crate) fn read_records<H: Host>(
 {
     let mut records = RecordList::new(alloc);
     let mut place = 16;
-    while let Some(body) = read_next(alloc, host, file, place, size)? {
+    while let Some(body) = read_next(alloc, host, piece, file, place, size)? {
         place += 5 + body.len() as u64;
         keep(&mut records, body)?;
     }
@@ -256,6 +288,7 @@ pub(crate) fn read_journal<H: Host>(
     let Ok(size) = host.len(file) else {
         return Err(JournalFault::DiskFault);
     };
-    check_header(host, file, size, generation)?;
-    read_records(alloc, host, file, size)
+    let mut piece = Piece::new();
+    check_header(host, &mut piece, file, size, generation)?;
+    read_records(alloc, host, &mut piece, file, size)
 }

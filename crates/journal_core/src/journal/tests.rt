@@ -18,16 +18,16 @@ fn begin(host: &mut MemoryHost) -> Result<(), JournalFault> {
 }
 
 /// Opens it, and adds records while that goes well. It says how many were told to be stored.
-fn add(alloc: Global, host: &mut MemoryHost) -> usize {
+fn add(alloc: Global, host: &mut MemoryHost, bodies: &[&[u8]]) -> usize {
     let Ok((mut journal, _records)) = Journal::open(alloc, host, FILE, 7) else {
         return 0;
     };
-    for (count, body) in BODIES.iter().enumerate() {
+    for (count, body) in bodies.iter().enumerate() {
         if journal.bytes() > 1 << 60 || journal.append(host, body).is_err() {
             return count;
         }
     }
-    BODIES.len()
+    bodies.len()
 }
 
 /// Writes these bytes into an empty file, unless the host fails.
@@ -59,13 +59,13 @@ fn count_of(alloc: Global, front: &[u8], rest: &[u8]) -> Result<usize, JournalFa
 
 #[test]
 fn one_record_of_three_bytes(rt: HostRuntime) -> Result<(), Fail> {
-    let mut host = host_of(rt.alloc(), &[11])?;
+    let mut host = host_of(rt.alloc(), &[10])?;
     begin(&mut host)?;
     assert_eq!(rt; host.len(FILE)?, 17);
-    assert_eq!(rt; add(rt.alloc(), &mut host), 0);
-    let mut host = host_of(rt.alloc(), &[14])?;
+    assert_eq!(rt; add(rt.alloc(), &mut host, &BODIES), 0);
+    let mut host = host_of(rt.alloc(), &[13])?;
     begin(&mut host)?;
-    assert_eq!(rt; add(rt.alloc(), &mut host), 1);
+    assert_eq!(rt; add(rt.alloc(), &mut host, &BODIES), 1);
     let mut host = host.stop(Keep::None)?;
     assert_eq!(rt; host.len(FILE)?, 25);
     let records = open_file(rt.alloc(), &mut host)?;
@@ -75,11 +75,11 @@ fn one_record_of_three_bytes(rt: HostRuntime) -> Result<(), Fail> {
 }
 
 /// The records are those that were told to be stored, or one more.
-fn are_told(records: &[ByteList], told: usize) -> bool {
-    if records.len() < told || records.len() - told > 1 || records.len() > BODIES.len() {
+fn are_told(records: &[ByteList], bodies: &[&[u8]], told: usize) -> bool {
+    if records.len() < told || records.len() - told > 1 || records.len() > bodies.len() {
         return false;
     }
-    for (record, body) in records.iter().zip(&BODIES) {
+    for (record, body) in records.iter().zip(bodies) {
         if record.as_slice() != *body {
             return false;
         }
@@ -100,16 +100,19 @@ fn survive(
     if !ready {
         return Ok(());
     }
-    let told = add(alloc, &mut host);
+    let told = add(alloc, &mut host, &BODIES);
     let mut host = host.stop(keep)?;
     let records = open_file(alloc, &mut host)?;
-    assert!(rt; are_told(records.as_slice(), told), "call {call}, {keep:?}");
+    assert!(rt;
+        are_told(records.as_slice(), &BODIES, told),
+        "call {call}, {keep:?}"
+    );
     Ok(())
 }
 
 #[test]
 fn a_stop_leaves_what_was_told_or_one_record_more(rt: HostRuntime) -> Result<(), Fail> {
-    for call in 0..27u64 {
+    for call in 0..26u64 {
         for keep in [Keep::All, Keep::None, Keep::Fill(255), Keep::Fill(1)] {
             survive(&rt, rt.alloc(), host_of(rt.alloc(), &[call])?, keep, call)?;
             survive(
@@ -126,14 +129,27 @@ fn a_stop_leaves_what_was_told_or_one_record_more(rt: HostRuntime) -> Result<(),
 
 #[test]
 fn the_last_call_is_the_last_sync(rt: HostRuntime) -> Result<(), Fail> {
+    let mut host = host_of(rt.alloc(), &[24])?;
+    begin(&mut host)?;
+    assert_eq!(rt; add(rt.alloc(), &mut host, &BODIES), 2);
     let mut host = host_of(rt.alloc(), &[25])?;
     begin(&mut host)?;
-    assert_eq!(rt; add(rt.alloc(), &mut host), 2);
-    let mut host = host_of(rt.alloc(), &[26])?;
-    begin(&mut host)?;
-    assert_eq!(rt; add(rt.alloc(), &mut host), 3);
+    assert_eq!(rt; add(rt.alloc(), &mut host, &BODIES), 3);
     assert_eq!(rt; host.len(FILE), Err(Failed));
     assert_eq!(rt; host.len(FILE)?, 17 + 8 + 5 + 10);
+    Ok(())
+}
+
+#[test]
+fn reads_records_across_pieces(rt: HostRuntime) -> Result<(), Fail> {
+    let mut host = host_of(rt.alloc(), &[])?;
+    begin(&mut host)?;
+    let long = vec![in rt.alloc(); 7u8; 5000]?;
+    let short = vec![in rt.alloc(); 8u8; 3000]?;
+    let bodies = [b"x".as_slice(), &long, &short, &short, b"", &short];
+    assert_eq!(rt; add(rt.alloc(), &mut host, &bodies), 6);
+    let records = open_file(rt.alloc(), &mut host)?;
+    assert!(rt; are_told(records.as_slice(), &bodies, 6));
     Ok(())
 }
 

@@ -12,7 +12,7 @@ returns-then-same-lt16-clause-broken g c h =
     let same = c.same_front-same.result in
     let head : c.header_of.result ≡ header c.args.generation = c.header_of.ensures in
     header_seen_fails c.args.generation bytes (take count c.fill.new.into) count same
-    (c.in_ok-count.ensures.end h ∙ omega (arith, c.requires h))
+    (c.in_ok-count.ensures.end h ∙ omega (arith, c.requires.size h))
     (c.in_ok-count.ensures.bytes h)
     c.same_front-same.ensures.within.0
     (c.same_front-same.ensures.same ∙ ap (λ (l : List ℕ). take same l) head)

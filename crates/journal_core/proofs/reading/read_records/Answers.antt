@@ -2,6 +2,7 @@ use Rattle.std.proofs.Common.{ℕ, ◌+◌, List, length, drop, Some, sym, ◌�
 use Rattle.std.proofs.lemmas.Result.{err_from_is_err_and}
 use Rattle.host_model.specs.Images.{contents}
 use Rattle.host_model.specs.Past.{Event, of}
+use Rattle.journal_core.specs.Piece.{ReadsAhead}
 use Rattle.journal_core.specs.Reading.{BeginsWithRecord, FailsFrom}
 use Rattle.journal_core.proofs.ReadLemmas.{Reached, reached_more, reached_fails, IfNotAJournal-weaker}
 use Rattle.journal_core.proofs.reading.read_records.Goals as goal
@@ -26,6 +27,8 @@ loop-records-preserved g c =
       after = omega (arith, c.loop-records.invariant.after);
       within = omega (arith, within.1, c.len.ensures);
       same = λ h. c.read_next.ensures.past h ∙ c.loop-records.invariant.same h;
+      read_ahead = λ h.
+          subst (λ (past : List Event). ReadsAhead (contents (of c.args.file past)) c.read_next.new.piece) (c.loop-records.invariant.same h) (c.in_ok-body.ensures.ahead h);
       read = λ h.
           let bytes = contents (of c.args.file (g.H.Host.past c.args.host.now)) in
           let body = c.in-Some.body in
