@@ -1,0 +1,74 @@
+ghost use Rattle.std.specs.Prelude.{◌≡◌};
+ghost use Rattle.health_expr.specs.Tree.{worth};
+ghost use Rattle.health_expr.specs.TreeOf.{tree_of, combined_all};
+ghost use Rattle.health_expr.specs.Value.{IsWithin};
+
+use crate::arithmetic::{fixed, is_true};
+use crate::operator::{Operator, Prefix};
+use crate::value::{Value, Vars};
+use fixed_num::{Text, Units};
+
+/// An expression that was read.
+#[derive(Debug, Drop)]
+pub enum Expr {
+    /// A number of ten-millionths.
+    Number(Units),
+    /// `nan`
+    Nan,
+    /// `inf`
+    Infinity,
+    /// `$name` or `${name}`.
+    Name(Text),
+    /// A prefix, or `abs`, and its operand.
+    Prefix(Prefix, Box<Expr>),
+    /// Operators that bind alike, which are taken from the left.
+    Binary {
+        first: Box<Expr>,
+        rest: Vec<(Operator, Expr)>,
+    },
+    /// `condition ? yes : no`
+    Choice {
+        condition: Box<Expr>,
+        yes: Box<Expr>,
+        no: Box<Expr>,
+    },
+}
+
+impl Expr {
+    /// What the expression is worth. It takes no memory.
+    #[cycle(eval)]
+    pub fn eval<V: Vars>(&self, vars: &V) -> Value
+        ensures value { result ≡ worth (V.worth vars.now) (tree_of self.now) }
+        ensures within { IsWithin result }
+    {
+        match self {
+            Expr::Number(units) => fixed(*units),
+            Expr::Nan => Value::Nan,
+            Expr::Infinity => Value::Inf(false),
+            Expr::Name(name) => vars.value(name.as_str()),
+            Expr::Prefix(prefix, operand) => prefix.apply(operand.eval(vars)),
+            Expr::Binary { first, rest } => eval_rest(first.eval(vars), rest, vars),
+            Expr::Choice { condition, yes, no } => {
+                if is_true(condition.eval(vars)) {
+                    yes.eval(vars)
+                } else {
+                    no.eval(vars)
+                }
+            }
+        }
+    }
+}
+
+/// What the operators make of a value and of the operands, from the left.
+#[cycle(eval)]
+fn eval_rest<V: Vars>(first: Value, rest: &Vec<(Operator, Expr)>, vars: &V) -> Value
+    requires { IsWithin first }
+    ensures value { result ≡ combined_all (V.worth vars.now) first rest.now.items }
+    ensures within { IsWithin result }
+{
+    let mut value = first;
+    for (operator, operand) in rest {
+        value = operator.apply(value, operand.eval(vars));
+    }
+    value
+}
