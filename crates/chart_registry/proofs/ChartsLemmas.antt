@@ -1,5 +1,5 @@
 -- What an edit of the kept charts leaves of their rows and definitions.
-use Rattle.std.proofs.Common.{◌≡◌, ℕ, zero, suc, Bool, List, [], ◌∷◌, ◌++◌, map, set, slice_get, position, Option, Some, None, cond, refl, sym, ap, subst, ◌∙◌, string_bytes}
+use Rattle.std.proofs.Common.{◌≡◌, ℕ, zero, suc, Bool, List, [], ◌∷◌, ◌++◌, map, set, slice_get, position, Some, None, cond, refl, sym, ap, subst, ◌∙◌, string_bytes}
 use Rattle.std.specs.declared.alloc.Global.{Global}
 use Rattle.std.specs.declared.string.String.{String}
 use Rattle.std.specs.Map.{keys_of, values_of, lookup}

@@ -1,3 +1,4 @@
+pub mod Applying
 pub mod ChartsLemmas
 pub mod DefiningLemmas
 pub mod DimensionsLemmas

@@ -1,6 +1,6 @@
 -- The first place in a list at which a test passes.
-use Rattle.std.proofs.Common.{◌≡◌, ℕ, zero, suc, ◌+◌, ◌<◌, ◌≤◌, Bool, true, false, cond, not, ltb, List, [], ◌∷◌, ◌++◌, map, length, get_or, set, slice_get, position, Option, Some, None, IfSome, is_some, ◌⊎◌, inl, inr, ◌||◌, true≢false, lt-ltb, le-ltb, refl, sym, ap, subst, ◌∙◌, arith, if◌then◌else◌}
-use Rattle.std.specs.List.{position_or_len, find, list_any, AllByRecursion, All, count_by, sum_by}
+use Rattle.std.proofs.Common.{◌≡◌, ℕ, zero, suc, ◌+◌, ◌<◌, Bool, true, false, cond, not, ltb, List, [], ◌∷◌, ◌++◌, map, length, get_or, set, slice_get, position, Option, Some, None, IfSome, is_some, ◌⊎◌, inl, inr, ◌||◌, lt-ltb, le-ltb, refl, sym, ap, subst, ◌∙◌, arith, if◌then◌else◌}
+use Rattle.std.specs.List.{position_or_len, find, list_any, AllByRecursion, All, count_by}
 use Rattle.std.specs.Option.{option_map_or, option_and_then}
 use Rattle.std.proofs.lemmas.List.{length-map}
 use Rattle.std.proofs.lemmas.List.Elements.{recursion_from_All}

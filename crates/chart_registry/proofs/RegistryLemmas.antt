@@ -1,6 +1,6 @@
 -- What the kept charts and dimensions say of the registry that they stand for.
-use Rattle.std.proofs.Common.{◌≡◌, ℕ, zero, suc, ◌+◌, ◌<◌, Bool, true, false, ◌||◌, ◌&&◌, nat_eq, nat_le, List, [], ◌∷◌, length, map, set, get_or, slice_get, position, Option, Some, None, IfSome, is_some, refl, sym, ap, subst, ◌∙◌, arith, add-zero, if◌then◌else◌}
-use Rattle.std.specs.List.{find, list_any, count_by}
+use Rattle.std.proofs.Common.{◌≡◌, ℕ, zero, suc, ◌+◌, ◌<◌, Bool, true, false, ◌||◌, nat_eq, nat_le, List, [], ◌∷◌, length, map, set, get_or, slice_get, position, Option, Some, None, IfSome, is_some, refl, sym, ap, subst, ◌∙◌, arith, add-zero, if◌then◌else◌}
+use Rattle.std.specs.List.{list_any, count_by}
 use Rattle.std.specs.Option.{option_and_then, option_map, option_map_or}
 use Rattle.std.specs.Str.{bytes_eq}
 use Rattle.std.proofs.lemmas.Bool.{and_parts, leb-false, true≢false}
@@ -10,7 +10,6 @@ use Rattle.std.proofs.lemmas.Slice.Eq.{bytes_eq-Decides}
 use Rattle.history.specs.declared.beat.OpenDim.{OpenDim}
 use Rattle.history.specs.declared.chart.ChartDef.{ChartDef}
 use Rattle.history.specs.declared.dimension.DimDef.{DimDef}
-use Rattle.history.specs.declared.fault.BlockFault.{BlockFault}
 use Rattle.history.specs.declared.fault.BlockFault.TheVariants as block
 use Rattle.history.specs.Put.{put}
 use Rattle.history.specs.Registry.{Registry as Definitions, is_chart, is_of, is_dimension, same_dimension, chart_of, series_of}
@@ -19,8 +18,9 @@ use Rattle.chart_registry.specs.declared.charts.Chart.{Chart}
 use Rattle.chart_registry.specs.declared.dimensions.Dimension.{Dimension}
 use Rattle.chart_registry.specs.Defining.{nothing_open, chart_id}
 use Rattle.chart_registry.specs.Rows.{Row, Mark, row_of, mark_of, row_at, ids, belongs, is_mark, same_mark, series_in, marks, open_dims, redefined, AreKept}
-use Rattle.chart_registry.proofs.Places.{IsFirst, count_by-map, first-from_position, passes-first, position-map, position-within, find-position, list_any-position, put-present, get_or-map_any, option_map_or-slice_get}
+use Rattle.chart_registry.proofs.Places.{IsFirst, count_by-map, first-from_position, passes-first, position-map, position-within, find-position, list_any-position, position-all_false, put-present, get_or-map_any, option_map_or-slice_get}
 use Rattle.chart_registry.proofs.ChartsLemmas.{ids-defs}
+use Rattle.chart_registry.proofs.RowsLemmas.{apart}
 
 -- ---- the registry alone
 module _ (registry : Definitions) where
@@ -124,6 +124,13 @@ module _ (charts : List Chart) (dimensions : List Dimension) (registry : Definit
     series_in-series_of n id within =
         (known.tables n no_row within).finds id ∙ sym (series_of-marks (row_at (map row_of charts) n).id id)
         ∙ ap (λ (chart : List ℕ). series_of registry chart id) (sym (chart_id-row n))
+
+    pub unowned : (id : List ℕ) → chart_of registry id ≡ None → list_any (is_of id) registry.dimensions ≡ false
+    unowned id none =
+        sym (list_any-position (is_of id) registry.dimensions)
+        ∙ ap (λ (seen : Definitions). is_some (position (is_of id) seen.dimensions)) (sym view)
+        ∙ ap is_some (position-map (is_of id) (λ (dimension : Dimension). dimension.definition) dimensions ∙ sym (position-map (belongs id) mark_of dimensions)
+        ∙ position-all_false (belongs id) (marks dimensions) (apart (map row_of charts) (marks dimensions) known id (sym (chart_of-ids id) ∙ none)))
 
     pub chart_of-row : (n : ℕ) → n < length (map row_of charts) → chart_of registry (row_at (map row_of charts) n).id ≡ Some n
     chart_of-row n within =

@@ -1,12 +1,12 @@
 -- What charts and dimensions know of each other, as they grow.
-use Rattle.std.proofs.Common.{◌≡◌, ◌≢◌, ℕ, ◌+◌, ◌<◌, ◌≤◌, Bool, true, false, cond, ◌&&◌, List, [], ◌∷◌, ◌++◌, map, length, get_or, set, slice_get, position, Option, Some, None, inl, inr, refl, sym, ap, subst, ◌∙◌, arith, All, true≢false, add-zero}
+use Rattle.std.proofs.Common.{◌≡◌, ◌≢◌, ℕ, ◌+◌, ◌<◌, Bool, true, false, cond, ◌&&◌, List, [], ◌∷◌, ◌++◌, length, get_or, set, position, Some, None, inl, inr, refl, sym, ap, subst, ◌∙◌, arith, All, true≢false, add-zero}
 use Rattle.std.specs.declared.alloc.Global.{Global}
 use Rattle.std.specs.declared.string.String.{String}
 use Rattle.std.specs.List.{count_by}
 use Rattle.std.specs.Str.{bytes_eq}
 use Rattle.std.proofs.lemmas.Bool.{cases_lt, cases_eq}
 use Rattle.std.proofs.lemmas.List.{map-append, map-set, get_or_append_left, get_or_push, get_or_default, get_or-set_same, get_or-set_other, length_push, length-set, length-map, set-get_or}
-use Rattle.std.proofs.lemmas.List.Elements.{All-push, All-same, All-weaker}
+use Rattle.std.proofs.lemmas.List.Elements.{All-push, All-weaker}
 use Rattle.std.proofs.lemmas.Option.{same_Some, none-some}
 use Rattle.std.proofs.lemmas.Slice.Eq.{bytes_eq-Decides}
 use Rattle.chart_registry.specs.Rows.{Row, Mark, row_at, ids, belongs, is_mark, same_mark, series_in, IsTableOf, AddsSeries, EntersSeries, AreDistinct, IsOwned, AreKept}
@@ -72,7 +72,8 @@ table-own marks row mark series own none adds table = record {
 -- ---- one more chart
 module _ (rows : List Row) (marks : List Mark) (known : AreKept rows marks) where
   module _ (id : List ℕ) (none : position (bytes_eq id) (ids rows) ≡ None) where
-    apart : All (λ mark. belongs id mark ≡ false) marks
+    -- a chart that is not there has no dimensions
+    pub apart : All (λ mark. belongs id mark ≡ false) marks
     apart k d within = by (belongs id (get_or marks k d)) refl
       where
         by : (b : Bool) → belongs id (get_or marks k d) ≡ b → belongs id (get_or marks k d) ≡ false

@@ -1,14 +1,14 @@
-ghost use Rattle.std.specs.Prelude.{◌≡◌, ℕ, ◌<◌, ◌≤◌, [], ◌∷◌, length, count_by, find, slice_get, Option, Some, None, is_some, IfOk, IfSome, OnOk, OnErr, MatchResult};
+ghost use Rattle.std.specs.Prelude.{◌≡◌, ℕ, ◌<◌, ◌≤◌, [], ◌∷◌, length, count_by, find, slice_get, Option, Some, None, true, false, All, is_some, IfOk, IfSome, IfNone, OnOk, OnErr, MatchResult};
 ghost use Rattle.std.specs.List.{list_any};
 ghost use Rattle.std.specs.Option.{option_and_then, option_map};
 ghost use Rattle.history.specs.Registry.{empty, is_chart, is_of, is_dimension, chart_of, series_of, with_definitions};
-ghost use Rattle.history.specs.Refusal.{chart_refusal, dimension_refusal, dimensions_full};
+ghost use Rattle.history.specs.Refusal.{has_chart, chart_refusal, dimension_refusal, dimensions_full};
 ghost use Rattle.chart_registry.specs.Defining.{nothing_open, chart_id, RefusedBy};
 
 use crate::charts::{self, Chart};
 use crate::dimensions::{self, Dimension};
 use crate::fault::RegistryFault;
-use history::{ChartDef, DimDef};
+use history::{ChartDef, DimDef, OpenBeat, OpenDim};
 use indexmap::IndexMap;
 use std::alloc::Global;
 use std::marker::Model;
@@ -71,13 +71,14 @@ impl Registry {
         self.dimensions.len() as u32
     }
 
-    /// The number of the chart with this id.
+    /// The number of the chart with this id. A chart that is not there has no dimensions.
     pub fn chart_of(&self, id: &str) -> Option<u32>
         ensures value { result ≡ chart_of self.now id.now }
         ensures found { is_some result ≡ list_any (is_chart id.now) self.now.charts }
         ensures chart { option_and_then (slice_get self.now.charts) result ≡ find (is_chart id.now) self.now.charts }
         ensures id { IfSome result (λ number. chart_id self.now number ≡ id.now) }
         ensures within { IfSome result (λ number. number < length self.now.charts) }
+        ensures unowned { IfNone result (list_any (is_of id.now) self.now.dimensions ≡ false) }
     {
         charts::number_of(&self.charts, id)
     }
@@ -183,6 +184,48 @@ impl Registry {
                 }
             }
         }
+    }
+
+    /// Takes the definitions of a beat, the charts first, each list in its order. After an `Err` it may
+    /// have taken a part of them.
+    pub fn apply(&mut self, beat: &OpenBeat) -> Result<(), RegistryFault>
+        requires grids { All (λ def. 0 < def.update_every) beat.now.charts }
+        requires owned { All (λ dimension. has_chart self.old beat.now dimension.chart ≡ true) beat.now.dimensions }
+        ensures ok { OnOk result (self.new ≡ with_definitions self.old beat.now.charts beat.now.dimensions) }
+    {
+        self.define_charts(beat.charts.as_slice())?;
+        self.define_dimensions(beat.dimensions.as_slice())
+    }
+
+    fn define_charts(&mut self, charts: &[ChartDef]) -> Result<(), RegistryFault>
+        requires { All (λ def. 0 < def.update_every) charts.now }
+        ensures { OnOk result (self.new ≡ with_definitions self.old charts.now []) }
+    {
+        for def in charts {
+            self.define_chart(def)?;
+        }
+        Ok(())
+    }
+
+    fn define_dimensions(&mut self, dimensions: &[OpenDim]) -> Result<(), RegistryFault>
+        requires { All (λ dimension. list_any (is_chart dimension.chart) self.old.charts ≡ true) dimensions.now }
+        ensures { OnOk result (self.new ≡ with_definitions self.old [] dimensions.now) }
+    {
+        for dimension in dimensions {
+            self.define_owned(dimension)?;
+        }
+        Ok(())
+    }
+
+    // Defines a dimension of a chart that is there.
+    fn define_owned(&mut self, dimension: &OpenDim) -> Result<(), RegistryFault>
+        requires { list_any (is_chart dimension.now.chart) self.old.charts ≡ true }
+        ensures { OnOk result (self.new ≡ with_definitions self.old [] (dimension.now ∷ [])) }
+    {
+        if let Some(chart) = self.chart_of(dimension.chart.as_str()) {
+            self.define_dimension(chart, &dimension.def)?;
+        }
+        Ok(())
     }
 
     /// The definition of the dimension with this series.

@@ -1,10 +1,10 @@
-use Rattle.std.proofs.Common.{◌≡◌, ℕ, List, map, set, refl, sym, ap, ◌∙◌, string_bytes}
+use Rattle.std.proofs.Common.{map, sym, ap, ◌∙◌, string_bytes}
 use Rattle.std.proofs.lemmas.Result.{on_ok_weaker, on_err_weaker}
 use Rattle.history.specs.declared.chart.ChartDef.{ChartDef}
-use Rattle.indexmap.specs.IndexMap.{values, with_value_at}
+use Rattle.indexmap.specs.IndexMap.{values}
 use Rattle.indexmap.proofs.CallerLemmas.{keys-with_value_at}
 use Rattle.chart_registry.specs.declared.charts.Chart.{Chart}
-use Rattle.chart_registry.specs.Rows.{row_of, rows, chart_defs}
+use Rattle.chart_registry.specs.Rows.{row_of}
 use Rattle.chart_registry.proofs.Places.{map-set_kept}
 use Rattle.chart_registry.proofs.ChartsLemmas.{values-set_value_at, ids-defs, rows-unchanged, rows-entered}
 use Rattle.chart_registry.proofs.charts.enter.Goals as goal

@@ -2,7 +2,6 @@ use Rattle.std.proofs.Common.{sym, ap, ◌∙◌, position, string_bytes}
 use Rattle.std.specs.Str.{bytes_eq}
 use Rattle.indexmap.specs.IndexMap.{keys}
 use Rattle.chart_registry.proofs.Places.{position-map}
-use Rattle.chart_registry.proofs.RowsLemmas.{AreKept-new_chart, AreKept-new_dimension}
 use Rattle.chart_registry.proofs.charts.number_of.Goals as goal
 
 pub returns-in-Some : goal.returns-in-Some

@@ -1,10 +1,10 @@
-use Rattle.std.proofs.Common.{◌≡◌, ℕ, List, map, set, sym, ap, ◌∙◌, refl, string_bytes}
+use Rattle.std.proofs.Common.{◌≡◌, map, set, sym, ap, ◌∙◌, refl, string_bytes}
 use Rattle.std.proofs.lemmas.List.{map-set}
 use Rattle.history.specs.declared.chart.ChartDef.{ChartDef}
-use Rattle.indexmap.specs.IndexMap.{values, with_value_at}
+use Rattle.indexmap.specs.IndexMap.{values}
 use Rattle.indexmap.proofs.CallerLemmas.{keys-with_value_at}
 use Rattle.chart_registry.specs.declared.charts.Chart.{Chart}
-use Rattle.chart_registry.specs.Rows.{Row, row_of, ids, rows, chart_defs}
+use Rattle.chart_registry.specs.Rows.{Row, row_of, ids, chart_defs}
 use Rattle.chart_registry.proofs.ChartsLemmas.{values-set_value_at, row_at-slice_get, rows-unchanged}
 use Rattle.chart_registry.proofs.charts.replace.Goals as goal
 

@@ -1,19 +1,17 @@
-use Rattle.std.proofs.Common.{◌≡◌, ℕ, ◌<◌, ◌≤◌, Bool, true, false, nat_eq, nat_le, List, [], ◌∷◌, ◌++◌, length, slice_get, position, Option, Some, None, Result, Ok, Err, IfOk, OnOk, MatchResult, refl, sym, ap, subst, ◌∙◌, arith, All, if◌then◌else◌}
+use Rattle.std.proofs.Common.{◌≡◌, ℕ, ◌<◌, ◌≤◌, Bool, List, [], ◌∷◌, length, slice_get, position, Some, None, Result, IfOk, OnOk, MatchResult, sym, ap, subst, ◌∙◌, arith, All, if◌then◌else◌}
 use Rattle.std.specs.Str.{bytes_eq}
 use Rattle.std.proofs.lemmas.Bool.{eq-eqb, ne_eqb, le-leb, lt-leb}
-use Rattle.std.proofs.lemmas.List.{length-map, length_push}
+use Rattle.std.proofs.lemmas.List.{length_push}
 use Rattle.std.proofs.lemmas.List.Elements.{All-push}
 use Rattle.std.proofs.lemmas.Result.{IfOk-weaker}
 use Rattle.history.specs.declared.chart.ChartDef.{ChartDef}
-use Rattle.history.specs.declared.fault.BlockFault.{BlockFault}
 use Rattle.history.specs.declared.fault.BlockFault.TheVariants as block
 use Rattle.history.specs.Registry.{Registry as Definitions, chart_of, with_definitions}
 use Rattle.history.specs.Refusal.{chart_refusal}
 use Rattle.indexmap.specs.IndexMap.{values}
-use Rattle.chart_registry.specs.declared.charts.Chart.{Chart}
 use Rattle.chart_registry.specs.declared.fault.RegistryFault.{RegistryFault}
 use Rattle.chart_registry.specs.Defining.{nothing_open, RefusedBy}
-use Rattle.chart_registry.specs.Rows.{Row, row_of, ids, rows, marks, chart_defs, AreKept}
+use Rattle.chart_registry.specs.Rows.{Row, ids, rows, marks, chart_defs, AreKept}
 use Rattle.chart_registry.proofs.RowsLemmas.{AreKept-new_chart}
 use Rattle.chart_registry.proofs.RegistryLemmas.{registry_of, chart_of-ids, chart_refusal-present, chart_refusal-absent, row_at-position, chart_of-within}
 use Rattle.chart_registry.proofs.DefiningLemmas.{chart-replaced, chart_of-replaced, chart-added, chart_of-added}

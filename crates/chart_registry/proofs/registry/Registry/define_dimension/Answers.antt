@@ -1,23 +1,19 @@
-use Rattle.std.proofs.Common.{◌≡◌, ℕ, ◌+◌, ◌<◌, ◌≤◌, Bool, true, false, List, [], ◌∷◌, ◌++◌, length, map, set, slice_get, position, Option, Some, None, Result, Ok, Err, IfOk, OnOk, MatchResult, refl, sym, ap, subst, ◌∙◌, arith, All, if◌then◌else◌}
+use Rattle.std.proofs.Common.{◌≡◌, ℕ, ◌<◌, ◌≤◌, true, false, List, [], ◌∷◌, ◌++◌, length, position, Option, Some, None, Result, IfOk, OnOk, MatchResult, sym, ap, subst, ◌∙◌, arith, All}
 use Rattle.std.proofs.lemmas.List.{length-map, length_push, map-append}
 use Rattle.std.proofs.lemmas.List.Elements.{All-set}
 use Rattle.std.proofs.lemmas.Result.{IfOk-weaker}
-use Rattle.history.specs.declared.beat.OpenDim.{OpenDim}
 use Rattle.history.specs.declared.chart.ChartDef.{ChartDef}
-use Rattle.history.specs.declared.dimension.DimDef.{DimDef}
-use Rattle.history.specs.declared.fault.BlockFault.{BlockFault}
-use Rattle.history.specs.declared.fault.BlockFault.TheVariants as block
 use Rattle.history.specs.Registry.{Registry as Definitions, series_of, with_definitions}
-use Rattle.history.specs.Refusal.{dimension_refusal, dimensions_full}
+use Rattle.history.specs.Refusal.{dimension_refusal}
 use Rattle.indexmap.specs.IndexMap.{values}
 use Rattle.chart_registry.specs.declared.charts.Chart.{Chart}
 use Rattle.chart_registry.specs.declared.dimensions.Dimension.{Dimension}
 use Rattle.chart_registry.specs.declared.fault.RegistryFault.{RegistryFault}
 use Rattle.chart_registry.specs.Defining.{nothing_open, chart_id, RefusedBy}
 use Rattle.chart_registry.specs.Kept.{IsRegistry}
-use Rattle.chart_registry.specs.Rows.{Row, Mark, row_of, mark_of, row_at, ids, rows, is_mark, marks, open_dims, chart_defs, series_in, EntersSeries, AreKept}
+use Rattle.chart_registry.specs.Rows.{Row, Mark, row_of, mark_of, row_at, rows, is_mark, marks, open_dims, series_in, EntersSeries, AreKept}
 use Rattle.chart_registry.proofs.RowsLemmas.{AreKept-new_dimension}
-use Rattle.chart_registry.proofs.RegistryLemmas.{registry_of, series_in-series_of, chart_id-row, series_of-marks, dimension_refusal-present, dimension_refusal-absent, series_of-within, counts-dimensions, dimensions-few}
+use Rattle.chart_registry.proofs.RegistryLemmas.{registry_of, chart_id-row, series_of-marks, dimension_refusal-present, dimension_refusal-absent, series_of-within, counts-dimensions, dimensions-few}
 use Rattle.chart_registry.proofs.DefiningLemmas.{mark-position, dimension-replaced, series_of-replaced, dimension-added, series_of-added}
 use Rattle.chart_registry.specs.declared.registry.Registry.TheInside.{Inside}
 use Rattle.chart_registry.proofs.registry.Registry.define_dimension.Goals as goal

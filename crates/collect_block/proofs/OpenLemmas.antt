@@ -1,0 +1,156 @@
+-- What the definitions of an open beat know of its charts.
+use Rattle.std.proofs.Common.{◌≡◌, ℕ, zero, suc, ◌<◌, Bool, true, false, cond, ◌||◌, nat_eq, List, [], ◌∷◌, All, Option, Some, None, IfSome, is_some, true≢false, refl, sym, ap, subst, ◌∙◌, arith, if◌then◌else◌}
+use Rattle.std.specs.List.{find, list_any, AllByRecursion}
+use Rattle.std.specs.Option.{option_map_or}
+use Rattle.std.specs.Str.{bytes_eq}
+use Rattle.std.proofs.lemmas.List.Elements.{All-from_recursion, recursion_from_All}
+use Rattle.history.specs.declared.beat.OpenBeat.{OpenBeat}
+use Rattle.history.specs.declared.beat.OpenDim.{OpenDim}
+use Rattle.history.specs.declared.beat.OpenRow.{OpenRow}
+use Rattle.history.specs.declared.chart.ChartDef.{ChartDef}
+use Rattle.history.specs.declared.dimension.DimDef.{DimDef}
+use Rattle.history.specs.declared.line.Line.{Line}
+use Rattle.history.specs.declared.line.Line.TheVariants as line
+use Rattle.history.specs.History.{Beat, registry_of}
+use Rattle.history.specs.Looking.{open_block, last_chart, with_grid, charts, dimensions, rows, beat}
+use Rattle.history.specs.Put.{put}
+use Rattle.history.specs.Read.{history_at}
+use Rattle.history.specs.Refusal.{has_chart}
+use Rattle.history.specs.Registry.{Registry, is_chart, same_chart, same_dimension, with_definitions}
+use Rattle.chart_registry.specs.Defining.{nothing_open}
+use Rattle.chart_registry.proofs.Applying.{any-put, same_chart-alike, has_chart-any, has_chart-applied}
+use Rattle.collect_block.proofs.TablesLemmas.{bytes_eq_same}
+
+module _ {A : Type 0} (same : A → A → Bool) (P : A → Type 0) where
+  all-put : (xs : List A) (x : A) → AllByRecursion P xs → P x → AllByRecursion P (put same xs x)
+  all-put [] x h p = (p, tt)
+  all-put (y ∷ ys) x h p = by (same x y) (all-put ys x h.1 p)
+    where
+      by : (b : Bool) → AllByRecursion P (put same ys x) → AllByRecursion P (if b then x ∷ ys else y ∷ put same ys x)
+      by true rest = (p, h.1)
+      by false rest = (h.0, rest)
+
+module _ {A : Type 0} (P Q : A → Type 0) (weaker : (x : A) → P x → Q x) where
+  all-weaker : (xs : List A) → AllByRecursion P xs → AllByRecursion Q xs
+  all-weaker [] h = tt
+  all-weaker (x ∷ xs) h = (weaker x h.0, all-weaker xs h.1)
+
+-- ---- no chart of an open beat has an update_every of 0
+abbrev HasGrid : ChartDef → Type 0
+HasGrid def = 0 < def.update_every
+
+above-zero : (n : ℕ) → nat_eq n 0 ≡ false → 0 < n
+above-zero zero e = absurd (true≢false e)
+above-zero (suc n) e = omega arith
+
+grid-given : (every : ℕ) (def : ChartDef) → 0 < every → HasGrid (with_grid every def)
+grid-given every def above = by (nat_eq def.update_every 0) refl
+  where
+    by : (b : Bool) → nat_eq def.update_every 0 ≡ b → 0 < (if b then record def { update_every = every } else def).update_every
+    by true e = above
+    by false e = above-zero def.update_every e
+
+grids-by_recursion : (every : ℕ) (past : List Line) → 0 < every → AllByRecursion HasGrid (charts every past)
+grids-by_recursion every [] above = tt
+grids-by_recursion every (line.Moment moment ∷ past) above = tt
+grids-by_recursion every (line.Chart def ∷ past) above = all-put same_chart HasGrid (charts every past) (with_grid every def) (grids-by_recursion every past above) (grid-given every def above)
+grids-by_recursion every (line.Dimension def ∷ past) above = grids-by_recursion every past above
+grids-by_recursion every (line.Begin chart ∷ past) above = grids-by_recursion every past above
+grids-by_recursion every (line.Set id value anomalous ∷ past) above = grids-by_recursion every past above
+grids-by_recursion every (line.End ∷ past) above = grids-by_recursion every past above
+grids-by_recursion every (line.Flush ∷ past) above = grids-by_recursion every past above
+grids-by_recursion every (line.Disable ∷ past) above = grids-by_recursion every past above
+grids-by_recursion every (line.Query text ∷ past) above = grids-by_recursion every past above
+grids-by_recursion every (line.Skipped ∷ past) above = grids-by_recursion every past above
+
+pub grids : (every : ℕ) (past : List Line) → 0 < every → All (λ (def : ChartDef). 0 < def.update_every) (charts every past)
+grids every past above = All-from_recursion HasGrid (charts every past) (grids-by_recursion every past above)
+
+-- ---- each chart that a text named last is there, and so is that of each dimension
+or-wider : (x y z : Bool) → (x || z) ≡ true → ((x || y) || z) ≡ true
+or-wider true y z e = refl
+or-wider false true z e = refl
+or-wider false false z e = e
+
+or-found : (x y z : Bool) → y ≡ true → ((x || y) || z) ≡ true
+or-found true y z e = refl
+or-found false y z e = ap (λ b. b || z) e
+
+module _ (registry : Registry) (cs : List ChartDef) (ds : List OpenDim) (rs : List OpenRow) (def : ChartDef) where
+  abbrev old : OpenBeat
+  old = record { charts = cs; dimensions = ds; rows = rs }
+
+  abbrev new : OpenBeat
+  new = record { charts = put same_chart cs def; dimensions = ds; rows = rs }
+
+  now : (id : List ℕ) → has_chart registry new id ≡ ((list_any (is_chart id) cs || is_chart id def) || list_any (is_chart id) registry.charts)
+  now id = has_chart-any registry new id ∙ ap (λ b. b || list_any (is_chart id) registry.charts) (any-put same_chart (is_chart id) (same_chart-alike id) cs def)
+
+  stays-there : (id : List ℕ) → has_chart registry old id ≡ true → has_chart registry new id ≡ true
+  stays-there id there = now id ∙ or-wider (list_any (is_chart id) cs) (is_chart id def) (list_any (is_chart id) registry.charts) (sym (has_chart-any registry old id) ∙ there)
+
+  is-there : (id : List ℕ) → id ≡ def.id → has_chart registry new id ≡ true
+  is-there id e = now id ∙ or-found (list_any (is_chart id) cs) (is_chart id def) (list_any (is_chart id) registry.charts) (bytes_eq_same id def.id e)
+
+with_grid-id : (every : ℕ) (def : ChartDef) → def.id ≡ (with_grid every def).id
+with_grid-id every def = by (nat_eq def.update_every 0)
+  where
+    by : (b : Bool) → def.id ≡ (if b then record def { update_every = every } else def).id
+    by true = refl
+    by false = refl
+
+-- a beat that is closed leaves its charts in the registry
+closed-there : (registry : Registry) (closed : OpenBeat) (id : List ℕ) → has_chart registry closed id ≡ true
+    → has_chart (with_definitions registry closed.charts closed.dimensions) nothing_open id ≡ true
+closed-there registry closed id there = has_chart-any (with_definitions registry closed.charts closed.dimensions) nothing_open id ∙ has_chart-applied registry closed id ∙ there
+
+module _ (every : ℕ) (h : List Beat) where
+  abbrev reg : List Line → Registry
+  reg past = registry_of (history_at every h past)
+
+  abbrev IsThere : List Line → List ℕ → Type 0
+  IsThere past id = has_chart (reg past) (beat every past) id ≡ true
+
+  abbrev IsOwned : List Line → OpenDim → Type 0
+  IsOwned past dimension = IsThere past dimension.chart
+
+  abbrev Owned : List Line → Type 0
+  Owned past = IfSome (last_chart past) (IsThere past) × AllByRecursion (IsOwned past) (dimensions past)
+
+  chart-owned : (past : List Line) (def : ChartDef) → Owned past → Owned (line.Chart def ∷ past)
+  chart-owned past def owned = (
+    is-there (reg past) (charts every past) (dimensions past) (rows past) (with_grid every def) def.id (with_grid-id every def),
+    all-weaker (IsOwned past) (IsOwned (line.Chart def ∷ past)) (λ dimension there.
+        stays-there (reg past) (charts every past) (dimensions past) (rows past) (with_grid every def) dimension.chart there) (dimensions past) owned.1,
+  )
+
+  dimension-owned : (past : List Line) (def : DimDef) → Owned past → Owned (line.Dimension def ∷ past)
+  dimension-owned past def owned = (owned.0, by (last_chart past) owned.0)
+    where
+      by : (last : Option (List ℕ)) → IfSome last (IsThere past)
+          → AllByRecursion (IsOwned past) (option_map_or (λ chart. put same_dimension (dimensions past) (record { chart = chart; def = def })) last (dimensions past))
+      by None there = owned.1
+      by (Some chart) there = all-put same_dimension (IsOwned past) (dimensions past) (record { chart = chart; def = def }) owned.1 there
+
+  moment-owned : (past : List Line) (moment : ℕ) → Owned past → Owned (line.Moment moment ∷ past)
+  moment-owned past moment owned = (by (last_chart past) owned.0, tt)
+    where
+      by : (last : Option (List ℕ)) → IfSome last (IsThere past) → IfSome last (IsThere (line.Moment moment ∷ past))
+      by None there = tt
+      by (Some chart) there = closed-there (reg past) (beat every past) chart there
+
+  owned-all : (past : List Line) → Owned past
+  owned-all [] = (tt, tt)
+  owned-all (line.Chart def ∷ past) = chart-owned past def (owned-all past)
+  owned-all (line.Dimension def ∷ past) = dimension-owned past def (owned-all past)
+  owned-all (line.Moment moment ∷ past) = moment-owned past moment (owned-all past)
+  owned-all (line.Begin chart ∷ past) = owned-all past
+  owned-all (line.Set id value anomalous ∷ past) = owned-all past
+  owned-all (line.End ∷ past) = owned-all past
+  owned-all (line.Flush ∷ past) = owned-all past
+  owned-all (line.Disable ∷ past) = owned-all past
+  owned-all (line.Query text ∷ past) = owned-all past
+  owned-all (line.Skipped ∷ past) = owned-all past
+
+  pub owners : (past : List Line) → All (λ (dimension : OpenDim). has_chart (registry_of (history_at every h past)) (beat every past) dimension.chart ≡ true) (dimensions past)
+  owners past = All-from_recursion (IsOwned past) (dimensions past) (owned-all past).1

@@ -1,0 +1,96 @@
+-- What a step of a feed says of the lines before it.
+use Rattle.std.proofs.Common.{◌≡◌, ◌<◌, ◌≤◌, ℕ, ◌+◌, Bool, true, List, [], ◌∷◌, length, drop, get_or, All, Option, Some, None, ap, refl, sym, subst, ◌∙◌, arith}
+use Rattle.std.proofs.lemmas.List.{drop_more, drop_all}
+use Rattle.history.specs.declared.beat.OpenBeat.{OpenBeat}
+use Rattle.history.specs.declared.beat.OpenDim.{OpenDim}
+use Rattle.history.specs.declared.chart.ChartDef.{ChartDef}
+use Rattle.history.specs.declared.line.Line.TheVariants as line
+use Rattle.history.specs.declared.line.Line.{Line}
+use Rattle.history.specs.History.{Beat as Stored, registry_of}
+use Rattle.history.specs.Looking.{beat}
+use Rattle.history.specs.Read.{history_at, accepted, ending}
+use Rattle.history.specs.Refusal.{has_chart}
+use Rattle.history.specs.Registry.{Registry}
+use Rattle.chart_registry.specs.Defining.{nothing_open}
+use Rattle.collect_block.specs.declared.step.Step.{Step}
+use Rattle.collect_block.specs.declared.step.Step.TheVariants.{Nothing, Beat, Query, Disabled}
+use Rattle.collect_block.specs.declared.text.Reader.{Reader}
+use Rattle.collect_block.specs.declared.text.End.{End}
+use Rattle.collect_block.specs.Text.{Holds, IsReaderOf, HasRead, Stepped, Took, TookEach, TookFront, end_of}
+use Rattle.collect_block.proofs.OpenLemmas.{grids, owners}
+
+abbrev beat_in : Step → OpenBeat
+beat_in (Beat closed moment) = closed
+beat_in step = nothing_open
+
+module _ (reader : Reader) (registry : Registry) (every : ℕ) (h : List Stored) (past : List Line) (closed : OpenBeat) (moment : ℕ)
+    (stepped : Stepped reader registry every h past (line.Moment moment) (Beat closed moment)) where
+  pub closed-is : closed ≡ beat every past
+  closed-is = ap beat_in stepped.step_is
+
+  pub closed-grids : All (λ (def : ChartDef). 0 < def.update_every) closed.charts
+  closed-grids = subst (λ (closed : OpenBeat). All (λ (def : ChartDef). 0 < def.update_every) closed.charts) (sym closed-is) (grids every past stepped.feed.grid)
+
+  pub closed-owners : All (λ (dimension : OpenDim). has_chart registry closed dimension.chart ≡ true) closed.dimensions
+  closed-owners =
+      subst (λ (registry : Registry). All (λ (dimension : OpenDim). has_chart registry closed dimension.chart ≡ true) closed.dimensions) (sym stepped.holds.at.definitions)
+      (subst (λ (closed : OpenBeat). All (λ (dimension : OpenDim). has_chart (registry_of (history_at every h past)) closed dimension.chart ≡ true) closed.dimensions) (sym closed-is)
+      (owners every h past))
+
+-- a reader took so many lines of these, and none ended the text
+pub record TookSome (every : ℕ) (h : List Stored) (lines : List Line) (n : ℕ) (reader : Reader) (registry : Registry) : Type 0 where
+  pub past : List Line
+  pub counts : length past ≡ n
+  pub reads : IsReaderOf reader registry every h past
+  pub accepts : accepted every h [] lines ≡ accepted every h past (drop n lines)
+  pub ends : (ended : Bool) (rest : List ℕ) → ending every h ended rest [] lines ≡ ending every h ended rest past (drop n lines)
+
+module _ (every : ℕ) (h : List Stored) (lines : List Line) where
+  pub took-none : (reader : Reader) (registry : Registry) → IsReaderOf reader registry every h [] → TookSome every h lines 0 reader registry
+  took-none reader registry reads = record { past = []; counts = refl; reads = reads; accepts = refl; ends = λ ended rest. refl }
+
+  module _ (n : ℕ) (line : Line) (within : n < length lines) (is : get_or lines n line ≡ line) (reader : Reader) (registry : Registry) (some : TookSome every h lines n reader registry) where
+    next : drop n lines ≡ line ∷ drop (n + 1) lines
+    next = drop_more lines n line within ∙ ap (λ (line : Line). line ∷ drop (n + 1) lines) is
+
+    pub took-more : (reader' : Reader) (registry' : Registry) → Took every h some.past line None reader' registry' → TookSome every h lines (n + 1) reader' registry'
+    took-more reader' registry' took = record {
+      past = line ∷ some.past;
+      counts = omega (arith, some.counts);
+      reads = took.1;
+      accepts = some.accepts ∙ ap (accepted every h some.past) next ∙ took.0.accepts (drop (n + 1) lines);
+      ends = λ ended rest. some.ends ended rest ∙ ap (ending every h ended rest some.past) next ∙ took.0.ends ended rest (drop (n + 1) lines);
+    }
+
+    pub took-front : (end : End) (reader' : Reader) (registry' : Registry) → Took every h some.past line (Some end) reader' registry' → TookFront every h lines end reader' registry'
+    took-front end reader' registry' took = record {
+      past = some.past;
+      holds = took.1;
+      accepts = some.accepts ∙ ap (accepted every h some.past) next ∙ took.0.accepts (drop (n + 1) lines);
+      ends = λ ended rest. some.ends ended rest ∙ ap (ending every h ended rest some.past) next ∙ took.0.ends ended rest (drop (n + 1) lines);
+    }
+
+  pub took-each : (n : ℕ) (reader : Reader) (registry : Registry) → length lines ≤ n → n ≤ length lines → TookSome every h lines n reader registry → TookEach every h lines reader registry
+  took-each n reader registry least most some =
+      let all : drop n lines ≡ [] = drop_all n lines least in
+      record {
+        past = some.past;
+        counts = omega (arith, some.counts);
+        reads = some.reads;
+        accepts = some.accepts ∙ ap (accepted every h some.past) all;
+        ends = λ ended rest. some.ends ended rest ∙ ap (ending every h ended rest some.past) all;
+      }
+
+  -- ---- the whole text
+  module _ (ended : Bool) (rest : List ℕ) (reader : Reader) (registry : Registry) where
+    pub has_read-front : (end : End) → TookFront every h lines end reader registry → HasRead every h lines ended rest end reader registry
+    has_read-front end front = record {
+      holds = subst (Holds reader registry every h) (sym front.accepts) front.holds;
+      ends = sym (front.ends ended rest);
+    }
+
+    pub has_read-each : (end : End) (each : TookEach every h lines reader registry) → end_of end ≡ ending every h ended rest each.past [] → HasRead every h lines ended rest end reader registry
+    has_read-each end each ends = record {
+      holds = subst (Holds reader registry every h) (sym each.accepts) each.reads.holds;
+      ends = ends ∙ sym (each.ends ended rest);
+    }

@@ -1,0 +1,10 @@
+use Rattle.collect_block.proofs.TextLemmas.{closed-grids, closed-owners}
+use Rattle.collect_block.proofs.text.Reader.close.Goals as goal
+
+pub apply-requires-clause-grids : goal.apply-requires-clause-grids
+apply-requires-clause-grids c =
+    closed-grids c.args.self.now c.args.registry.now c.requires.0 c.requires.1 c.requires.2 c.args.beat c.args.moment c.requires.3
+
+pub apply-requires-clause-owned : goal.apply-requires-clause-owned
+apply-requires-clause-owned c =
+    closed-owners c.args.self.now c.args.registry.now c.requires.0 c.requires.1 c.requires.2 c.args.beat c.args.moment c.requires.3

@@ -1,0 +1,19 @@
+use Rattle.std.specs.Prelude.{ℕ, ◌+◌, ◌&&◌, Bool, List, length, nat_le, count_by}
+use Rattle.history.specs.declared.beat.OpenBeat.{OpenBeat}
+use Rattle.history.specs.declared.beat.OpenDim.{OpenDim}
+use Rattle.history.specs.Refusal.{is_new_dimension}
+use Rattle.history.specs.Registry.{Registry, is_of}
+use Rattle.collect_block.specs.declared.beat_tables.BeatTables.{BeatTables}
+
+-- the beat that the tables hold
+abbrev pub beat_of : BeatTables → OpenBeat
+beat_of beat = record { charts = beat.charts; dimensions = beat.dimensions; rows = beat.rows }
+
+-- there is no room for one more dimension of this chart
+abbrev pub chart_full : Registry → OpenBeat → List ℕ → Bool
+chart_full registry open_beat chart =
+    nat_le 1024 (count_by (is_of chart) registry.dimensions + count_by (λ (dimension : OpenDim). is_of chart dimension && is_new_dimension registry dimension) open_beat.dimensions)
+
+-- there is no room for one more dimension of any chart
+abbrev pub all_full : Registry → OpenBeat → Bool
+all_full registry open_beat = nat_le 65536 (length registry.dimensions + count_by (is_new_dimension registry) open_beat.dimensions)

@@ -1,0 +1,50 @@
+use Rattle.std.specs.Prelude.{◌≡◌, ℕ, ◌+◌, ◌-◌, ◌^◌, ◌<◌, min, List, [], ◌∷◌, Option, Some, None}
+use Rattle.std.specs.Option.{option_map}
+use Rattle.history.specs.declared.beat.OpenBeat.{OpenBeat}
+use Rattle.history.specs.declared.fault.BlockFault.{BlockFault}
+use Rattle.history.specs.declared.fault.BlockFault.TheVariants.{Memory}
+use Rattle.history.specs.declared.line.Line.{Line}
+use Rattle.history.specs.declared.line.Line.TheVariants as line
+use Rattle.history.specs.Looking.{open_block, last_chart, values, beat}
+use Rattle.collect_block.specs.declared.block.Block.{Block}
+use Rattle.collect_block.specs.declared.feed.Feed.{Feed}
+use Rattle.collect_block.specs.declared.step.Step.{Step}
+use Rattle.collect_block.specs.declared.step.Step.TheVariants.{Nothing, Beat, Query, Disabled}
+use Rattle.collect_block.specs.BeatTables.{beat_of}
+
+-- how many of these lines say nothing
+abbrev pub skips : List Line → ℕ
+skips [] = 0
+skips (line.Skipped ∷ past) = skips past + 1
+skips (line ∷ past) = skips past
+
+-- what a line leads to, by the lines before it
+abbrev pub step_of : ℕ → List Line → Line → Step
+step_of every past (line.Moment moment) = Beat (beat every past) moment
+step_of every past (line.Query text) = Query text
+step_of every past line.Disable = Disabled
+step_of every past line = Nothing
+
+-- the open block of a text
+abbrev pub block_of : List Line → List ℕ → Block
+block_of past chart = record { chart = chart; values = values past }
+
+-- A feed has taken these lines, the latest first; `every` is the update_every of the charts whose line
+-- leaves it open.
+pub record IsFeedOf (feed : Feed) (every : ℕ) (past : List Line) : Type 0 where
+  pub update_every : feed.every ≡ every
+  pub grid : 0 < every
+  pub chart : feed.chart ≡ last_chart past
+  pub block : feed.block ≡ option_map (block_of past) (open_block past)
+  pub beat : beat_of feed.beat ≡ beat every past
+  pub skipped : feed.skipped ≡ min (skips past) (2 ^ 64 - 1)
+
+-- the feed has taken one line more
+abbrev pub Becomes : Line → Feed → Feed → Type 0
+Becomes line old new = (every : ℕ) (past : List Line) → IsFeedOf old every past → IsFeedOf new every (line ∷ past)
+
+-- A line is refused with this fault for this reason. Memory is short only where nothing else stands
+-- against the line.
+abbrev pub RefusedBy : Option BlockFault → BlockFault → Type 0
+RefusedBy reason Memory = reason ≡ None
+RefusedBy reason fault = reason ≡ Some fault

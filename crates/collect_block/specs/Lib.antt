@@ -1,0 +1,5 @@
+pub mod BeatTables
+pub mod Feed
+pub mod Places
+pub mod Tables
+pub mod Text

@@ -1,0 +1,250 @@
+ghost use Rattle.std.specs.Prelude.{◌≡◌, ◌≤◌, ◌%◌, ◌==◌, ◌&&◌, false, not, nat_lt, length, count_by, find};
+ghost use Rattle.std.specs.List.{list_any};
+ghost use Rattle.std.specs.Option.{option_map, option_map_or};
+ghost use Rattle.chart_registry.specs.Defining.{nothing_open};
+ghost use Rattle.history.specs.Refusal.{chart_now, has_chart, has_dimension, is_new_chart, is_new_dimension, charts_full, chart_refusal, dimension_refusal, is_off_grid, is_empty};
+ghost use Rattle.history.specs.Registry.{is_chart, is_of, is_dimension};
+ghost use Rattle.history.specs.declared.chart.ChartDef.{ChartDef as ChartDefinition};
+ghost use Rattle.history.specs.declared.dimension.DimDef.{DimDef as DimDefinition};
+ghost use Rattle.collect_block.specs.BeatTables.{beat_of, chart_full, all_full};
+
+use crate::chart_table::ChartTable;
+use crate::dimension_table::DimensionTable;
+use crate::row_table::RowTable;
+use chart_registry::{MOST_CHARTS, MOST_DIMENSIONS, MOST_DIMENSIONS_OF_CHART, Registry};
+use history::{BlockFault, ChartDef, OpenBeat, OpenDim, OpenRow};
+use std::alloc::Global;
+
+/// The open beat of a text.
+#[derive(Drop)]
+pub(crate) struct BeatTables {
+    pub(crate) charts: ChartTable,
+    pub(crate) dimensions: DimensionTable,
+    pub(crate) rows: RowTable,
+}
+
+impl BeatTables {
+    pub(crate) fn new(alloc: Global) -> BeatTables
+        ensures { beat_of result ≡ nothing_open }
+    {
+        BeatTables {
+            charts: ChartTable::new(alloc),
+            dimensions: DimensionTable::new(alloc),
+            rows: RowTable::new(alloc),
+        }
+    }
+
+    /// Whether it says nothing.
+    pub(crate) fn is_empty(&self) -> bool
+        ensures { result ≡ (is_empty self.now.charts && is_empty self.now.dimensions && is_empty self.now.rows) }
+    {
+        self.charts.as_slice().is_empty()
+            && self.dimensions.as_slice().is_empty()
+            && self.rows.as_slice().is_empty()
+    }
+
+    /// Takes the beat out, and leaves none.
+    pub(crate) fn close(&mut self) -> OpenBeat
+        ensures closed { result ≡ beat_of self.old }
+        ensures left { beat_of self.new ≡ nothing_open }
+    {
+        OpenBeat {
+            charts: self.charts.take(),
+            dimensions: self.dimensions.take(),
+            rows: self.rows.take(),
+        }
+    }
+
+    /// The update_every of a chart as it is now, by its last definition.
+    pub(crate) fn update_every_of(&self, registry: &Registry, id: &str) -> Option<u32>
+        ensures { result ≡ option_map (λ def. def.update_every) (chart_now registry.now (beat_of self.now) id.now) }
+    {
+        match self.charts.update_every_of(id) {
+            Some(update_every) => Some(update_every),
+            None => known_update_every(registry, id),
+        }
+    }
+
+    pub(crate) fn has_chart(&self, registry: &Registry, id: &str) -> bool
+        ensures { result ≡ has_chart registry.now (beat_of self.now) id.now }
+    {
+        self.update_every_of(registry, id).is_some()
+    }
+
+    pub(crate) fn has_dimension(&self, registry: &Registry, chart: &str, id: &str) -> bool
+        ensures { result ≡ has_dimension registry.now (beat_of self.now) chart.now id.now }
+    {
+        is_known_dimension(registry, chart, id) || self.dimensions.has(chart, id)
+    }
+
+    /// Whether there is no room for one more chart. The charts of the beat are gone through only where
+    /// they may be too many if all of them are new.
+    fn is_full_of_charts(&self, registry: &Registry) -> bool
+        ensures { result ≡ charts_full registry.now (beat_of self.now) }
+    {
+        let known = registry.charts() as usize;
+        let most = MOST_CHARTS as usize;
+        let defined = self.charts.as_slice();
+        if defined.len() < most - known {
+            return false;
+        }
+        new_charts(registry, defined) >= most - known
+    }
+
+    /// Whether there is no room for one more dimension of this chart.
+    fn is_full_of(&self, registry: &Registry, chart: &str) -> bool
+        ensures { result ≡ chart_full registry.now (beat_of self.now) chart.now }
+    {
+        let known = known_dimensions_of(registry, chart) as usize;
+        let most = MOST_DIMENSIONS_OF_CHART as usize;
+        if self.dimensions.count_of(chart) < most - known {
+            return false;
+        }
+        new_dimensions_of(registry, self.dimensions.as_slice(), chart) >= most - known
+    }
+
+    /// Whether there is no room for one more dimension of any chart.
+    fn is_full_of_dimensions(&self, registry: &Registry) -> bool
+        ensures { result ≡ all_full registry.now (beat_of self.now) }
+    {
+        let known = registry.dimensions() as usize;
+        let most = MOST_DIMENSIONS as usize;
+        let defined = self.dimensions.as_slice();
+        if defined.len() < most - known {
+            return false;
+        }
+        new_dimensions(registry, defined) >= most - known
+    }
+
+    /// Why a chart may not be defined with this update_every.
+    pub(crate) fn chart_refusal(
+        &self,
+        registry: &Registry,
+        id: &str,
+        update_every: u32,
+    ) -> Option<BlockFault>
+        ensures { (def : ChartDefinition) → def.id ≡ id.now → def.update_every ≡ update_every → result ≡ chart_refusal registry.now (beat_of self.now) def }
+    {
+        match self.update_every_of(registry, id) {
+            Some(old) if old == update_every => None,
+            Some(_) => Some(BlockFault::GridChanged),
+            None if self.is_full_of_charts(registry) => Some(BlockFault::TooManyCharts),
+            None => None,
+        }
+    }
+
+    /// Why a dimension of this chart may not be defined.
+    pub(crate) fn dimension_refusal(
+        &self,
+        registry: &Registry,
+        chart: &str,
+        id: &str,
+    ) -> Option<BlockFault>
+        ensures { (def : DimDefinition) → def.id ≡ id.now → result ≡ dimension_refusal registry.now (beat_of self.now) chart.now def }
+    {
+        if self.has_dimension(registry, chart, id) {
+            return None;
+        }
+        if self.is_full_of(registry, chart) || self.is_full_of_dimensions(registry) {
+            return Some(BlockFault::TooManyDimensions);
+        }
+        None
+    }
+
+    /// Whether a moment is no multiple of the update_every of a chart with a row.
+    pub(crate) fn is_off_grid(&self, registry: &Registry, moment: u32) -> bool
+        ensures { result ≡ is_off_grid registry.now (beat_of self.now) moment }
+    {
+        self.rows.as_slice().iter().any(|row| is_off(
+            self.update_every_of(registry, row.chart.as_str()),
+            moment,
+        ))
+    }
+}
+
+// Whether a moment is no multiple of this update_every.
+fn is_off(update_every: Option<u32>, moment: u32) -> bool
+    ensures { result ≡ option_map_or (λ every. nat_lt 0 every && not (moment % every == 0)) update_every false }
+{
+    match update_every {
+        Some(update_every) => update_every > 0 && moment % update_every != 0,
+        None => false,
+    }
+}
+
+fn known_update_every(registry: &Registry, id: &str) -> Option<u32>
+    ensures { result ≡ option_map (λ def. def.update_every) (find (is_chart id.now) registry.now.charts) }
+{
+    match registry.chart_of(id) {
+        Some(number) => Some(registry.chart(number).update_every),
+        None => None,
+    }
+}
+
+fn is_known_dimension(registry: &Registry, chart: &str, id: &str) -> bool
+    ensures { result ≡ list_any (is_dimension chart.now id.now) registry.now.dimensions }
+{
+    match registry.chart_of(chart) {
+        Some(number) => registry.series_of(number, id).is_some(),
+        None => false,
+    }
+}
+
+// How many dimensions of this chart the registry has.
+fn known_dimensions_of(registry: &Registry, chart: &str) -> u32
+    ensures value { result ≡ count_by (is_of chart.now) registry.now.dimensions }
+    ensures few { result ≤ MOST_DIMENSIONS_OF_CHART }
+{
+    match registry.chart_of(chart) {
+        Some(number) => registry.dimensions_of(number),
+        None => 0,
+    }
+}
+
+fn is_new_chart(registry: &Registry, def: &ChartDef) -> bool
+    ensures { result ≡ is_new_chart registry.now def.now }
+{
+    registry.chart_of(def.id.as_str()).is_none()
+}
+
+// How many of these charts the registry does not have.
+fn new_charts(registry: &Registry, charts: &[ChartDef]) -> usize
+    ensures { result ≡ count_by (is_new_chart registry.now) charts.now }
+{
+    charts
+        .iter()
+        .filter(|def| is_new_chart(registry, def))
+        .count()
+}
+
+fn is_new_dimension(registry: &Registry, dimension: &OpenDim) -> bool
+    ensures { result ≡ is_new_dimension registry.now dimension.now }
+{
+    !is_known_dimension(
+        registry,
+        dimension.chart.as_str(),
+        dimension.def.id.as_str(),
+    )
+}
+
+// How many of these dimensions the registry does not have.
+fn new_dimensions(registry: &Registry, dimensions: &[OpenDim]) -> usize
+    ensures { result ≡ count_by (is_new_dimension registry.now) dimensions.now }
+{
+    dimensions
+        .iter()
+        .filter(|dimension| is_new_dimension(registry, dimension))
+        .count()
+}
+
+// The same, of one chart.
+fn new_dimensions_of(registry: &Registry, dimensions: &[OpenDim], chart: &str) -> usize
+    ensures { result ≡ count_by (λ dimension. is_of chart.now dimension && is_new_dimension registry.now dimension) dimensions.now }
+{
+    dimensions
+        .iter()
+        .filter(|dimension| {
+            chart == dimension.chart.as_str() && is_new_dimension(registry, dimension)
+        })
+        .count()
+}

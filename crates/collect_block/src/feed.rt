@@ -1,0 +1,314 @@
+ghost use Rattle.std.specs.Prelude.{◌≡◌, ◌<◌, ◌-◌, ◌^◌, ℕ, ℤ, Bool, Option, min, [], ◌∷◌, List, Some, None, true, false, MatchResult, IfOk, OnOk, OnErr};
+ghost use Rattle.history.specs.Looking.{with_grid};
+ghost use Rattle.history.specs.Refusal.{refusal, is_unfinished};
+ghost use Rattle.history.specs.Registry.{Registry as Definitions};
+ghost use Rattle.history.specs.declared.fault.BlockFault.TheVariants.{Unfinished};
+ghost use Rattle.history.specs.declared.line.Line.{Line as ALine};
+ghost use Rattle.history.specs.declared.line.Line.TheVariants as line;
+ghost use Rattle.collect_block.specs.Feed.{IsFeedOf, Becomes, RefusedBy, step_of, skips};
+
+use crate::beat_tables::BeatTables;
+use crate::block::{Block, set_value};
+use crate::step::Step;
+use chart_registry::Registry;
+use fixed_num::{ListOf, Text};
+use history::{BlockFault, ChartDef, DimDef, Line, OpenDim, OpenRow};
+use std::alloc::{AllocError, Global};
+
+/// What is kept of the lines of a text: its open beat and block, and the chart of its last CHART line.
+#[derive(Drop)]
+pub struct Feed {
+    pub(crate) alloc: Global,
+    pub(crate) every: u32,
+    pub(crate) chart: Option<Text>,
+    pub(crate) block: Option<Block>,
+    pub(crate) beat: BeatTables,
+    pub(crate) skipped: u64,
+}
+
+impl Feed {
+    /// The feed of a text from its first line on. `every` is the update_every of the charts whose line
+    /// leaves it open, 1 to 86,400 seconds.
+    pub fn new(alloc: Global, every: u32) -> Feed
+        requires { 0 < every }
+        ensures { IsFeedOf result every [] }
+    {
+        Feed {
+            alloc,
+            every,
+            chart: None,
+            block: None,
+            beat: BeatTables::new(alloc),
+            skipped: 0,
+        }
+    }
+
+    /// Takes the next line of the text. `registry`, `last` and `copies` are of the history so far: its
+    /// charts and dimensions, its last moment, and whether it has copied beats or gaps. After an `Err`
+    /// all is as before.
+    pub fn line(
+        &mut self,
+        registry: &Registry,
+        last: u32,
+        copies: bool,
+        line: &Line,
+    ) -> Result<Step, BlockFault>
+        ensures refused { (every : ℕ) (past : List ALine) → IsFeedOf self.old every past →
+            let reason = refusal registry.now every past copies last line.now in MatchResult result (λ _. reason ≡ None) (RefusedBy reason) }
+        ensures gives { IfOk result (λ step. (every : ℕ) (past : List ALine) → IsFeedOf self.old every past → step ≡ step_of every past line.now) }
+        ensures taken { OnOk result (Becomes line.now self.old self.new) }
+        ensures err { OnErr result (self.new ≡ self.old) }
+    {
+        match self.refusal(registry, last, copies, line) {
+            Some(fault) => Err(fault),
+            None => match self.take(line) {
+                Ok(step) => Ok(step),
+                Err(_) => Err(BlockFault::Memory),
+            },
+        }
+    }
+
+    /// Whether the text may end here, with these bytes behind its last line feed: `Unfinished` where the
+    /// open beat has a definition, a row or an open block, or where there are such bytes.
+    pub fn end(&self, rest: &[u8]) -> Result<(), BlockFault>
+        ensures { (every : ℕ) (past : List ALine) → IsFeedOf self.now every past → MatchResult result
+            (λ _. is_unfinished every past rest.now ≡ false)
+            (λ fault. (is_unfinished every past rest.now ≡ true) × (fault ≡ Unfinished)) }
+    {
+        if self.block.is_some() || !self.beat.is_empty() || !rest.is_empty() {
+            Err(BlockFault::Unfinished)
+        } else {
+            Ok(())
+        }
+    }
+
+    /// How many lines said nothing: at most 2^64 - 1.
+    pub fn skipped(&self) -> u64
+        ensures { (every : ℕ) (past : List ALine) → IsFeedOf self.now every past → result ≡ min (skips past) (2 ^ 64 - 1) }
+    {
+        self.skipped
+    }
+
+    // ---- why a line may not stand here
+
+    fn refusal(
+        &self,
+        registry: &Registry,
+        last: u32,
+        copies: bool,
+        line: &Line,
+    ) -> Option<BlockFault>
+        ensures { (every : ℕ) (past : List ALine) → IsFeedOf self.now every past → result ≡ refusal registry.now every past copies last line.now }
+    {
+        match line {
+            Line::Chart(def) => self.chart_refusal(registry, def),
+            Line::Dimension(def) => self.dimension_refusal(registry, def),
+            Line::Begin(chart) => self.begin_refusal(registry, chart.as_str()),
+            Line::Set { id, .. } => self.set_refusal(registry, id.as_str()),
+            Line::End => self.end_refusal(),
+            Line::Moment(moment) => self.moment_refusal(registry, last, copies, *moment),
+            Line::Flush | Line::Disable | Line::Query(_) | Line::Skipped => None,
+        }
+    }
+
+    fn chart_refusal(&self, registry: &Registry, def: &ChartDef) -> Option<BlockFault>
+        ensures { (every : ℕ) (past : List ALine) (copies : Bool) (last : ℕ) → IsFeedOf self.now every past → result ≡ refusal registry.now every past copies last (line.Chart def.now) }
+    {
+        if self.block.is_some() {
+            return Some(BlockFault::OpenBlock);
+        }
+        let update_every = self.grid_of(def);
+        self.beat
+            .chart_refusal(registry, def.id.as_str(), update_every)
+    }
+
+    /// The update_every of a definition, or the feed's where the line leaves it open.
+    fn grid_of(&self, def: &ChartDef) -> u32
+        ensures { (every : ℕ) → self.now.every ≡ every → result ≡ (with_grid every def.now).update_every }
+    {
+        if def.update_every == 0 {
+            self.every
+        } else {
+            def.update_every
+        }
+    }
+
+    fn dimension_refusal(&self, registry: &Registry, def: &DimDef) -> Option<BlockFault>
+        ensures { (every : ℕ) (past : List ALine) (copies : Bool) (last : ℕ) → IsFeedOf self.now every past → result ≡ refusal registry.now every past copies last (line.Dimension def.now) }
+    {
+        if self.block.is_some() {
+            return Some(BlockFault::OpenBlock);
+        }
+        match &self.chart {
+            Some(chart) => self
+                .beat
+                .dimension_refusal(registry, chart.as_str(), def.id.as_str()),
+            None => Some(BlockFault::NoChart),
+        }
+    }
+
+    fn begin_refusal(&self, registry: &Registry, chart: &str) -> Option<BlockFault>
+        ensures { (every : ℕ) (past : List ALine) (copies : Bool) (last : ℕ) → IsFeedOf self.now every past → result ≡ refusal registry.now every past copies last (line.Begin chart.now) }
+    {
+        if self.block.is_some() {
+            Some(BlockFault::OpenBlock)
+        } else if !self.beat.has_chart(registry, chart) {
+            Some(BlockFault::NoChart)
+        } else if self.beat.rows.has(chart) {
+            Some(BlockFault::SecondBlock)
+        } else {
+            None
+        }
+    }
+
+    fn set_refusal(&self, registry: &Registry, id: &str) -> Option<BlockFault>
+        ensures { (every : ℕ) (past : List ALine) (copies : Bool) (last : ℕ) (value : Option ℤ) (anomalous : Bool) → IsFeedOf self.now every past → result ≡ refusal registry.now every past copies last (line.Set id.now value anomalous) }
+    {
+        match &self.block {
+            Some(block) if self.beat.has_dimension(registry, block.chart.as_str(), id) => None,
+            Some(_) => Some(BlockFault::NoDimension),
+            None => Some(BlockFault::NoBlock),
+        }
+    }
+
+    fn end_refusal(&self) -> Option<BlockFault>
+        ensures { (registry : Definitions) (every : ℕ) (past : List ALine) (copies : Bool) (last : ℕ) → IsFeedOf self.now every past → result ≡ refusal registry every past copies last line.End }
+    {
+        match &self.block {
+            Some(_) => None,
+            None => Some(BlockFault::NoBlock),
+        }
+    }
+
+    fn moment_refusal(
+        &self,
+        registry: &Registry,
+        last: u32,
+        copies: bool,
+        moment: u32,
+    ) -> Option<BlockFault>
+        ensures { (every : ℕ) (past : List ALine) → IsFeedOf self.now every past → result ≡ refusal registry.now every past copies last (line.Moment moment) }
+    {
+        if self.block.is_some() {
+            Some(BlockFault::OpenBlock)
+        } else if copies {
+            Some(BlockFault::MixedRoles)
+        } else if moment <= last {
+            Some(BlockFault::MomentOrder(last))
+        } else if self.beat.is_off_grid(registry, moment) {
+            Some(BlockFault::OffGrid)
+        } else {
+            None
+        }
+    }
+
+    // ---- what a line leaves, where it may stand here
+
+    fn take(&mut self, line: &Line) -> Result<Step, AllocError>
+        ensures gives { IfOk result (λ step. (every : ℕ) (past : List ALine) → IsFeedOf self.old every past → step ≡ step_of every past line.now) }
+        ensures taken { OnOk result (Becomes line.now self.old self.new) }
+        ensures err { OnErr result (self.new ≡ self.old) }
+    {
+        match line {
+            Line::Moment(moment) => return Ok(self.close(*moment)),
+            Line::Query(text) => return Ok(Step::Query(text.clone()?)),
+            Line::Disable => return Ok(Step::Disabled),
+            Line::Chart(def) => self.define_chart(def)?,
+            Line::Dimension(def) => self.define_dimension(def)?,
+            Line::Begin(chart) => self.begin(chart)?,
+            Line::Set {
+                id,
+                value,
+                anomalous,
+            } => self.set(id, *value, *anomalous)?,
+            Line::End => self.end_block()?,
+            Line::Flush => self.block = None,
+            Line::Skipped => self.skipped = self.skipped.saturating_add(1),
+        }
+        Ok(Step::Nothing)
+    }
+
+    fn close(&mut self, moment: u32) -> Step
+        ensures gives { (every : ℕ) (past : List ALine) → IsFeedOf self.old every past → result ≡ step_of every past (line.Moment moment) }
+        ensures taken { Becomes (line.Moment moment) self.old self.new }
+    {
+        Step::Beat(self.beat.close(), moment)
+    }
+
+    fn define_chart(&mut self, def: &ChartDef) -> Result<(), AllocError>
+        ensures taken { OnOk result (Becomes (line.Chart def.now) self.old self.new) }
+        ensures err { OnErr result (self.new ≡ self.old) }
+    {
+        let id = def.id.clone()?;
+        let mut kept = def.clone()?;
+        kept.update_every = self.grid_of(def);
+        self.beat.charts.define(kept)?;
+        self.chart = Some(id);
+        Ok(())
+    }
+
+    fn define_dimension(&mut self, def: &DimDef) -> Result<(), AllocError>
+        ensures taken { OnOk result (Becomes (line.Dimension def.now) self.old self.new) }
+        ensures err { OnErr result (self.new ≡ self.old) }
+    {
+        let Some(chart) = &self.chart else {
+            return Ok(());
+        };
+        let dimension = OpenDim {
+            chart: chart.clone()?,
+            def: def.clone()?,
+        };
+        self.beat.dimensions.define(dimension)
+    }
+
+    fn begin(&mut self, chart: &Text) -> Result<(), AllocError>
+        ensures taken { OnOk result (Becomes (line.Begin chart.now) self.old self.new) }
+        ensures err { OnErr result (self.new ≡ self.old) }
+    {
+        let chart = chart.clone()?;
+        self.block = Some(Block {
+            chart,
+            values: ListOf::new(self.alloc),
+        });
+        Ok(())
+    }
+
+    fn set(&mut self, id: &Text, value: Option<i64>, anomalous: bool) -> Result<(), AllocError>
+        ensures taken { OnOk result (Becomes (line.Set id.now value anomalous) self.old self.new) }
+        ensures err { OnErr result (self.new ≡ self.old) }
+    {
+        let Some(Block { chart, values }) = self.block.take() else {
+            return Ok(());
+        };
+        let mut values = values.into_vec();
+        let result = set_value(&mut values, id, value, anomalous);
+        self.block = Some(Block {
+            chart,
+            values: ListOf::from_vec(values),
+        });
+        result
+    }
+
+    fn end_block(&mut self) -> Result<(), AllocError>
+        ensures taken { OnOk result (Becomes line.End self.old self.new) }
+        ensures err { OnErr result (self.new ≡ self.old) }
+    {
+        let Some(block) = self.block.take() else {
+            return Ok(());
+        };
+        let row = OpenRow {
+            chart: block.chart,
+            values: block.values,
+        };
+        match self.beat.rows.add(row) {
+            Ok(()) => Ok(()),
+            Err(row) => {
+                self.block = Some(Block {
+                    chart: row.chart,
+                    values: row.values,
+                });
+                Err(AllocError)
+            }
+        }
+    }
+}
