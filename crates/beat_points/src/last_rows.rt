@@ -1,10 +1,12 @@
-ghost use Rattle.std.specs.Prelude.{◌≡◌, ℕ, List, [], ◌∷◌, OnOk, OnErr};
+ghost use Rattle.std.specs.Prelude.{◌≡◌, ℕ, List, [], ◌∷◌, IfOk, OnOk, OnErr};
 ghost use Rattle.history.specs.History.{Beat, collected, registry_of};
 ghost use Rattle.beat_points.specs.LastRows.{AreLastOf};
+ghost use Rattle.beat_points.specs.Points.{IsNext, beat_points};
 ghost use Rattle.beat_points.specs.Regular.{IsRegular};
 
 use crate::fault::PointFault;
-use crate::taking;
+use crate::series_word::SeriesWordList;
+use crate::{giving, taking};
 use algorithms::Last;
 use chart_registry::Registry;
 use history::OpenBeat;
@@ -35,6 +37,29 @@ impl LastRows {
         LastRows {
             rows: Vec::new(alloc),
         }
+    }
+
+    /// The points that a beat gives that was collected at `moment`, with its definitions in the registry, by
+    /// ascending series. These are the last rows of the history before it.
+    pub fn points(
+        &self,
+        alloc: Global,
+        registry: &Registry,
+        beat: &OpenBeat,
+        moment: u32,
+    ) -> Result<SeriesWordList, PointFault>
+        requires { IsRegular registry.now beat.now }
+        ensures { IfOk result (λ points. (h : List Beat) → IsNext registry.now self.now h moment beat.now
+            → points ≡ beat_points registry.now h moment beat.now) }
+    {
+        let points = giving::gather(
+            alloc,
+            registry,
+            self.rows.as_slice(),
+            beat.rows.as_slice(),
+            moment,
+        )?;
+        giving::sorted(points)
     }
 
     /// Takes the rows of a beat that was collected at `moment`, with its definitions in the registry.
