@@ -4,13 +4,11 @@ use crate::row::RowList;
 use crate::words::CopiedWordList;
 use field_codec::ByteList;
 
-/// How much a tier keeps.
+/// The two numbers that a tier is made by.
 #[derive(Clone, Copy, Debug, PartialEq, Eq)]
 pub struct TierSettings {
-    /// How many points or records make a segment full.
-    pub items: u32,
-    /// How many full segments are kept.
-    pub extents: u32,
+    pub points: u32,
+    pub pages: u32,
 }
 
 /// What a history was made with.

@@ -1,0 +1,4 @@
+pub mod LastRows
+pub mod Numbered
+pub mod Points
+pub mod Regular
