@@ -222,11 +222,11 @@ static TEXTS: [(&str, usize, &str); 56] = [
 // How many items a text gives, and how it ends.
 fn ending(alloc: Global, text: &str) -> Result<(usize, String), Fail> {
     let mut lines = Vec::new(alloc);
-    let mut rest = "";
+    let mut rest: &[u8] = b"";
     for part in text.split_inclusive('\n') {
         match part.strip_suffix('\n') {
             Some(line) => lines.push(read_line(alloc, line.as_bytes())?)?,
-            None => rest = part,
+            None => rest = part.as_bytes(),
         }
     }
     let mut registry = Registry::new(alloc);
@@ -238,7 +238,7 @@ fn ending(alloc: Global, text: &str) -> Result<(usize, String), Fail> {
         false,
         lines.as_slice(),
         true,
-        rest.as_bytes(),
+        rest,
     )?;
     Ok((read.items.len(), format!(in alloc; "{:?}", read.end)?))
 }
