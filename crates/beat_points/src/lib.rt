@@ -17,6 +17,8 @@ mod law;
 mod numbered;
 mod series_word;
 mod taking;
+#[cfg(test)]
+mod tests;
 
 pub use fault::PointFault;
 pub use last_rows::LastRows;
