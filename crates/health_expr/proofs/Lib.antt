@@ -1,1 +1,4 @@
+pub mod Boundaries
 pub mod Trees
+pub mod WordLemmas
+pub mod WordsLemmas

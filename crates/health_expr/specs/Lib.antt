@@ -1,5 +1,9 @@
 pub mod Arithmetic
+pub mod Cursor
+pub mod Cut
 pub mod Operators
 pub mod Tree
 pub mod TreeOf
 pub mod Value
+pub mod Word
+pub mod Words

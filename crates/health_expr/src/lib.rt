@@ -11,6 +11,8 @@ mod arithmetic;
 mod expr;
 mod operator;
 mod value;
+mod word;
+mod words;
 
 pub use expr::Expr;
 pub use operator::{Operator, Prefix};
