@@ -1,4 +1,5 @@
 pub mod Boundaries
+pub mod GrammarLemmas
 pub mod Trees
 pub mod WordLemmas
 pub mod WordsLemmas

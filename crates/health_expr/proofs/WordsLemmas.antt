@@ -14,7 +14,7 @@ use Rattle.health_expr.specs.declared.words.Words.TheInside.{Inside}
 use Rattle.health_expr.specs.Cut.{Cut, is_blank, is_letter, is_brace, digits_len, decimals_len, number_len, unknown, braced, named, dollar, number, letters, single, mark, marked, first_by, first_word}
 use Rattle.health_expr.specs.Cursor.{words_ahead, IsReady}
 use Rattle.health_expr.specs.Word.{Is}
-use Rattle.health_expr.specs.Words.{Placed, end_at, placed, words_from, words, first, after}
+use Rattle.health_expr.specs.Words.{Placed, end_at, placed, words_from, words_of, first, after}
 
 -- ---- how long a word is
 
@@ -204,21 +204,22 @@ behind inside now ahead is ready more stripped_is =
     let long : length ahead ≡ length (drop len text) - prefix_len is_blank (drop len text) = ap length ahead_is ∙ length-drop (prefix_len is_blank (drop len text)) (drop len text) in
     let longer = length-drop len text in
     let within = fits.within in
-    let place : inside.place + (length text - length ahead) ≡ inside.place + len + prefix_len is_blank (drop len text) = omega arith in
-    (omega arith,
+    let place : inside.place + (length text - length ahead) ≡ inside.place + len + prefix_len is_blank (drop len text) = omega arith in (
+      omega arith,
       ap (λ (p : ℕ). words_from 0 p ahead) place
-      ∙ ap (λ (bytes : List ℕ). words_from 0 (inside.place + len + prefix_len is_blank (drop len text)) bytes) ahead_is
-      ∙ sym (passed (drop len text) (inside.place + len))
-      ∙ sym (after_front inside.place text ready.no_blank some)
-      ∙ ap after is,
-      ap (λ (bytes : List ℕ). prefix_len is_blank bytes) ahead_is ∙ stripped (drop len text))
+          ∙ ap (λ (bytes : List ℕ). words_from 0 (inside.place + len + prefix_len is_blank (drop len text)) bytes) ahead_is
+          ∙ sym (passed (drop len text) (inside.place + len))
+          ∙ sym (after_front inside.place text ready.no_blank some)
+          ∙ ap after is,
+      ap (λ (bytes : List ℕ). prefix_len is_blank bytes) ahead_is ∙ stripped (drop len text),
+    )
 
 pub ready_at : (text : List ℕ) (inside : Inside) → prefix_len is_blank inside.ahead.now ≡ 0 → Is (first_word inside.ahead.now) inside.ahead.now inside.word → inside.place + length inside.ahead.now ≤ length text → length text < 2 ^ 64 → IsReady inside
 ready_at text inside none next fits bound = record { no_blank = none; next = next; fits = omega arith }
 
 -- what a new reader has before it
-pub begun : (text ahead : List ℕ) → ahead ≡ drop (prefix_len is_blank text) text → words_from 0 (length text - length ahead) ahead ≡ words text
-unfolding words
+pub begun : (text ahead : List ℕ) → ahead ≡ drop (prefix_len is_blank text) text → words_from 0 (length text - length ahead) ahead ≡ words_of text
+unfolding words_of
 begun text ahead is =
     let blanks = prefix_len-le-length is_blank text in
     let long : length ahead ≡ length text - prefix_len is_blank text = ap length is ∙ length-drop (prefix_len is_blank text) text in

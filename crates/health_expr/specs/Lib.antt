@@ -1,7 +1,9 @@
 pub mod Arithmetic
 pub mod Cursor
 pub mod Cut
+pub mod Grammar
 pub mod Operators
+pub mod Reads
 pub mod Tree
 pub mod TreeOf
 pub mod Value

@@ -29,8 +29,8 @@ words_from zero place (byte ∷ text) =
     else placed place (first_word (byte ∷ text)) ∷ words_from ((first_word (byte ∷ text)).len - 1) (suc place) text
 
 -- the words of a text, and its end as the last one
-unfoldable pub words : List ℕ → List Placed
-words text = words_from 0 0 text
+unfoldable pub words_of : List ℕ → List Placed
+words_of text = words_from 0 0 text
 
 -- ---- the next word
 

@@ -4,7 +4,6 @@ ghost use Rattle.std.specs.List.{prefix_len};
 ghost use Rattle.health_expr.specs.Cut as spec;
 ghost use Rattle.health_expr.specs.Word.{Is, EndsInAscii};
 
-
 /// What a word is.
 #[derive(Clone, Copy, Debug, PartialEq, Eq)]
 pub enum Kind {

@@ -1,5 +1,5 @@
 //! A reader of the words of a text.
-ghost use Rattle.std.specs.Prelude.{◌≡◌, ◌≢◌, ◌<◌, length};
+ghost use Rattle.std.specs.Prelude.{◌≡◌, ◌≢◌, ◌<◌, length, true};
 ghost use Rattle.health_expr.specs.Words as spec;
 
 use crate::word::{Kind, Word, first_word, without_blanks};
@@ -32,7 +32,7 @@ impl<'a> Model for Words<'a> {
 impl<'a> Words<'a> {
     /// All words of a text.
     pub fn new(text: &'a str) -> Words<'a>
-        ensures { result ≡ spec.words text.now }
+        ensures { result ≡ spec.words_of text.now }
     {
         let ahead = without_blanks(text);
         Words {
@@ -61,6 +61,14 @@ impl<'a> Words<'a> {
         ensures { result ≡ (spec.first self.now).place }
     {
         self.place
+    }
+
+    /// Whether the next word is of this kind.
+    pub fn sees(&self, kind: Kind) -> bool
+        ensures value { result ≡ spec.sees kind self.now }
+        ensures same { result ≡ true → (spec.first self.now).kind ≡ kind }
+    {
+        self.word.kind == kind
     }
 
     /// Passes the next word.
