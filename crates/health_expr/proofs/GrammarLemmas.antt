@@ -1,5 +1,5 @@
 -- The grammar, step by step.
-use Rattle.std.proofs.Common.{◌≡◌, ◌≢◌, ◌<◌, ◌≤◌, ℕ, zero, suc, ◌+◌, ◌-◌, Bool, true, false, List, [], ◌∷◌, ◌++◌, length, Option, Some, None, Result, Ok, Err, arith, subst, sym, refl, ap, ◌∙◌, cond, IfOk, IsOkUnless}
+use Rattle.std.proofs.Common.{◌≡◌, ◌≢◌, ◌<◌, ℕ, zero, suc, ◌-◌, Bool, true, false, List, [], ◌∷◌, ◌++◌, length, Option, Some, None, Result, Ok, Err, arith, subst, sym, refl, ap, ◌∙◌, cond, IfOk, IsOkUnless}
 use Rattle.health_expr.specs.declared.expr.Expr.{Expr}
 use Rattle.health_expr.specs.declared.fault.ExprFault.{ExprFault}
 use Rattle.health_expr.specs.declared.fault.ExprFault.TheVariants.{Syntax, TooDeep, NumberTooWide, Memory}

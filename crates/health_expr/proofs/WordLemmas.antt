@@ -1,18 +1,16 @@
 -- A word of the code, against the definition.
-use Rattle.std.proofs.Common.{◌≡◌, ◌≢◌, ◌==◌, ◌<◌, ◌≤◌, ℕ, suc, ◌+◌, ◌-◌, ◌⊎◌, Bool, true, false, nat_lt, cond, List, [], ◌∷◌, length, get_or, take, drop, position, Option, Some, None, arith, subst, sym, refl, ap, ◌∙◌, inl, inr}
+use Rattle.std.proofs.Common.{◌≡◌, ◌==◌, ◌<◌, ℕ, ◌+◌, ◌-◌, Bool, true, false, cond, List, length, get_or, take, drop, position, Option, Some, None, arith, subst, sym, refl, ap, ◌∙◌, inl, inr}
 use Rattle.std.proofs.lemmas.Bool.Decides.{nat_tests}
 use Rattle.std.proofs.lemmas.List.{drop-drop, length-take-le}
 use Rattle.std.proofs.lemmas.List.Sums.{prefix_len-le-length}
 use Rattle.std.proofs.lemmas.List.Quantifiers.{position-Some}
-use Rattle.std.proofs.lemmas.Str.{IsCharBoundary-start, IsCharBoundary-end, IsCharBoundary-before_ascii, IsCharBoundary-after_ascii}
+use Rattle.std.proofs.lemmas.Str.{IsCharBoundary-end, IsCharBoundary-before_ascii, IsCharBoundary-after_ascii}
 use Rattle.std.specs.Borrow.{Bor}
-use Rattle.std.specs.Char.{is_ascii_digit}
 use Rattle.std.specs.List.{prefix_len}
 use Rattle.std.specs.Str.{IsUtf8, IsCharBoundary}
-use Rattle.health_expr.specs.declared.word.Kind.{Kind}
 use Rattle.health_expr.specs.declared.word.Kind.TheVariants.{Name}
 use Rattle.health_expr.specs.declared.word.Word.{Word}
-use Rattle.health_expr.specs.Cut.{is_letter, is_brace, unknown, braced, named, number, letters, marked, mark, first_word}
+use Rattle.health_expr.specs.Cut.{is_letter, is_brace, unknown, braced, named, letters}
 use Rattle.health_expr.specs.Word.{Is, EndsInAscii}
 
 -- ---- where a text may be cut

@@ -1,7 +1,7 @@
 -- The words of a text, from one to the next.
-use Rattle.std.proofs.Common.{◌≡◌, ◌≢◌, ◌==◌, ◌<◌, ◌≤◌, ◌^◌, ℕ, zero, suc, ◌+◌, ◌-◌, Bool, true, false, ◌&&◌, nat_lt, cond, List, [], ◌∷◌, length, drop, take, position, Option, Some, None, arith, subst, sym, refl, ap, ◌∙◌, one-add, add-zero, lit<}
+use Rattle.std.proofs.Common.{◌≡◌, ◌≢◌, ◌==◌, ◌<◌, ◌≤◌, ◌^◌, ℕ, zero, suc, ◌+◌, ◌-◌, Bool, true, false, ◌&&◌, nat_lt, cond, List, [], ◌∷◌, length, drop, position, Option, Some, None, arith, subst, sym, refl, ap, ◌∙◌, one-add, add-zero, lit<}
 use Rattle.std.proofs.lemmas.Bool.Decides.{nat_tests}
-use Rattle.std.proofs.lemmas.List.{length-drop, drop-drop}
+use Rattle.std.proofs.lemmas.List.{length-drop}
 use Rattle.std.proofs.lemmas.List.Sums.{prefix_len-le-length}
 use Rattle.std.proofs.lemmas.List.Quantifiers.{position-Some}
 use Rattle.std.specs.Char.{is_ascii_digit}
@@ -9,12 +9,11 @@ use Rattle.std.specs.List.{prefix_len}
 use Rattle.std.specs.Prelude.{slice_index}
 use Rattle.health_expr.specs.declared.word.Kind.{Kind}
 use Rattle.health_expr.specs.declared.word.Kind.TheVariants.{End}
-use Rattle.health_expr.specs.declared.word.Word.{Word}
 use Rattle.health_expr.specs.declared.words.Words.TheInside.{Inside}
-use Rattle.health_expr.specs.Cut.{Cut, is_blank, is_letter, is_brace, digits_len, decimals_len, number_len, unknown, braced, named, dollar, number, letters, single, mark, marked, first_by, first_word}
+use Rattle.health_expr.specs.Cut.{Cut, is_blank, is_letter, is_brace, digits_len, decimals_len, unknown, braced, named, dollar, number, letters, single, mark, marked, first_word}
 use Rattle.health_expr.specs.Cursor.{words_ahead, IsReady}
 use Rattle.health_expr.specs.Word.{Is}
-use Rattle.health_expr.specs.Words.{Placed, end_at, placed, words_from, words_of, first, after}
+use Rattle.health_expr.specs.Words.{Placed, placed, words_from, words_of, first, after}
 
 -- ---- how long a word is
 

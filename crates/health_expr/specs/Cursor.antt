@@ -1,7 +1,6 @@
 -- A reader of words, and the words that it has before it.
-use Rattle.std.specs.Prelude.{◌≡◌, ◌<◌, ◌+◌, ◌^◌, ℕ, List, length}
+use Rattle.std.specs.Prelude.{◌≡◌, ◌<◌, ◌+◌, ◌^◌, List, length}
 use Rattle.std.specs.List.{prefix_len}
-use Rattle.health_expr.specs.declared.word.Word.{Word}
 use Rattle.health_expr.specs.declared.words.Words.TheInside.{Inside}
 use Rattle.health_expr.specs.Cut.{is_blank, first_word}
 use Rattle.health_expr.specs.Word.{Is}

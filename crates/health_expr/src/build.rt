@@ -52,7 +52,8 @@ pub fn push(
 
 /// Operators that bind alike and their right operands, behind the first operand.
 pub fn chain(alloc: Global, first: Expr, rest: Vec<(Operator, Expr)>) -> Result<Expr, ExprFault>
-    ensures ok { IfOk result (λ expr. tree_of expr ≡ spec.chain (tree_of first) (row_of rest.items)) }
+    ensures ok { IfOk result
+        (λ expr. tree_of expr ≡ spec.chain (tree_of first) (row_of rest.items)) }
     ensures memory { IsOkUnless result ExprFault.Memory }
 {
     if rest.is_empty() {

@@ -45,7 +45,8 @@ impl Expr {
         ensures tree { IfOk result (λ expr. tree_read text.now ≡ Ok (tree_of expr)) }
         ensures syntax { (place : ℕ) → result ≡ Err (ExprFault.Syntax place)
             → tree_read text.now ≡ Err (ExprFault.Syntax place) }
-        ensures too_deep { result ≡ Err ExprFault.TooDeep → tree_read text.now ≡ Err ExprFault.TooDeep }
+        ensures too_deep { result ≡ Err ExprFault.TooDeep
+            → tree_read text.now ≡ Err ExprFault.TooDeep }
         ensures too_wide { result ≡ Err ExprFault.NumberTooWide
             → tree_read text.now ≡ Err ExprFault.NumberTooWide }
     {

@@ -1,7 +1,8 @@
 //! Expressions, read by recursive descent.
-ghost use Rattle.std.specs.Prelude.{◌≡◌, ◌≢◌, ◌<◌, ◌≤◌, ◌-◌, length, true, false, Err, IsSome, IfErr, OnOk};
+ghost use Rattle.std.specs.Prelude.{◌≡◌, ◌≢◌, ◌<◌, ◌≤◌, ◌-◌, length, true, false, Ok, Err, IsSome, IfErr, OnOk};
 ghost use Rattle.fixed_num.specs.UnitsText.{units_read};
 ghost use Rattle.health_expr.specs.Grammar as spec;
+ghost use Rattle.health_expr.specs.Tree as tree;
 ghost use Rattle.health_expr.specs.Words.{first, after, sees};
 ghost use Rattle.health_expr.specs.Reads.{Reads, ReadsAll};
 ghost use Rattle.health_expr.specs.TreeOf.{tree_of};
@@ -123,7 +124,8 @@ fn operator_at(words: &Words<'_>, loose: u8) -> Option<Operator>
 /// The number that comes next.
 fn number(words: &mut Words<'_>) -> Result<Expr, ExprFault>
     requires { (first words.old).kind ≡ Kind.Number }
-    ensures read { Reads (spec.number_by (units_read (first words.old).said) words.old) result words.new }
+    ensures read { Reads (spec.number_by (units_read (first words.old).said) words.old)
+        result words.new }
     ensures shorter { length words.new ≤ length words.old }
 {
     let Ok(units) = read_units(words.said().as_bytes()) else {
@@ -136,7 +138,7 @@ fn number(words: &mut Words<'_>) -> Result<Expr, ExprFault>
 /// The name that comes next.
 fn name(alloc: Global, words: &mut Words<'_>) -> Result<Expr, ExprFault>
     requires { (first words.old).kind ≡ Kind.Name }
-    ensures read { Reads (spec.operand_by 0 spec.misfit spec.misfit Kind.Name words.old) result words.new }
+    ensures read { Reads (Ok (tree.name (first words.old).said, after words.old)) result words.new }
     ensures shorter { length words.new ≤ length words.old }
 {
     let name = Text::from_str(alloc, words.said()).map_err(|_| ExprFault::Memory)?;
@@ -183,7 +185,8 @@ fn with_prefix(
     prefix: Prefix,
 ) -> Result<Expr, ExprFault>
     requires { (first words.old).kind ≢ Kind.End }
-    ensures read { Reads (spec.with_prefix prefix (spec.operand levels) (after words.old)) result words.new }
+    ensures read { Reads (spec.with_prefix prefix (spec.operand levels) (after words.old))
+        result words.new }
     ensures shorter { length words.new ≤ length words.old }
 {
     words.pass();
@@ -209,7 +212,8 @@ fn size(alloc: Global, words: &mut Words<'_>, levels: usize) -> Result<Expr, Exp
 #[cycle(parser)]
 #[tactic(auto, unfolding(crate::specs::Grammar::parenthesized))]
 fn parenthesized(alloc: Global, words: &mut Words<'_>, levels: usize) -> Result<Expr, ExprFault>
-    ensures read { Reads (spec.parenthesized levels (spec.expression levels) words.old) result words.new }
+    ensures read { Reads (spec.parenthesized levels (spec.expression levels) words.old)
+        result words.new }
     ensures shorter { length words.new ≤ length words.old }
 {
     pass(words, Kind::Open)?;
@@ -283,7 +287,9 @@ fn chosen(
     condition: Expr,
 ) -> Result<Expr, ExprFault>
     requires { (first words.old).kind ≢ Kind.End }
-    ensures read { Reads (spec.chosen_by (tree_of condition) (spec.expression levels) (after words.old)) result words.new }
+    ensures read { Reads
+        (spec.chosen_by (tree_of condition) (spec.expression levels) (after words.old))
+        result words.new }
     ensures shorter { length words.new ≤ length words.old }
 {
     words.pass();

@@ -218,113 +218,109 @@ fn takes_prefixes(rt: HostRuntime) -> Result<(), Fail> {
     Ok(())
 }
 
+/// The first row of a text and its value, with ` => ` between, whose text has another value.
+fn first_wrong<'a>(alloc: Global, rows: &'a str) -> Result<Option<&'a str>, Fail> {
+    for row in rows.lines() {
+        let Some((text, want)) = row.split_once(" => ") else {
+            return Ok(Some(row));
+        };
+        if shown(alloc, text)?.as_str() != want {
+            return Ok(Some(row));
+        }
+    }
+    Ok(None)
+}
+
+const PRECEDENCES: &str = "1 + 2 * 3 => 7
+(1 + 2) * 3 => 9
+1 - 2 - 3 => -4
+8 / 4 / 2 => 1
+2 * 3 < 7 => 1
+1 < 2 == 1 => 1
+2 == 2 && 0 => 0
+1 || 0 && 0 => 1
+0 ? 1 : 0 ? 2 : 3 => 3
+1 ? 2 : 0 ? 3 : 4 => 2
+1 ? 0 ? 5 : 6 : 7 => 6
+0 || 1 ? 2 : 3 => 2
+nan ? 1 : 2 => 2
+-2 * -3 => 6
+!0 + 1 => 2
+--2 => 2
+- 1 - - 1 => 0";
+
 #[test]
 fn reads_by_precedence(rt: HostRuntime) -> Result<(), Fail> {
-    for (text, want) in [
-        ("1 + 2 * 3", "7"),
-        ("(1 + 2) * 3", "9"),
-        ("1 - 2 - 3", "-4"),
-        ("8 / 4 / 2", "1"),
-        ("2 * 3 < 7", "1"),
-        ("1 < 2 == 1", "1"),
-        ("2 == 2 && 0", "0"),
-        ("1 || 0 && 0", "1"),
-        ("0 ? 1 : 0 ? 2 : 3", "3"),
-        ("1 ? 2 : 0 ? 3 : 4", "2"),
-        ("1 ? 0 ? 5 : 6 : 7", "6"),
-        ("0 || 1 ? 2 : 3", "2"),
-        ("nan ? 1 : 2", "2"),
-        ("-2 * -3", "6"),
-        ("!0 + 1", "2"),
-        ("--2", "2"),
-        ("- 1 - - 1", "0"),
-    ] {
-        assert_eq!(rt; shown(rt.alloc(), text)?.as_str(), want, "{text}");
-    }
+    assert_eq!(rt; first_wrong(rt.alloc(), PRECEDENCES)?, None);
     Ok(())
 }
+
+const WORDS: &str = "1AND 2 => 1
+1<>2 => 1
+\t1\r\u{b}+\u{c}1  => 2
+$a.b_1+1 => 6
+$1 => 1
+${} => 0
+${ a + b } => 7
+${größe{} => 8
+abs (1 - 3) => 2
+007.50 => 7.5
+1.5OR 0 => 1";
 
 #[test]
 fn cuts_words(rt: HostRuntime) -> Result<(), Fail> {
-    for (text, want) in [
-        ("1AND 2", "1"),
-        ("1<>2", "1"),
-        ("\t1\r\u{b}+\u{c}1 ", "2"),
-        ("$a.b_1+1", "6"),
-        ("$1", "1"),
-        ("${}", "0"),
-        ("${ a + b }", "7"),
-        ("${größe{}", "8"),
-        ("abs (1 - 3)", "2"),
-        ("007.50", "7.5"),
-        ("1.5OR 0", "1"),
-    ] {
-        assert_eq!(rt; shown(rt.alloc(), text)?.as_str(), want, "{text}");
-    }
+    assert_eq!(rt; first_wrong(rt.alloc(), WORDS)?, None);
     Ok(())
 }
+
+const EXACT: &str = "1 / 3 => 0.3333333
+0.0000001 * 0.5 => 0
+0.0000003 * 0.5 => 0.0000002
+10000000000000000000000 => 10000000000000000000000
+10000000000000000000000 + 0.0000001 => inf
+-10000000000000000000000 * 2 => -inf
+-10000000000000000000000 / 0.1 => -inf";
 
 #[test]
 fn is_exact(rt: HostRuntime) -> Result<(), Fail> {
-    for (text, want) in [
-        ("1 / 3", "0.3333333"),
-        ("0.0000001 * 0.5", "0"),
-        ("0.0000003 * 0.5", "0.0000002"),
-        ("10000000000000000000000", "10000000000000000000000"),
-        ("10000000000000000000000 + 0.0000001", "inf"),
-        ("-10000000000000000000000 * 2", "-inf"),
-        ("-10000000000000000000000 / 0.1", "-inf"),
-    ] {
-        assert_eq!(rt; shown(rt.alloc(), text)?.as_str(), want, "{text}");
-    }
+    assert_eq!(rt; first_wrong(rt.alloc(), EXACT)?, None);
     Ok(())
 }
 
-#[test]
-fn tells_where_a_word_does_not_fit(rt: HostRuntime) -> Result<(), Fail> {
-    for (text, want) in [
-        ("", "syntax 0"),
-        ("  ", "syntax 2"),
-        ("1 +", "syntax 3"),
-        ("1 2", "syntax 2"),
-        (")", "syntax 0"),
-        ("(1", "syntax 2"),
-        ("()", "syntax 1"),
-        ("1 ? 2", "syntax 5"),
-        ("1 ? 2 :", "syntax 7"),
-        ("1 : 2", "syntax 2"),
-        ("$ a", "syntax 0"),
-        ("1 + $", "syntax 4"),
-        ("${abc", "syntax 0"),
-        ("abs 1", "syntax 4"),
-        ("foo", "syntax 0"),
-        ("1 or 2", "syntax 2"),
-    ] {
-        assert_eq!(rt; shown(rt.alloc(), text)?.as_str(), want, "{text}");
-    }
-    Ok(())
-}
+const MISFITS: &str = "1 + => syntax 3
+1 2 => syntax 2
+) => syntax 0
+(1 => syntax 2
+() => syntax 1
+1 ? 2 => syntax 5
+1 ? 2 : => syntax 7
+1 : 2 => syntax 2
+$ a => syntax 0
+1 + $ => syntax 4
+${abc => syntax 0
+abs 1 => syntax 4
+foo => syntax 0
+1 or 2 => syntax 2
+1. => syntax 1
+.5 => syntax 0
+1.2.3 => syntax 3
+1 = 2 => syntax 2
+1 & 2 => syntax 2
+nan1 => syntax 0
+NOTx => syntax 0
+1 ! 2 => syntax 2
+1 + é => syntax 4
+0.12345678 => wide
+10000000000000000000000.0000001 => wide
+1 0.12345678 => syntax 2
+0.12345678 1 => wide";
 
 #[test]
-fn tells_what_is_no_word(rt: HostRuntime) -> Result<(), Fail> {
-    for (text, want) in [
-        ("1.", "syntax 1"),
-        (".5", "syntax 0"),
-        ("1.2.3", "syntax 3"),
-        ("1 = 2", "syntax 2"),
-        ("1 & 2", "syntax 2"),
-        ("nan1", "syntax 0"),
-        ("NOTx", "syntax 0"),
-        ("1 ! 2", "syntax 2"),
-        ("1 + é", "syntax 4"),
-        ("1\n+ 1", "syntax 1"),
-        ("0.12345678", "wide"),
-        ("10000000000000000000000.0000001", "wide"),
-        ("1 0.12345678", "syntax 2"),
-        ("0.12345678 1", "wide"),
-    ] {
-        assert_eq!(rt; shown(rt.alloc(), text)?.as_str(), want, "{text}");
-    }
+fn tells_the_first_fault(rt: HostRuntime) -> Result<(), Fail> {
+    assert_eq!(rt; first_wrong(rt.alloc(), MISFITS)?, None);
+    assert_eq!(rt; shown(rt.alloc(), "")?.as_str(), "syntax 0");
+    assert_eq!(rt; shown(rt.alloc(), "  ")?.as_str(), "syntax 2");
+    assert_eq!(rt; shown(rt.alloc(), "1\n+ 1")?.as_str(), "syntax 1");
     Ok(())
 }
 
@@ -393,24 +389,16 @@ fn reads_a_long_chain(rt: HostRuntime) -> Result<(), Fail> {
     Ok(())
 }
 
+const ALARMS: &str = "($this > 10) ? ($green) : (nan) => nan
+($a_name_of_twenty_bytes > 10) ? ($green) : (nan) => 5
+$used * 100 / ($avail + $used) => 44.4444444
+$this > (($status >= $WARNING ) ? (80) : (90)) => 0
+$this > (($status >= $status ) ? (3) : (90)) => 1
+($this > (($status == $CRITICAL) ? (90) : (98))) && $avail < 5 => 0
+($this > (($status == $CRITICAL) ? (90) : (3))) && $avail < 6 => 1";
+
 #[test]
 fn reads_alarms(rt: HostRuntime) -> Result<(), Fail> {
-    for (text, want) in [
-        ("($this > 10) ? ($green) : (nan)", "nan"),
-        ("($a_name_of_twenty_bytes > 10) ? ($green) : (nan)", "5"),
-        ("$used * 100 / ($avail + $used)", "44.4444444"),
-        ("$this > (($status >= $WARNING ) ? (80) : (90))", "0"),
-        ("$this > (($status >= $status ) ? (3) : (90))", "1"),
-        (
-            "($this > (($status == $CRITICAL) ? (90) : (98))) && $avail < 5",
-            "0",
-        ),
-        (
-            "($this > (($status == $CRITICAL) ? (90) : (3))) && $avail < 6",
-            "1",
-        ),
-    ] {
-        assert_eq!(rt; shown(rt.alloc(), text)?.as_str(), want, "{text}");
-    }
+    assert_eq!(rt; first_wrong(rt.alloc(), ALARMS)?, None);
     Ok(())
 }

@@ -190,7 +190,8 @@ fn braced(text: &str) -> Word<'_>
 fn named(text: &str) -> Word<'_>
     requires long { 0 < length text.now }
     requires dollar { slice_index text.now 0 ≡ 36 }
-    ensures { Is (spec.named text.now (prefix_len spec.is_letter (drop 1 text.now))) text.now result }
+    ensures { Is (spec.named text.now (prefix_len spec.is_letter (drop 1 text.now)))
+        text.now result }
 {
     let (said, rest) = split_letters(&text[1..]);
     if said.is_empty() {
@@ -221,7 +222,8 @@ fn keyword(letters: &str) -> Kind
 /// The mark in front of a text, and how many bytes it has.
 fn mark(text: &[u8]) -> (Kind, usize)
     requires { 0 < length text.now }
-    ensures mark { result ≡ spec.mark (length text.now) (slice_index text.now 0) (slice_index text.now 1) }
+    ensures mark { result
+        ≡ spec.mark (length text.now) (slice_index text.now 0) (slice_index text.now 1) }
     ensures ends { EndsInAscii text.now result.1 }
 {
     match text {
@@ -249,7 +251,9 @@ fn mark(text: &[u8]) -> (Kind, usize)
 /// The word of a text that begins with a mark or with no word.
 fn marked(text: &str) -> Word<'_>
     requires { 0 < length text.now }
-    ensures { Is (spec.marked (spec.mark (length text.now) (slice_index text.now 0) (slice_index text.now 1))) text.now result }
+    ensures { Is (spec.marked
+        (spec.mark (length text.now) (slice_index text.now 0) (slice_index text.now 1)))
+        text.now result }
 {
     let (kind, len) = mark(text.as_bytes());
     Word {

@@ -1,7 +1,7 @@
-use Rattle.std.proofs.Common.{◌≡◌, ◌<◌, ◌≤◌, ℕ, ◌-◌, List, length, Ok, arith, rules, ap, sym, ◌∙◌}
+use Rattle.std.proofs.Common.{◌-◌, List, Ok, arith, rules, ap, sym, ◌∙◌}
 use Rattle.std.proofs.lemmas.Grind.{common_steps}
 use Rattle.health_expr.specs.declared.word.Kind.TheVariants as kind
-use Rattle.health_expr.specs.Grammar.{Outcome, operand, expression, row, steps, choice}
+use Rattle.health_expr.specs.Grammar.{operand, row, steps, choice}
 use Rattle.health_expr.specs.Tree.{Tree, nan, infinity}
 use Rattle.health_expr.specs.TreeOf.{tree_of, row_of, chain}
 use Rattle.health_expr.specs.Words.{Placed}

@@ -1,5 +1,5 @@
-use Rattle.std.proofs.Common.{◌≡◌, ◌<◌, ℕ, List, length, arith, ap, subst, sym, ◌∙◌}
-use Rattle.health_expr.specs.Words.{Placed, after}
+use Rattle.std.proofs.Common.{◌<◌, List, length, arith, subst, sym}
+use Rattle.health_expr.specs.Words.{Placed}
 use Rattle.health_expr.proofs.WordsLemmas.{behind, shorter}
 use Rattle.health_expr.proofs.words.Words.pass.Goals as goal
 

@@ -1,4 +1,4 @@
-use Rattle.std.proofs.Common.{ap, ◌∙◌}
+use Rattle.std.proofs.Common.{ap}
 use Rattle.health_expr.specs.Words.{Placed}
 use Rattle.health_expr.proofs.WordsLemmas.{known}
 use Rattle.health_expr.proofs.words.Words.place.Goals as goal
