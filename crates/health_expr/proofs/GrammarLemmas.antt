@@ -34,7 +34,7 @@ pub expression_none : (levels : ℕ) (ws : List Placed) → levels ≡ 0 → exp
 unfolding expression
 expression_none levels ws e = ap (λ (n : ℕ). expression n ws) e
 
-operand_suc : (levels : ℕ) (ws : List Placed) (kind : Kind) → kind ≡ (first ws).kind
+pub operand_suc : (levels : ℕ) (ws : List Placed) (kind : Kind) → kind ≡ (first ws).kind
     → operand (suc levels) ws ≡ operand_by levels (operand levels) (expression levels) kind ws
 unfolding operand operand_at
 operand_suc levels ws kind e = ap (λ (k : Kind). operand_by levels (operand levels) (expression levels) k ws) (sym e)
@@ -47,7 +47,7 @@ operand_more (suc levels) ws kind some e =
     let less : levels ≡ suc levels - 1 = omega arith in
     operand_suc levels ws kind e ∙ ap (λ (n : ℕ). operand_by n (operand n) (expression n) kind ws) less
 
-expression_suc : (levels : ℕ) (ws : List Placed) → expression (suc levels) ws ≡ choice (operand (suc levels)) (expression levels) ws
+pub expression_suc : (levels : ℕ) (ws : List Placed) → expression (suc levels) ws ≡ choice (operand (suc levels)) (expression levels) ws
 unfolding expression operand
 expression_suc levels ws = refl
 
@@ -63,7 +63,7 @@ pub row_none : (loose : ℕ) (o : Reader) (ws : List Placed) → loose ≡ 0 →
 unfolding row
 row_none loose o ws e = ap (λ (n : ℕ). row n o ws) e
 
-row_suc : (loose : ℕ) (o : Reader) (ws : List Placed) → row (suc loose) o ws ≡ (row loose o ws >>= λ left behind. steps (length behind) (suc loose) (row loose o) left behind)
+pub row_suc : (loose : ℕ) (o : Reader) (ws : List Placed) → row (suc loose) o ws ≡ (row loose o ws >>= λ left behind. steps (length behind) (suc loose) (row loose o) left behind)
 unfolding row
 row_suc loose o ws = refl
 

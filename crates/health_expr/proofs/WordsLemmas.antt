@@ -155,7 +155,7 @@ no_blank_step : (byte : ℕ) (text : List ℕ) (b : Bool) → is_blank byte ≡ 
 no_blank_step byte text true e none = absurd (omega arith)
 no_blank_step byte text false e none = refl
 
-front : (place byte : ℕ) (text : List ℕ) → prefix_len is_blank (byte ∷ text) ≡ 0
+pub front : (place byte : ℕ) (text : List ℕ) → prefix_len is_blank (byte ∷ text) ≡ 0
     → words_from 0 place (byte ∷ text) ≡ placed place (first_word (byte ∷ text)) ∷ words_from 0 (place + (first_word (byte ∷ text)).len) (drop (first_word (byte ∷ text)).len (byte ∷ text))
 front place byte text none =
     let plain : is_blank byte ≡ false = no_blank_step byte text (is_blank byte) refl none in

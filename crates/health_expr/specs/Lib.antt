@@ -9,3 +9,4 @@ pub mod TreeOf
 pub mod Value
 pub mod Word
 pub mod Words
+pub mod Written

@@ -8,7 +8,8 @@
 //!
 //! `Expr::read` is proved to read just the texts of the grammar, each as its tree, and to tell the first
 //! fault of any other; `Expr::eval` is proved to give what a tree is worth for any variables. `eval`
-//! takes no memory and returns on every tree. Such are the expressions of alarms in Netdata's public
+//! takes no memory and returns on every tree. `any_tree` says of the grammar that the text of a tree,
+//! with parentheses only where they are needed, is read as that tree. Such are the expressions of alarms in Netdata's public
 //! documentation; the rules are made exact here. It stands on `fixed_num` for numbers and texts.
 #![tactic(auto)]
 
@@ -16,6 +17,7 @@ mod arithmetic;
 mod build;
 mod expr;
 mod fault;
+mod law;
 mod operator;
 mod parser;
 mod value;
@@ -24,6 +26,7 @@ mod words;
 
 pub use expr::Expr;
 pub use fault::ExprFault;
+pub use law::any_tree;
 pub use operator::{Operator, Prefix};
 pub use value::{Value, Vars};
 
