@@ -4,8 +4,8 @@ use Rattle.std.specs.Prelude.{Box}
 use Rattle.std.specs.declared.alloc.Global.{Global}
 use Rattle.health_expr.specs.declared.value.Value.{Value}
 use Rattle.health_expr.specs.declared.operator.Operator.{Operator}
-use Rattle.health_expr.specs.declared.expr.Expr.{Expr, Binary, the_lemmas}
-use Rattle.health_expr.specs.Tree.{Tree, combined, worth}
+use Rattle.health_expr.specs.declared.expr.Expr.{Expr, Binary, Nan, Infinity, the_lemmas}
+use Rattle.health_expr.specs.Tree.{Tree, nan, infinity, combined, worth}
 use Rattle.health_expr.specs.TreeOf.{chain, tree_of, row_of, combined_all}
 
 -- what a chain is worth
@@ -25,3 +25,9 @@ worth-Binary named self head first rest value outcome is at v o =
     ∙ worth-chain named (tree_of first.value) rest.items
     ∙ ap (λ (t : Tree). worth named t) (sym (tree_of-Binary first rest))
     ∙ ap (λ (e : Expr). worth named (tree_of e)) (sym is)
+
+pub tree_of-Nan : tree_of Nan ≡ nan
+tree_of-Nan = search (rules, the_lemmas)
+
+pub tree_of-Infinity : tree_of Infinity ≡ infinity
+tree_of-Infinity = search (rules, the_lemmas)

@@ -1,5 +1,12 @@
 pub mod Arithmetic
+pub mod Cursor
+pub mod Cut
+pub mod Grammar
 pub mod Operators
+pub mod Reads
 pub mod Tree
 pub mod TreeOf
 pub mod Value
+pub mod Word
+pub mod Words
+pub mod Written

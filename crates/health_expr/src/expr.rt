@@ -1,12 +1,16 @@
-ghost use Rattle.std.specs.Prelude.{◌≡◌};
+ghost use Rattle.std.specs.Prelude.{◌≡◌, ℕ, Ok, Err, IfOk};
+ghost use Rattle.health_expr.specs.Grammar.{tree_read};
 ghost use Rattle.health_expr.specs.Tree.{worth};
 ghost use Rattle.health_expr.specs.TreeOf.{tree_of, combined_all};
 ghost use Rattle.health_expr.specs.Value.{IsWithin};
 
 use crate::arithmetic::{fixed, is_true};
+use crate::fault::ExprFault;
 use crate::operator::{Operator, Prefix};
+use crate::parser;
 use crate::value::{Value, Vars};
 use fixed_num::{Text, Units};
+use std::alloc::Global;
 
 /// An expression that was read.
 #[derive(Debug, Drop)]
@@ -35,6 +39,20 @@ pub enum Expr {
 }
 
 impl Expr {
+    /// Reads an expression, which is all of the text. Where the text has several faults, the first in
+    /// it is told; `Memory` may come before any.
+    pub fn read(alloc: Global, text: &str) -> Result<Expr, ExprFault>
+        ensures tree { IfOk result (λ expr. tree_read text.now ≡ Ok (tree_of expr)) }
+        ensures syntax { (place : ℕ) → result ≡ Err (ExprFault.Syntax place)
+            → tree_read text.now ≡ Err (ExprFault.Syntax place) }
+        ensures too_deep { result ≡ Err ExprFault.TooDeep
+            → tree_read text.now ≡ Err ExprFault.TooDeep }
+        ensures too_wide { result ≡ Err ExprFault.NumberTooWide
+            → tree_read text.now ≡ Err ExprFault.NumberTooWide }
+    {
+        parser::read(alloc, text)
+    }
+
     /// What the expression is worth. It takes no memory.
     #[cycle(eval)]
     pub fn eval<V: Vars>(&self, vars: &V) -> Value

@@ -1,17 +1,34 @@
-//! The expressions of health alarms: what a tree of operators is worth.
+//! The expressions of health alarms: what a text says, and what it is worth.
 //!
-//! A value is a number of ten-millionths, an infinity on either side, or nan. `specs/Arithmetic.antt`
-//! has the rules of arithmetic, of truth and of comparisons, case by case, and `specs/Tree.antt` what a
-//! tree is worth. `Expr::eval` is proved to give just that for any variables; it takes no memory and
-//! returns on every tree. Such are the expressions of alarms in Netdata's public documentation; the
-//! rules are made exact here. It stands on `fixed_num` for exact products and quotients.
+//! An expression has numbers, names of variables, prefixes, operators that bind more or less tightly,
+//! and choices. `specs/Words.antt` says what its words are, `specs/Grammar.antt` which tree they are or
+//! which word does not fit, and `specs/Tree.antt` what a tree is worth, by the rules of arithmetic,
+//! truth and comparison in `specs/Arithmetic.antt`. A value is a number of ten-millionths, an infinity
+//! on either side, or nan.
+//!
+//! `Expr::read` is proved to read just the texts of the grammar, each as its tree, and to tell the first
+//! fault of any other; `Expr::eval` is proved to give what a tree is worth for any variables. `eval`
+//! takes no memory and returns on every tree. `any_tree` says of the grammar that the text of a tree,
+//! with parentheses only where they are needed, is read as that tree. Such are the expressions of alarms in Netdata's public
+//! documentation; the rules are made exact here. It stands on `fixed_num` for numbers and texts.
 #![tactic(auto)]
 
 mod arithmetic;
+mod build;
 mod expr;
+mod fault;
+mod law;
 mod operator;
+mod parser;
 mod value;
+mod word;
+mod words;
 
 pub use expr::Expr;
+pub use fault::ExprFault;
+pub use law::any_tree;
 pub use operator::{Operator, Prefix};
 pub use value::{Value, Vars};
+
+#[cfg(test)]
+mod tests;

@@ -89,35 +89,3 @@ impl Operator {
         }
     }
 }
-
-#[cfg(test)]
-mod tests {
-    use super::*;
-
-    const ONE: Value = Value::Fixed(10_000_000);
-
-    const ZERO: Value = Value::Fixed(0);
-
-    const INF: Value = Value::Inf(false);
-
-    const BELOW: Value = Value::Inf(true);
-
-    #[test]
-    fn takes_two_values(rt: HostRuntime) {
-        assert_eq!(rt; Operator::Divide.apply(ONE, ZERO), INF);
-        assert_eq!(rt; Operator::Divide.apply(ZERO, ZERO), Value::Nan);
-        assert_eq!(rt; Operator::Subtract.apply(INF, INF), Value::Nan);
-        assert_eq!(rt; Operator::Multiply.apply(ZERO, INF), Value::Nan);
-        assert_eq!(rt; Operator::Equal.apply(Value::Nan, Value::Nan), ONE);
-        assert_eq!(rt; Operator::AtMost.apply(Value::Nan, Value::Nan), ZERO);
-        assert_eq!(rt; Operator::Less.apply(BELOW, INF), ONE);
-    }
-
-    #[test]
-    fn takes_one_value(rt: HostRuntime) {
-        assert_eq!(rt; Prefix::Not.apply(Value::Nan), ONE);
-        assert_eq!(rt; Prefix::Minus.apply(INF), BELOW);
-        assert_eq!(rt; Prefix::Plus.apply(ONE), ONE);
-        assert_eq!(rt; Prefix::Abs.apply(BELOW), INF);
-    }
-}
