@@ -1,7 +1,7 @@
-use Rattle.std.proofs.Common.{◌≡◌, ℕ, zero, suc, ◌+◌, ◌*◌, ◌/◌, ◌<◌, ◌≤◌, Bool, true, false, cond, ◌&&◌, eqb, ltb, leb, ◌⊎◌, inl, inr, List, [], ◌∷◌, ◌++◌, length, arith, refl, sym, ap, subst, ◌∙◌}
+use Rattle.std.proofs.Common.{◌≡◌, ◌≢◌, ℕ, zero, ◌+◌, ◌*◌, ◌/◌, ◌<◌, ◌≤◌, Bool, true, false, cond, eqb, ltb, leb, List, [], ◌∷◌, length, arith, refl, sym, ap, subst, ◌∙◌}
 use Rattle.std.proofs.Math.Nat.{div-mul-le_self, lt-div-mul-add, le-div_iff_mul-le, div-lt_iff_lt-mul, mul-le-mul_right}
-use Rattle.std.proofs.lemmas.Bool.{and_parts, and_from, and_left, leb-true, ltb-true, le-leb, lt-leb, lt-ltb, eq-eqb, ne_eqb, eqb-true, cond-true, cond-false}
-use Rattle.tier_rollup.specs.Buckets.{Added, holds, members, with_first, buckets}
+use Rattle.std.proofs.lemmas.Bool.{and_parts, and_from, and_left, leb-true, ltb-true, le-leb, lt-leb, lt-ltb, eq-eqb, ne_eqb, eqb-true, eqb-false, cond-true, cond-false}
+use Rattle.tier_rollup.specs.Buckets.{Added, holds, members, with_first, buckets, AreFalling}
 use Rattle.tier_rollup.specs.Rolling.{IsAfter, IsRising, IsPast}
 
 -- ---- a moment's bucket
@@ -148,3 +148,29 @@ after_buckets width moment (point ∷ points) positive past =
     let more : (point.moment / width + 1) * width ≤ moment / width * width = mul-le-mul_right width (omega arith) in
     let ends : point.moment < (point.moment / width + 1) * width = ends_after width point.moment positive in
     omega (arith, more, ends)
+
+falling_by : (bucket first : ℕ) (others : List ℕ) (b : Bool) → eqb bucket first ≡ b → first ≤ bucket → AreFalling (first ∷ others) → AreFalling (cond b (first ∷ others) (bucket ∷ first ∷ others))
+falling_by bucket first others true e le h = h
+falling_by bucket first others false e le h =
+    let other : bucket ≢ first = eqb-false bucket first e in
+    let below : first < bucket = omega arith in
+    (below, h)
+
+falling_more : (bucket : ℕ) (others : List ℕ) → first_or others ≤ bucket → AreFalling others → AreFalling (with_first bucket others)
+falling_more bucket [] le h = tt
+falling_more bucket (first ∷ others) le h = falling_by bucket first others (eqb bucket first) refl le h
+
+first_at_most : (width moment : ℕ) (points : List Added) → 1 ≤ width → IsAfter moment points → first_or (buckets width points) ≤ moment / width
+first_at_most width moment [] positive after = omega arith
+first_at_most width moment (point ∷ points) positive after =
+    let some : zero < width = omega arith in
+    let low : point.moment / width * width ≤ point.moment = starts_by width point.moment in
+    let le : point.moment / width * width ≤ moment = omega (arith, low) in
+    let most : point.moment / width ≤ moment / width = (le-div_iff_mul-le {k = width} {x = point.moment / width} {y = moment} some).1 le in
+    subst (λ n. n ≤ moment / width) (sym (first_or-with_first (point.moment / width) (buckets width points))) most
+
+-- each bucket that has points is named once
+pub falling_buckets : (width : ℕ) (points : List Added) → 1 ≤ width → IsRising points → AreFalling (buckets width points)
+falling_buckets width [] positive rising = tt
+falling_buckets width (point ∷ points) positive rising =
+    falling_more (point.moment / width) (buckets width points) (first_at_most width point.moment points positive rising.0) (falling_buckets width points positive rising.1)

@@ -1,10 +1,10 @@
-use Rattle.std.proofs.Common.{◌≡◌, ℕ, ◌+◌, ◌*◌, ◌/◌, ◌^◌, ◌<◌, ◌≤◌, Bool, true, false, leb, List, [], ◌∷◌, ◌++◌, length, Option, Some, None, IfSome, IfNone, if◌then◌else◌, ℤ, unsigned_abs, arith, refl, sym, ap, subst, ◌∙◌}
+use Rattle.std.proofs.Common.{◌≡◌, ℕ, ◌+◌, ◌*◌, ◌/◌, ◌^◌, ◌<◌, ◌≤◌, Bool, true, false, leb, List, [], ◌∷◌, ◌++◌, length, Option, Some, None, IfSome, IfNone, if◌then◌else◌, ℤ, arith, refl, sym, ap, subst, ◌∙◌}
 use Rattle.std.proofs.lemmas.Bool.{leb-true, leb-false}
 use Rattle.fixed_num.specs.declared.units.Record.{Record}
-use Rattle.tier_rollup.specs.Buckets.{Added, limit, IsWithinLimit, holds, members, record_of, bucket_record, with_first, buckets}
+use Rattle.tier_rollup.specs.Buckets.{Added, IsWithinLimit, holds, members, record_of, bucket_record, with_first, buckets}
 use Rattle.tier_rollup.specs.Growing.{single, grown, HasRoom}
-use Rattle.tier_rollup.specs.Rolling.{IsAfter, IsRising, AreWithin, IsPast, IsNext, HasRolled, is_over, closed_by, kept_by, numbers}
-use Rattle.tier_rollup.proofs.BucketLemmas.{holds_from, own_bucket, bucket_from, starts_by, kept, after_more, no_members, count_bound, first_bucket, with_first-same, with_first-past, after_buckets}
+use Rattle.tier_rollup.specs.Rolling.{IsAfter, IsPast, IsNext, HasRolled, is_over, closed_by, kept_by, numbers}
+use Rattle.tier_rollup.proofs.BucketLemmas.{holds_from, own_bucket, bucket_from, starts_by, kept, no_members, count_bound, first_bucket, with_first-same, with_first-past, after_buckets}
 use Rattle.tier_rollup.proofs.RecordLemmas.{single_is, grown_is, members_within, room}
 
 -- ---- closing

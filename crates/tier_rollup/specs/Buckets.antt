@@ -1,4 +1,4 @@
-use Rattle.std.specs.Prelude.{ℕ, ◌+◌, ◌*◌, ◌/◌, ◌^◌, ◌≤◌, Bool, ◌&&◌, ◌==◌, nat_le, nat_lt, if◌then◌else◌, List, [], ◌∷◌, length, filter, Option, Some, None, ℤ, pos, ◌+ℤ◌, unsigned_abs}
+use Rattle.std.specs.Prelude.{ℕ, ◌+◌, ◌*◌, ◌/◌, ◌^◌, ◌<◌, ◌≤◌, Bool, ◌&&◌, ◌==◌, nat_le, nat_lt, if◌then◌else◌, List, [], ◌∷◌, length, filter, Option, Some, None, ℤ, pos, ◌+ℤ◌, unsigned_abs}
 use Rattle.std.specs.Int.{int_min, int_max}
 use Rattle.fixed_num.specs.declared.units.Record.{Record}
 
@@ -73,3 +73,9 @@ with_first bucket (first ∷ others) = if bucket == first then first ∷ others 
 abbrev pub buckets : ℕ → List Added → List ℕ
 buckets width [] = []
 buckets width (point ∷ points) = with_first (point.moment / width) (buckets width points)
+
+-- the numbers fall strictly
+abbrev pub AreFalling : List ℕ → Type 0
+AreFalling [] = Unit {0}
+AreFalling (first ∷ []) = Unit {0}
+AreFalling (first ∷ second ∷ others) = (second < first) × AreFalling (second ∷ others)

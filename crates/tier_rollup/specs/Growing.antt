@@ -1,4 +1,4 @@
-use Rattle.std.specs.Prelude.{ℕ, ◌+◌, ◌^◌, ◌<◌, Bool, ℤ, ◌+ℤ◌, unsigned_abs}
+use Rattle.std.specs.Prelude.{◌+◌, ◌^◌, ◌<◌, Bool, ℤ, ◌+ℤ◌, unsigned_abs}
 use Rattle.std.specs.Int.{int_min, int_max}
 use Rattle.fixed_num.specs.declared.units.Record.{Record}
 use Rattle.tier_rollup.specs.Buckets.{one_if}

@@ -22,5 +22,5 @@ mod rolling;
 #[cfg(test)]
 mod tests;
 
-pub use law::any_bucket;
+pub use law::{any_bucket, any_points};
 pub use roller::Roller;
