@@ -1,0 +1,3 @@
+pub mod BucketLemmas
+pub mod RecordLemmas
+pub mod RollingLemmas
