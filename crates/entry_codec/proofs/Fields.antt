@@ -285,9 +285,9 @@ copied_dimension_field =
 pub tier_field : IsField IsTier tier_bytes read_tier
 unfolding tier_bytes read_tier
 tier_field =
-    made_of IsTier tier_of (λ c. (c.points, c.pages)) (u32_field ⊗ u32_field)
-    (λ x fits. (record { points = fits.0; pages = fits.1 }, refl))
-    (λ c fits. ((fits.points, fits.pages), refl))
+    made_of IsTier tier_of (λ c. (c.items, c.extents)) (u32_field ⊗ u32_field)
+    (λ x fits. (record { items = fits.0; extents = fits.1 }, refl))
+    (λ c fits. ((fits.items, fits.extents), refl))
 
 pub settings_field : IsField IsSettings settings_bytes read_settings
 unfolding settings_bytes read_settings

@@ -31,17 +31,17 @@ use Rattle.entry_codec.specs.Words.{read_word, word_bytes, IsCopiedWord}
 -- ---- settings
 
 abbrev pub tier_of : ℕ × ℕ → TierSettings
-tier_of (points, pages) = record { points = points; pages = pages }
+tier_of (items, extents) = record { items = items; extents = extents }
 
 unfoldable pub read_tier : List ℕ → ReadOf TierSettings
 read_tier bytes = read_as tier_of (read_u32 bytes >> read_u32)
 
 unfoldable pub tier_bytes : TierSettings → List ℕ
-tier_bytes t = u32_bytes t.points ++ u32_bytes t.pages
+tier_bytes t = u32_bytes t.items ++ u32_bytes t.extents
 
 pub record IsTier (t : TierSettings) : Type 0 where
-  pub points : t.points < 2 ^ 32
-  pub pages : t.pages < 2 ^ 32
+  pub items : t.items < 2 ^ 32
+  pub extents : t.extents < 2 ^ 32
 
 -- the version of settings, which is 1
 unfoldable pub read_version : List ℕ → ReadOf ℕ

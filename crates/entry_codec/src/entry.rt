@@ -4,11 +4,13 @@ use crate::row::RowList;
 use crate::words::CopiedWordList;
 use field_codec::ByteList;
 
-/// The two numbers that a tier is made by.
+/// How much a tier keeps.
 #[derive(Clone, Copy, Debug, PartialEq, Eq)]
 pub struct TierSettings {
-    pub points: u32,
-    pub pages: u32,
+    /// How many points or records make a segment full.
+    pub items: u32,
+    /// How many full segments are kept.
+    pub extents: u32,
 }
 
 /// What a history was made with.

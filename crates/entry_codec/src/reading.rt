@@ -14,9 +14,9 @@ fn take_tier(reader: &mut Reader<'_>) -> Result<TierSettings, FieldFault>
     ensures taken { IfOk result (λ tier. read_tier reader.old ≡ Ok (tier, reader.new)) }
     ensures fault { IfErr result (λ fault. read_tier reader.old ≡ Err fault) }
 {
-    let points = reader.take_u32()?;
-    let pages = reader.take_u32()?;
-    Ok(TierSettings { points, pages })
+    let items = reader.take_u32()?;
+    let extents = reader.take_u32()?;
+    Ok(TierSettings { items, extents })
 }
 
 #[tactic(auto, unfolding(crate::specs::Entries::read_version))]

@@ -142,3 +142,55 @@ fn takes_only_storage_numbers_in_order(rt: HostRuntime) {
         b"\x02\x07\0\0\0\0\0\0\0\x3c\0\0\0\0\0\0\0\0\0\0\0\x02\0\0\0\x06\0\0\0\0\0\0\x01\x06\0\0\0\0\0\0\x01";
     assert_eq!(rt; fault_of(alloc, twice), Some(EntryFault::NotCanonical));
 }
+
+/// The collected beat with one byte changed: the first and last values that a field takes, and those next
+/// to them.
+const EDGES: [(usize, u8, Option<EntryFault>); 18] = [
+    // The kind: the byte behind it is no version of settings.
+    (0, 0, Some(EntryFault::Range)),
+    (0, 5, Some(EntryFault::UnknownKind)),
+    (0, 255, Some(EntryFault::UnknownKind)),
+    // A letter of the chart's id, and of the dimension's.
+    (15, 0xff, Some(EntryFault::NotText)),
+    (15, b'T', None),
+    (83, 0xff, Some(EntryFault::NotText)),
+    // The kind of the chart, and whether it stores its first value.
+    (55, 2, None),
+    (55, 3, Some(EntryFault::Range)),
+    (55, 255, Some(EntryFault::Range)),
+    (68, 1, None),
+    (68, 2, Some(EntryFault::Range)),
+    // The dimension's algorithm, and its marks.
+    (87, 3, None),
+    (87, 4, Some(EntryFault::Range)),
+    (96, 3, None),
+    (96, 4, Some(EntryFault::Range)),
+    // Whether the collector marked the value.
+    (121, 1, None),
+    (121, 2, Some(EntryFault::Range)),
+    (121, 255, Some(EntryFault::Range)),
+];
+
+#[test]
+fn takes_each_field_in_its_range(rt: HostRuntime) -> Result<(), Fail> {
+    for (at, byte, want) in EDGES {
+        let mut bytes = BEAT.to_vec(rt.alloc())?;
+        if let Some(place) = bytes.get_mut(at) {
+            *place = byte;
+        }
+        assert_eq!(rt; fault_of(rt.alloc(), bytes.as_slice()), want, "{at} {byte}");
+    }
+    Ok(())
+}
+
+#[test]
+fn is_short_wherever_it_is_cut(rt: HostRuntime) {
+    for length in 0..BEAT.len() {
+        let front = BEAT.get(..length).unwrap_or(BEAT);
+        assert_eq!(rt;
+            fault_of(rt.alloc(), front),
+            Some(EntryFault::Short),
+            "{length}"
+        );
+    }
+}

@@ -12,8 +12,8 @@ fn put_tier(tier: &TierSettings, writer: &mut Writer) -> Result<(), FieldFault>
     ensures put { OnOk result (writer.new ≡ writer.old ++ tier_bytes tier.now) }
     ensures memory { IsOkUnless result FieldFault.Memory }
 {
-    writer.put_u32(tier.points)?;
-    writer.put_u32(tier.pages)
+    writer.put_u32(tier.items)?;
+    writer.put_u32(tier.extents)
 }
 
 #[tactic(auto, unfolding(crate::specs::Entries::settings_bytes))]
@@ -98,7 +98,7 @@ fn put_entry(entry: &Entry, writer: &mut Writer) -> Result<(), FieldFault>
 fn is_tier(tier: &TierSettings) -> bool
     ensures { IsTrue result ↔ IsTier tier.now }
 {
-    let (_points, _pages) = (tier.points, tier.pages);
+    let (_items, _extents) = (tier.items, tier.extents);
     true
 }
 
