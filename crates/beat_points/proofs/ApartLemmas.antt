@@ -10,13 +10,10 @@ use Rattle.history.specs.Put.{put, put_all}
 use Rattle.history.specs.Registry.{Registry, is_dimension, same_dimension, series_of}
 use Rattle.chart_registry.proofs.Applying.{any-put}
 use Rattle.chart_registry.proofs.Places.{IsFirst, position-first}
-use Rattle.chart_registry.proofs.RowsLemmas.{bytes_eq_same}
+use Rattle.chart_registry.proofs.RegistryLemmas.{or_false}
+use Rattle.chart_registry.proofs.RowsLemmas.{same_text, bytes_eq_same}
 use Rattle.beat_points.specs.Regular.{AreApart}
-use Rattle.beat_points.proofs.Growing.{same_text, same_dimension-alike}
-
-or_false : (x y : Bool) → (x || y) ≡ false → (x ≡ false) × (y ≡ false)
-or_false true y e = absurd (true≢false e)
-or_false false y e = (refl, e)
+use Rattle.beat_points.proofs.Growing.{same_dimension-alike}
 
 -- ---- the same dimension
 same-parts : (x y : OpenDim) → same_dimension x y ≡ true → (x.chart ≡ y.chart) × (x.def.id ≡ y.def.id)

@@ -16,11 +16,10 @@ use Rattle.history.specs.History.{Beat}
 use Rattle.history.specs.Looking.{is_value, same_value}
 use Rattle.history.specs.Points.{Cell, cell_of, cells_of, row_of, total, total_difference, word_at, word_by}
 use Rattle.history.specs.Registry.{Registry, is_chart, series_of}
-use Rattle.chart_registry.proofs.RowsLemmas.{bytes_eq_same}
+use Rattle.chart_registry.proofs.RowsLemmas.{same_text, bytes_eq_same}
 use Rattle.beat_points.specs.declared.series_word.SeriesWord.{SeriesWord}
 use Rattle.beat_points.specs.Numbered.{word_of, pair_of, chart_pairs, row_pairs, rows_pairs}
 use Rattle.beat_points.specs.Regular.{AreApart, same_row}
-use Rattle.beat_points.proofs.Growing.{same_text}
 use Rattle.beat_points.proofs.TakingLemmas.{find-none, one_series}
 
 abbrev pub is_pair : ℕ → ℕ → SeriesWord → Bool

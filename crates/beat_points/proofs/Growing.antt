@@ -3,17 +3,14 @@ use Rattle.std.proofs.Common.{◌≡◌, ℕ, zero, suc, ◌≤◌, Bool, true, 
 use Rattle.std.specs.Str.{bytes_eq}
 use Rattle.std.proofs.lemmas.Bool.{and_parts}
 use Rattle.std.proofs.lemmas.List.{get_or_past}
-use Rattle.std.proofs.lemmas.Slice.Eq.{bytes_eq-Decides}
 use Rattle.algorithms.specs.declared.last.Last.{Last}
 use Rattle.history.specs.declared.beat.OpenDim.{OpenDim}
 use Rattle.history.specs.declared.chart.ChartDef.{ChartDef}
 use Rattle.history.specs.Put.{put, put_all}
 use Rattle.history.specs.Registry.{Registry, is_dimension, same_dimension, series_of, with_definitions}
 use Rattle.chart_registry.proofs.Places.{IsFirst, IsNowhere, first_or_nowhere, position-first, position-nowhere}
+use Rattle.chart_registry.proofs.RowsLemmas.{same_text}
 use Rattle.beat_points.specs.LastRows.{last_in}
-
-pub same_text : (a b : List ℕ) → bytes_eq a b ≡ true → a ≡ b
-same_text a b = (bytes_eq-Decides a b).0
 
 module _ {A : Type 0} (p : A → Bool) where
   never : (xs : List A) (n : ℕ) → IsNowhere p xs → IsFirst p xs n → ⊥

@@ -16,10 +16,10 @@ use Rattle.history.specs.Looking.{is_value, same_value}
 use Rattle.history.specs.Points.{Collected, last_set, value_of}
 use Rattle.history.specs.Registry.{Registry, is_dimension, series_of}
 use Rattle.chart_registry.proofs.Places.{IsFirst, first-from_position}
-use Rattle.chart_registry.proofs.RowsLemmas.{bytes_eq_same}
+use Rattle.chart_registry.proofs.RowsLemmas.{same_text, bytes_eq_same}
 use Rattle.beat_points.specs.LastRows.{last_in, noted, AreLastOf, Takes}
 use Rattle.beat_points.specs.Regular.{AreApart, same_row}
-use Rattle.beat_points.proofs.Growing.{same_text, nothing, last_in-definitions, last_in-room, more_definitions}
+use Rattle.beat_points.proofs.Growing.{nothing, last_in-definitions, last_in-room, more_definitions}
 
 pub some-none : {A : Type 0} (found : Option A) → IsSome found → found ≡ None → ⊥
 some-none found some none = true≢false (sym some ∙ ap is_some none)

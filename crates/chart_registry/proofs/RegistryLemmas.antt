@@ -170,7 +170,7 @@ module _ (charts : List Chart) (dimensions : List Dimension) (registry : Definit
         ∙ sym (count_by-map (is_of chart) (λ (dimension : Dimension). dimension.definition) dimensions)
         ∙ ap (λ (text : List ℕ). count_by (is_of text) (open_dims dimensions)) (sym (chart_id-row n)) ∙ ap (λ (seen : Definitions). count_by (is_of (chart_id registry n)) seen.dimensions) view
 
-or_false : (x y : Bool) → (x || y) ≡ false → (x ≡ false) × (y ≡ false)
+pub or_false : (x y : Bool) → (x || y) ≡ false → (x ≡ false) × (y ≡ false)
 or_false true y e = absurd (true≢false e)
 or_false false y e = (refl, e)
 

@@ -12,7 +12,7 @@ use Rattle.std.proofs.lemmas.Slice.Eq.{bytes_eq-Decides}
 use Rattle.chart_registry.specs.Rows.{Row, Mark, row_at, ids, belongs, is_mark, same_mark, series_in, IsTableOf, AddsSeries, EntersSeries, AreDistinct, IsOwned, AreKept}
 use Rattle.chart_registry.proofs.Places.{position-all_false, count_by-all_false, position-append, position-push, position-push_other, count_by-push, get_or-map_any}
 
-same_text : (a b : List ℕ) → bytes_eq a b ≡ true → a ≡ b
+pub same_text : (a b : List ℕ) → bytes_eq a b ≡ true → a ≡ b
 same_text a b = (bytes_eq-Decides a b).0
 
 pub bytes_eq_same : (a b : List ℕ) → a ≡ b → bytes_eq a b ≡ true

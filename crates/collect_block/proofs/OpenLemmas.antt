@@ -19,7 +19,7 @@ use Rattle.history.specs.Refusal.{has_chart}
 use Rattle.history.specs.Registry.{Registry, is_chart, same_chart, same_dimension, with_definitions}
 use Rattle.chart_registry.specs.Defining.{nothing_open}
 use Rattle.chart_registry.proofs.Applying.{any-put, same_chart-alike, has_chart-any, has_chart-applied}
-use Rattle.collect_block.proofs.TablesLemmas.{bytes_eq_same}
+use Rattle.chart_registry.proofs.RowsLemmas.{bytes_eq_same}
 
 module _ {A : Type 0} (same : A → A → Bool) (P : A → Type 0) where
   all-put : (xs : List A) (x : A) → AllByRecursion P xs → P x → AllByRecursion P (put same xs x)

@@ -9,7 +9,6 @@ use Rattle.std.specs.Str.{bytes_eq}
 use Rattle.std.proofs.lemmas.Bool.{and_parts}
 use Rattle.std.proofs.lemmas.List.Folds.{list_any-append}
 use Rattle.std.proofs.lemmas.Option.{slice_get-get_or}
-use Rattle.std.proofs.lemmas.Slice.Eq.{bytes_eq-Decides}
 use Rattle.history.specs.declared.beat.OpenDim.{OpenDim}
 use Rattle.history.specs.declared.beat.OpenRow.{OpenRow}
 use Rattle.history.specs.declared.chart.ChartDef.{ChartDef}
@@ -17,13 +16,8 @@ use Rattle.history.specs.Registry.{is_chart, is_of, is_dimension, same_dimension
 use Rattle.indexmap.specs.IndexMap.{IndexMap}
 use Rattle.indexmap.specs.Layout.{set_value_at}
 use Rattle.chart_registry.proofs.Places.{IsFirst, position-within, position-map, position-push, position-push_other, count_by-map, count_by-push, find-position, first-from_position, passes-first, map-set_kept}
+use Rattle.chart_registry.proofs.RowsLemmas.{same_text, bytes_eq_same}
 use Rattle.collect_block.specs.Places.{place_in, table_in, AddsPlace, EntersPlace, KeepsTables, FindsCharts, FindsDimensions, FindsRows}
-
-pub same_text : (a b : List ℕ) → bytes_eq a b ≡ true → a ≡ b
-same_text a b = (bytes_eq-Decides a b).0
-
-pub bytes_eq_same : (a b : List ℕ) → a ≡ b → bytes_eq a b ≡ true
-bytes_eq_same a b = (bytes_eq-Decides a b).1
 
 pub bytes_eq_turned : (a b : List ℕ) → bytes_eq a b ≡ false → bytes_eq b a ≡ false
 bytes_eq_turned a b e = by (bytes_eq b a) refl

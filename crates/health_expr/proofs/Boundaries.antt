@@ -7,7 +7,8 @@ use Rattle.std.proofs.lemmas.Str.{IsCharBoundary-start, IsCharBoundary-after_asc
 use Rattle.std.specs.Char.{is_ascii_digit}
 use Rattle.std.specs.List.{prefix_len}
 use Rattle.std.specs.Str.{IsUtf8, IsCharBoundary}
-use Rattle.health_expr.specs.Cut.{is_blank, is_letter, digits_len, decimals_len, number_len}
+use Rattle.words.specs.Words.{is_blank}
+use Rattle.health_expr.specs.Cut.{is_letter, digits_len, decimals_len, number_len}
 
 is_blank-ascii : (byte : ℕ) → is_blank byte ≡ true → byte < 128
 is_blank-ascii byte e = grind (arith, nat_tests)

@@ -20,7 +20,8 @@ use Rattle.health_expr.specs.declared.operator.Operator.TheVariants as operator
 use Rattle.health_expr.specs.declared.operator.Prefix.TheVariants as prefix
 use Rattle.health_expr.specs.declared.word.Kind.{Kind}
 use Rattle.health_expr.specs.declared.word.Kind.TheVariants.{End, Number, Name, Nan, Infinity, Abs, Open, Close, Question, Colon, Not, Plus, Minus}
-use Rattle.health_expr.specs.Cut.{Cut, is_blank, is_letter, is_brace, digits_len, decimals_len, number_len, braced, dollar, letters, mark, marked, number as number_cut, first_by, first_word}
+use Rattle.words.specs.Words.{is_blank}
+use Rattle.health_expr.specs.Cut.{Cut, is_letter, is_brace, digits_len, decimals_len, number_len, braced, dollar, letters, mark, marked, number as number_cut, first_by, first_word}
 use Rattle.health_expr.specs.Grammar.{Outcome, whole, expression, tree_read}
 use Rattle.health_expr.specs.Tree.{Tree, number, nan, infinity, name, prefixed, combined, chosen}
 use Rattle.health_expr.specs.Words.{Placed, end_at, placed, words_from, words_of, first, sees}

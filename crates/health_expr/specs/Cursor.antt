@@ -2,7 +2,8 @@
 use Rattle.std.specs.Prelude.{◌≡◌, ◌<◌, ◌+◌, ◌^◌, List, length}
 use Rattle.std.specs.List.{prefix_len}
 use Rattle.health_expr.specs.declared.words.Words.TheInside.{Inside}
-use Rattle.health_expr.specs.Cut.{is_blank, first_word}
+use Rattle.words.specs.Words.{is_blank}
+use Rattle.health_expr.specs.Cut.{first_word}
 use Rattle.health_expr.specs.Word.{Is}
 use Rattle.health_expr.specs.Words.{Placed, words_from}
 

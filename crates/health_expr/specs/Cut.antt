@@ -14,10 +14,6 @@ pub record Cut : Type 0 where
 
 -- ---- bytes
 
--- space, tab, carriage return, vertical tab and form feed
-abbrev pub is_blank : ℕ → Bool
-is_blank byte = byte == 32 || byte == 9 || byte == 13 || byte == 11 || byte == 12
-
 -- letters, digits, `_` and `.`
 abbrev pub is_letter : ℕ → Bool
 is_letter byte = is_ascii_alphanumeric byte || byte == 95 || byte == 46

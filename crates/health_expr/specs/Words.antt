@@ -5,7 +5,8 @@ use Rattle.std.specs.Prelude.{Bool}
 use Rattle.health_expr.specs.contracts.word.Kind.{the_type}
 use Rattle.health_expr.specs.declared.word.Kind.{Kind}
 use Rattle.health_expr.specs.declared.word.Kind.TheVariants.{End}
-use Rattle.health_expr.specs.Cut.{Cut, is_blank, first_word}
+use Rattle.words.specs.Words.{is_blank}
+use Rattle.health_expr.specs.Cut.{Cut, first_word}
 
 pub record Placed : Type 0 where
   pub kind : Kind

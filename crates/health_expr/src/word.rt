@@ -1,8 +1,11 @@
 //! The word at the front of a text.
 ghost use Rattle.std.specs.Prelude.{◌≡◌, ◌<◌, ◌≤◌, length, take, drop, slice_index, position};
 ghost use Rattle.std.specs.List.{prefix_len};
+ghost use Rattle.words.specs.Words.{is_blank};
 ghost use Rattle.health_expr.specs.Cut as spec;
 ghost use Rattle.health_expr.specs.Word.{Is, EndsInAscii};
+
+use words::is_blank;
 
 /// What a word is.
 #[derive(Clone, Copy, Debug, PartialEq, Eq)]
@@ -66,19 +69,6 @@ pub struct Word<'a> {
     pub rest: &'a str,
 }
 
-/// The byte of a vertical tab.
-const VERTICAL_TAB: u8 = 0x0b;
-
-/// The byte of a form feed.
-const FORM_FEED: u8 = 0x0c;
-
-/// Whether a byte stands between words.
-fn is_blank(byte: u8) -> bool
-    ensures { result ≡ spec.is_blank byte }
-{
-    matches!(byte, b' ' | b'\t' | b'\r' | VERTICAL_TAB | FORM_FEED)
-}
-
 /// Whether a byte may stand in a name.
 fn is_letter(byte: u8) -> bool
     ensures { result ≡ spec.is_letter byte }
@@ -88,7 +78,7 @@ fn is_letter(byte: u8) -> bool
 
 /// How many blanks a text begins with.
 fn blanks_len(text: &str) -> usize
-    ensures { result ≡ prefix_len spec.is_blank text.now }
+    ensures { result ≡ prefix_len is_blank text.now }
 {
     text.bytes().take_while(|byte| is_blank(*byte)).count()
 }
@@ -129,7 +119,7 @@ fn number_len(text: &[u8]) -> usize
 
 /// A text without the blanks in front.
 pub fn without_blanks(text: &str) -> &str
-    ensures { result.now ≡ drop (prefix_len spec.is_blank text.now) text.now }
+    ensures { result.now ≡ drop (prefix_len is_blank text.now) text.now }
 {
     &text[blanks_len(text)..]
 }

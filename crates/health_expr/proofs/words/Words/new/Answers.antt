@@ -1,6 +1,6 @@
 use Rattle.std.proofs.Common.{ℕ, List, arith, ap, ◌∙◌}
 use Rattle.std.specs.List.{prefix_len}
-use Rattle.health_expr.specs.Cut.{is_blank}
+use Rattle.words.specs.Words.{is_blank}
 use Rattle.health_expr.proofs.WordsLemmas.{stripped, begun, begun_shorter}
 use Rattle.health_expr.proofs.words.Words.new.Goals as goal
 
