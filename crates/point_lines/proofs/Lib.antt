@@ -1,0 +1,4 @@
+pub mod CloseLemmas
+pub mod DivisorLemmas
+pub mod StepLemmas
+mod Assumed

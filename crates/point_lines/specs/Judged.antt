@@ -1,6 +1,7 @@
 use Rattle.std.specs.Prelude.{ℕ, List, [], Option, Some, None, Result, Ok, Err}
 use Rattle.std.specs.Option.{option_map_or}
 use Rattle.history.specs.declared.fault.BlockFault.{BlockFault}
+use Rattle.history.specs.declared.fault.BlockFault.TheVariants.{NoChart, NoDimension, NoBlock, OpenBlock, SecondBlock, OffGrid, MomentOrder, Unfinished, MixedRoles, GridChanged, TooManyCharts, TooManyDimensions, Memory}
 use Rattle.history.specs.declared.line.Line.{Line}
 use Rattle.history.specs.History.{Beat}
 use Rattle.history.specs.Read.{history_at, refusal_at}
@@ -22,7 +23,7 @@ history_of past = history_at every [] past
 
 -- a line that says this may stand after these lines, or why not
 abbrev pub placed : List Line → Line → Result Line Refusal
-placed past said = option_map_or (λ fault. Err (refusal.Block fault)) (refusal_at every [] past said) (Ok said)
+placed past said = option_map_or (λ (fault : BlockFault). Err (refusal.Block fault)) (refusal_at every [] past said) (Ok said)
 
 abbrev pub judged : List Line → Result Line LineFault → Result Line Refusal
 judged past (Ok said) = placed past said
@@ -31,3 +32,24 @@ judged past (Err fault) = Err (refusal.Line fault)
 -- what the next line says, or why it is refused
 abbrev pub judge : List Line → List ℕ → Result Line Refusal
 judge past bytes = judged past (line bytes)
+
+-- the number that a refusal by a line's place is told by; want of memory is no refusal
+abbrev pub block_number : BlockFault → ℕ
+block_number NoChart = 21
+block_number NoDimension = 22
+block_number NoBlock = 23
+block_number OpenBlock = 24
+block_number SecondBlock = 25
+block_number OffGrid = 26
+block_number (MomentOrder last) = 27
+block_number Unfinished = 28
+block_number MixedRoles = 29
+block_number GridChanged = 31
+block_number TooManyCharts = 32
+block_number TooManyDimensions = 33
+block_number Memory = 0
+
+-- the number that a refusal is told by
+abbrev pub refusal_number : Refusal → ℕ
+refusal_number (refusal.Line fault) = option_map_or (λ (number : ℕ). number) (fault_number fault) 0
+refusal_number (refusal.Block fault) = block_number fault

@@ -1,3 +1,4 @@
 pub mod Judged
 pub mod Reader
+pub mod Steps
 pub mod Told

@@ -1,13 +1,16 @@
-use Rattle.std.specs.Prelude.{◌≡◌, ℕ, ◌<◌, Bool, false, List, [], ◌∷◌, ◌++◌, length, Result, Ok, Err, MatchResult}
+use Rattle.std.specs.Prelude.{◌≡◌, ℕ, ◌<◌, ◌^◌, Bool, true, false, List, [], ◌∷◌, ◌++◌, length, Result, Ok, Err, MatchResult}
 use Rattle.history.specs.declared.line.Line.{Line}
 use Rattle.history.specs.declared.line.Line.TheVariants.{Disable}
+use Rattle.history.specs.declared.fault.BlockFault.TheVariants.{Unfinished}
 use Rattle.history.specs.History.{last, registry_of}
 use Rattle.history.specs.Read.{is_disable}
+use Rattle.history.specs.Refusal.{is_unfinished}
 use Rattle.beat_points.specs.LastRows.{AreLastOf}
-use Rattle.beat_points.specs.Points.{IsBefore}
+use Rattle.beat_points.specs.Text.{AreAccepted, HaveDivisors}
 use Rattle.collect_block.specs.Feed.{IsFeedOf}
 use Rattle.point_lines.specs.declared.reader.Reader.{Reader}
 use Rattle.point_lines.specs.declared.refusal.Refusal.{Refusal}
+use Rattle.point_lines.specs.declared.refusal.Refusal.TheVariants as refusal
 use Rattle.point_lines.specs.declared.stop.Stop.{Stop}
 use Rattle.point_lines.specs.declared.stop.Stop.TheVariants as stop
 use Rattle.point_lines.specs.Judged.{every, history_of, judge}
@@ -21,23 +24,47 @@ pub record IsReaderOf (reader : Reader) (past : List Line) : Type 0 where
   pub definitions : reader.registry ≡ registry_of (history_of past)
   pub moment : reader.last ≡ last (history_of past)
   pub rows : AreLastOf reader.last_rows (history_of past)
-  -- (what else holds of the lines that were accepted stands here)
+  pub accepted : AreAccepted every [] past
+  pub divisors : HaveDivisors past
 
--- the reader has read this line too, and what it tells was added to the output
-pub record ReadsLine (new : Reader) (past : List Line) (bytes out out' : List ℕ) : Type 0 where
+-- the reader has read fewer than 2^63 lines
+abbrev pub HasRoom : Reader → Type 0
+HasRoom reader = (past : List Line) × IsReaderOf reader past × (length past < 2 ^ 63)
+
+-- the reader has read one line more, of which this was the answer, and what it tells was added to the output
+pub record Reads (new : Reader) (past : List Line) (answer : Result Line Refusal) (out out' : List ℕ) : Type 0 where
   pub said : Line
-  pub accepted : judge past bytes ≡ Ok said
+  pub accepted : answer ≡ Ok said
   pub goes_on : is_disable said ≡ false
   pub has : IsReaderOf new (said ∷ past)
   pub added : out' ≡ out ++ told_at past said
 
--- why the line was not read: it is refused, it ends the text, or there was no memory
+-- why a line with this answer was not read: it is refused, it ends the text, or there was no memory
+abbrev pub StopsFor : Result Line Refusal → Stop → (out out' : List ℕ) → Type 0
+StopsFor answer (stop.Refused why) out out' = (answer ≡ Err why) × (out' ≡ out)
+StopsFor answer stop.Disabled out out' = (answer ≡ Ok Disable) × (out' ≡ out)
+StopsFor answer stop.Memory out out' = Unit {0}
+
+-- the reader reads a line with this answer, or stops there
+abbrev pub ReadsOr : {T : Type 0} → List Line → Result Line Refusal → Result T Stop → Reader → (out out' : List ℕ) → Type 0
+ReadsOr past answer result new out out' =
+    MatchResult result (λ _. Reads new past answer out out') (λ why. StopsFor answer why out out')
+
+-- the reader has read this line too, and what it tells was added to the output
+abbrev pub ReadsLine : Reader → List Line → List ℕ → (out out' : List ℕ) → Type 0
+ReadsLine new past bytes out out' = Reads new past (judge past bytes) out out'
+
+-- why the line was not read
 abbrev pub IsStopAt : List Line → List ℕ → Stop → (out out' : List ℕ) → Type 0
-IsStopAt past bytes (stop.Refused refusal) out out' = (judge past bytes ≡ Err refusal) × (out' ≡ out)
-IsStopAt past bytes stop.Disabled out out' = (judge past bytes ≡ Ok Disable) × (out' ≡ out)
-IsStopAt past bytes stop.Memory out out' = Unit {0}
+IsStopAt past bytes why out out' = StopsFor (judge past bytes) why out out'
 
 -- the reader reads a line, or stops there
 abbrev pub ReadsOrStops : {T : Type 0} → Reader → List ℕ → Result T Stop → Reader → (out out' : List ℕ) → Type 0
 ReadsOrStops old bytes result new out out' = (past : List Line) → IsReaderOf old past →
     MatchResult result (λ _. ReadsLine new past bytes out out') (λ why. IsStopAt past bytes why out out')
+
+-- whether the text may end after these lines, with these bytes behind the last line feed
+abbrev pub EndsOr : {T : Type 0} → Reader → List ℕ → Result T Refusal → Type 0
+EndsOr reader rest result = (past : List Line) → IsReaderOf reader past → MatchResult result
+    (λ _. is_unfinished every past rest ≡ false)
+    (λ why. (is_unfinished every past rest ≡ true) × (why ≡ refusal.Block Unfinished))

@@ -1,4 +1,10 @@
+ghost use Rattle.std.specs.Prelude.{◌≡◌};
+ghost use Rattle.point_lines.specs.declared.stop.Stop.TheVariants.{Memory};
+ghost use Rattle.point_lines.specs.Steps.{line_stop, block_stop};
+
 use crate::refusal::Refusal;
+use history::BlockFault;
+use plugin_text::LineFault;
 
 /// Why a line was not read.
 #[derive(Clone, Copy, Debug, PartialEq, Eq)]
@@ -9,4 +15,24 @@ pub enum Stop {
     Disabled,
     /// There was no memory.
     Memory,
+}
+
+/// Why a line that is refused by itself was not read.
+pub(crate) fn line_stop(fault: LineFault) -> Stop
+    ensures { result ≡ line_stop fault }
+{
+    match fault {
+        LineFault::Memory => Stop::Memory,
+        _ => Stop::Refused(Refusal::Line(fault)),
+    }
+}
+
+/// Why a line that may not stand where it does was not read.
+pub(crate) fn block_stop(fault: BlockFault) -> Stop
+    ensures { result ≡ block_stop fault }
+{
+    match fault {
+        BlockFault::Memory => Stop::Memory,
+        _ => Stop::Refused(Refusal::Block(fault)),
+    }
 }

@@ -1,0 +1,111 @@
+-- What a MOMENT that may stand there closes.
+use Rattle.std.proofs.Common.{◌≡◌, ◌≢◌, ◌<◌, ℕ, true, List, [], ◌∷◌, ◌++◌, All, Option, pos, refl, sym, ap, subst, ◌∙◌, arith}
+use Rattle.algorithms.specs.declared.last.Last.{Last}
+use Rattle.history.specs.declared.beat.OpenBeat.{OpenBeat}
+use Rattle.history.specs.declared.beat.OpenDim.{OpenDim}
+use Rattle.history.specs.declared.chart.ChartDef.{ChartDef}
+use Rattle.history.specs.declared.line.Line.{Line}
+use Rattle.history.specs.declared.line.Line.TheVariants as line
+use Rattle.history.specs.History.{collected, registry_of}
+use Rattle.history.specs.Looking.{beat}
+use Rattle.history.specs.Refusal.{has_chart}
+use Rattle.history.specs.Registry.{Registry, with_definitions}
+use Rattle.chart_registry.specs.Defining.{nothing_open}
+use Rattle.collect_block.specs.declared.step.Step.{Step}
+use Rattle.collect_block.specs.declared.step.Step.TheVariants as step
+use Rattle.collect_block.proofs.OpenLemmas.{grids, owners}
+use Rattle.beat_points.specs.LastRows.{AreLastOf}
+use Rattle.beat_points.specs.Points.{IsBefore, IsNext}
+use Rattle.beat_points.specs.Regular.{IsRegular}
+use Rattle.beat_points.specs.Text.{AreAccepted, HasFew}
+use Rattle.point_lines.specs.declared.reader.Reader.{Reader}
+use Rattle.point_lines.specs.Judged.{every, history_of, placed}
+use Rattle.point_lines.specs.Reader.{IsReaderOf, Reads}
+use Rattle.point_lines.specs.Steps.{Stepped}
+use Rattle.point_lines.specs.Told.{beat_lines, told_at}
+use Rattle.point_lines.proofs.Assumed.{regular, before, divisors}
+use Rattle.point_lines.proofs.StepLemmas.{placed-ok}
+
+abbrev beat_in : Step → OpenBeat
+beat_in (step.Beat closed moment) = closed
+beat_in other = nothing_open
+
+abbrev HasSome : OpenDim → Type 0
+HasSome dimension = dimension.def.divisor ≢ pos 0
+
+few-none : HasFew (registry_of [])
+few-none chart = omega arith
+
+before-none : (later : ℕ) → 0 < later → IsBefore [] later
+before-none later above chart id = tt
+
+divisors-none : All HasSome (registry_of []).dimensions
+divisors-none k = ?
+
+module _ (reader : Reader) (past : List Line) (closed : OpenBeat) (moment : ℕ)
+    (stepped : Stepped reader past (line.Moment moment) (step.Beat closed moment)) where
+  closed-is : closed ≡ beat every past
+  closed-is = ap beat_in stepped.step_is
+
+  pub closed-grids : All (λ (def : ChartDef). 0 < def.update_every) closed.charts
+  closed-grids = subst (λ (closed : OpenBeat). All (λ (def : ChartDef). 0 < def.update_every) closed.charts) (sym closed-is) (grids every past stepped.feed.grid)
+
+  pub closed-owners : All (λ (dimension : OpenDim). has_chart reader.registry closed dimension.chart ≡ true) closed.dimensions
+  closed-owners =
+      subst (λ (registry : Registry). All (λ (dimension : OpenDim). has_chart registry closed dimension.chart ≡ true) closed.dimensions) (sym stepped.definitions)
+      (subst (λ (closed : OpenBeat). All (λ (dimension : OpenDim). has_chart (registry_of (history_of past)) closed dimension.chart ≡ true) closed.dimensions) (sym closed-is)
+      (owners every [] past))
+
+  abbrev now : Registry
+  now = registry_of (history_of (line.Moment moment ∷ past))
+
+  taken : AreAccepted every [] (line.Moment moment ∷ past)
+  taken = (stepped.accepted_line, stepped.accepted)
+
+  module _ (registry : Registry) (applied : registry ≡ with_definitions reader.registry closed.charts closed.dimensions) where
+    pub closed-registry : registry ≡ registry_of (collected moment closed ∷ history_of past)
+    closed-registry = applied ∙ ap (λ (registry : Registry). with_definitions registry closed.charts closed.dimensions) stepped.definitions
+
+    registry-is : registry ≡ now
+    registry-is = closed-registry ∙ ap (λ (closed : OpenBeat). registry_of (collected moment closed ∷ history_of past)) closed-is
+
+    pub closed-regular : IsRegular registry closed
+    closed-regular =
+        subst (λ (registry : Registry). IsRegular registry closed) (sym registry-is)
+        (subst (IsRegular now) (sym closed-is) (regular every [] past moment few-none taken))
+
+    pub closed-next : IsNext registry reader.last_rows (history_of past) moment closed
+    closed-next = record {
+      registry_is = closed-registry;
+      lasts_are = stepped.rows;
+      before = before every [] past moment before-none taken;
+      divisors = subst (λ (registry : Registry). All HasSome registry.dimensions) (sym registry-is) (divisors every [] (line.Moment moment ∷ past) divisors-none stepped.divisors);
+    }
+
+    closed-lines : beat_lines registry (history_of past) moment closed ≡ told_at past (line.Moment moment)
+    closed-lines =
+        ap (λ (registry : Registry). beat_lines registry (history_of past) moment closed) registry-is
+        ∙ ap (beat_lines now (history_of past) moment) closed-is
+
+    module _ (rows : List (Option Last)) (out out' : List ℕ) where
+      abbrev closing : Reader
+      closing = record reader { registry = registry; last_rows = rows; last = moment }
+
+      pub closed-reads : AreLastOf rows (collected moment closed ∷ history_of past) → out' ≡ out ++ beat_lines registry (history_of past) moment closed
+          → Reads closing past (placed past (line.Moment moment)) out out'
+      closed-reads taken-rows added = record {
+        said = line.Moment moment;
+        accepted = placed-ok past (line.Moment moment) stepped.accepted_line;
+        goes_on = refl;
+        has = record {
+          lines = stepped.lines;
+          skips = stepped.skips;
+          feed = stepped.feed;
+          definitions = registry-is;
+          moment = refl;
+          rows = subst (λ (closed : OpenBeat). AreLastOf rows (collected moment closed ∷ history_of past)) closed-is taken-rows;
+          accepted = taken;
+          divisors = stepped.divisors;
+        };
+        added = added ∙ ap (λ more. out ++ more) closed-lines;
+      }

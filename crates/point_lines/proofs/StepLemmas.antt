@@ -1,0 +1,213 @@
+-- What a line that was taken changes, and why one was not.
+use Rattle.std.proofs.Common.{◌≡◌, ◌≤◌, ℕ, ◌+◌, Bool, true, false, true≢false, List, [], ◌∷◌, ◌++◌, length, Option, Some, None, is_some, Result, Ok, Err, refl, sym, ap, subst, ◌∙◌, arith}
+use Rattle.std.proofs.lemmas.List.{append-nil}
+use Rattle.std.specs.Option.{option_map_or}
+use Rattle.history.specs.declared.fault.BlockFault.{BlockFault}
+use Rattle.history.specs.declared.fault.BlockFault.TheVariants as block
+use Rattle.history.specs.declared.line.Line.{Line}
+use Rattle.history.specs.declared.line.Line.TheVariants as line
+use Rattle.history.specs.History.{child, last, registry_of}
+use Rattle.history.specs.Read.{is_disable, refusal_at}
+use Rattle.history.specs.Refusal.{refusal as refusal_by}
+use Rattle.plugin_text.specs.Answer.{IsFaultFor}
+use Rattle.plugin_text.specs.declared.fault.LineFault.{LineFault}
+use Rattle.plugin_text.specs.declared.fault.LineFault.TheVariants as fault
+use Rattle.plugin_text.specs.Line.{line as line_of}
+use Rattle.beat_points.specs.LastRows.{AreLastOf}
+use Rattle.beat_points.specs.Text.{AreAccepted, HaveDivisors}
+use Rattle.collect_block.specs.declared.feed.Feed.{Feed}
+use Rattle.collect_block.specs.declared.step.Step.{Step}
+use Rattle.collect_block.specs.declared.step.Step.TheVariants as step
+use Rattle.collect_block.specs.Feed.{IsFeedOf, RefusedBy, step_of}
+use Rattle.point_lines.specs.declared.reader.Reader.{Reader}
+use Rattle.point_lines.specs.declared.refusal.Refusal.{Refusal}
+use Rattle.point_lines.specs.declared.refusal.Refusal.TheVariants as refusal
+use Rattle.point_lines.specs.Judged.{every, history_of, placed, judged, judge}
+use Rattle.point_lines.specs.Reader.{IsReaderOf, Reads, StopsFor}
+use Rattle.point_lines.specs.Steps.{HasDivisor, Stepped, block_stop, line_stop, skips}
+use Rattle.point_lines.specs.Told.{skipped, told_at}
+
+-- ---- the counts
+pub skipped-within : (past : List Line) → skipped past ≤ length past
+skipped-within [] = omega arith
+skipped-within (line.Chart def ∷ past) = omega (arith, skipped-within past)
+skipped-within (line.Dimension def ∷ past) = omega (arith, skipped-within past)
+skipped-within (line.Begin chart ∷ past) = omega (arith, skipped-within past)
+skipped-within (line.Set id value anomalous ∷ past) = omega (arith, skipped-within past)
+skipped-within (line.End ∷ past) = omega (arith, skipped-within past)
+skipped-within (line.Flush ∷ past) = omega (arith, skipped-within past)
+skipped-within (line.Disable ∷ past) = omega (arith, skipped-within past)
+skipped-within (line.Moment moment ∷ past) = omega (arith, skipped-within past)
+skipped-within (line.Query text ∷ past) = omega (arith, skipped-within past)
+skipped-within (line.Skipped ∷ past) = omega (arith, skipped-within past)
+
+skipped-more : (said : Line) (past : List Line) → skipped past + skips said ≡ skipped (said ∷ past)
+skipped-more (line.Chart def) past = omega arith
+skipped-more (line.Dimension def) past = omega arith
+skipped-more (line.Begin chart) past = omega arith
+skipped-more (line.Set id value anomalous) past = omega arith
+skipped-more line.End past = omega arith
+skipped-more line.Flush past = omega arith
+skipped-more line.Disable past = omega arith
+skipped-more (line.Moment moment) past = omega arith
+skipped-more (line.Query text) past = refl
+skipped-more line.Skipped past = refl
+
+divisors-more : (past : List Line) (said : Line) → HasDivisor said → HaveDivisors past → HaveDivisors (said ∷ past)
+divisors-more past (line.Chart def) this rest = rest
+divisors-more past (line.Dimension def) this rest = (this, rest)
+divisors-more past (line.Begin chart) this rest = rest
+divisors-more past (line.Set id value anomalous) this rest = rest
+divisors-more past line.End this rest = rest
+divisors-more past line.Flush this rest = rest
+divisors-more past line.Disable this rest = rest
+divisors-more past (line.Moment moment) this rest = rest
+divisors-more past (line.Query text) this rest = rest
+divisors-more past line.Skipped this rest = rest
+
+-- ---- why a line was not read
+child-none : (past : List Line) → child (history_of past) ≡ None
+child-none [] = refl
+child-none (line.Chart def ∷ past) = child-none past
+child-none (line.Dimension def ∷ past) = child-none past
+child-none (line.Begin chart ∷ past) = child-none past
+child-none (line.Set id value anomalous ∷ past) = child-none past
+child-none (line.End ∷ past) = child-none past
+child-none (line.Flush ∷ past) = child-none past
+child-none (line.Disable ∷ past) = child-none past
+child-none (line.Moment moment ∷ past) = child-none past
+child-none (line.Query text ∷ past) = child-none past
+child-none (line.Skipped ∷ past) = child-none past
+
+module _ (reader : Reader) (past : List Line) (has : IsReaderOf reader past) (said : Line) where
+  -- the feed's refusal is that of the definitions
+  pub reason-is : refusal_by reader.registry every past false reader.last said ≡ refusal_at every [] past said
+  reason-is =
+      let now = history_of past in
+      ap (λ registry. refusal_by registry every past false reader.last said) has.definitions
+      ∙ ap (λ (moment : ℕ). refusal_by (registry_of now) every past false moment said) has.moment
+      ∙ ap (λ (copies : Bool). refusal_by (registry_of now) every past copies (last now) said) (sym (ap is_some (child-none past)))
+
+module _ (past : List Line) (said : Line) where
+  abbrev answer : Option BlockFault → Result Line Refusal
+  answer reason = option_map_or (λ (fault : BlockFault). Err (refusal.Block fault)) reason (Ok said)
+
+  pub placed-ok : refusal_at every [] past said ≡ None → placed past said ≡ Ok said
+  placed-ok none = ap answer none
+
+  pub stops-block : (fault : BlockFault) (reason : Option BlockFault) → reason ≡ refusal_at every [] past said → RefusedBy reason fault
+      → (out : List ℕ) → StopsFor (placed past said) (block_stop fault) out out
+  stops-block block.NoChart reason is by out = (ap answer (sym is ∙ by), refl)
+  stops-block block.NoDimension reason is by out = (ap answer (sym is ∙ by), refl)
+  stops-block block.NoBlock reason is by out = (ap answer (sym is ∙ by), refl)
+  stops-block block.OpenBlock reason is by out = (ap answer (sym is ∙ by), refl)
+  stops-block block.SecondBlock reason is by out = (ap answer (sym is ∙ by), refl)
+  stops-block block.OffGrid reason is by out = (ap answer (sym is ∙ by), refl)
+  stops-block (block.MomentOrder last) reason is by out = (ap answer (sym is ∙ by), refl)
+  stops-block block.Unfinished reason is by out = (ap answer (sym is ∙ by), refl)
+  stops-block block.MixedRoles reason is by out = (ap answer (sym is ∙ by), refl)
+  stops-block block.GridChanged reason is by out = (ap answer (sym is ∙ by), refl)
+  stops-block block.TooManyCharts reason is by out = (ap answer (sym is ∙ by), refl)
+  stops-block block.TooManyDimensions reason is by out = (ap answer (sym is ∙ by), refl)
+  stops-block block.Memory reason is by out = tt
+
+module _ (past : List Line) (bytes : List ℕ) where
+  pub stops-line : (why : LineFault) → IsFaultFor (line_of bytes) why → (out : List ℕ) → StopsFor (judge past bytes) (line_stop why) out out
+  stops-line fault.LineTooLong is out = (ap (judged past) is, refl)
+  stops-line fault.NotText is out = (ap (judged past) is, refl)
+  stops-line fault.OpenQuote is out = (ap (judged past) is, refl)
+  stops-line fault.MissingWord is out = (ap (judged past) is, refl)
+  stops-line fault.LongId is out = (ap (judged past) is, refl)
+  stops-line fault.BadNumber is out = (ap (judged past) is, refl)
+  stops-line fault.Memory is out = tt
+
+-- ---- a line that may stand there is counted
+module _ (old : Reader) (past : List Line) (said : Line) (leads_to : Step) (feed : Feed) where
+  abbrev counted : Reader
+  counted = record old { lines = old.lines + 1; skipped = old.skipped + skips said; feed = feed }
+
+  pub count-steps : IsReaderOf old past → HasDivisor said → refusal_at every [] past said ≡ None → IsFeedOf feed every (said ∷ past) → leads_to ≡ step_of every past said
+      → Stepped counted past said leads_to
+  count-steps has divisor none fed step_is = record {
+    lines = omega (arith, has.lines);
+    skips = ap (λ (n : ℕ). n + skips said) has.skips ∙ skipped-more said past;
+    feed = fed;
+    definitions = has.definitions;
+    moment = has.moment;
+    rows = has.rows;
+    accepted = has.accepted;
+    divisors = has.divisors;
+    divisor = divisor;
+    accepted_line = none;
+    step_is = step_is;
+  }
+
+-- ---- a line that closes no beat
+abbrev is_quiet : Step → Bool
+is_quiet step.Nothing = true
+is_quiet (step.Query text) = true
+is_quiet other = false
+
+-- the line leaves the history as it is, and the text goes on
+record IsQuiet (past : List Line) (said : Line) : Type 0 where
+  pub stays : history_of (said ∷ past) ≡ history_of past
+  pub tells : told_at past said ≡ []
+  pub goes_on : is_disable said ≡ false
+
+quiet : (past : List Line) (said : Line) → is_quiet (step_of every past said) ≡ true → IsQuiet past said
+quiet past (line.Chart def) is = record { stays = refl; tells = refl; goes_on = refl }
+quiet past (line.Dimension def) is = record { stays = refl; tells = refl; goes_on = refl }
+quiet past (line.Begin chart) is = record { stays = refl; tells = refl; goes_on = refl }
+quiet past (line.Set id value anomalous) is = record { stays = refl; tells = refl; goes_on = refl }
+quiet past line.End is = record { stays = refl; tells = refl; goes_on = refl }
+quiet past line.Flush is = record { stays = refl; tells = refl; goes_on = refl }
+quiet past line.Disable is = absurd (true≢false (sym is))
+quiet past (line.Moment moment) is = absurd (true≢false (sym is))
+quiet past (line.Query text) is = record { stays = refl; tells = refl; goes_on = refl }
+quiet past line.Skipped is = record { stays = refl; tells = refl; goes_on = refl }
+
+disable-is : (past : List Line) (said : Line) → step.Disabled ≡ step_of every past said → said ≡ line.Disable
+disable-is past (line.Chart def) is = cc
+disable-is past (line.Dimension def) is = cc
+disable-is past (line.Begin chart) is = cc
+disable-is past (line.Set id value anomalous) is = cc
+disable-is past line.End is = cc
+disable-is past line.Flush is = cc
+disable-is past line.Disable is = refl
+disable-is past (line.Moment moment) is = cc
+disable-is past (line.Query text) is = cc
+disable-is past line.Skipped is = cc
+
+module _ (reader : Reader) (past : List Line) (said : Line) (leads_to : Step) (stepped : Stepped reader past said leads_to) (out : List ℕ) where
+  reads-quiet : is_quiet leads_to ≡ true → Reads reader past (placed past said) out out
+  reads-quiet is =
+      let q = quiet past said (sym (ap is_quiet stepped.step_is) ∙ is) in
+      record {
+        said = said;
+        accepted = placed-ok past said stepped.accepted_line;
+        goes_on = q.goes_on;
+        has = record {
+          lines = stepped.lines;
+          skips = stepped.skips;
+          feed = stepped.feed;
+          definitions = stepped.definitions ∙ sym (ap registry_of q.stays);
+          moment = stepped.moment ∙ sym (ap last q.stays);
+          rows = subst (AreLastOf reader.last_rows) (sym q.stays) stepped.rows;
+          accepted = (stepped.accepted_line, stepped.accepted);
+          divisors = divisors-more past said stepped.divisor stepped.divisors;
+        };
+        added = sym (ap (λ more. out ++ more) q.tells ∙ append-nil out);
+      }
+
+  stops-disabled : leads_to ≡ step.Disabled → placed past said ≡ Ok line.Disable
+  stops-disabled is = placed-ok past said stepped.accepted_line ∙ ap (λ (said : Line). Ok said) (disable-is past said (sym is ∙ stepped.step_is))
+
+module _ (reader : Reader) (past : List Line) (said : Line) (out : List ℕ) where
+  pub reads-nothing : Stepped reader past said step.Nothing → Reads reader past (placed past said) out out
+  reads-nothing stepped = reads-quiet reader past said step.Nothing stepped out refl
+
+  pub reads-query : (text : List ℕ) → Stepped reader past said (step.Query text) → Reads reader past (placed past said) out out
+  reads-query text stepped = reads-quiet reader past said (step.Query text) stepped out refl
+
+  pub stops-at_disable : Stepped reader past said step.Disabled → (placed past said ≡ Ok line.Disable) × (out ≡ out)
+  stops-at_disable stepped = (stops-disabled reader past said step.Disabled stepped out refl, refl)

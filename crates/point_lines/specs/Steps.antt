@@ -1,0 +1,64 @@
+-- How a reader goes from a line to the next.
+use Rattle.std.specs.Prelude.{◌≡◌, ◌≢◌, ℕ, List, [], ◌∷◌, length, pos, Option, None, Result, Ok, Err}
+use Rattle.history.specs.declared.fault.BlockFault.{BlockFault}
+use Rattle.history.specs.declared.fault.BlockFault.TheVariants as block
+use Rattle.history.specs.declared.line.Line.{Line}
+use Rattle.history.specs.declared.line.Line.TheVariants.{Dimension, Query, Skipped}
+use Rattle.history.specs.History.{last, registry_of}
+use Rattle.history.specs.Read.{refusal_at}
+use Rattle.plugin_text.specs.declared.fault.LineFault.{LineFault}
+use Rattle.plugin_text.specs.declared.fault.LineFault.TheVariants as line
+use Rattle.beat_points.specs.LastRows.{AreLastOf}
+use Rattle.beat_points.specs.Text.{AreAccepted, HaveDivisors}
+use Rattle.collect_block.specs.Feed.{IsFeedOf, step_of}
+use Rattle.collect_block.specs.declared.step.Step.{Step}
+use Rattle.point_lines.specs.declared.reader.Reader.{Reader}
+use Rattle.point_lines.specs.declared.refusal.Refusal.TheVariants as refusal
+use Rattle.point_lines.specs.declared.stop.Stop.{Stop}
+use Rattle.point_lines.specs.declared.stop.Stop.TheVariants as stop
+use Rattle.point_lines.specs.Judged.{every, history_of, placed}
+use Rattle.point_lines.specs.Reader.{IsReaderOf, ReadsOr}
+use Rattle.point_lines.specs.Told.{skipped}
+
+-- why a line that is refused by itself was not read
+abbrev pub line_stop : LineFault → Stop
+line_stop line.Memory = stop.Memory
+line_stop fault = stop.Refused (refusal.Line fault)
+
+-- why a line that may not stand where it does was not read
+abbrev pub block_stop : BlockFault → Stop
+block_stop block.Memory = stop.Memory
+block_stop fault = stop.Refused (refusal.Block fault)
+
+-- by how many the count of skipped lines rises with this one
+abbrev pub skips : Line → ℕ
+skips Skipped = 1
+skips (Query text) = 1
+skips line = 0
+
+-- the line is no definition of a dimension with a divisor of 0
+abbrev pub HasDivisor : Line → Type 0
+HasDivisor (Dimension def) = def.divisor ≢ pos 0
+HasDivisor line = Unit {0}
+
+-- a reader of these lines, which has counted one more that may stand there and leads to this step
+pub record Stepped (reader : Reader) (past : List Line) (said : Line) (step : Step) : Type 0 where
+  pub lines : reader.lines ≡ length (said ∷ past)
+  pub skips : reader.skipped ≡ skipped (said ∷ past)
+  pub feed : IsFeedOf reader.feed every (said ∷ past)
+  pub definitions : reader.registry ≡ registry_of (history_of past)
+  pub moment : reader.last ≡ last (history_of past)
+  pub rows : AreLastOf reader.last_rows (history_of past)
+  pub accepted : AreAccepted every [] past
+  pub divisors : HaveDivisors past
+  pub divisor : HasDivisor said
+  pub accepted_line : refusal_at every [] past said ≡ None
+  pub step_is : step ≡ step_of every past said
+
+-- the reader reads a line that says this, or stops there
+abbrev pub TakesOr : {T : Type 0} → Reader → Line → Result T Stop → Reader → (out out' : List ℕ) → Type 0
+TakesOr old said result new out out' = (past : List Line) → IsReaderOf old past → ReadsOr past (placed past said) result new out out'
+
+-- the reader takes what a line led to, or stops there
+abbrev pub StepsOr : {T : Type 0} → Reader → Line → Step → Result T Stop → Reader → (out out' : List ℕ) → Type 0
+StepsOr old said step result new out out' = (past : List Line) → Stepped old past said step → ReadsOr past (placed past said) result new out out'

@@ -1,0 +1,166 @@
+ghost use Rattle.std.specs.Prelude.{◌≡◌, ◌+◌, ◌^◌, ◌<◌, ◌≤◌, ◌++◌, ℕ, List, [], ◌∷◌, length, string_bytes, IfOk, IfErr, OnOk};
+ghost use Rattle.history.specs.declared.line.Line.{Line as ALine};
+ghost use Rattle.history.specs.declared.line.Line.TheVariants as line;
+ghost use Rattle.history.specs.History.{Beat};
+ghost use Rattle.collect_block.specs.declared.step.Step.TheVariants as step;
+ghost use Rattle.plugin_text.specs.Line.{line as line_of};
+ghost use Rattle.beat_points.specs.Points.{IsNext};
+ghost use Rattle.beat_points.specs.Regular.{IsRegular};
+ghost use Rattle.point_lines.specs.declared.stop.Stop.TheVariants as stop;
+ghost use Rattle.point_lines.specs.Reader.{IsReaderOf, HasRoom, ReadsOrStops, EndsOr};
+ghost use Rattle.point_lines.specs.Steps.{skips, HasDivisor, Stepped, StepsOr, TakesOr};
+ghost use Rattle.point_lines.specs.Told.{beat_lines, told_at_end};
+
+use crate::refusal::Refusal;
+use crate::stop::{Stop, block_stop, line_stop};
+use crate::telling::push_points;
+use beat_points::LastRows;
+use chart_registry::Registry;
+use collect_block::{Feed, Step};
+use history::{Line, OpenBeat};
+use plugin_text::read_line;
+use std::alloc::{AllocError, Global};
+use std::fmt::Write;
+
+/// The update_every of the charts whose line leaves it open, in seconds.
+const EVERY: u32 = 1;
+
+/// What is kept of the lines of a text.
+#[derive(Drop)]
+pub struct Reader {
+    pub(crate) alloc: Global,
+    pub(crate) lines: u64,
+    pub(crate) skipped: u64,
+    pub(crate) feed: Feed,
+    pub(crate) registry: Registry,
+    pub(crate) last_rows: LastRows,
+    pub(crate) last: u32,
+}
+
+impl Reader {
+    /// The reader of a text from its first line on.
+    pub fn new(alloc: Global) -> Reader
+        ensures { IsReaderOf result [] }
+    {
+        Reader {
+            alloc,
+            lines: 0,
+            skipped: 0,
+            feed: Feed::new(alloc, EVERY),
+            registry: Registry::new(alloc),
+            last_rows: LastRows::new(alloc),
+            last: 0,
+        }
+    }
+
+    /// How many lines were read.
+    pub fn lines(&self) -> u64
+        ensures { (past : List ALine) → IsReaderOf self.now past → result ≡ length past }
+    {
+        self.lines
+    }
+
+    /// Reads the next line, which stands there without its line feed, and adds what it tells to `out`.
+    ///
+    /// Where the line is refused or says DISABLE nothing is added, and without memory a part may be; after
+    /// any `Err` the reader is spent.
+    pub fn take_line(&mut self, bytes: &[u8], out: &mut String) -> Result<(), Stop>
+        requires room { HasRoom self.old }
+        ensures { ReadsOrStops self.old bytes.now result self.new (string_bytes out.old) (string_bytes out.new) }
+    {
+        match read_line(self.alloc, bytes) {
+            Ok(line) => self.take(&line, out),
+            Err(fault) => Err(line_stop(fault)),
+        }
+    }
+
+    /// Whether the text may end here, with these bytes behind its last line feed: `Unfinished` where the
+    /// open beat has a definition, a row or an open block, or where there are such bytes.
+    pub fn end(&self, rest: &[u8]) -> Result<(), Refusal>
+        ensures { EndsOr self.now rest.now result }
+    {
+        match self.feed.end(rest) {
+            Ok(()) => Ok(()),
+            Err(fault) => Err(Refusal::Block(fault)),
+        }
+    }
+
+    /// Adds what is told at the end of the text: how many lines were skipped, if any.
+    pub fn push_skipped(&self, out: &mut String) -> Result<(), AllocError>
+        ensures { OnOk result ((past : List ALine) → IsReaderOf self.now past → string_bytes out.new ≡ string_bytes out.old ++ told_at_end past) }
+    {
+        if self.skipped == 0 {
+            return Ok(());
+        }
+        writeln!(out, "SKIPPED {}", self.skipped)
+    }
+
+    // Reads a line that says this.
+    fn take(&mut self, line: &Line, out: &mut String) -> Result<(), Stop>
+        requires room { HasRoom self.old }
+        requires divisor { HasDivisor line.now }
+        ensures { TakesOr self.old line.now result self.new (string_bytes out.old) (string_bytes out.new) }
+    {
+        match self.feed.line(&self.registry, self.last, false, line) {
+            Ok(step) => {
+                self.count(line);
+                self.take_step(step, out)
+            }
+            Err(fault) => Err(block_stop(fault)),
+        }
+    }
+
+    // Counts a line.
+    fn count(&mut self, line: &Line)
+        requires lines { self.old.lines < 2 ^ 63 }
+        requires skips { self.old.skipped < 2 ^ 63 }
+        ensures { self.new ≡ record self.old { lines = self.old.lines + 1; skipped = self.old.skipped + skips line.now } }
+    {
+        self.lines += 1;
+        if let Line::Skipped | Line::Query(_) = line {
+            self.skipped += 1;
+        }
+    }
+
+    // Takes what a line led to.
+    fn take_step(&mut self, step: Step, out: &mut String) -> Result<(), Stop>
+        requires { (past : List ALine) × (said : ALine) × Stepped self.old past said step }
+        ensures { (said : ALine) → StepsOr self.old said step result self.new (string_bytes out.old) (string_bytes out.new) }
+    {
+        match step {
+            Step::Nothing | Step::Query(_) => Ok(()),
+            Step::Disabled => Err(Stop::Disabled),
+            Step::Beat(beat, moment) => self.close(&beat, moment, out),
+        }
+    }
+
+    // Takes a beat that a MOMENT closed, and tells its points.
+    fn close(&mut self, beat: &OpenBeat, moment: u32, out: &mut String) -> Result<(), Stop>
+        requires { (past : List ALine) × Stepped self.old past (line.Moment moment) (step.Beat beat.now moment) }
+        ensures { StepsOr self.old (line.Moment moment) (step.Beat beat.now moment) result self.new (string_bytes out.old) (string_bytes out.new) }
+    {
+        if self.registry.apply(beat).is_err() {
+            return Err(Stop::Memory);
+        }
+        if self.tell(beat, moment, out).is_err() {
+            return Err(Stop::Memory);
+        }
+        if self.last_rows.apply(&self.registry, beat, moment).is_err() {
+            return Err(Stop::Memory);
+        }
+        self.last = moment;
+        Ok(())
+    }
+
+    // Tells the points of a beat whose definitions the registry has.
+    fn tell(&self, beat: &OpenBeat, moment: u32, out: &mut String) -> Result<(), AllocError>
+        requires { IsRegular self.now.registry beat.now }
+        ensures { OnOk result ((h : List Beat) → IsNext self.now.registry self.now.last_rows h moment beat.now
+            → string_bytes out.new ≡ string_bytes out.old ++ beat_lines self.now.registry h moment beat.now) }
+    {
+        match self.last_rows.points(self.alloc, &self.registry, beat, moment) {
+            Ok(points) => push_points(self.alloc, out, &self.registry, moment, points.as_slice()),
+            Err(_) => Err(AllocError),
+        }
+    }
+}
