@@ -1,5 +1,5 @@
 -- What a MOMENT that may stand there closes.
-use Rattle.std.proofs.Common.{◌≡◌, ◌≢◌, ◌<◌, ℕ, true, List, [], ◌∷◌, ◌++◌, All, Option, pos, refl, sym, ap, subst, ◌∙◌, arith}
+use Rattle.std.proofs.Common.{◌≡◌, ◌≢◌, ◌<◌, ℕ, true, false, true≢false, List, [], ◌∷◌, ◌++◌, All, Option, Result, Ok, Err, OnOk, is_err, pos, refl, sym, ap, subst, ◌∙◌, arith}
 use Rattle.algorithms.specs.declared.last.Last.{Last}
 use Rattle.history.specs.declared.beat.OpenBeat.{OpenBeat}
 use Rattle.history.specs.declared.beat.OpenDim.{OpenDim}
@@ -26,6 +26,10 @@ use Rattle.point_lines.specs.Told.{beat_lines, told_at}
 use Rattle.point_lines.proofs.Assumed.{regular, before, divisors}
 use Rattle.point_lines.proofs.StepLemmas.{placed-ok}
 
+pub on-ok : {T E P : Type 0} (r : Result T E) → is_err r ≡ false → OnOk r P → P
+on-ok (Ok x) is p = p
+on-ok (Err fault) is p = absurd (true≢false is)
+
 abbrev beat_in : Step → OpenBeat
 beat_in (step.Beat closed moment) = closed
 beat_in other = nothing_open
@@ -40,7 +44,7 @@ before-none : (later : ℕ) → 0 < later → IsBefore [] later
 before-none later above chart id = tt
 
 divisors-none : All HasSome (registry_of []).dimensions
-divisors-none k = ?
+divisors-none k dimension below = absurd (omega arith)
 
 module _ (reader : Reader) (past : List Line) (closed : OpenBeat) (moment : ℕ)
     (stepped : Stepped reader past (line.Moment moment) (step.Beat closed moment)) where
