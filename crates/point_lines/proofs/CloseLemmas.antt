@@ -23,7 +23,7 @@ use Rattle.point_lines.specs.Judged.{every, history_of, placed}
 use Rattle.point_lines.specs.Reader.{IsReaderOf, Reads}
 use Rattle.point_lines.specs.Steps.{Stepped}
 use Rattle.point_lines.specs.Told.{beat_lines, told_at}
-use Rattle.point_lines.proofs.Assumed.{regular, before, divisors}
+use Rattle.beat_points.proofs.TextLemmas.{text-regular, text-before, text-divisors}
 use Rattle.point_lines.proofs.StepLemmas.{placed-ok}
 
 pub on-ok : {T E P : Type 0} (r : Result T E) → is_err r ≡ false → OnOk r P → P
@@ -76,14 +76,14 @@ module _ (reader : Reader) (past : List Line) (closed : OpenBeat) (moment : ℕ)
     pub closed-regular : IsRegular registry closed
     closed-regular =
         subst (λ (registry : Registry). IsRegular registry closed) (sym registry-is)
-        (subst (IsRegular now) (sym closed-is) (regular every [] past moment few-none taken))
+        (subst (IsRegular now) (sym closed-is) (text-regular every [] past moment few-none taken))
 
     pub closed-next : IsNext registry reader.last_rows (history_of past) moment closed
     closed-next = record {
       registry_is = closed-registry;
       lasts_are = stepped.rows;
-      before = before every [] past moment before-none taken;
-      divisors = subst (λ (registry : Registry). All HasSome registry.dimensions) (sym registry-is) (divisors every [] (line.Moment moment ∷ past) divisors-none stepped.divisors);
+      before = text-before every [] past moment before-none taken;
+      divisors = subst (λ (registry : Registry). All HasSome registry.dimensions) (sym registry-is) (text-divisors every [] (line.Moment moment ∷ past) divisors-none stepped.divisors);
     }
 
     closed-lines : beat_lines registry (history_of past) moment closed ≡ told_at past (line.Moment moment)

@@ -1,4 +1,3 @@
 pub mod CloseLemmas
 pub mod DivisorLemmas
 pub mod StepLemmas
-mod Assumed

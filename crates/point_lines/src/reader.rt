@@ -158,7 +158,10 @@ impl Reader {
         ensures { OnOk result ((h : List Beat) → IsNext self.now.registry self.now.last_rows h moment beat.now
             → string_bytes out.new ≡ string_bytes out.old ++ beat_lines self.now.registry h moment beat.now) }
     {
-        match self.last_rows.points(self.alloc, &self.registry, beat, moment) {
+        match self
+            .last_rows
+            .points(self.alloc, &self.registry, beat, moment)
+        {
             Ok(points) => push_points(self.alloc, out, &self.registry, moment, points.as_slice()),
             Err(_) => Err(AllocError),
         }

@@ -1,12 +1,213 @@
+ghost use Rattle.std.specs.Prelude.{[]};
+ghost use Rattle.point_lines.specs.Reader.{IsReaderOf};
+
 use super::*;
-use plugin_text::LineFault;
 use history::BlockFault;
-use std::alloc::{AllocError, Global};
+use plugin_text::LineFault;
 use std::test::Fail;
 
-/// A text, what it tells, and why its last line was not read.
-struct Text<'a> {
-    lines: &'a [&'a str],
-    told: &'a str,
+/// The lines of a text, what they tell, and why the last was not read.
+struct Row {
+    lines: &'static [&'static str],
+    told: &'static str,
     stop: Option<Stop>,
+}
+
+static ROWS: [Row; 8] = [
+    // A counter rises, and falls.
+    Row {
+        lines: &[
+            "CHART test.one '' 'One' 'units'",
+            "DIMENSION a a incremental",
+            "BEGIN test.one",
+            "SET a = 100",
+            "END",
+            "MOMENT 1",
+            "BEGIN test.one",
+            "SET a = 160",
+            "END",
+            "MOMENT 2",
+            "BEGIN test.one",
+            "SET a = 10",
+            "END",
+            "MOMENT 3",
+        ],
+        told: "2 test.one a 60\n3 test.one a 0 R\n",
+        stop: None,
+    },
+    // The shares of a row, in the order of the dimensions.
+    Row {
+        lines: &[
+            "CHART test.one '' 'One' 'units'",
+            "DIMENSION a a percentage-of-absolute-row",
+            "DIMENSION b b percentage-of-absolute-row",
+            "BEGIN test.one",
+            "SET b = 2",
+            "SET a = 1",
+            "END",
+            "MOMENT 1",
+            "BEGIN test.one",
+            "SET a = 0",
+            "SET b = 0",
+            "END",
+            "MOMENT 2",
+        ],
+        told: "1 test.one a 33.33333\n1 test.one b 66.66667\n2 test.one a 0\n2 test.one b 0\n",
+        stop: None,
+    },
+    // What a plugin writes.
+    Row {
+        lines: &[
+            "CHART netdata.plugin_example '' \"Example plugin's run time\" \"milliseconds\" \"example plugin\" netdata.plugin_example area 110000 1 \"obsolete\" example run",
+            "CLABEL \"_collect_plugin\" \"example\" 1",
+            "CLABEL_COMMIT",
+            "DIMENSION run_time '' absolute 1 1000",
+            "BEGIN netdata.plugin_example 1000123",
+            "SET run_time = -2500",
+            "END",
+            "MOMENT 1",
+            "CHART netdata.plugin_example '' \"Example plugin's run time\" \"milliseconds\" \"example plugin\" netdata.plugin_example area 110000 1 \"obsolete\" example run",
+            "BEGIN netdata.plugin_example",
+            "SET run_time=1500.7",
+            "END",
+            "MOMENT 2",
+        ],
+        told: "1 netdata.plugin_example run_time -2.5\n2 netdata.plugin_example run_time 1.5\nSKIPPED 2\n",
+        stop: None,
+    },
+    // Two series of two charts, both marks, and a question.
+    Row {
+        lines: &[
+            "CHART a.b",
+            "CHART a.b n t u",
+            "DIMENSION c c incremental",
+            "CHART d.e n t u",
+            "DIMENSION f",
+            "BEGIN d.e",
+            "SET f = 1",
+            "END",
+            "BEGIN a.b",
+            "SET c = 9",
+            "END",
+            "MOMENT 1",
+            "QUERY a.b 0 1 1 sum",
+        ],
+        told: "",
+        stop: Some(Stop::Refused(Refusal::Line(LineFault::MissingWord))),
+    },
+    Row {
+        lines: &[
+            "CHART a.b n t u",
+            "DIMENSION c c incremental",
+            "CHART d.e n t u",
+            "DIMENSION f",
+            "BEGIN d.e",
+            "SET f = 1",
+            "END",
+            "BEGIN a.b",
+            "SET c = 9",
+            "END",
+            "MOMENT 1",
+            "QUERY a.b 0 1 1 sum",
+            "BEGIN a.b",
+            "SET c = 8 A",
+            "END",
+            "BEGIN d.e",
+            "SET f = 2",
+            "END",
+            "MOMENT 2",
+        ],
+        told: "1 d.e f 1\n2 a.b c 0 A R\n2 d.e f 2\nSKIPPED 1\n",
+        stop: None,
+    },
+    // A moment off the grid.
+    Row {
+        lines: &[
+            "CHART t.c '' T u f c line 1000 5",
+            "DIMENSION a",
+            "BEGIN t.c",
+            "SET a = 1",
+            "END",
+            "MOMENT 5",
+            "BEGIN t.c",
+            "SET a = 2",
+            "END",
+            "MOMENT 7",
+        ],
+        told: "5 t.c a 1\n",
+        stop: Some(Stop::Refused(Refusal::Block(BlockFault::OffGrid))),
+    },
+    // No beat is closed by the end.
+    Row {
+        lines: &[
+            "CHART t.c n t u",
+            "DIMENSION a",
+            "BEGIN t.c",
+            "SET a = 1",
+            "END",
+            "DISABLE",
+        ],
+        told: "",
+        stop: Some(Stop::Disabled),
+    },
+    Row {
+        lines: &["", "MOMENT x"],
+        told: "",
+        stop: Some(Stop::Refused(Refusal::Line(LineFault::BadNumber))),
+    },
+];
+
+/// Reads lines up to the first that is not read.
+fn read(reader: &mut Reader, lines: &[&str], out: &mut String) -> Result<(), Stop>
+    requires { IsReaderOf reader.old [] }
+{
+    for line in lines {
+        reader.take_line(line.as_bytes(), out)?;
+    }
+    Ok(())
+}
+
+#[test]
+fn tells_what_the_lines_say(rt: HostRuntime) -> Result<(), Fail> {
+    for row in &ROWS {
+        let mut reader = Reader::new(rt.alloc());
+        let mut out = String::new(rt.alloc());
+        let stop = read(&mut reader, row.lines, &mut out).err();
+        if stop.is_none() {
+            reader.push_skipped(&mut out)?;
+        }
+        assert_eq!(rt; out.as_str(), row.told);
+        assert_eq!(rt; stop, row.stop);
+    }
+    Ok(())
+}
+
+#[test]
+fn ends_where_nothing_is_open(rt: HostRuntime) -> Result<(), Fail> {
+    let mut reader = Reader::new(rt.alloc());
+    let mut out = String::new(rt.alloc());
+    assert_eq!(rt; reader.end(b""), Ok(()));
+    let unfinished = Refusal::Block(BlockFault::Unfinished);
+    assert_eq!(rt; reader.end(b"MOMENT"), Err(unfinished));
+    assert_eq!(rt; unfinished.number(), 28);
+    let read = read(&mut reader, &["CHART a.b n t u", "CLABEL_COMMIT"], &mut out);
+    assert_eq!(rt; read, Ok(()));
+    assert_eq!(rt; reader.lines(), 2);
+    assert_eq!(rt; reader.end(b""), Err(unfinished));
+    Ok(())
+}
+
+#[test]
+fn numbers_each_refusal(rt: HostRuntime) {
+    for (refusal, number) in [
+        (Refusal::Line(LineFault::LineTooLong), 11),
+        (Refusal::Line(LineFault::LongId), 16),
+        (Refusal::Block(BlockFault::NoChart), 21),
+        (Refusal::Block(BlockFault::MomentOrder(7)), 27),
+        (Refusal::Block(BlockFault::MixedRoles), 29),
+        (Refusal::Block(BlockFault::GridChanged), 31),
+        (Refusal::Block(BlockFault::TooManyDimensions), 33),
+    ] {
+        assert_eq!(rt; refusal.number(), number);
+    }
 }

@@ -24,7 +24,7 @@ pub returns : goal.returns
 returns c past stepped =
     let h = history_of past in
     let applied : c.apply.new.self ≡ with_definitions c.args.self.now.registry c.args.beat.now.charts c.args.beat.now.dimensions =
-        on-ok c.apply.result (sym c.is_err.ensures.value ∙ c.if-is_err.false) c.apply.ensures.ok in
+    on-ok c.apply.result (sym c.is_err.ensures.value ∙ c.if-is_err.false) c.apply.ensures.ok in
     closed-reads c.args.self.now past c.args.beat.now c.args.moment stepped c.apply.new.self applied
     c.apply-2.new.self (string_bytes c.args.out.now) (string_bytes c.tell.new.out)
     (on-ok c.apply-2.result (sym c.is_err-3.ensures.value ∙ c.if-is_err-3.false) c.apply-2.ensures.ok h stepped.rows

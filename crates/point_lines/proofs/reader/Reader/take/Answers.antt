@@ -13,9 +13,12 @@ pub take_step-requires : goal.take_step-requires
 take_step-requires c =
     let past = c.requires.room.0 in
     let has = c.requires.room.1 in
-    let reason = sym (reason-is c.args.self.now past has c.args.line.now) ∙ c.in-Ok.ensures.refused every past has.feed in
-    (past, c.args.line.now, rw c.count.ensures (count-steps c.args.self.now past c.args.line.now c.in-Ok.step c.line.new.self has c.requires.divisor reason
-    (c.in-Ok.ensures.taken every past has.feed) (c.in-Ok.ensures.gives every past has.feed)))
+    let reason = sym (reason-is c.args.self.now past has c.args.line.now) ∙ c.in-Ok.ensures.refused every past has.feed in (
+      past,
+      c.args.line.now,
+      rw c.count.ensures (count-steps c.args.self.now past c.args.line.now c.in-Ok.step c.line.new.self has c.requires.divisor reason
+          (c.in-Ok.ensures.taken every past has.feed) (c.in-Ok.ensures.gives every past has.feed)),
+    )
 
 pub returns-in-Ok : goal.returns-in-Ok
 returns-in-Ok c past has =
