@@ -1,8 +1,9 @@
--- A registry has each dimension once, so each has its place as its number.
-use Rattle.std.proofs.Common.{◌≡◌, ℕ, zero, suc, Bool, true, false, ◌&&◌, ◌||◌, List, [], ◌∷◌, slice_get, position, Option, Some, None, refl, sym, ap, ◌∙◌, true≢false, if◌then◌else◌}
-use Rattle.std.specs.List.{list_any}
+-- Lists in which each thing stands once. A registry has each dimension once, so each has its place as its number.
+use Rattle.std.proofs.Common.{◌≡◌, ℕ, zero, suc, Bool, true, false, ◌&&◌, ◌||◌, List, [], ◌∷◌, ◌++◌, cond, slice_get, Some, refl, sym, ap, ◌∙◌, true≢false, if◌then◌else◌}
+use Rattle.std.specs.List.{filter, list_any}
 use Rattle.std.specs.Str.{bytes_eq}
 use Rattle.std.proofs.lemmas.Bool.{and_parts}
+use Rattle.std.proofs.lemmas.List.Folds.{list_any-append}
 use Rattle.std.proofs.lemmas.Option.{same_Some, none-some}
 use Rattle.history.specs.declared.beat.OpenDim.{OpenDim}
 use Rattle.history.specs.History.{Beat, collected, copied, health, missing, registry_of}
@@ -16,7 +17,7 @@ use Rattle.beat_points.specs.Regular.{AreApart}
 use Rattle.beat_points.proofs.Growing.{same_dimension-alike}
 
 -- ---- the same dimension
-same-parts : (x y : OpenDim) → same_dimension x y ≡ true → (x.chart ≡ y.chart) × (x.def.id ≡ y.def.id)
+pub same-parts : (x y : OpenDim) → same_dimension x y ≡ true → (x.chart ≡ y.chart) × (x.def.id ≡ y.def.id)
 same-parts x y e =
     let parts = and_parts (bytes_eq x.chart y.chart) (bytes_eq x.def.id y.def.id) e in
     (same_text x.chart y.chart parts.0, same_text x.def.id y.def.id parts.1)
@@ -24,31 +25,59 @@ same-parts x y e =
 same-from : (x y : OpenDim) → x.chart ≡ y.chart → x.def.id ≡ y.def.id → same_dimension x y ≡ true
 same-from x y chart id = ap (λ (b : Bool). b && bytes_eq x.def.id y.def.id) (bytes_eq_same x.chart y.chart chart) ∙ bytes_eq_same x.def.id y.def.id id
 
-same-turned : (x y : OpenDim) → same_dimension x y ≡ false → same_dimension y x ≡ false
-same-turned x y e = by (same_dimension y x) refl
+-- ---- things of which none is the same as a later one
+-- those that pass a test
+any-filter : {A : Type 0} (p q : A → Bool) (xs : List A) → list_any p xs ≡ false → list_any p (filter q xs) ≡ false
+any-filter p q [] none = refl
+any-filter p q (x ∷ xs) none = let parts = or_false (p x) (list_any p xs) none in by (q x) parts.0 (any-filter p q xs parts.1)
   where
-    by : (b : Bool) → same_dimension y x ≡ b → same_dimension y x ≡ false
-    by true t = let parts = same-parts y x t in absurd (true≢false (sym (same-from x y (sym parts.0) (sym parts.1)) ∙ e))
-    by false t = t
+    by : (b : Bool) → p x ≡ false → list_any p (filter q xs) ≡ false → list_any p (cond b (x ∷ filter q xs) (filter q xs)) ≡ false
+    by true here rest = λ i. here i || rest i
+    by false here rest = rest
 
-same-any : (x y : OpenDim) (ds : List OpenDim) → same_dimension x y ≡ true → list_any (same_dimension x) ds ≡ list_any (same_dimension y) ds
-same-any x y ds e = let parts = same-parts x y e in λ i. list_any (is_dimension (parts.0 i) (parts.1 i)) ds
+pub apart-filter : {A : Type 0} (same : A → A → Bool) (q : A → Bool) (xs : List A) → AreApart same xs → AreApart same (filter q xs)
+apart-filter same q [] apart = tt
+apart-filter same q (x ∷ xs) apart = by (q x) (apart-filter same q xs apart.1)
+  where
+    by : (b : Bool) → AreApart same (filter q xs) → AreApart same (cond b (x ∷ filter q xs) (filter q xs))
+    by true rest = (any-filter (same x) q xs apart.0, rest)
+    by false rest = rest
+
+module _ {A : Type 0} (same : A → A → Bool) (itself : (x : A) → same x x ≡ true) (left : (x y : A) → same x y ≡ true → same x ≡ same y) where
+  pub turned : (x y : A) → same x y ≡ false → same y x ≡ false
+  turned x y e = by (same y x) refl
+    where
+      by : (b : Bool) → same y x ≡ b → same y x ≡ false
+      by true t = absurd (true≢false (sym (itself y) ∙ ap (λ (p : A → Bool). p y) (left y x t) ∙ e))
+      by false t = t
+
+  -- one more at the end
+  pub apart-push : (xs : List A) (x : A) → AreApart same xs → list_any (same x) xs ≡ false → AreApart same (xs ++ x ∷ [])
+  apart-push [] x apart none = (refl, tt)
+  apart-push (y ∷ xs) x apart none =
+      let parts = or_false (same x y) (list_any (same x) xs) none in
+      (list_any-append (same y) xs (x ∷ []) ∙ (λ i. apart.0 i || (turned x y parts.0 i || false)), apart-push xs x apart.1 parts.1)
+
+  -- one more in its place
+  module _ (right : (z x y : A) → same x y ≡ true → same z x ≡ same z y) where
+    pub apart-put : (xs : List A) (x : A) → AreApart same xs → AreApart same (put same xs x)
+    apart-put [] x apart = (refl, tt)
+    apart-put (y ∷ xs) x apart = by (same x y) refl (apart-put xs x apart.1)
+      where
+        by : (b : Bool) → same x y ≡ b → AreApart same (put same xs x) → AreApart same (if b then x ∷ xs else y ∷ put same xs x)
+        by true e rest = (ap (λ (p : A → Bool). list_any p xs) (left x y e) ∙ apart.0, apart.1)
+        by false e rest = (any-put same (same y) (right y) xs x ∙ (λ i. apart.0 i || turned x y e i), rest)
 
 -- ---- what is put stays apart
-apart-put : (ds : List OpenDim) (x : OpenDim) → AreApart same_dimension ds → AreApart same_dimension (put same_dimension ds x)
-apart-put [] x apart = (refl, tt)
-apart-put (y ∷ ds) x apart = by (same_dimension x y) refl (apart-put ds x apart.1)
-  where
-    by : (b : Bool) → same_dimension x y ≡ b → AreApart same_dimension (put same_dimension ds x) → AreApart same_dimension (if b then x ∷ ds else y ∷ put same_dimension ds x)
-    by true e rest = (same-any x y ds e ∙ apart.0, apart.1)
-    by false e rest =
-        let other : (list_any (same_dimension y) ds || same_dimension y x) ≡ false
-        = (λ i. apart.0 i || same-turned x y e i) in
-        (any-put same_dimension (same_dimension y) (same_dimension-alike y.chart y.def.id) ds x ∙ other, rest)
+itself : (x : OpenDim) → same_dimension x x ≡ true
+itself x = same-from x x refl refl
+
+left : (x y : OpenDim) → same_dimension x y ≡ true → same_dimension x ≡ same_dimension y
+left x y e = let parts = same-parts x y e in λ i. is_dimension (parts.0 i) (parts.1 i)
 
 apart-put_all : (ds xs : List OpenDim) → AreApart same_dimension ds → AreApart same_dimension (put_all same_dimension ds xs)
 apart-put_all ds [] apart = apart
-apart-put_all ds (x ∷ xs) apart = apart-put_all (put same_dimension ds x) xs (apart-put ds x apart)
+apart-put_all ds (x ∷ xs) apart = apart-put_all (put same_dimension ds x) xs (apart-put same_dimension itself left (λ z. same_dimension-alike z.chart z.def.id) ds x apart)
 
 pub apart-registry : (h : List Beat) → AreApart same_dimension (registry_of h).dimensions
 apart-registry [] = tt
@@ -66,7 +95,7 @@ none-at p (x ∷ ds) (suc n) d none at = none-at p ds n d (or_false (p x) (list_
 first-apart : (ds : List OpenDim) (n : ℕ) (d : OpenDim) → AreApart same_dimension ds → slice_get ds n ≡ Some d → IsFirst (same_dimension d) ds n
 first-apart [] n d apart at = absurd (none-some d at)
 first-apart (x ∷ ds) zero d apart at = let same = same_Some x d at in same-from d x (ap (λ (d : OpenDim). d.chart) (sym same)) (ap (λ (d : OpenDim). d.def.id) (sym same))
-first-apart (x ∷ ds) (suc n) d apart at = (same-turned x d (none-at (same_dimension x) ds n d apart.0 at), first-apart ds n d apart.1 at)
+first-apart (x ∷ ds) (suc n) d apart at = (turned same_dimension itself left x d (none-at (same_dimension x) ds n d apart.0 at), first-apart ds n d apart.1 at)
 
 pub own-series : (registry : Registry) (n : ℕ) (d : OpenDim) → AreApart same_dimension registry.dimensions → slice_get registry.dimensions n ≡ Some d → series_of registry d.chart d.def.id ≡ Some n
 own-series registry n d apart at = position-first (same_dimension d) registry.dimensions n (first-apart registry.dimensions n d apart at)

@@ -1,6 +1,6 @@
 -- The words of all rows, in the order of their series, are the points of the beat.
-use Rattle.std.proofs.Common.{◌≡◌, ℕ, ◌+◌, ◌<◌, ◌≤◌, Bool, true, false, cond, List, [], ◌∷◌, ◌++◌, length, slice_get, Option, Some, None, Result, Ok, Err, IfOk, All, ℤ, refl, sym, ap, subst, ◌∙◌, arith, zero-add}
-use Rattle.std.specs.List.{find, filter_map, cons_option, count_by, enumerate_from, AllByRecursion}
+use Rattle.std.proofs.Common.{◌≡◌, ℕ, ◌+◌, ◌<◌, ◌≤◌, cond, List, [], ◌∷◌, ◌++◌, length, slice_get, Option, Some, None, Result, Ok, Err, IfOk, ℤ, refl, sym, ap, subst, ◌∙◌, arith, zero-add}
+use Rattle.std.specs.List.{find, filter_map, cons_option, count_by, AllByRecursion}
 use Rattle.std.specs.List.Sorted.{IsPermutation, IsNonDecreasingBy}
 use Rattle.std.specs.Option.{option_map, option_map_or, option_and_then}
 use Rattle.std.proofs.lemmas.List.Elements.{All-from_recursion, recursion_from_All}

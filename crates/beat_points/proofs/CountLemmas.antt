@@ -1,5 +1,5 @@
 -- How often a word stands among the words of all rows: once where it is the dimension's, and else not at all.
-use Rattle.std.proofs.Common.{◌≡◌, ◌≢◌, ℕ, zero, suc, ◌+◌, ◌<◌, ◌≤◌, Bool, true, false, cond, ◌&&◌, nat_eq, List, [], ◌∷◌, ◌++◌, length, slice_get, Option, Some, None, All, ℤ, refl, sym, ap, subst, ◌∙◌, arith, true≢false}
+use Rattle.std.proofs.Common.{◌≡◌, ℕ, ◌+◌, Bool, true, false, cond, ◌&&◌, nat_eq, List, [], ◌∷◌, Option, Some, None, ℤ, refl, sym, ap, ◌∙◌, arith, true≢false}
 use Rattle.std.specs.List.{find, list_any, filter_map, cons_option, count_by, AllByRecursion}
 use Rattle.std.specs.Option.{option_map, option_map_or, option_and_then}
 use Rattle.std.specs.Str.{bytes_eq}
@@ -14,7 +14,7 @@ use Rattle.history.specs.declared.beat.OpenValue.{OpenValue}
 use Rattle.history.specs.declared.chart.ChartDef.{ChartDef}
 use Rattle.history.specs.History.{Beat}
 use Rattle.history.specs.Looking.{is_value, same_value}
-use Rattle.history.specs.Points.{Cell, cell_of, cells_of, row_of, total, total_difference, word_at, word_by}
+use Rattle.history.specs.Points.{cells_of, total, total_difference, word_at}
 use Rattle.history.specs.Registry.{Registry, is_chart, series_of}
 use Rattle.chart_registry.proofs.RowsLemmas.{same_text, bytes_eq_same}
 use Rattle.beat_points.specs.declared.series_word.SeriesWord.{SeriesWord}

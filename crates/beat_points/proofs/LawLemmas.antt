@@ -1,5 +1,5 @@
 -- What a history with one beat more says of points and of last values.
-use Rattle.std.proofs.Common.{◌≡◌, ℕ, zero, suc, ◌+◌, ◌<◌, Bool, true, false, cond, nat_eq, List, [], ◌∷◌, slice_get, Option, Some, None, IfSome, refl, sym, ap, ◌∙◌, arith, add-zero}
+use Rattle.std.proofs.Common.{◌≡◌, ℕ, zero, suc, ◌+◌, ◌<◌, Bool, cond, nat_eq, List, [], ◌∷◌, slice_get, Option, Some, None, IfSome, refl, sym, ap, ◌∙◌, arith, add-zero}
 use Rattle.std.specs.List.{find, filter_map, cons_option, enumerate_from}
 use Rattle.std.specs.Option.{option_map, option_map_or, option_and_then}
 use Rattle.algorithms.specs.Words.{packed}
@@ -8,7 +8,6 @@ use Rattle.history.specs.declared.beat.OpenDim.{OpenDim}
 use Rattle.history.specs.declared.beat.OpenValue.{OpenValue}
 use Rattle.history.specs.History.{Beat, collected, registry_of}
 use Rattle.history.specs.Points.{Collected, Point, last_set, points, value_of, word_at}
-use Rattle.history.specs.Registry.{Registry}
 use Rattle.beat_points.specs.declared.series_word.SeriesWord.{SeriesWord}
 use Rattle.beat_points.specs.Points.{IsBefore, beat_points}
 use Rattle.beat_points.proofs.CountLemmas.{nat_eq_same, nat_eq_other}

@@ -1,8 +1,11 @@
 pub mod ApartLemmas
 pub mod BeatLemmas
 pub mod CountLemmas
+pub mod FewLemmas
 pub mod Growing
 pub mod LawLemmas
 pub mod NumberedLemmas
 pub mod OrderLemmas
+pub mod Rows
 pub mod TakingLemmas
+pub mod TextLemmas

@@ -1,8 +1,8 @@
 -- The words of numbered values are those of a history.
-use Rattle.std.proofs.Common.{◌≡◌, ◌≢◌, ℕ, suc, ◌+◌, ◌<◌, ◌≤◌, Bool, List, [], ◌∷◌, ◌++◌, length, map, take, drop, get_or, slice_get, Option, Some, None, All, IfSome, ℤ, pos, refl, sym, ap, subst, ◌∙◌, arith, append_assoc}
+use Rattle.std.proofs.Common.{◌≡◌, ◌≢◌, ℕ, suc, ◌+◌, ◌<◌, List, [], ◌∷◌, ◌++◌, length, map, take, drop, get_or, slice_get, Option, Some, None, ℤ, pos, refl, sym, ap, subst, ◌∙◌, append_assoc}
 use Rattle.std.specs.List.{find, filter_map, cons_option}
 use Rattle.std.specs.Option.{option_map, option_map_or, option_and_then}
-use Rattle.std.proofs.lemmas.List.{take_all, take_more, drop_all, drop_more}
+use Rattle.std.proofs.lemmas.List.{take_more, drop_more}
 use Rattle.std.proofs.lemmas.Option.{same_Some, none-some, slice_get_within, get_or_from_slice_get}
 use Rattle.algorithms.specs.declared.last.Last.{Last}
 use Rattle.algorithms.specs.Cells.{cells, last_of, numbered}
@@ -17,12 +17,12 @@ use Rattle.history.specs.declared.beat.OpenValue.{OpenValue}
 use Rattle.history.specs.declared.chart.ChartDef.{ChartDef}
 use Rattle.history.specs.declared.dimension.DimDef.{DimDef}
 use Rattle.history.specs.History.{Beat, registry_of}
-use Rattle.history.specs.Points.{Cell, Collected, cell_of, cells_of, last_set, row_words, total, total_difference, word_by}
+use Rattle.history.specs.Points.{Cell, cell_of, last_set, row_words, total, total_difference, word_by}
 use Rattle.history.specs.Registry.{Registry, is_chart, is_dimension, series_of}
 use Rattle.chart_registry.proofs.Places.{find-position}
 use Rattle.beat_points.specs.declared.series_word.SeriesWord.{SeriesWord}
 use Rattle.beat_points.specs.LastRows.{last_in}
-use Rattle.beat_points.specs.Numbered.{IsNumbered, AreNumbered, word_list, words_by, word_of, pair_of, chart_pairs, row_pairs, rows_pairs}
+use Rattle.beat_points.specs.Numbered.{IsNumbered, AreNumbered, word_list, words_by, pair_of, chart_pairs, row_pairs, rows_pairs}
 use Rattle.beat_points.specs.Points.{IsNext}
 use Rattle.beat_points.proofs.Growing.{last_in-definitions}
 

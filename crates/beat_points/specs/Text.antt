@@ -1,5 +1,4 @@
-use Rattle.std.specs.Prelude.{◌≡◌, ◌≢◌, ◌≤◌, ℕ, List, [], ◌∷◌, pos, count_by, Option, None}
-use Rattle.history.specs.declared.fault.BlockFault.{BlockFault}
+use Rattle.std.specs.Prelude.{◌≡◌, ◌≢◌, ◌≤◌, ℕ, List, [], ◌∷◌, count_by, pos, None}
 use Rattle.history.specs.declared.line.Line.{Line}
 use Rattle.history.specs.declared.line.Line.TheVariants.{Dimension}
 use Rattle.history.specs.History.{Beat}
@@ -11,11 +10,11 @@ abbrev pub AreAccepted : ℕ → List Beat → List Line → Type 0
 AreAccepted every h [] = Unit {0}
 AreAccepted every h (line ∷ past) = (refusal_at every h past line ≡ None) × AreAccepted every h past
 
--- no chart of the registry has more dimensions than a chart may have
+-- no chart has more dimensions than a chart may have
 abbrev pub HasFew : Registry → Type 0
 HasFew registry = (chart : List ℕ) → count_by (is_of chart) registry.dimensions ≤ 1024
 
--- no definition of a dimension in these lines has a divisor of 0
+-- no dimension that these lines define divides by 0
 abbrev pub HaveDivisors : List Line → Type 0
 HaveDivisors [] = Unit {0}
 HaveDivisors (Dimension def ∷ past) = (def.divisor ≢ pos 0) × HaveDivisors past

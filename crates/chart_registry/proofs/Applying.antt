@@ -1,6 +1,6 @@
 -- Definitions that are taken one by one.
 use Rattle.std.proofs.Common.{◌≡◌, ℕ, ◌+◌, ◌<◌, Bool, true, false, cond, ◌||◌, List, [], ◌∷◌, ◌++◌, length, take, get_or, Some, is_some, refl, sym, ap, ◌∙◌, if◌then◌else◌}
-use Rattle.std.specs.List.{find, list_any}
+use Rattle.std.specs.List.{find, list_any, AllByRecursion}
 use Rattle.std.specs.Option.{option_map_or}
 use Rattle.std.specs.Str.{bytes_eq}
 use Rattle.std.proofs.lemmas.Slice.Eq.{bytes_eq-Decides}
@@ -31,7 +31,7 @@ dimensions-more registry dimensions n dimension made within is made_is =
     ∙ ap (λ (dimensions : List OpenDim). record { charts = registry.charts; dimensions = dimensions })
     (sym (put_all-push same_dimension registry.dimensions (take n dimensions) dimension) ∙ ap (put_all same_dimension registry.dimensions) (ap (λ (dimension : OpenDim). take n dimensions ++ dimension ∷ []) (sym is) ∙ sym (take_more dimensions n dimension within)))
 
--- ---- what a test finds in a list that has taken more
+-- ---- what a test finds in a list that has taken more, and what is true of all in it
 or-last : (x y : Bool) → (x || y) ≡ (y || x)
 or-last true true = refl
 or-last true false = refl
@@ -55,9 +55,18 @@ module _ {A : Type 0} (same : A → A → Bool) (p : A → Bool) (alike : (x y :
       by true e rest = ap (λ b. b || list_any p ys) (alike x y e) ∙ or-again (p y) (list_any p ys) ∙ ap (λ b. (p y || list_any p ys) || b) (sym (alike x y e))
       by false e rest = ap (λ b. p y || b) rest ∙ or-apart (p y) (list_any p ys) (p x)
 
-  any-put_all : (xs ys : List A) → list_any p (put_all same xs ys) ≡ (list_any p xs || list_any p ys)
+  pub any-put_all : (xs ys : List A) → list_any p (put_all same xs ys) ≡ (list_any p xs || list_any p ys)
   any-put_all xs [] = or-last false (list_any p xs)
   any-put_all xs (y ∷ ys) = any-put_all (put same xs y) ys ∙ ap (λ b. b || list_any p ys) (any-put xs y) ∙ sym (or-apart (list_any p xs) (p y) (list_any p ys))
+
+module _ {A : Type 0} (same : A → A → Bool) (P : A → Type 0) where
+  pub all-put : (xs : List A) (x : A) → AllByRecursion P xs → P x → AllByRecursion P (put same xs x)
+  all-put [] x h p = (p, tt)
+  all-put (y ∷ ys) x h p = by (same x y) (all-put ys x h.1 p)
+    where
+      by : (b : Bool) → AllByRecursion P (put same ys x) → AllByRecursion P (if b then x ∷ ys else y ∷ put same ys x)
+      by true rest = (p, h.1)
+      by false rest = (h.0, rest)
 
 module _ {A : Type 0} (p : A → Bool) where
   some-find : (xs : List A) → is_some (find p xs) ≡ list_any p xs

@@ -18,17 +18,8 @@ use Rattle.history.specs.Read.{history_at}
 use Rattle.history.specs.Refusal.{has_chart}
 use Rattle.history.specs.Registry.{Registry, is_chart, same_chart, same_dimension, with_definitions}
 use Rattle.chart_registry.specs.Defining.{nothing_open}
-use Rattle.chart_registry.proofs.Applying.{any-put, same_chart-alike, has_chart-any, has_chart-applied}
+use Rattle.chart_registry.proofs.Applying.{all-put, any-put, same_chart-alike, has_chart-any, has_chart-applied}
 use Rattle.chart_registry.proofs.RowsLemmas.{bytes_eq_same}
-
-module _ {A : Type 0} (same : A → A → Bool) (P : A → Type 0) where
-  all-put : (xs : List A) (x : A) → AllByRecursion P xs → P x → AllByRecursion P (put same xs x)
-  all-put [] x h p = (p, tt)
-  all-put (y ∷ ys) x h p = by (same x y) (all-put ys x h.1 p)
-    where
-      by : (b : Bool) → AllByRecursion P (put same ys x) → AllByRecursion P (if b then x ∷ ys else y ∷ put same ys x)
-      by true rest = (p, h.1)
-      by false rest = (h.0, rest)
 
 module _ {A : Type 0} (P Q : A → Type 0) (weaker : (x : A) → P x → Q x) where
   all-weaker : (xs : List A) → AllByRecursion P xs → AllByRecursion Q xs

@@ -1,4 +1,4 @@
-use Rattle.std.proofs.Common.{◌≡◌, ◌≤◌, List, ℕ, Some, length, arith, sym, ap, ◌∙◌}
+use Rattle.std.proofs.Common.{◌≡◌, List, ℕ, Some, length, arith, sym, ap, ◌∙◌}
 use Rattle.std.specs.List.{find}
 use Rattle.chart_registry.specs.Defining.{chart_id}
 use Rattle.history.specs.Registry.{is_chart}

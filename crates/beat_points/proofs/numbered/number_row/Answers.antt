@@ -1,4 +1,4 @@
-use Rattle.std.proofs.Common.{◌≡◌, ◌+◌, ◌++◌, ◌∷◌, [], List, ℕ, Option, Some, None, IsSome, get_or, take, refl, subst, sym, ap, ◌∙◌}
+use Rattle.std.proofs.Common.{◌≡◌, ◌+◌, ◌++◌, ◌∷◌, [], Option, None, IsSome, get_or, take, refl, subst, sym, ap, ◌∙◌}
 use Rattle.algorithms.specs.declared.last.Last.{Last}
 use Rattle.algorithms.specs.Cells.{numbered}
 use Rattle.chart_registry.specs.Defining.{chart_id}
