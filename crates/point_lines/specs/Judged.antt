@@ -1,6 +1,7 @@
 use Rattle.std.specs.Prelude.{ℕ, List, [], Option, Some, None, Result, Ok, Err}
 use Rattle.std.specs.Option.{option_map_or}
 use Rattle.history.specs.declared.fault.BlockFault.{BlockFault}
+use Rattle.history.specs.declared.fault.BlockFault.TheVariants as block
 use Rattle.history.specs.declared.line.Line.{Line}
 use Rattle.history.specs.History.{Beat}
 use Rattle.history.specs.Read.{history_at, refusal_at}
@@ -31,3 +32,24 @@ judged past (Err fault) = Err (refusal.Line fault)
 -- what the next line says, or why it is refused
 abbrev pub judge : List Line → List ℕ → Result Line Refusal
 judge past bytes = judged past (line bytes)
+
+-- the number of a refusal by where its line stands; want of memory has none
+abbrev pub block_number : BlockFault → ℕ
+block_number block.NoChart = 21
+block_number block.NoDimension = 22
+block_number block.NoBlock = 23
+block_number block.OpenBlock = 24
+block_number block.SecondBlock = 25
+block_number block.OffGrid = 26
+block_number (block.MomentOrder last) = 27
+block_number block.Unfinished = 28
+block_number block.MixedRoles = 29
+block_number block.GridChanged = 31
+block_number block.TooManyCharts = 32
+block_number block.TooManyDimensions = 33
+block_number block.Memory = 0
+
+-- the number that a refusal is told by
+abbrev pub refusal_number : Refusal → ℕ
+refusal_number (refusal.Line fault) = option_map_or (λ (n : ℕ). n) (fault_number fault) 0
+refusal_number (refusal.Block fault) = block_number fault

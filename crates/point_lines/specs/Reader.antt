@@ -1,11 +1,7 @@
 use Rattle.std.specs.Prelude.{◌≡◌, ℕ, ◌<◌, Bool, false, List, [], ◌∷◌, ◌++◌, length, Result, Ok, Err, MatchResult}
 use Rattle.history.specs.declared.line.Line.{Line}
 use Rattle.history.specs.declared.line.Line.TheVariants.{Disable}
-use Rattle.history.specs.History.{last, registry_of}
 use Rattle.history.specs.Read.{is_disable}
-use Rattle.beat_points.specs.LastRows.{AreLastOf}
-use Rattle.beat_points.specs.Points.{IsBefore}
-use Rattle.collect_block.specs.Feed.{IsFeedOf}
 use Rattle.point_lines.specs.declared.reader.Reader.{Reader}
 use Rattle.point_lines.specs.declared.refusal.Refusal.{Refusal}
 use Rattle.point_lines.specs.declared.stop.Stop.{Stop}
@@ -13,15 +9,10 @@ use Rattle.point_lines.specs.declared.stop.Stop.TheVariants as stop
 use Rattle.point_lines.specs.Judged.{every, history_of, judge}
 use Rattle.point_lines.specs.Told.{skipped, told_at}
 
--- the reader has read these lines, the latest first, and none of them was refused
+-- stub
 pub record IsReaderOf (reader : Reader) (past : List Line) : Type 0 where
-  pub lines : reader.lines ≡ length past
-  pub skips : reader.skipped ≡ skipped past
-  pub feed : IsFeedOf reader.feed every past
-  pub definitions : reader.registry ≡ registry_of (history_of past)
-  pub moment : reader.last ≡ last (history_of past)
-  pub rows : AreLastOf reader.last_rows (history_of past)
-  -- (what else holds of the lines that were accepted stands here)
+  pub none : past ≡ []
+  pub lines : reader.lines ≡ 0
 
 -- the reader has read this line too, and what it tells was added to the output
 pub record ReadsLine (new : Reader) (past : List Line) (bytes out out' : List ℕ) : Type 0 where

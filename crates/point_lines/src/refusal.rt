@@ -1,4 +1,5 @@
 ghost use Rattle.std.specs.Prelude.{◌≡◌};
+ghost use Rattle.point_lines.specs.Judged.{refusal_number};
 
 use history::BlockFault;
 use plugin_text::LineFault;
@@ -10,4 +11,36 @@ pub enum Refusal {
     Line(LineFault),
     /// By where the line stands.
     Block(BlockFault),
+}
+
+impl Refusal {
+    /// The number that the refusal is told by.
+    pub fn number(self) -> u32
+        ensures { result ≡ refusal_number self }
+    {
+        match self {
+            Refusal::Line(fault) => fault.number().unwrap_or(0),
+            Refusal::Block(fault) => block_number(fault),
+        }
+    }
+}
+
+fn block_number(fault: BlockFault) -> u32
+    ensures { result ≡ refusal_number (Refusal.Block fault) }
+{
+    match fault {
+        BlockFault::NoChart => 21,
+        BlockFault::NoDimension => 22,
+        BlockFault::NoBlock => 23,
+        BlockFault::OpenBlock => 24,
+        BlockFault::SecondBlock => 25,
+        BlockFault::OffGrid => 26,
+        BlockFault::MomentOrder(_) => 27,
+        BlockFault::Unfinished => 28,
+        BlockFault::MixedRoles => 29,
+        BlockFault::GridChanged => 31,
+        BlockFault::TooManyCharts => 32,
+        BlockFault::TooManyDimensions => 33,
+        BlockFault::Memory => 0,
+    }
 }

@@ -1,4 +1,4 @@
-use Rattle.std.proofs.Common.{◌++◌, List, ℕ, Err, sym, ◌∙◌, ap, subst}
+use Rattle.std.proofs.Common.{◌++◌, ◌+◌, List, ℕ, Err, sym, ◌∙◌, ap, subst}
 use Rattle.std.specs.List.{AllPass}
 use Rattle.std.proofs.lemmas.Result.{err_from_is_err_and, MatchResult-weaker}
 use Rattle.plugin_text.specs.Lines.{fits, lines}
@@ -34,4 +34,5 @@ returns-in_ok-read_lines-in-Err-LineTooLong c taken made has =
     let long = c.in-Err-LineTooLong.ensures.long has.going (ap Err c.in-Err-LineTooLong.field-0-is) in
     let handed = c.as_slice-in-Err-LineTooLong.ensures ∙ long.1 ∙ ap (λ (before : List (List ℕ)). before ++ long.0) c.clear.ensures in
     let reads = rw handed at (c.in_ok-read_lines-in-Err-LineTooLong.ensures has.past has.has) in
-    long_taken c.args.self.now c.read_lines-in-Err-LineTooLong.new.reader taken c.args.piece.now made _ _ has long.0 long.2 reads
+    long_taken c.args.self.now c.read_lines-in-Err-LineTooLong.new.reader taken c.args.piece.now made _ _ has long.0 (c.lines.result + 1) long.2 reads
+    (ap (λ (n : ℕ). n + 1) (c.lines.ensures reads.now reads.has))
