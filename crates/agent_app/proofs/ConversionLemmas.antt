@@ -1,5 +1,5 @@
 -- One piece of a text after another.
-use Rattle.std.proofs.Common.{◌≡◌, ℕ, ◌+◌, ◌≤◌, Bool, true, false, ◌||◌, nat_lt, cond, List, [], ◌∷◌, ◌++◌, length, Some, None, refl, ap, sym, ◌∙◌, append_assoc, append-nil, length-append, arith}
+use Rattle.std.proofs.Common.{◌≡◌, ℕ, ◌+◌, ◌≤◌, Bool, true, false, cond, List, [], ◌∷◌, ◌++◌, length, None, refl, ap, sym, ◌∙◌, append_assoc, append-nil, length-append, arith}
 use Rattle.std.specs.List.{onto_first}
 use Rattle.history.specs.declared.fault.BlockFault.TheVariants.{Unfinished}
 use Rattle.history.specs.declared.line.Line.{Line}
@@ -18,7 +18,7 @@ use Rattle.agent_app.specs.declared.stop.Stop.{Stop}
 use Rattle.agent_app.specs.declared.stop.Stop.TheVariants as stop
 use Rattle.agent_app.specs.Conversion.{IsStopOf, IsPieceStop, IsEndStop, IsTold, ReadsOn, ReadsTo, HasConverted, IsOverAfter, EndsAfter, GoesOnAfter}
 use Rattle.agent_app.specs.Convert.{point_rules, converted}
-use Rattle.agent_app.specs.Reading.{Ending, Ends, RefusedAt, reading, reads_on}
+use Rattle.agent_app.specs.Reading.{Ending, RefusedAt, reading, reads_on}
 use Rattle.agent_app.proofs.ReadingLemmas.{StopsWith-weaker, reads_on-reads_on}
 
 -- how many lines there are, and how long what follows them is
@@ -93,6 +93,19 @@ piece_over old taken piece made out out' has ending held onward reads = record {
       (onward more ∙ ap (λ (after : List (List ℕ)). lines (old.splitter.rest ++ piece) ++ after) front.2)
       ∙ ap (reads_on made) (reads.finishes ended front.0 front.1);
 }
+
+-- what stands before a part that is not the last
+before_part : (before : List (List ℕ)) (long : List ℕ) (more : List (List ℕ)) → length before ≤ length (but_last (before ++ long ∷ more))
+before_part [] long more = omega arith
+before_part (part ∷ []) long more = omega arith
+before_part (part ∷ next ∷ before) long more = omega (arith, before_part (next ∷ before) long more)
+
+-- there are no more lines before a long one than bytes
+pub lines_before : (old : Conversion) (taken piece made : List ℕ) (has : HasConverted old taken made) (before : List (List ℕ)) → IsLongAfter (old.splitter.rest ++ piece) before
+    → length has.past + length before ≤ length taken + length piece
+lines_before old taken piece made has before long =
+    let fewer : length before ≤ length (lines (old.splitter.rest ++ piece)) = rw long.whole (before_part before long.long long.more) in
+    omega (arith, fewer, has.size, lines_and_rest (old.splitter.rest ++ piece), length-append old.splitter.rest piece)
 
 -- a piece with a long line, and one before it that ends the reading
 pub long_over : (old : Conversion) (taken piece made out out' : List ℕ) (has : HasConverted old taken made) (ending : Ending Refusal) (before : List (List ℕ))

@@ -1,16 +1,18 @@
 -- Lines that are read one after another.
-use Rattle.std.proofs.Common.{◌≡◌, ℕ, ◌+◌, ◌<◌, Bool, true, false, List, [], ◌∷◌, ◌++◌, length, take, drop, get_or, Ok, Err, refl, ap, sym, subst, ◌∙◌, append_assoc, append-nil, length-append, arith}
+use Rattle.std.proofs.Common.{◌≡◌, ℕ, ◌+◌, ◌<◌, true, false, List, [], ◌∷◌, ◌++◌, length, take, drop, get_or, Ok, Err, refl, ap, sym, subst, ◌∙◌, append_assoc, append-nil, length-append, arith}
 use Rattle.std.proofs.lemmas.List.{take_more, take-append-drop, drop_more}
 use Rattle.history.specs.declared.line.Line.{Line}
+use Rattle.history.specs.declared.line.Line.TheVariants.{Disable}
 use Rattle.history.specs.Read.{is_disable}
 use Rattle.plugin_text.specs.Lines.{fits}
 use Rattle.point_lines.specs.declared.refusal.Refusal.{Refusal}
 use Rattle.point_lines.specs.declared.reader.Reader.{Reader}
 use Rattle.point_lines.specs.Judged.{judge}
+use Rattle.point_lines.specs.Reader.{ReadsLine}
 use Rattle.point_lines.specs.Told.{told_at, told_at_end}
 use Rattle.agent_app.specs.declared.stop.Stop.{Stop}
 use Rattle.agent_app.specs.declared.stop.Stop.TheVariants as stop
-use Rattle.agent_app.specs.Conversion.{Continues, Finishes, StopsWith, IsStopOf, ReadsOn, ReadsTo}
+use Rattle.agent_app.specs.Conversion.{Continues, Finishes, StopsWith, IsStopOf, IsTold, ReadsOn, ReadsTo}
 use Rattle.agent_app.specs.Convert.{point_rules}
 use Rattle.agent_app.specs.Reading.{Reading, Ending, Ends, RefusedAt, reading, reads_on}
 
@@ -35,6 +37,35 @@ line_refused past line refusal short judged ended next more = rw (short, judged)
 -- a line that ends the text
 pub line_ends : (past : List Line) (line : List ℕ) (said : Line) → fits line ≡ true → judge past line ≡ Ok said → is_disable said ≡ true → Finishes past (line ∷ []) (told_at_end past) Ends
 line_ends past line said short judged ends ended next more = rw (short, judged, ends) refl
+
+-- a line that the reader read
+pub one_read : (past : List Line) (line : List ℕ) (new : Reader) (out out' : List ℕ) → fits line ≡ true → ReadsLine new past line out out' → ReadsOn new past (line ∷ []) out out'
+one_read past line new out out' short step = record {
+  now = step.said ∷ past;
+  told = told_at past step.said;
+  has = step.has;
+  count = omega arith;
+  added = step.added;
+  goes_on = line_read past line step.said short step.accepted step.goes_on;
+}
+
+-- a line that the reader refused
+pub one_refused : (past : List Line) (line : List ℕ) (number : ℕ) (why : Refusal) (out out' : List ℕ) → fits line ≡ true → number ≡ length past + 1 → judge past line ≡ Err why → out' ≡ out → ReadsTo past (line ∷ []) (RefusedAt number why) out out'
+one_refused past line number why out out' short at refused same = record {
+  told = [];
+  added = same ∙ sym (append-nil out);
+  finishes = rw at (line_refused past line why short refused);
+}
+
+-- a line that ends the text, and what is told of that
+pub one_ends : (past : List Line) (line : List ℕ) (why : Stop) (out mid out' : List ℕ) → fits line ≡ true → judge past line ≡ Ok Disable → mid ≡ out → IsTold why (Disable ∷ past) mid out' → IsStopOf past (line ∷ []) why out out'
+one_ends past line (stop.Refused number refusal) out mid out' short judged same told = absurd told
+one_ends past line stop.Ended out mid out' short judged same told = record {
+  told = told_at_end past;
+  added = told ∙ ap (λ (bytes : List ℕ). bytes ++ told_at_end past) same;
+  finishes = line_ends past line Disable short judged refl;
+}
+one_ends past line stop.Memory out mid out' short judged same told = tt
 
 -- what is told in two steps is told in one
 pub reads_on-reads_on : (told more_told : List ℕ) (reading : Reading Refusal) → reads_on told (reads_on more_told reading) ≡ reads_on (told ++ more_told) reading

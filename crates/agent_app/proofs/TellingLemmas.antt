@@ -17,7 +17,7 @@ use Rattle.agent_app.specs.declared.conversion.Conversion.{Conversion}
 use Rattle.agent_app.specs.declared.stop.Stop.{Stop}
 use Rattle.agent_app.specs.declared.stop.Stop.TheVariants as stop
 use Rattle.agent_app.specs.Conversion.{StopsWith, IsPieceStop, IsEndStop, HasConverted, IsOver, IsOverAfter, EndsAfter, GoesOnAfter}
-use Rattle.agent_app.specs.Convert.{converted, all_told, output_of, is_limit, refusal_status, ending_line, ending_status, input_limit, TellsOutput, HasStatusCause, IsUnasked, status_of, status_within, point_rules}
+use Rattle.agent_app.specs.Convert.{converted, all_told, output_of, is_limit, ending_line, ending_status, input_limit, HasStatusCause, IsUnasked, status_of, status_within, point_rules}
 use Rattle.agent_app.specs.Reading.{Reading, Ending, GoesOn, Ends, RefusedAt, reading}
 use Rattle.agent_app.specs.Telling.{TellsFront, IsToldAs, TellsEnding, TellsOn, StopsTelling, Stops}
 
@@ -201,10 +201,10 @@ piece_stops honest tell_rose status why text made out out' left past past' tf tf
     stop_cases why (λ ending. IsOverAfter text made ending out out') (λ ending. TellsEnding status honest out' ending past past' tell_rose (IsUnasked past past' tf tf'))
     (StopsTelling status honest false text made left past past' ⊥ tell_rose (IsUnasked past past' tf tf'))
     (λ ending final over told_ending.
-      ending_stops honest tell_rose ⊥ (IsUnasked past past' tf tf') status false text made over.told ending left past past' final
-          (rw (append-nil text) at (over.over false []))
-          (λ more left_is. status-over input_limit text (made ++ over.told) ending over.over within more)
-          (rw (over.added, none) at told_ending))
+    ending_stops honest tell_rose ⊥ (IsUnasked past past' tf tf') status false text made over.told ending left past past' final
+    (rw (append-nil text) at (over.over false []))
+    (λ more left_is. status-over input_limit text (made ++ over.told) ending over.over within more)
+    (rw (over.added, none) at told_ending))
     (λ is. out_of_memory honest tell_rose ⊥ status false text made ahead.0 left past past' tf tf' (memory is).0 (memory is).1 ahead.1)
     stops telling
 
@@ -218,9 +218,9 @@ end_stops honest tell_rose status why text made out out' left past past' tf tf' 
     stop_cases why (λ ending. EndsAfter text made ending out out') (λ ending. TellsEnding status honest out' ending past past' tell_rose (IsUnasked past past' tf tf'))
     (StopsTelling status honest true text made left past past' ⊥ tell_rose (IsUnasked past past' tf tf'))
     (λ ending final over told_ending.
-      ending_stops honest tell_rose ⊥ (IsUnasked past past' tf tf') status true text made over.told ending left past past' final over.whole
-          (λ more left_is. rw (nothing_left left more nothing left_is, append-nil text) (status-ended input_limit text (record { told = made ++ over.told; ending = ending }) over.whole within))
-          (rw (over.added, none) at told_ending))
+    ending_stops honest tell_rose ⊥ (IsUnasked past past' tf tf') status true text made over.told ending left past past' final over.whole
+    (λ more left_is. rw (nothing_left left more nothing left_is, append-nil text) (status-ended input_limit text (record { told = made ++ over.told; ending = ending }) over.whole within))
+    (rw (over.added, none) at told_ending))
     (λ is. out_of_memory honest tell_rose ⊥ status true text made ahead.0 left past past' tf tf' (memory is).0 (memory is).1 ahead.1)
     stops telling
 

@@ -1,4 +1,4 @@
-use Rattle.std.specs.Prelude.{◌≡◌, ℕ, ◌+◌, ◌≤◌, Bool, List, ◌∷◌, ◌++◌, length, None, Result, MatchResult}
+use Rattle.std.specs.Prelude.{◌≡◌, ℕ, ◌+◌, ◌≤◌, Bool, true, List, ◌∷◌, ◌++◌, length, None, Result, MatchResult}
 use Rattle.history.specs.declared.line.Line.{Line}
 use Rattle.plugin_text.specs.Lines.{parts, IsRest}
 use Rattle.point_lines.specs.declared.reader.Reader.{Reader}

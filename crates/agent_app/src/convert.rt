@@ -73,7 +73,7 @@ fn refusal_status(line: u64, refusal: Refusal) -> Status
 
 /// Tells what waits in `out`, and then a refusal.
 fn tell_refusal<H: Host>(host: &mut H, out: &mut String, line: u64, refusal: Refusal) -> Status
-    ensures { TellsEnding result H.honest (string_bytes out.old) (RefusedAt line refusal) (H.past host.old) (H.past host.new) (Rose (H.tell_faults host.old) (H.tell_faults host.new))
+    ensures ending { TellsEnding result H.honest (string_bytes out.old) (RefusedAt line refusal) (H.past host.old) (H.past host.new) (Rose (H.tell_faults host.old) (H.tell_faults host.new))
         (IsUnasked (H.past host.old) (H.past host.new) (H.tell_faults host.old) (H.tell_faults host.new)) }
     ensures count { H.tell_faults host.old ≤ H.tell_faults host.new }
 {

@@ -23,12 +23,12 @@ pub record ReadsLine (new : Reader) (past : List Line) (bytes out out' : List �
   pub added : out' ≡ out ++ told_at past said
 
 -- why the line was not read: it is refused, it ends the text, or there was no memory
-abbrev pub IsStopAt : List Line → List ℕ → Stop → (out out' : List ℕ) → Type 0
-IsStopAt past bytes (stop.Refused refusal) out out' = (judge past bytes ≡ Err refusal) × (out' ≡ out)
-IsStopAt past bytes stop.Disabled out out' = (judge past bytes ≡ Ok Disable) × (out' ≡ out)
-IsStopAt past bytes stop.Memory out out' = Unit {0}
+abbrev pub IsStopAt : Reader → List Line → List ℕ → Stop → (out out' : List ℕ) → Type 0
+IsStopAt new past bytes (stop.Refused refusal) out out' = (judge past bytes ≡ Err refusal) × (out' ≡ out)
+IsStopAt new past bytes stop.Disabled out out' = (judge past bytes ≡ Ok Disable) × (out' ≡ out) × IsReaderOf new (Disable ∷ past)
+IsStopAt new past bytes stop.Memory out out' = Unit {0}
 
 -- the reader reads a line, or stops there
 abbrev pub ReadsOrStops : {T : Type 0} → Reader → List ℕ → Result T Stop → Reader → (out out' : List ℕ) → Type 0
 ReadsOrStops old bytes result new out out' = (past : List Line) → IsReaderOf old past →
-    MatchResult result (λ _. ReadsLine new past bytes out out') (λ why. IsStopAt past bytes why out out')
+    MatchResult result (λ _. ReadsLine new past bytes out out') (λ why. IsStopAt new past bytes why out out')
