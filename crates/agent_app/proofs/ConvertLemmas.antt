@@ -4,14 +4,14 @@ use Rattle.host_model.specs.Cause.{Rose}
 use Rattle.host_model.specs.Past.{Event, told}
 use Rattle.host_model.specs.Source.{Takes}
 use Rattle.host_model.specs.declared.status.Status.{Status}
-use Rattle.host_model.specs.declared.status.Status.TheVariants.{Ok as Done, Refused, ReadFault, TellFault, InputLimit, Memory}
+use Rattle.host_model.specs.declared.status.Status.TheVariants.{Ok as Done, Refused, Limit, ReadFault, TellFault, InputLimit, Memory}
+use Rattle.point_lines.specs.declared.refusal.Refusal.{Refusal}
 use Rattle.agent_app.specs.declared.conversion.Conversion.{Conversion}
-use Rattle.agent_app.specs.declared.refusal.Refusal.{Refusal}
 use Rattle.agent_app.specs.Conversion.{HasConverted}
 use Rattle.agent_app.specs.Convert.{converted, all_told, output_of, input_limit, HasStatusCause, IsUnasked, Converts, EndsAsText, status_of}
-use Rattle.agent_app.specs.Reading.{Reading}
+use Rattle.agent_app.specs.Reading.{Reading, Ending}
 use Rattle.agent_app.specs.Telling.{StepsOn, Stops, Converting}
-use Rattle.agent_app.proofs.TellingLemmas.{rose-later, nothing_refused, status-limit, option_map-same, both-none}
+use Rattle.agent_app.proofs.TellingLemmas.{rose-later, still_open, status-limit, option_map-same, both-none}
 
 -- bytes taken one after another were taken together
 Takes-append : (left middle right : Option (List ℕ)) (first second : List ℕ) → Takes left first middle → Takes middle second right → Takes left (first ++ second) right
@@ -60,15 +60,16 @@ Converting-step old new honest budget size left middle right past past' past'' s
 }
 
 -- why a run ended does not hang on when the count of failures rose
-later-cause : (status : Status) (ended : Bool) (refusal : Option (ℕ × Refusal)) (text : List ℕ) (source_rose tell_rose source_rose' tell_rose' : Type 0) → (source_rose → source_rose') → (tell_rose → tell_rose')
-    → HasStatusCause status ended refusal text source_rose tell_rose → HasStatusCause status ended refusal text source_rose' tell_rose'
-later-cause Done ended refusal text source_rose tell_rose source_rose' tell_rose' source tell cause = cause
-later-cause (Refused line number) ended refusal text source_rose tell_rose source_rose' tell_rose' source tell cause = cause
-later-cause ReadFault ended refusal text source_rose tell_rose source_rose' tell_rose' source tell cause = (cause.0, cause.1, source cause.2)
-later-cause TellFault ended refusal text source_rose tell_rose source_rose' tell_rose' source tell cause = tell cause
-later-cause InputLimit ended refusal text source_rose tell_rose source_rose' tell_rose' source tell cause = cause
-later-cause Memory ended refusal text source_rose tell_rose source_rose' tell_rose' source tell cause = tt
-later-cause _ ended refusal text source_rose tell_rose source_rose' tell_rose' source tell cause = absurd cause
+later-cause : (status : Status) (ended : Bool) (ending : Ending Refusal) (text : List ℕ) (source_rose tell_rose source_rose' tell_rose' : Type 0) → (source_rose → source_rose') → (tell_rose → tell_rose')
+    → HasStatusCause status ended ending text source_rose tell_rose → HasStatusCause status ended ending text source_rose' tell_rose'
+later-cause Done ended ending text source_rose tell_rose source_rose' tell_rose' source tell cause = cause
+later-cause (Refused line number) ended ending text source_rose tell_rose source_rose' tell_rose' source tell cause = cause
+later-cause (Limit line number) ended ending text source_rose tell_rose source_rose' tell_rose' source tell cause = cause
+later-cause ReadFault ended ending text source_rose tell_rose source_rose' tell_rose' source tell cause = (cause.0, cause.1, source cause.2)
+later-cause TellFault ended ending text source_rose tell_rose source_rose' tell_rose' source tell cause = tell cause
+later-cause InputLimit ended ending text source_rose tell_rose source_rose' tell_rose' source tell cause = cause
+later-cause Memory ended ending text source_rose tell_rose source_rose' tell_rose' source tell cause = tt
+later-cause _ ended ending text source_rose tell_rose source_rose' tell_rose' source tell cause = absurd cause
 
 -- a run that stops at a step
 pub Converts-stop : (old : Conversion) (honest : Type 0) (status : Status) (budget : ℕ) (left middle right : Option (List ℕ)) (past past' past'' : List Event) (sf sf' sf'' tf tf' tf'' : ℕ)
@@ -90,7 +91,7 @@ Converts-stop old honest status budget left middle right past past' past'' sf sf
   silent = λ none.
       let each = both-none before.made step.stops.waiting (sym step.stops.output ∙ none) in
       later-unasked past past' past'' tf tf' tf'' (before.silent each.0) (step.stops.silent each.1);
-  cause = later-cause status step.ended (converted step.ended (before.taken ++ step.bytes)).refusal (before.taken ++ step.bytes) (Rose sf' sf'') (Rose tf' tf'') (Rose sf sf'') (Rose tf tf'')
+  cause = later-cause status step.ended (converted step.ended (before.taken ++ step.bytes)).ending (before.taken ++ step.bytes) (Rose sf' sf'') (Rose tf' tf'') (Rose sf sf'') (Rose tf tf'')
       (rose-later sf sf' sf'' before.source_count source) (rose-later tf tf' tf'' before.tell_count tell) step.stops.cause;
   source_count = omega (arith, before.source_count);
   tell_count = omega (arith, before.tell_count);
@@ -110,7 +111,7 @@ pub Converts-limit : (conversion : Conversion) (honest : Type 0) (left right : O
     → Converting conversion honest budget left right past past' sf sf' tf tf' → budget ≡ 0
     → Converts InputLimit honest left right past past' sf sf' tf tf'
 Converts-limit conversion honest left right past past' sf sf' tf tf' budget before none =
-    let whole = nothing_refused conversion before.taken before.made before.has in
+    let whole = still_open conversion before.taken before.made before.has in
     record {
       taken = before.taken;
       ended = false;
@@ -125,7 +126,7 @@ Converts-limit conversion honest left right past past' sf sf' tf tf' budget befo
         all = λ all. refl;
       };
       silent = λ none. before.silent (both-none before.made [] (sym (ap all_told whole) ∙ none)).0;
-      cause = (refl, ap (λ (reading : Reading Refusal). reading.refusal) whole, omega (arith, before.spent));
+      cause = (refl, ap (λ (reading : Reading Refusal). reading.ending) whole, omega (arith, before.spent));
       source_count = before.source_count;
       tell_count = before.tell_count;
     }
@@ -137,7 +138,7 @@ EndsAsText-limit conversion honest None right past past' sf sf' tf tf' budget be
 EndsAsText-limit conversion honest (Some text) right past past' sf sf' tf tf' budget before none = λ no_source no_tell.
     let found = Takes-some text before.taken right before.takes in
     subst (λ (all : List ℕ). (InputLimit ≡ status_of all) ⊎ (InputLimit ≡ Memory)) (sym found.2)
-    (inl (sym (status-limit input_limit before.taken before.made found.0 (nothing_refused conversion before.taken before.made before.has) (omega (arith, before.spent)))))
+    (inl (sym (status-limit input_limit before.taken before.made found.0 (still_open conversion before.taken before.made before.has) (omega (arith, before.spent)))))
 
 -- a run for which there was no memory
 pub Converts-memory : (honest : Type 0) (left : Option (List ℕ)) (past : List Event) (source_faults tell_faults : ℕ) → Converts Memory honest left left past past source_faults source_faults tell_faults tell_faults

@@ -1,61 +1,61 @@
-use Rattle.std.specs.Prelude.{◌≡◌, ℕ, ◌<◌, ◌≤◌, Bool, true, false, nat_lt, List, [], ◌++◌, length, take, ◌⊎◌, Option, Some, None, Result, Ok, Err, IfSome, codes, if◌then◌else◌}
+use Rattle.std.specs.Prelude.{◌≡◌, ℕ, ◌<◌, ◌≤◌, Bool, true, false, nat_lt, List, [], ◌++◌, length, take, ◌⊎◌, Option, IfSome, codes, if◌then◌else◌}
 use Rattle.std.specs.Fmt.{decimal}
-use Rattle.std.specs.List.{flat_map}
-use Rattle.std.specs.Option.{option_map_or}
 use Rattle.host_model.specs.Cause.{Rose}
 use Rattle.host_model.specs.Past.{Event, told}
 use Rattle.host_model.specs.Source.{Takes}
 use Rattle.host_model.specs.declared.status.Status.{Status}
-use Rattle.host_model.specs.declared.status.Status.TheVariants.{Ok as Done, Refused, ReadFault, TellFault, InputLimit, Memory}
-use Rattle.agent_app.specs.declared.plain.Plain.{Plain}
-use Rattle.agent_app.specs.declared.plain.Plain.TheVariants.{Moment}
-use Rattle.agent_app.specs.declared.refusal.Refusal.{Refusal}
-use Rattle.agent_app.specs.declared.refusal.Refusal.TheVariants.{LineTooLong, Unfinished, NotBuilt}
-use Rattle.agent_app.specs.Plain.{plain_of}
-use Rattle.agent_app.specs.Point.{point_line}
-use Rattle.agent_app.specs.Looking.{chart_in, dimensions_in, value_in, may_follow, is_unfinished}
-use Rattle.agent_app.specs.Reading.{Rules, Reading, reading_of}
+use Rattle.host_model.specs.declared.status.Status.TheVariants.{Ok as Done, Refused, Limit, ReadFault, TellFault, InputLimit, Memory}
+use Rattle.history.specs.declared.fault.BlockFault.TheVariants.{MomentOrder, Unfinished, TooManyCharts, TooManyDimensions}
+use Rattle.history.specs.declared.line.Line.{Line}
+use Rattle.history.specs.Read.{is_disable}
+use Rattle.history.specs.Refusal.{is_unfinished}
+use Rattle.plugin_text.specs.declared.fault.LineFault.TheVariants.{LineTooLong}
+use Rattle.point_lines.specs.declared.refusal.Refusal.{Refusal}
+use Rattle.point_lines.specs.declared.refusal.Refusal.TheVariants as refusal
+use Rattle.point_lines.specs.Judged.{every, judge, refusal_number}
+use Rattle.point_lines.specs.Told.{told_at, told_at_end}
+use Rattle.agent_app.specs.Reading.{Rules, Reading, Ending, GoesOn, Ends, RefusedAt, reading_of}
 
--- the number that is printed for a refusal
-abbrev pub refusal_number : Refusal → ℕ
-refusal_number LineTooLong = 11
-refusal_number Unfinished = 28
-refusal_number NotBuilt = 90
-
--- the dimension's point at the moment that closes the beat of these lines, if the beat sets it
-abbrev pub point_of : List Plain → ℕ → List ℕ → List ℕ → List ℕ
-point_of past t chart dimension = option_map_or (point_line t chart dimension) (value_in past dimension) []
-
--- what is told for a line: a MOMENT tells the points of its beat
-abbrev pub told_at : List Plain → Plain → List ℕ
-told_at past (Moment t) = option_map_or (λ chart. flat_map (point_of past t chart) (dimensions_in past)) (chart_in past) []
-told_at past _ = []
-
--- a line is refused where it is no plain line, or may not stand where it does
-abbrev pub judge_plain : List Plain → Option Plain → Result Plain Refusal
-judge_plain past None = Err NotBuilt
-judge_plain past (Some line) = if may_follow past line then Ok line else Err NotBuilt
-
--- the rules of plain text
-abbrev pub plain_rules : Rules Plain Refusal
-plain_rules = record {
-  judge = λ past line. judge_plain past (plain_of line);
+-- the rules of a text whose points are told
+abbrev pub point_rules : Rules Line Refusal
+point_rules = record {
+  judge = judge;
   tell = told_at;
-  is_unfinished = is_unfinished;
-  too_long = LineTooLong;
-  unfinished = Unfinished;
+  ends_text = is_disable;
+  tell_end = told_at_end;
+  is_unfinished = is_unfinished every;
+  too_long = refusal.Line LineTooLong;
+  unfinished = refusal.Block Unfinished;
 }
 
 abbrev pub converted : Bool → List ℕ → Reading Refusal
-converted ended text = reading_of plain_rules ended text
+converted ended text = reading_of point_rules ended text
+
+-- whether the refusal is that of a limit on what is kept
+abbrev pub is_limit : Refusal → Bool
+is_limit (refusal.Block TooManyCharts) = true
+is_limit (refusal.Block TooManyDimensions) = true
+is_limit why = false
+
+-- what follows the number of a refusal: a moment that is not above the last is told with the last
+abbrev pub refusal_tail : Refusal → List ℕ
+refusal_tail (refusal.Block (MomentOrder last)) = codes " " ++ decimal last
+refusal_tail why = []
 
 -- the line that a refusal is told by
-abbrev pub refusal_line : ℕ × Refusal → List ℕ
-refusal_line (line, refusal) = codes "REFUSED " ++ decimal line ++ codes " " ++ decimal (refusal_number refusal) ++ codes "\n"
+abbrev pub refusal_line : ℕ → Refusal → List ℕ
+refusal_line line why =
+    (if is_limit why then codes "LIMIT " else codes "REFUSED ") ++ decimal line ++ codes " " ++ decimal (refusal_number why) ++ refusal_tail why ++ codes "\n"
+
+-- what is told last of a reading
+abbrev pub ending_line : Ending Refusal → List ℕ
+ending_line GoesOn = []
+ending_line Ends = []
+ending_line (RefusedAt line why) = refusal_line line why
 
 -- all that is told of a reading: what its lines tell, and then its refusal
 abbrev pub all_told : Reading Refusal → List ℕ
-all_told reading = reading.told ++ option_map_or refusal_line reading.refusal []
+all_told reading = reading.told ++ ending_line reading.ending
 
 -- all that is told of a text
 abbrev pub output_of : Bool → List ℕ → List ℕ
@@ -79,15 +79,20 @@ pub record TellsOutput (status : Status) (output : List ℕ) (old new : List Eve
   pub tells : told new ≡ told old ++ sent
   pub all : tells_all status ≡ true → unsent ≡ []
 
+-- the status of a run whose text is refused so
+abbrev pub refusal_status : ℕ → Refusal → Status
+refusal_status line why = if is_limit why then Limit line (refusal_number why) else Refused line (refusal_number why)
+
 -- why the run ended as it did
-abbrev pub HasStatusCause : Status → Bool → Option (ℕ × Refusal) → List ℕ → (source_rose host_rose : Type 0) → Type 0
-HasStatusCause Done ended refusal taken source_rose host_rose = (ended ≡ true) × (refusal ≡ None)
-HasStatusCause (Refused line number) ended refusal taken source_rose host_rose = (why : Refusal) × (refusal ≡ Some (line, why)) × (number ≡ refusal_number why)
-HasStatusCause ReadFault ended refusal taken source_rose host_rose = (ended ≡ false) × (refusal ≡ None) × source_rose
-HasStatusCause TellFault ended refusal taken source_rose host_rose = host_rose
-HasStatusCause InputLimit ended refusal taken source_rose host_rose = (ended ≡ false) × (refusal ≡ None) × (length taken ≡ input_limit)
-HasStatusCause Memory ended refusal taken source_rose host_rose = Unit {0}
-HasStatusCause _ ended refusal taken source_rose host_rose = ⊥
+abbrev pub HasStatusCause : Status → Bool → Ending Refusal → List ℕ → (source_rose host_rose : Type 0) → Type 0
+HasStatusCause Done ended ending taken source_rose host_rose = ending ≡ Ends
+HasStatusCause (Refused line number) ended ending taken source_rose host_rose = (why : Refusal) × (ending ≡ RefusedAt line why) × (Refused line number ≡ refusal_status line why)
+HasStatusCause (Limit line number) ended ending taken source_rose host_rose = (why : Refusal) × (ending ≡ RefusedAt line why) × (Limit line number ≡ refusal_status line why)
+HasStatusCause ReadFault ended ending taken source_rose host_rose = (ended ≡ false) × (ending ≡ GoesOn) × source_rose
+HasStatusCause TellFault ended ending taken source_rose host_rose = host_rose
+HasStatusCause InputLimit ended ending taken source_rose host_rose = (ended ≡ false) × (ending ≡ GoesOn) × (length taken ≡ input_limit)
+HasStatusCause Memory ended ending taken source_rose host_rose = Unit {0}
+HasStatusCause _ ended ending taken source_rose host_rose = ⊥
 
 -- the host was not asked: what it has been through and its count of failures are as before
 abbrev pub IsUnasked : (past past' : List Event) → (tell_faults tell_faults' : ℕ) → Type 0
@@ -104,18 +109,20 @@ pub record Converts (status : Status) (honest : Type 0) (left left' : Option (Li
   pub output : honest → TellsOutput status (output_of ended taken) past past'
   -- where nothing is told of the bytes that were taken, the host was not asked
   pub silent : output_of ended taken ≡ [] → IsUnasked past past' tell_faults tell_faults'
-  pub cause : HasStatusCause status ended (converted ended taken).refusal taken (Rose source_faults source_faults') (Rose tell_faults tell_faults')
+  pub cause : HasStatusCause status ended (converted ended taken).ending taken (Rose source_faults source_faults') (Rose tell_faults tell_faults')
   -- no count of failures fell
   pub source_count : source_faults ≤ source_faults'
   pub tell_count : tell_faults ≤ tell_faults'
 
+abbrev pub ending_status : Ending Refusal → Status
+ending_status GoesOn = InputLimit
+ending_status Ends = Done
+ending_status (RefusedAt line why) = refusal_status line why
+
 -- the status of a run that takes at most so many bytes of the text, when nothing fails: that of the first
 -- refusal in those bytes, or else of the end, where that has come
 abbrev pub status_within : ℕ → List ℕ → Status
-status_within limit text =
-    let ended = nat_lt (length text) limit in
-    option_map_or (λ (line, refusal). Refused line (refusal_number refusal)) (converted ended (take limit text)).refusal
-    (if ended then Done else InputLimit)
+status_within limit text = ending_status (converted (nat_lt (length text) limit) (take limit text)).ending
 
 abbrev pub status_of : List ℕ → Status
 status_of text = status_within input_limit text

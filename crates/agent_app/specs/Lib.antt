@@ -1,11 +1,5 @@
 pub mod Command
 pub mod Conversion
 pub mod Convert
-pub mod Dimension
-pub mod Fields
-pub mod HasRead
-pub mod Looking
-pub mod Plain
-pub mod Point
 pub mod Reading
 pub mod Telling

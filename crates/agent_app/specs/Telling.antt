@@ -2,11 +2,12 @@ use Rattle.std.specs.Prelude.{◌≡◌, ℕ, ◌+◌, ◌<◌, ◌≤◌, Bool,
 use Rattle.host_model.specs.Past.{Event, told}
 use Rattle.host_model.specs.Source.{Takes}
 use Rattle.host_model.specs.declared.status.Status.{Status}
-use Rattle.host_model.specs.declared.status.Status.TheVariants.{Refused, TellFault, Memory}
+use Rattle.host_model.specs.declared.status.Status.TheVariants.{TellFault, Memory}
+use Rattle.point_lines.specs.declared.refusal.Refusal.{Refusal}
 use Rattle.agent_app.specs.declared.conversion.Conversion.{Conversion}
-use Rattle.agent_app.specs.declared.refusal.Refusal.{Refusal}
 use Rattle.agent_app.specs.Conversion.{HasConverted}
-use Rattle.agent_app.specs.Convert.{converted, output_of, refusal_number, input_limit, TellsOutput, HasStatusCause, IsUnasked, status_of}
+use Rattle.agent_app.specs.Convert.{converted, output_of, ending_line, ending_status, input_limit, TellsOutput, HasStatusCause, IsUnasked, status_of}
+use Rattle.agent_app.specs.Reading.{Ending}
 
 -- a front of the bytes was told
 pub record TellsFront (bytes : List ℕ) (old new : List Event) : Type 0 where
@@ -15,12 +16,16 @@ pub record TellsFront (bytes : List ℕ) (old new : List Event) : Type 0 where
   pub whole : bytes ≡ sent ++ unsent
   pub tells : told new ≡ told old ++ sent
 
--- how the telling of a refusal ends
-abbrev pub HasRefusalCause : Status → ℕ → Refusal → (tell_rose : Type 0) → Type 0
-HasRefusalCause (Refused line number) at refusal tell_rose = (line ≡ at) × (number ≡ refusal_number refusal)
-HasRefusalCause TellFault at refusal tell_rose = tell_rose
-HasRefusalCause Memory at refusal tell_rose = Unit {0}
-HasRefusalCause _ at refusal tell_rose = ⊥
+-- the status of a telling: that of the ending, or the output failed, or there was no memory
+abbrev pub IsToldAs : Status → Status → (tell_rose : Type 0) → Type 0
+IsToldAs status whole tell_rose = (status ≡ whole) ⊎ ((status ≡ TellFault) × tell_rose) ⊎ (status ≡ Memory)
+
+-- what waits is told, and then the ending
+pub record TellsEnding (status : Status) (honest : Type 0) (waiting : List ℕ) (ending : Ending Refusal) (past past' : List Event) (tell_rose unasked : Type 0) : Type 0 where
+  pub tells : honest → TellsOutput status (waiting ++ ending_line ending) past past'
+  pub cause : IsToldAs status (ending_status ending) tell_rose
+  -- where there is nothing to tell, the host was not asked
+  pub silent : waiting ++ ending_line ending ≡ [] → unasked
 
 -- the conversion has taken this text now, and what its new lines tell was told; `unasked` says that the host was not asked
 pub record TellsOn (new : Conversion) (honest : Type 0) (text made : List ℕ) (past past' : List Event) (unasked : Type 0) : Type 0 where
@@ -38,7 +43,7 @@ pub record StopsTelling (status : Status) (honest : Type 0) (ended : Bool) (text
   pub tells : honest → TellsOutput status waiting past past'
   -- where nothing was left to tell, the host was not asked
   pub silent : waiting ≡ [] → unasked
-  pub cause : HasStatusCause status ended (converted ended text).refusal text source_rose tell_rose
+  pub cause : HasStatusCause status ended (converted ended text).ending text source_rose tell_rose
   -- the status is that of the whole text
   pub whole : (more : List ℕ) → left ≡ Some more → (source_rose → ⊥) → (tell_rose → ⊥) → (status ≡ status_of (text ++ more)) ⊎ (status ≡ Memory)
 

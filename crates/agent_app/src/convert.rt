@@ -2,14 +2,16 @@
 ghost use Rattle.std.specs.Prelude.{◌≡◌, ◌+◌, ◌<◌, ◌≤◌, ◌++◌, List, [], ℕ, length, string_bytes, Option, true, false, IsErr, OnOk, OnErr, IfOk, IfErr, IfSome};
 ghost use Rattle.host_model.specs.Cause.{HasCause, Rose};
 ghost use Rattle.host_model.specs.Past.{told};
-ghost use Rattle.agent_app.specs.Conversion.{HasConverted};
-ghost use Rattle.agent_app.specs.Convert.{refusal_line, TellsOutput, Converts, EndsAsText, IsUnasked, input_limit};
-ghost use Rattle.agent_app.specs.Telling.{TellsFront, HasRefusalCause, TellsOn, StopsTelling, StepsOn, Stops};
+ghost use Rattle.agent_app.specs.Conversion.{HasConverted, StopsWith};
+ghost use Rattle.agent_app.specs.Convert.{is_limit, refusal_line, refusal_status, TellsOutput, Converts, EndsAsText, IsUnasked, input_limit};
+ghost use Rattle.agent_app.specs.Reading.{RefusedAt};
+ghost use Rattle.agent_app.specs.Telling.{TellsFront, IsToldAs, TellsEnding, TellsOn, StopsTelling, StepsOn, Stops};
 
 use crate::conversion::Conversion;
-use crate::refusal::Refusal;
 use crate::stop::Stop;
+use history::BlockFault;
 use host_model::{Failed, Host, Source, Status};
+use point_lines::Refusal;
 use std::alloc::{AllocError, Global};
 use std::fmt::Write;
 
@@ -36,24 +38,75 @@ fn tell_waiting<H: Host>(host: &mut H, out: &mut String) -> Result<(), Failed>
 
 /// Adds the line of a refusal to `out`.
 fn push_refusal(out: &mut String, line: u64, refusal: Refusal) -> Result<(), AllocError>
-    ensures { OnOk result (string_bytes out.new ≡ string_bytes out.old ++ refusal_line (line, refusal)) }
+    ensures { OnOk result (string_bytes out.new ≡ string_bytes out.old ++ refusal_line line refusal) }
 {
     let number = refusal.number();
-    writeln!(out, "REFUSED {line} {number}")
+    match refusal {
+        Refusal::Block(BlockFault::MomentOrder(last)) => {
+            writeln!(out, "REFUSED {line} {number} {last}")
+        }
+        _ if is_limit(refusal) => writeln!(out, "LIMIT {line} {number}"),
+        _ => writeln!(out, "REFUSED {line} {number}"),
+    }
+}
+
+/// Whether the refusal is that of a limit on what is kept.
+fn is_limit(refusal: Refusal) -> bool
+    ensures { result ≡ is_limit refusal }
+{
+    matches!(
+        refusal,
+        Refusal::Block(BlockFault::TooManyCharts | BlockFault::TooManyDimensions)
+    )
+}
+
+/// The status of a run whose text is refused.
+fn refusal_status(line: u64, refusal: Refusal) -> Status
+    ensures { result ≡ refusal_status line refusal }
+{
+    if is_limit(refusal) {
+        Status::Limit(line, refusal.number())
+    } else {
+        Status::Refused(line, refusal.number())
+    }
 }
 
 /// Tells what waits in `out`, and then a refusal.
 fn tell_refusal<H: Host>(host: &mut H, out: &mut String, line: u64, refusal: Refusal) -> Status
-    ensures tells { H.honest → TellsOutput result (string_bytes out.old ++ refusal_line (line, refusal)) (H.past host.old) (H.past host.new) }
-    ensures cause { HasRefusalCause result line refusal (Rose (H.tell_faults host.old) (H.tell_faults host.new)) }
+    ensures ending { TellsEnding result H.honest (string_bytes out.old) (RefusedAt line refusal) (H.past host.old) (H.past host.new) (Rose (H.tell_faults host.old) (H.tell_faults host.new))
+        (IsUnasked (H.past host.old) (H.past host.new) (H.tell_faults host.old) (H.tell_faults host.new)) }
     ensures count { H.tell_faults host.old ≤ H.tell_faults host.new }
 {
     if push_refusal(out, line, refusal).is_err() {
         return Status::Memory;
     }
+    tell_end(host, out, refusal_status(line, refusal))
+}
+
+/// Tells what waits in `out`, as the last of a run that ends with this status.
+fn tell_end<H: Host>(host: &mut H, out: &mut String, status: Status) -> Status
+    ensures tells { H.honest → TellsOutput result (string_bytes out.old) (H.past host.old) (H.past host.new) }
+    ensures cause { IsToldAs result status (Rose (H.tell_faults host.old) (H.tell_faults host.new)) }
+    ensures silent { string_bytes out.old ≡ [] → IsUnasked (H.past host.old) (H.past host.new) (H.tell_faults host.old) (H.tell_faults host.new) }
+    ensures count { H.tell_faults host.old ≤ H.tell_faults host.new }
+{
     match tell_waiting(host, out) {
-        Ok(()) => Status::Refused(line, refusal.number()),
+        Ok(()) => status,
         Err(_) => Status::TellFault,
+    }
+}
+
+/// Tells what waits in `out`, and how the reading stopped.
+fn tell_stop<H: Host>(host: &mut H, out: &mut String, stop: Stop) -> Status
+    ensures ending { StopsWith stop (λ ending. TellsEnding result H.honest (string_bytes out.old) ending (H.past host.old) (H.past host.new) (Rose (H.tell_faults host.old) (H.tell_faults host.new))
+        (IsUnasked (H.past host.old) (H.past host.new) (H.tell_faults host.old) (H.tell_faults host.new))) }
+    ensures memory { stop ≡ Stop.Memory → (result ≡ Status.Memory) × (host.new ≡ host.old) }
+    ensures count { H.tell_faults host.old ≤ H.tell_faults host.new }
+{
+    match stop {
+        Stop::Refused(line, refusal) => tell_refusal(host, out, line, refusal),
+        Stop::Ended => tell_end(host, out, Status::Ok),
+        Stop::Memory => Status::Memory,
     }
 }
 
@@ -80,12 +133,11 @@ fn convert_piece<H: Host>(
             Ok(()) => Ok(()),
             Err(_) => Err(Status::TellFault),
         },
-        Err(Stop::Refused(line, refusal)) => Err(tell_refusal(host, out, line, refusal)),
-        Err(Stop::Memory) => Err(Status::Memory),
+        Err(stop) => Err(tell_stop(host, out, stop)),
     }
 }
 
-/// Ends the text, and tells its refusal if it has one.
+/// Ends the text, and tells what its end tells.
 fn convert_end<H: Host>(conversion: &Conversion, out: &mut String, host: &mut H) -> Status
     requires waiting { string_bytes out.old ≡ [] }
     ensures stops { (taken made : List ℕ) → HasConverted conversion.now taken made → length taken < input_limit →
@@ -93,10 +145,8 @@ fn convert_end<H: Host>(conversion: &Conversion, out: &mut String, host: &mut H)
         (IsUnasked (H.past host.old) (H.past host.new) (H.tell_faults host.old) (H.tell_faults host.new)) }
     ensures count { H.tell_faults host.old ≤ H.tell_faults host.new }
 {
-    match conversion.refusal_at_end() {
-        None => Status::Ok,
-        Some((line, refusal)) => tell_refusal(host, out, line, refusal),
-    }
+    let stop = conversion.finish(out);
+    tell_stop(host, out, stop)
 }
 
 /// Takes more of the input, and tells what its lines tell. `Err` is how the run ends.

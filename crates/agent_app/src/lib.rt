@@ -3,7 +3,8 @@
 //! `agent_main` is the top call. Its contract says, for every input and whatever fails: what is told is
 //! the front of a stated function of the bytes that were taken, and all of it unless the output or
 //! memory failed; and why the run ended with the status that it answers. It stands on `plugin_text`
-//! and `words` for the text of collectors and on `host_model` for the outside.
+//! for the lines of a stream, on `point_lines` for what the lines of a text tell, and on `host_model`
+//! for the outside.
 #![tactic(auto)]
 
 ghost use Rattle.std.specs.Prelude.{◌≡◌, ◌↔◌, None, Some};
@@ -19,21 +20,17 @@ use std::alloc::Global;
 mod command;
 mod conversion;
 mod convert;
-mod dimension;
-mod fields;
-mod id;
-mod number;
-mod plain;
-mod reader;
-mod refusal;
 mod stop;
 
 /// Does what the words of a command line ask for, and says how it ended.
 ///
 /// `convert` reads the text of collectors from `source` and tells its points, a line each: the moment,
-/// the chart, the dimension and the value. A text that is refused tells `REFUSED`, the number of the
-/// line and the number of the refusal, after the points of the beats before. No more than 2^40 bytes
-/// are taken of the input. Want of memory may end a run at any place, with `Status::Memory`.
+/// the chart, the dimension and the value, then ` A` where it is anomalous and ` R` where its counter was
+/// reset. A text that ends, or that a DISABLE line ends, tells `SKIPPED` and how many lines were skipped,
+/// if any were. A text that is refused tells `REFUSED`, the number of the line and the number of the
+/// refusal, after the points of the beats before, and then the last moment where a moment is not above it;
+/// a text that asks for too many charts or dimensions tells `LIMIT` so. No more than 2^40 bytes are taken
+/// of the input. Want of memory may end a run at any place, with `Status::Memory`.
 pub fn agent_main<S: Source, H: Host>(
     alloc: Global,
     words: &WordsList,

@@ -15,7 +15,7 @@ struct Row {
 /// A text that tells nothing.
 const NO_POINT: &str = "CHART test.one n t u\nDIMENSION a\nMOMENT 60\n";
 
-static ROWS: [Row; 13] = [
+static ROWS: [Row; 15] = [
     Row {
         text: ONE_POINT,
         pull_fails: &[0],
@@ -51,8 +51,8 @@ static ROWS: [Row; 13] = [
         text: "BEGIN test.one\n",
         pull_fails: &[1],
         tell_fails: &[],
-        told: "REFUSED 1 90\n",
-        status: Status::Refused(1, 90),
+        told: "REFUSED 1 21\n",
+        status: Status::Refused(1, 21),
     },
     Row {
         text: ONE_POINT,
@@ -112,6 +112,21 @@ static ROWS: [Row; 13] = [
         told: POINT,
         status: Status::Ok,
     },
+    // A DISABLE ends the run before the end of the input is asked for; what is skipped is told last.
+    Row {
+        text: "skipped\nDISABLE\n",
+        pull_fails: &[1],
+        tell_fails: &[],
+        told: "SKIPPED 1\n",
+        status: Status::Ok,
+    },
+    Row {
+        text: "skipped\nDISABLE\n",
+        pull_fails: &[],
+        tell_fails: &[0],
+        told: "",
+        status: Status::TellFault,
+    },
 ];
 
 #[test]
@@ -141,8 +156,8 @@ fn a_refusal_that_is_not_told(rt: HostRuntime) -> Result<(), Fail> {
     for (tell_fails, told, status) in [
         (
             [7u64],
-            "60 test.one a 42\nREFUSED 20008 90\n",
-            Status::Refused(20_008, 90),
+            "60 test.one a 42\nREFUSED 20008 24\n",
+            Status::Refused(20_008, 24),
         ),
         ([1], POINT, Status::TellFault),
         ([0], "", Status::TellFault),

@@ -264,7 +264,24 @@ fn refusal(
     Ok(feed.line(registry, 0, false, &line).err())
 }
 
-// Gives a feed a chart with so many dimensions and an empty block: whether no line was refused.
+// Gives a feed lines that end in each number below a count: whether no line was refused.
+fn take_numbered(
+    alloc: Global,
+    feed: &mut Feed,
+    registry: &Registry,
+    front: &str,
+    back: &str,
+    count: u32,
+) -> Result<bool, Fail> {
+    let mut taken = true;
+    for n in 0..count {
+        let line = format!(in alloc; "{front}{n}{back}")?;
+        taken = refusal(alloc, feed, registry, line.as_str())?.is_none() && taken;
+    }
+    Ok(taken)
+}
+
+// Gives a feed a chart with so many dimensions, and a block that sets each: whether no line was refused.
 fn take_chart(
     alloc: Global,
     feed: &mut Feed,
@@ -274,25 +291,60 @@ fn take_chart(
 ) -> Result<bool, Fail> {
     let line = format!(in alloc; "CHART chart.{chart} n t u")?;
     let mut taken = refusal(alloc, feed, registry, line.as_str())?.is_none();
-    for n in 0..dimensions {
-        let line = format!(in alloc; "DIMENSION {n}")?;
-        taken = refusal(alloc, feed, registry, line.as_str())?.is_none() && taken;
-    }
+    taken = take_numbered(alloc, feed, registry, "DIMENSION ", "", dimensions)? && taken;
     let line = format!(in alloc; "BEGIN chart.{chart}")?;
     taken = refusal(alloc, feed, registry, line.as_str())?.is_none() && taken;
+    taken = take_numbered(alloc, feed, registry, "SET ", " = 7", dimensions)? && taken;
     Ok(refusal(alloc, feed, registry, "END")?.is_none() && taken)
+}
+
+// Gives a feed so many such charts.
+fn take_charts(
+    alloc: Global,
+    feed: &mut Feed,
+    registry: &Registry,
+    charts: u32,
+    dimensions: u32,
+) -> Result<bool, Fail> {
+    let mut taken = true;
+    for chart in 0..charts {
+        taken = take_chart(alloc, feed, registry, chart, dimensions)? && taken;
+    }
+    Ok(taken)
 }
 
 #[test]
 fn a_chart_takes_1024_dimensions(rt: HostRuntime) -> Result<(), Fail> {
     let registry = Registry::new(rt.alloc());
     let mut feed = Feed::new(rt.alloc(), 1);
-    assert!(rt; take_chart(rt.alloc(), &mut feed, &registry, 0, 1_024)?);
+    assert!(rt; take_charts(rt.alloc(), &mut feed, &registry, 63, 1_024)?);
     for (line, want) in [
         ("DIMENSION 1024", Some(BlockFault::TooManyDimensions)),
         ("DIMENSION 1023", None),
-        ("CHART chart.1 n t u", None),
+        ("CHART chart.63 n t u", None),
         ("DIMENSION 1024", None),
+    ] {
+        let got = refusal(rt.alloc(), &mut feed, &registry, line)?;
+        assert_eq!(rt; got, want, "{line}");
+    }
+    Ok(())
+}
+
+#[test]
+fn the_widest_beat_is_taken_and_no_more(rt: HostRuntime) -> Result<(), Fail> {
+    let registry = Registry::new(rt.alloc());
+    let mut feed = Feed::new(rt.alloc(), 1);
+    assert!(rt; take_charts(rt.alloc(), &mut feed, &registry, 4_096, 16)?);
+    for (line, want) in [
+        (
+            "CHART chart.4096 n t u",
+            Some(BlockFault::TooManyCharts),
+        ),
+        ("CHART chart.4095 n t u", None),
+        ("DIMENSION 15", None),
+        ("DIMENSION 16", Some(BlockFault::TooManyDimensions)),
+        ("BEGIN chart.4095", Some(BlockFault::SecondBlock)),
+        ("MOMENT 1", None),
     ] {
         let got = refusal(rt.alloc(), &mut feed, &registry, line)?;
         assert_eq!(rt; got, want, "{line}");

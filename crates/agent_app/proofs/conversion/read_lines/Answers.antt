@@ -1,4 +1,5 @@
-use Rattle.std.proofs.Common.{string_bytes}
+use Rattle.std.proofs.lemmas.List.{take_all}
+use Rattle.std.proofs.Common.{string_bytes, arith, length-take, List, ℕ}
 use Rattle.std.proofs.lemmas.Result.{err_from_is_err_and}
 use Rattle.agent_app.proofs.ReadingLemmas.{read_next, stop_next}
 use Rattle.agent_app.proofs.conversion.read_lines.Goals as goal
@@ -19,3 +20,11 @@ loop-line-preserved c past has =
     read_next c.loop-line.reader past c.args.lines.now c.loop-line.line-index c.as_slice.result.now c.line-item.result
     (string_bytes c.args.out.now) (string_bytes c.loop-line.out) (string_bytes c.read_line.new.out)
     c.loop-line-test.true c.line-item.is c.as_slice.ensures before c.read_line.new.reader step
+
+pub read_line-requires-clause-room : goal.read_line-requires-clause-room
+read_line-requires-clause-room c =
+    let before = c.loop-line.invariant c.requires.room.0 c.requires.room.1 in
+    (before.now, before.has, omega (arith, before.count, length-take {A = List ℕ} c.loop-line.line-index c.args.lines.now, c.requires.room.2))
+
+pub returns : goal.returns
+returns c past has = rw (take_all c.loop-line.line-index c.args.lines.now (omega (arith, c.loop-line-test.false))) at (c.loop-line.invariant past has)

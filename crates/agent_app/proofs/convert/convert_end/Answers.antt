@@ -1,12 +1,8 @@
-use Rattle.std.proofs.Common.{string_bytes}
-use Rattle.agent_app.proofs.TellingLemmas.{end_tells, end_refusal}
+use Rattle.std.proofs.Common.{string_bytes, ap}
+use Rattle.agent_app.proofs.TellingLemmas.{end_stops, end_onward}
 use Rattle.agent_app.proofs.convert.convert_end.Goals as goal
 
-pub returns-in-None-clause-stops : goal.returns-in-None-clause-stops
-returns-in-None-clause-stops g c taken made has within left nothing =
-    end_tells g.H.Host.honest _ taken made left _ _ (c.in-None.ensures taken made has) within nothing
-
-pub returns-in-Some-clause-stops : goal.returns-in-Some-clause-stops
-returns-in-Some-clause-stops g c taken made has within left nothing =
-    end_refusal g.H.Host.honest _ _ c.tell_refusal.result taken made (string_bytes c.args.out.now) c.in-Some.line c.in-Some.refusal left _ _
-    (c.in-Some.ensures taken made has) c.requires.waiting within nothing c.tell_refusal.ensures.tells c.tell_refusal.ensures.cause
+pub returns-clause-stops : goal.returns-clause-stops
+returns-clause-stops g c taken made has within left nothing =
+    end_stops g.H.Host.honest _ c.tell_stop.result c.finish-stop.result taken made (string_bytes c.args.out.now) (string_bytes c.finish-stop.new.out) left _ _ _ _
+    (c.finish-stop.ensures taken made has) c.requires.waiting within nothing c.tell_stop.ensures.ending (λ is. let both = c.tell_stop.ensures.memory is in (both.0, (ap g.H.Host.past both.1, ap g.H.Host.tell_faults both.1))) (end_onward c.args.conversion.now taken made has)
