@@ -22,6 +22,7 @@ use Rattle.collect_block.specs.Feed.{IsFeedOf, RefusedBy, step_of}
 use Rattle.point_lines.specs.declared.reader.Reader.{Reader}
 use Rattle.point_lines.specs.declared.refusal.Refusal.{Refusal}
 use Rattle.point_lines.specs.declared.refusal.Refusal.TheVariants as refusal
+use Rattle.point_lines.specs.declared.stop.Stop.TheVariants as stop
 use Rattle.point_lines.specs.Judged.{every, history_of, placed, judged, judge}
 use Rattle.point_lines.specs.Reader.{IsReaderOf, Reads, StopsFor}
 use Rattle.point_lines.specs.Steps.{HasDivisor, Stepped, block_stop, line_stop, skips}
@@ -95,31 +96,31 @@ module _ (past : List Line) (said : Line) where
   pub placed-ok : refusal_at every [] past said ≡ None → placed past said ≡ Ok said
   placed-ok none = ap answer none
 
-  pub stops-block : (fault : BlockFault) (reason : Option BlockFault) → reason ≡ refusal_at every [] past said → RefusedBy reason fault
-      → (out : List ℕ) → StopsFor (placed past said) (block_stop fault) out out
-  stops-block block.NoChart reason is by out = (ap answer (sym is ∙ by), refl)
-  stops-block block.NoDimension reason is by out = (ap answer (sym is ∙ by), refl)
-  stops-block block.NoBlock reason is by out = (ap answer (sym is ∙ by), refl)
-  stops-block block.OpenBlock reason is by out = (ap answer (sym is ∙ by), refl)
-  stops-block block.SecondBlock reason is by out = (ap answer (sym is ∙ by), refl)
-  stops-block block.OffGrid reason is by out = (ap answer (sym is ∙ by), refl)
-  stops-block (block.MomentOrder last) reason is by out = (ap answer (sym is ∙ by), refl)
-  stops-block block.Unfinished reason is by out = (ap answer (sym is ∙ by), refl)
-  stops-block block.MixedRoles reason is by out = (ap answer (sym is ∙ by), refl)
-  stops-block block.GridChanged reason is by out = (ap answer (sym is ∙ by), refl)
-  stops-block block.TooManyCharts reason is by out = (ap answer (sym is ∙ by), refl)
-  stops-block block.TooManyDimensions reason is by out = (ap answer (sym is ∙ by), refl)
-  stops-block block.Memory reason is by out = tt
+  pub stops-block : (new : Reader) (fault : BlockFault) (reason : Option BlockFault) → reason ≡ refusal_at every [] past said → RefusedBy reason fault
+      → (out : List ℕ) → StopsFor new past (placed past said) (block_stop fault) out out
+  stops-block new block.NoChart reason is by out = (ap answer (sym is ∙ by), refl)
+  stops-block new block.NoDimension reason is by out = (ap answer (sym is ∙ by), refl)
+  stops-block new block.NoBlock reason is by out = (ap answer (sym is ∙ by), refl)
+  stops-block new block.OpenBlock reason is by out = (ap answer (sym is ∙ by), refl)
+  stops-block new block.SecondBlock reason is by out = (ap answer (sym is ∙ by), refl)
+  stops-block new block.OffGrid reason is by out = (ap answer (sym is ∙ by), refl)
+  stops-block new (block.MomentOrder last) reason is by out = (ap answer (sym is ∙ by), refl)
+  stops-block new block.Unfinished reason is by out = (ap answer (sym is ∙ by), refl)
+  stops-block new block.MixedRoles reason is by out = (ap answer (sym is ∙ by), refl)
+  stops-block new block.GridChanged reason is by out = (ap answer (sym is ∙ by), refl)
+  stops-block new block.TooManyCharts reason is by out = (ap answer (sym is ∙ by), refl)
+  stops-block new block.TooManyDimensions reason is by out = (ap answer (sym is ∙ by), refl)
+  stops-block new block.Memory reason is by out = tt
 
 module _ (past : List Line) (bytes : List ℕ) where
-  pub stops-line : (why : LineFault) → IsFaultFor (line_of bytes) why → (out : List ℕ) → StopsFor (judge past bytes) (line_stop why) out out
-  stops-line fault.LineTooLong is out = (ap (judged past) is, refl)
-  stops-line fault.NotText is out = (ap (judged past) is, refl)
-  stops-line fault.OpenQuote is out = (ap (judged past) is, refl)
-  stops-line fault.MissingWord is out = (ap (judged past) is, refl)
-  stops-line fault.LongId is out = (ap (judged past) is, refl)
-  stops-line fault.BadNumber is out = (ap (judged past) is, refl)
-  stops-line fault.Memory is out = tt
+  pub stops-line : (new : Reader) (why : LineFault) → IsFaultFor (line_of bytes) why → (out : List ℕ) → StopsFor new past (judge past bytes) (line_stop why) out out
+  stops-line new fault.LineTooLong is out = (ap (judged past) is, refl)
+  stops-line new fault.NotText is out = (ap (judged past) is, refl)
+  stops-line new fault.OpenQuote is out = (ap (judged past) is, refl)
+  stops-line new fault.MissingWord is out = (ap (judged past) is, refl)
+  stops-line new fault.LongId is out = (ap (judged past) is, refl)
+  stops-line new fault.BadNumber is out = (ap (judged past) is, refl)
+  stops-line new fault.Memory is out = tt
 
 -- ---- a line that may stand there is counted
 module _ (old : Reader) (past : List Line) (said : Line) (leads_to : Step) (feed : Feed) where
@@ -199,8 +200,18 @@ module _ (reader : Reader) (past : List Line) (said : Line) (leads_to : Step) (s
         added = sym (ap (λ more. out ++ more) q.tells ∙ append-nil out);
       }
 
-  stops-disabled : leads_to ≡ step.Disabled → placed past said ≡ Ok line.Disable
-  stops-disabled is = placed-ok past said stepped.accepted_line ∙ ap (λ (said : Line). Ok said) (disable-is past said (sym is ∙ stepped.step_is))
+-- a DISABLE line was read too
+reads-disable : (reader : Reader) (past : List Line) (out : List ℕ) → Stepped reader past line.Disable step.Disabled → StopsFor reader past (placed past line.Disable) stop.Disabled out out
+reads-disable reader past out stepped = (placed-ok past line.Disable stepped.accepted_line, refl, record {
+  lines = stepped.lines;
+  skips = stepped.skips;
+  feed = stepped.feed;
+  definitions = stepped.definitions;
+  moment = stepped.moment;
+  rows = stepped.rows;
+  accepted = (stepped.accepted_line, stepped.accepted);
+  divisors = stepped.divisors;
+})
 
 module _ (reader : Reader) (past : List Line) (said : Line) (out : List ℕ) where
   pub reads-nothing : Stepped reader past said step.Nothing → Reads reader past (placed past said) out out
@@ -209,5 +220,8 @@ module _ (reader : Reader) (past : List Line) (said : Line) (out : List ℕ) whe
   pub reads-query : (text : List ℕ) → Stepped reader past said (step.Query text) → Reads reader past (placed past said) out out
   reads-query text stepped = reads-quiet reader past said (step.Query text) stepped out refl
 
-  pub stops-at_disable : Stepped reader past said step.Disabled → (placed past said ≡ Ok line.Disable) × (out ≡ out)
-  stops-at_disable stepped = (stops-disabled reader past said step.Disabled stepped out refl, refl)
+  pub stops-at_disable : Stepped reader past said step.Disabled → StopsFor reader past (placed past said) stop.Disabled out out
+  stops-at_disable stepped =
+      let is : said ≡ line.Disable = disable-is past said stepped.step_is in
+      subst (λ (other : Line). StopsFor reader past (placed past other) stop.Disabled out out) (sym is)
+      (reads-disable reader past out (subst (λ (other : Line). Stepped reader past other step.Disabled) is stepped))

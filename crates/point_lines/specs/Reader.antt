@@ -39,29 +39,30 @@ pub record Reads (new : Reader) (past : List Line) (answer : Result Line Refusal
   pub has : IsReaderOf new (said ∷ past)
   pub added : out' ≡ out ++ told_at past said
 
--- why a line with this answer was not read: it is refused, it ends the text, or there was no memory
-abbrev pub StopsFor : Result Line Refusal → Stop → (out out' : List ℕ) → Type 0
-StopsFor answer (stop.Refused why) out out' = (answer ≡ Err why) × (out' ≡ out)
-StopsFor answer stop.Disabled out out' = (answer ≡ Ok Disable) × (out' ≡ out)
-StopsFor answer stop.Memory out out' = Unit {0}
+-- why a line with this answer was not read: it is refused, it ends the text, or there was no memory. A
+-- reader has read the line that ends the text.
+abbrev pub StopsFor : Reader → List Line → Result Line Refusal → Stop → (out out' : List ℕ) → Type 0
+StopsFor new past answer (stop.Refused why) out out' = (answer ≡ Err why) × (out' ≡ out)
+StopsFor new past answer stop.Disabled out out' = (answer ≡ Ok Disable) × (out' ≡ out) × IsReaderOf new (Disable ∷ past)
+StopsFor new past answer stop.Memory out out' = Unit {0}
 
 -- the reader reads a line with this answer, or stops there
 abbrev pub ReadsOr : {T : Type 0} → List Line → Result Line Refusal → Result T Stop → Reader → (out out' : List ℕ) → Type 0
 ReadsOr past answer result new out out' =
-    MatchResult result (λ _. Reads new past answer out out') (λ why. StopsFor answer why out out')
+    MatchResult result (λ _. Reads new past answer out out') (λ why. StopsFor new past answer why out out')
 
 -- the reader has read this line too, and what it tells was added to the output
 abbrev pub ReadsLine : Reader → List Line → List ℕ → (out out' : List ℕ) → Type 0
 ReadsLine new past bytes out out' = Reads new past (judge past bytes) out out'
 
 -- why the line was not read
-abbrev pub IsStopAt : List Line → List ℕ → Stop → (out out' : List ℕ) → Type 0
-IsStopAt past bytes why out out' = StopsFor (judge past bytes) why out out'
+abbrev pub IsStopAt : Reader → List Line → List ℕ → Stop → (out out' : List ℕ) → Type 0
+IsStopAt new past bytes why out out' = StopsFor new past (judge past bytes) why out out'
 
 -- the reader reads a line, or stops there
 abbrev pub ReadsOrStops : {T : Type 0} → Reader → List ℕ → Result T Stop → Reader → (out out' : List ℕ) → Type 0
 ReadsOrStops old bytes result new out out' = (past : List Line) → IsReaderOf old past →
-    MatchResult result (λ _. ReadsLine new past bytes out out') (λ why. IsStopAt past bytes why out out')
+    MatchResult result (λ _. ReadsLine new past bytes out out') (λ why. IsStopAt new past bytes why out out')
 
 -- whether the text may end after these lines, with these bytes behind the last line feed
 abbrev pub EndsOr : {T : Type 0} → Reader → List ℕ → Result T Refusal → Type 0

@@ -62,8 +62,8 @@ impl Reader {
 
     /// Reads the next line, which stands there without its line feed, and adds what it tells to `out`.
     ///
-    /// Where the line is refused or says DISABLE nothing is added, and without memory a part may be; after
-    /// any `Err` the reader is spent.
+    /// Where the line is refused or says DISABLE nothing is added, and without memory a part may be. After
+    /// `Disabled` the reader has read the line, and after another `Err` it is spent.
     pub fn take_line(&mut self, bytes: &[u8], out: &mut String) -> Result<(), Stop>
         requires room { HasRoom self.old }
         ensures { ReadsOrStops self.old bytes.now result self.new (string_bytes out.old) (string_bytes out.new) }

@@ -29,4 +29,4 @@ returns-in-Ok c past has =
 pub returns-in-Err : goal.returns-in-Err
 returns-in-Err c past has =
     rw c.block_stop.ensures
-    (stops-block past c.args.line.now c.in-Err.fault _ (reason-is c.args.self.now past has c.args.line.now) (c.in-Err.ensures.refused every past has.feed) (string_bytes c.args.out.now))
+    (stops-block past c.args.line.now _ c.in-Err.fault _ (reason-is c.args.self.now past has c.args.line.now) (c.in-Err.ensures.refused every past has.feed) (string_bytes c.args.out.now))
