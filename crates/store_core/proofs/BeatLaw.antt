@@ -1,11 +1,14 @@
 -- The law of beats: the bytes of a beat in form read as it, and what bytes read as has them.
-use Rattle.std.proofs.Common.{◌≡◌, ℕ, zero, suc, ◌^◌, ◌<◌, Bool, true, false, cond, List, [], ◌∷◌, ◌++◌, length, Option, Some, None, Ok, Err, refl, sym, ap, ◌∙◌, subst, arith}
+use Rattle.std.proofs.Common.{◌≡◌, ℕ, zero, suc, ◌+◌, ◌*◌, ◌^◌, ◌<◌, Bool, true, false, cond, List, [], ◌∷◌, ◌++◌, length, Option, Some, None, Ok, Err, refl, sym, ap, ◌∙◌, arith, length-append}
+use Rattle.std.specs.List.{flat_map}
 use Rattle.std.proofs.lemmas.List.{append-nil}
+use Rattle.std.proofs.lemmas.List.Concat.{flat_map-cons}
 use Rattle.field_codec.specs.Field.{IsBytes, IsField}
 use Rattle.field_codec.specs.Reading.{ReadOf, read_as, read_bytes, read_u32}
 use Rattle.field_codec.specs.Spelling.{sized_bytes, u32_bytes}
 use Rattle.field_codec.proofs.Combined.{as_field}
 use Rattle.field_codec.proofs.Fields.{bytes_field, u32_field}
+use Rattle.entry_codec.specs.Lists.{list_bytes}
 use Rattle.entry_codec.proofs.Fields.{◌⊗◌, list_field}
 use Rattle.store_core.specs.declared.beat.Beat.{Beat}
 use Rattle.store_core.specs.declared.beat.BeatPoint.{BeatPoint}
@@ -76,4 +79,40 @@ beat_found bytes beat fits is =
     let known = whole_beat-some (read_fields bytes) beat is in (
       record { short = fields_field.has_spelling bytes beat [] fits known.0; form = known.1 },
       fields_field.is_spelt bytes beat [] fits known.0 ∙ append-nil (beat_bytes beat),
+    )
+
+-- ---- the size of a beat
+
+length-point_bytes : (p : BeatPoint) → length (point_bytes p) ≡ 12
+unfolding point_bytes u32_bytes
+length-point_bytes p = refl
+
+length-points : (points : List BeatPoint) → length (flat_map point_bytes points) ≡ 12 * length points
+length-points [] = refl
+length-points (p ∷ points) =
+    omega (
+      arith,
+      ap length (flat_map-cons point_bytes p points),
+      length-append (point_bytes p) (flat_map point_bytes points),
+      length-point_bytes p,
+      length-points points,
+    )
+
+length-u32_bytes : (n : ℕ) → length (u32_bytes n) ≡ 4
+unfolding u32_bytes
+length-u32_bytes n = refl
+
+pub beat_size : (b : Beat) → length (beat_bytes b) ≡ 12 + 12 * length b.points + length b.note
+unfolding beat_bytes moment_bytes list_bytes sized_bytes
+beat_size b =
+    omega (
+      arith,
+      length-append (u32_bytes (moment_number b.moment) ++ (u32_bytes (length b.points) ++ flat_map point_bytes b.points)) (u32_bytes (length b.note) ++ b.note),
+      length-append (u32_bytes (moment_number b.moment)) (u32_bytes (length b.points) ++ flat_map point_bytes b.points),
+      length-append (u32_bytes (length b.points)) (flat_map point_bytes b.points),
+      length-append (u32_bytes (length b.note)) b.note,
+      length-u32_bytes (moment_number b.moment),
+      length-u32_bytes (length b.points),
+      length-u32_bytes (length b.note),
+      length-points b.points,
     )

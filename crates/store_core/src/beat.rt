@@ -38,4 +38,15 @@ impl Beat {
     {
         form::is_short(self) && form::has_form(self)
     }
+
+    /// Whether the record of a journal can hold the beat: it has at most 2^26 bytes, 12 for each point, the
+    /// bytes of the note, and 12 more.
+    #[tactic(auto, using(crate::proofs::BeatLaw::beat_size))]
+    pub fn fits_a_record(&self) -> bool
+        ensures { IsTrue result ↔ (length (beat_bytes self.now) ≤ 2 ^ 26) }
+    {
+        let most = 1 << 26;
+        let (points, note) = (self.points.len(), self.note.len());
+        points <= most && note <= most && 12 + 12 * points + note <= most
+    }
 }

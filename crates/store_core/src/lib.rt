@@ -18,3 +18,6 @@ pub use fault::{StoreFault, Why};
 pub use fixed_num::ByteList;
 pub use settings::is_in_limits;
 pub use store::Store;
+
+#[cfg(test)]
+mod tests;

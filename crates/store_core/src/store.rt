@@ -206,8 +206,8 @@ impl Store {
         ensures faults { IfErr result IsReplayFault }
         ensures unchanged { IfErr result (λ fault. LeavesAll fault → self.new ≡ self.old) }
     {
-        if let Some(why) = self.fault {
-            return Err(StoreFault::Reopen(why));
+        if let Some(cause) = self.fault {
+            return Err(StoreFault::Reopen(cause));
         }
         Ok(self.apply_next())
     }
