@@ -34,7 +34,7 @@ raised count = counted (count + 1)
 abbrev pub IsReplayed : StoreState → Type 0
 IsReplayed store = store.waiting ≡ []
 
--- the store is that of generation 0
+-- the journal of generation 0, in its file
 pub record IsPlaced (journal : JournalState) : Type 0 where
   pub file : journal.file ≡ JournalA
   pub generation : journal.generation ≡ 0
