@@ -1,4 +1,5 @@
 pub mod CallLemmas
+pub mod DiskLemmas
 pub mod FileLemmas
 mod HostLemmas
 mod LeftLemmas

@@ -1,6 +1,7 @@
 pub mod Calls
 pub mod Cause
 pub mod DiskLaw
+pub mod Disks
 pub mod Entry
 pub mod HostState
 pub mod Images

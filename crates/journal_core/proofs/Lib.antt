@@ -5,5 +5,6 @@ pub mod HeaderLemmas
 pub mod NextLemmas
 pub mod PieceLemmas
 pub mod ReadLemmas
+pub mod ShortLemmas
 pub mod StoreLemmas
 mod Rows

@@ -36,6 +36,17 @@ impl Model for Journal {
 impl Journal {
     ghost use Rattle.journal_core.specs.Journal.{IsOpen, StandsForEither};
 
+    /// The journal that `prepare` leaves in a file: it has no record.
+    pub fn empty(file: File, generation: u64) -> Journal
+        ensures { result ≡ record { file = file; generation = generation; bytes = 17 } }
+    {
+        Journal {
+            file,
+            generation,
+            bytes: 17,
+        }
+    }
+
     /// Opens the journal of this generation in a file, and gives its records. It syncs the file first
     /// and then only reads.
     pub fn open<H: Host>(

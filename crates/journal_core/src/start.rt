@@ -1,8 +1,8 @@
-ghost use Rattle.std.specs.Prelude.{◌≡◌, [], ◌∷◌, ◌++◌, IfErr, IsErr, IsErrOf, OnOk};
-ghost use Rattle.host_model.specs.Images.{contents, IsSynced};
+ghost use Rattle.std.specs.Prelude.{◌≡◌, ◌≤◌, [], ◌∷◌, ◌++◌, length, IfErr, IsErr, IsErrOf, OnOk};
+ghost use Rattle.host_model.specs.Images.{contents, greatest, IsSynced};
 ghost use Rattle.host_model.specs.Past.{of};
 ghost use Rattle.host_model.specs.Cause.{HasCause};
-ghost use Rattle.host_model.specs.Moments.{Throughout, OnlyOn};
+ghost use Rattle.host_model.specs.Moments.{Throughout, EveryImage, OnlyOn};
 ghost use Rattle.journal_core.specs.Form.{header, StandsFor};
 
 use crate::fault::JournalFault;
@@ -17,6 +17,10 @@ pub fn prepare<H: Host>(host: &mut H, file: File, generation: u64) -> Result<(),
 
     // At every moment nothing has happened to any other file, and nothing was told.
     ensures any_moment { H.honest → Throughout (OnlyOn file (H.past host.old)) (H.past host.old) (H.past host.new) }
+
+    // Where the file was synced with at most the 17 bytes of an empty journal, no stop leaves more.
+    ensures short { H.honest → IsSynced (of file (H.past host.old)) → length (contents (of file (H.past host.old))) ≤ 17
+        → Throughout (EveryImage file (λ bytes. length bytes ≤ 17)) (H.past host.old) (H.past host.new) }
     ensures faults { IfErr result (λ fault. fault ≡ JournalFault.DiskFault) }
     ensures cause { HasCause (H.disk_faults host.old) (H.disk_faults host.new) (IsErrOf result JournalFault.DiskFault) }
     ensures output { H.tell_faults host.new ≡ H.tell_faults host.old }
@@ -33,6 +37,8 @@ fn put_down<H: Host>(host: &mut H, file: File, head: [u8; 16]) -> Result<(), Fai
     ensures whole { OnOk result (H.honest → contents (of file (H.past host.new)) ≡ head ++ 0 ∷ []) }
     ensures synced { OnOk result (H.honest → IsSynced (of file (H.past host.new))) }
     ensures any_moment { H.honest → Throughout (OnlyOn file (H.past host.old)) (H.past host.old) (H.past host.new) }
+    ensures short { H.honest → greatest (of file (H.past host.old)) ≤ 17
+        → Throughout (λ past. greatest (of file past) ≤ 17) (H.past host.old) (H.past host.new) }
     ensures cause { HasCause (H.disk_faults host.old) (H.disk_faults host.new) (IsErr result) }
     ensures output { H.tell_faults host.new ≡ H.tell_faults host.old }
     ensures reads { H.reads host.new ≡ H.reads host.old }

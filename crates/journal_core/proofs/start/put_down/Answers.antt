@@ -1,4 +1,4 @@
-use Rattle.std.proofs.Common.{◌≡◌, ℕ, List, [], ◌∷◌, ◌++◌, length, take, sym, ap, ◌∙◌, rules}
+use Rattle.std.proofs.Common.{◌≡◌, ℕ, List, [], ◌∷◌, ◌++◌, length, take, sym, ap, ◌∙◌, arith, rules}
 use Rattle.std.proofs.lemmas.Result.{on_ok_weaker}
 use Rattle.host_model.specs.Images.{Wrote, Cut, Synced, contents, written}
 use Rattle.host_model.specs.Past.{of}
@@ -6,6 +6,7 @@ use Rattle.host_model.specs.Moments.{begins}
 use Rattle.host_model.proofs.FileLemmas.{written-end}
 use Rattle.host_model.proofs.MomentLemmas.{OnlyOn-same}
 use Rattle.journal_core.proofs.CallLemmas.{reads_after, only_changed, only_settled}
+use Rattle.journal_core.proofs.ShortLemmas.{within_write, within_cut, within_sync}
 use Rattle.journal_core.proofs.start.put_down.Goals as goal
 
 pub returns-in_err-cut-clause-any_moment : goal.returns-in_err-cut-clause-any_moment
@@ -70,3 +71,44 @@ returns-clause-whole g c =
     (reads_after file (Wrote 0 (length c.args.head) (written (contents (of file cut)) 0 c.args.head)) cut headed (c.in_ok-write_at.ensures.done h))
     (reads_after file (Wrote 16 1 (written (contents (of file headed)) 16 (0 ∷ []))) headed gated (c.in_ok-write_at-2.ensures.done h)))
     c.sync.ensures.done
+
+pub returns-in_err-cut-clause-short : goal.returns-in_err-cut-clause-short
+returns-in_err-cut-clause-short g c h short =
+    let file = c.args.file in
+    let old = g.H.Host.past c.args.host.now in
+    within_cut g.H.Host.honest c.cut.result 17 file 0 (take 0 (contents (of file old))) old old (g.H.Host.past c.cut.new.self) h c.cut.ensures.done c.cut.ensures.torn
+    (begins short)
+
+pub returns-in_err-write_at-clause-short : goal.returns-in_err-write_at-clause-short
+returns-in_err-write_at-clause-short g c h short =
+    let file = c.args.file in
+    let old = g.H.Host.past c.args.host.now in
+    let cut = g.H.Host.past c.cut.new.self in
+    within_write g.H.Host.honest c.write_at.result 17 file 0 (length c.args.head) (written (contents (of file cut)) 0 c.args.head) old cut (g.H.Host.past c.write_at.new.self) h (search rules) c.write_at.ensures.done c.write_at.ensures.torn
+    (within_cut g.H.Host.honest c.cut.result 17 file 0 (take 0 (contents (of file old))) old old cut h c.cut.ensures.done c.cut.ensures.torn
+    (begins short))
+
+pub returns-in_err-write_at-2-clause-short : goal.returns-in_err-write_at-2-clause-short
+returns-in_err-write_at-2-clause-short g c h short =
+    let file = c.args.file in
+    let old = g.H.Host.past c.args.host.now in
+    let cut = g.H.Host.past c.cut.new.self in
+    let headed = g.H.Host.past c.write_at.new.self in
+    within_write g.H.Host.honest c.write_at-2.result 17 file 16 1 (written (contents (of file headed)) 16 (0 ∷ [])) old headed (g.H.Host.past c.write_at-2.new.self) h (omega arith) c.write_at-2.ensures.done c.write_at-2.ensures.torn
+    (within_write g.H.Host.honest c.write_at.result 17 file 0 (length c.args.head) (written (contents (of file cut)) 0 c.args.head) old cut headed h (search rules) c.write_at.ensures.done c.write_at.ensures.torn
+    (within_cut g.H.Host.honest c.cut.result 17 file 0 (take 0 (contents (of file old))) old old cut h c.cut.ensures.done c.cut.ensures.torn
+    (begins short)))
+
+pub returns-clause-short : goal.returns-clause-short
+returns-clause-short g c h short =
+    let file = c.args.file in
+    let old = g.H.Host.past c.args.host.now in
+    let cut = g.H.Host.past c.cut.new.self in
+    let headed = g.H.Host.past c.write_at.new.self in
+    let gated = g.H.Host.past c.write_at-2.new.self in
+    within_sync g.H.Host.honest c.sync.result 17 file old gated (g.H.Host.past c.sync.new.self) h c.sync.ensures.done c.sync.ensures.torn
+    (g.met.H.Host.reads_an_image c.write_at-2.new.self file h)
+    (within_write g.H.Host.honest c.write_at-2.result 17 file 16 1 (written (contents (of file headed)) 16 (0 ∷ [])) old headed gated h (omega arith) c.write_at-2.ensures.done c.write_at-2.ensures.torn
+    (within_write g.H.Host.honest c.write_at.result 17 file 0 (length c.args.head) (written (contents (of file cut)) 0 c.args.head) old cut headed h (search rules) c.write_at.ensures.done c.write_at.ensures.torn
+    (within_cut g.H.Host.honest c.cut.result 17 file 0 (take 0 (contents (of file old))) old old cut h c.cut.ensures.done c.cut.ensures.torn
+    (begins short))))

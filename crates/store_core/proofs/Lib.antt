@@ -1,0 +1,9 @@
+pub mod BeatLaw
+pub mod DiskCases
+pub mod FileLemmas
+pub mod FirstRecordLaw
+pub mod Loops
+pub mod OpenLemmas
+pub mod RecordLaw
+pub mod StandLemmas
+pub mod StoreLemmas

@@ -1,0 +1,211 @@
+-- What a store is, from call to call.
+use Rattle.std.proofs.Common.{◌≡◌, ℕ, suc, ◌+◌, ◌-◌, ◌^◌, ◌≤◌, ◌⊎◌, inl, inr, Bool, true, false, List, [], ◌∷◌, ◌++◌, length, min, Option, Some, None, refl, sym, ap, ◌∙◌, subst, arith}
+use Rattle.host_model.specs.declared.file.File.{File}
+use Rattle.host_model.specs.declared.file.File.TheVariants.{JournalA}
+use Rattle.host_model.specs.Images.{Change, contents}
+use Rattle.host_model.specs.Past.{Event, Told, of, told, IsDisk}
+use Rattle.host_model.specs.Disks.{EveryDisk, reads_as}
+use Rattle.host_model.specs.Moments.{Throughout, EveryImage}
+use Rattle.host_model.proofs.DiskLemmas.{every_disk}
+use Rattle.host_model.proofs.FileLemmas.{image_when_synced}
+use Rattle.host_model.proofs.MomentLemmas.{weakened}
+use Rattle.journal_core.specs.Form.{StandsFor}
+use Rattle.journal_core.specs.Journal.{IsOpen, JournalState, StandsForEither}
+use Rattle.entry_codec.specs.declared.entry.Settings.{Settings}
+use Rattle.store_core.specs.declared.beat.Beat.{Beat}
+use Rattle.store_core.specs.Beats.{beat_bytes, InForm}
+use Rattle.store_core.specs.FirstRecord.{settings_body, InLimits}
+use Rattle.store_core.specs.Records.{is_later, last_after, last_moment, records, with_all, AreBeats}
+use Rattle.store_core.specs.Stands.{is_begun, HoldsIfBegun, Stands, StandsAround, StandsIfMade}
+use Rattle.store_core.specs.Store.{counted, raised, IsPlaced, IsReady, IsReplayed, IsStoreAt, IsStoreOf, StoreState}
+use Rattle.store_core.proofs.StandLemmas.{empty_not_begun}
+
+-- what an open journal reads as
+pub open_reads : (changes : List Change) (journal : JournalState) (bodies : List (List ℕ)) → IsPlaced journal → IsOpen changes journal bodies → StandsFor 0 (contents changes) bodies
+open_reads changes journal bodies place is_open = subst (λ (g : ℕ). StandsFor g (contents changes) bodies) place.generation is_open.stands
+
+-- and what a stop leaves of it
+pub open_images : (past : List Event) (journal : JournalState) (bodies : List (List ℕ)) → IsPlaced journal → IsOpen (of JournalA past) journal bodies
+    → EveryImage JournalA (λ bytes. StandsFor 0 bytes bodies) past
+open_images past journal bodies place is_open bytes image =
+    subst (λ (b : List ℕ). StandsFor 0 b bodies)
+    (sym (image_when_synced (of JournalA past) bytes is_open.synced image))
+    (open_reads (of JournalA past) journal bodies place is_open)
+
+-- whatever a stop leaves, the disk holds all the beats
+pub every_image_at : (past : List Event) (store : StoreState) (set : Settings) (beats rest : List Beat) → IsStoreAt past store set beats rest
+    → EveryDisk (Stands set (with_all beats rest)) past
+every_image_at past store set beats rest is_at disk images = record {
+  journal = open_images past store.journal (records set (with_all beats rest)) is_at.place is_at.journal (disk JournalA) (images JournalA);
+  limits = is_at.limits;
+  beats_are = is_at.beats_are;
+}
+
+pub every_image_of : (past : List Event) (store : StoreState) (set : Settings) (beats : List Beat) → IsStoreOf past store set beats → EveryDisk (Stands set beats) past
+every_image_of past store set beats is_of = every_image_at past store set beats [] is_of
+
+-- the same of the disk as it reads
+pub reads_all : (past : List Event) (store : StoreState) (set : Settings) (beats rest : List Beat) → IsStoreAt past store set beats rest
+    → Stands set (with_all beats rest) (reads_as past)
+reads_all past store set beats rest is_at = record {
+  journal = open_reads (of JournalA past) store.journal (records set (with_all beats rest)) is_at.place is_at.journal;
+  limits = is_at.limits;
+  beats_are = is_at.beats_are;
+}
+
+-- words for what a store of beats answers
+
+pub count_of : (past : List Event) (store : StoreState) (set : Settings) (beats rest : List Beat) → IsStoreAt past store set beats rest → store.count ≡ counted (length beats)
+count_of past store set beats rest is_at = is_at.count
+
+pub last_of : (past : List Event) (store : StoreState) (set : Settings) (beats rest : List Beat) → IsStoreAt past store set beats rest → store.last ≡ last_moment beats
+last_of past store set beats rest is_at = is_at.last
+
+pub settings_of : (past : List Event) (store : StoreState) (set : Settings) (beats rest : List Beat) → IsStoreAt past store set beats rest → store.settings ≡ set
+settings_of past store set beats rest is_at = is_at.settings
+
+pub fault_of : (past : List Event) (store : StoreState) (set : Settings) (beats rest : List Beat) → IsStoreAt past store set beats rest → store.fault ≡ None
+fault_of past store set beats rest is_at = is_at.going
+
+pub is_replayed : (past : List Event) (store : StoreState) (set : Settings) (beats : List Beat) → IsStoreOf past store set beats → IsReplayed store
+is_replayed past store set beats is_of = is_of.waiting
+
+-- a store that has replayed all is that of all its beats
+pub all_replayed : (past : List Event) (store : StoreState) (set : Settings) (beats rest : List Beat) → IsStoreAt past store set beats rest → IsReplayed store
+    → IsStoreOf past store set beats
+all_replayed past store set beats rest is_at done =
+    subst (λ (l : List Beat). IsStoreAt past store set beats l) (sym is_at.waiting ∙ done) is_at
+
+-- what happens to no file of the database leaves the store as it is
+
+pub store_elsewhere : (old new : List Event) (store : StoreState) (set : Settings) (beats rest : List Beat) → of JournalA new ≡ of JournalA old
+    → IsStoreAt old store set beats rest → IsStoreAt new store set beats rest
+store_elsewhere old new store set beats rest same is_at = record {
+  place = is_at.place;
+  journal = subst (λ (changes : List Change). IsOpen changes store.journal (records set (with_all beats rest))) (sym same) is_at.journal;
+  limits = is_at.limits;
+  beats_are = is_at.beats_are;
+  settings = is_at.settings;
+  waiting = is_at.waiting;
+  count = is_at.count;
+  last = is_at.last;
+  going = is_at.going;
+}
+
+pub store_told : (sent : List ℕ) (past : List Event) (store : StoreState) (set : Settings) (beats rest : List Beat) → IsStoreAt past store set beats rest
+    → IsStoreAt (Told sent ∷ past) store set beats rest
+store_told sent past store set beats rest is_at = store_elsewhere past (Told sent ∷ past) store set beats rest refl is_at
+
+pub ready_elsewhere : (honest : Type 0) (old new : List Event) (store : StoreState) → (honest → of JournalA new ≡ of JournalA old) → IsReady honest old store → IsReady honest new store
+ready_elsewhere honest old new store same ready = record {
+  place = ready.place;
+  journal = λ going h.
+      let held = ready.journal going h in
+      (held.0, subst (λ (changes : List Change). IsOpen changes store.journal held.0) (sym (same h)) held.1);
+}
+
+pub ready_told : (honest : Type 0) (sent : List ℕ) (past : List Event) (store : StoreState) → IsReady honest past store → IsReady honest (Told sent ∷ past) store
+ready_told honest sent past store ready = ready_elsewhere honest past (Told sent ∷ past) store (λ h. refl) ready
+
+-- a store with the same journal, spent where the other was, is as ready
+pub ready_same : (honest : Type 0) (past : List Event) (old new : StoreState) → new.journal ≡ old.journal → (new.fault ≡ None → old.fault ≡ None)
+    → IsReady honest past old → IsReady honest past new
+ready_same honest past old new same going ready = record {
+  place = subst IsPlaced (sym same) ready.place;
+  journal = λ still h.
+      let held = ready.journal (going still) h in
+      (held.0, subst (λ (journal : JournalState). IsOpen (of JournalA past) journal held.0) (sym same) held.1);
+}
+
+-- a store of beats is ready
+pub at_is_ready : (honest : Type 0) (past : List Event) (store : StoreState) (set : Settings) (beats rest : List Beat) → IsStoreAt past store set beats rest → IsReady honest past store
+at_is_ready honest past store set beats rest is_at = record {
+  place = is_at.place;
+  journal = λ going h. (records set (with_all beats rest), is_at.journal);
+}
+
+-- ---- one more beat
+
+pub with_beat : (set : Settings) (beats : List Beat) (beat : Beat) (last : ℕ) → AreBeats beats → InForm beat → last ≡ last_moment beats → is_later last beat.moment ≡ true → AreBeats (beat ∷ beats)
+with_beat set beats beat last are form same later = record {
+  forms = (form, are.forms);
+  rises = (ap (λ (l : ℕ). is_later l beat.moment) (sym same) ∙ later, are.rises);
+}
+
+pub around : (past : List Event) (store : StoreState) (set : Settings) (beats : List Beat) (beat : Beat) → IsStoreOf past store set beats → InForm beat → is_later store.last beat.moment ≡ true
+    → (disk : File → List ℕ) → StandsForEither 0 (records set beats) (beat_bytes beat) (disk JournalA) → StandsAround set beats beat disk
+around past store set beats beat is_of form later disk (inl without) =
+    inl (record { journal = without; limits = is_of.limits; beats_are = is_of.beats_are })
+around past store set beats beat is_of form later disk (inr with_one) =
+    inr (record { journal = with_one; limits = is_of.limits; beats_are = with_beat set beats beat store.last is_of.beats_are form is_of.last later })
+
+counted-more : (n : ℕ) → raised (counted n) ≡ counted (suc n)
+counted-more n = omega arith
+
+-- the store after it was added
+abbrev pub applied : StoreState → JournalState → Beat → StoreState
+applied store journal beat = record store { count = raised store.count; last = last_after store.last beat.moment; journal = journal }
+
+pub one_more : (old new : List Event) (store : StoreState) (journal : JournalState) (set : Settings) (beats : List Beat) (beat : Beat) → IsStoreOf old store set beats
+    → InForm beat → is_later store.last beat.moment ≡ true → IsPlaced journal → IsOpen (of JournalA new) journal (records set beats ++ beat_bytes beat ∷ [])
+    → IsStoreOf new (applied store journal beat) set (beat ∷ beats)
+one_more old new store journal set beats beat is_of form later place is_open = record {
+  place = place;
+  journal = is_open;
+  limits = is_of.limits;
+  beats_are = with_beat set beats beat store.last is_of.beats_are form is_of.last later;
+  settings = is_of.settings;
+  waiting = is_of.waiting;
+  count = ap raised is_of.count ∙ counted-more (length beats);
+  last = ap (λ (l : ℕ). last_after l beat.moment) is_of.last;
+  going = is_of.going;
+}
+
+-- where nothing has happened yet
+pub nothing_done : (past : List Event) (store : StoreState) (set : Settings) (beats : List Beat) (beat : Beat) → IsStoreOf past store set beats → EveryDisk (StandsAround set beats beat) past
+nothing_done past store set beats beat is_of disk images = inl (every_image_of past store set beats is_of disk images)
+
+-- the moments of the append are those of the store
+pub append_moments : (old new : List Event) (store : StoreState) (journal : JournalState) (body : List ℕ) (set : Settings) (beats : List Beat) (beat : Beat) → journal ≡ store.journal → body ≡ beat_bytes beat
+    → IsStoreOf old store set beats → InForm beat → is_later store.last beat.moment ≡ true
+    → ((bodies : List (List ℕ)) → IsOpen (of JournalA old) journal bodies → Throughout (EveryImage JournalA (StandsForEither 0 bodies body)) old new)
+    → Throughout (EveryDisk (StandsAround set beats beat)) old new
+append_moments old new store journal body set beats beat same spelt is_of form later moments =
+    let is_open = subst (λ (j : JournalState). IsOpen (of JournalA old) j (records set beats)) (sym same) is_of.journal in
+    let all = subst (λ (b : List ℕ). Throughout (EveryImage JournalA (StandsForEither 0 (records set beats) b)) old new) spelt (moments (records set beats) is_open) in
+    every_disk JournalA (around old store set beats beat is_of form later) all
+
+-- ---- the first record
+
+pub placed_moments : (old new : List Event) (journal : JournalState) (bodies : List (List ℕ)) (body : List ℕ) → IsPlaced journal
+    → Throughout (EveryImage journal.file (StandsForEither journal.generation bodies body)) old new
+    → Throughout (EveryImage JournalA (StandsForEither 0 bodies body)) old new
+placed_moments old new journal bodies body place moments =
+    subst (λ (f : File). Throughout (EveryImage f (StandsForEither 0 bodies body)) old new) place.file
+    (subst (λ (g : ℕ). Throughout (EveryImage journal.file (StandsForEither g bodies body)) old new) place.generation moments)
+
+-- the journal without records begins no database
+pub first_moments : (old new : List Event) (body : List ℕ) → Throughout (EveryImage JournalA (StandsForEither 0 [] body)) old new
+    → Throughout (EveryImage JournalA (HoldsIfBegun body)) old new
+first_moments old new body moments = weakened (λ past held bytes image. holds body bytes (held bytes image)) moments
+  where
+    holds : (body bytes : List ℕ) → StandsForEither 0 [] body bytes → HoldsIfBegun body bytes
+    holds body bytes (inl none) = inl (empty_not_begun bytes none)
+    holds body bytes (inr one) = inr one
+
+pub begun_moments : (old new : List Event) (body : List ℕ) → Throughout (EveryImage JournalA (λ bytes. is_begun bytes ≡ false)) old new
+    → Throughout (EveryImage JournalA (HoldsIfBegun body)) old new
+begun_moments old new body moments = weakened (λ past held bytes image. inl (held bytes image)) moments
+
+pub made_moments : (old new : List Event) (set : Settings) (body : List ℕ) → body ≡ settings_body set → InLimits set → Throughout (EveryImage JournalA (HoldsIfBegun body)) old new
+    → Throughout (EveryDisk (StandsIfMade set)) old new
+made_moments old new set body spelt limits moments =
+    every_disk JournalA (λ disk held. stands set body spelt limits disk held) moments
+  where
+    stands : (set : Settings) (body : List ℕ) → body ≡ settings_body set → InLimits set → (disk : File → List ℕ) → HoldsIfBegun body (disk JournalA) → StandsIfMade set disk
+    stands set body spelt limits disk (inl none) = inl none
+    stands set body spelt limits disk (inr one) = inr (record {
+      journal = subst (λ (b : List ℕ). StandsFor 0 (disk JournalA) (b ∷ [])) spelt one;
+      limits = limits;
+      beats_are = record { forms = tt; rises = tt };
+    })

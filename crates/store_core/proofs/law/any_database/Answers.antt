@@ -1,0 +1,20 @@
+use Rattle.std.proofs.Common.{[], refl}
+use Rattle.store_core.specs.Records.{with_all}
+use Rattle.store_core.proofs.BeatLaw.{beat_again, beat_found}
+use Rattle.store_core.proofs.RecordLaw.{history_again}
+use Rattle.store_core.proofs.StandLemmas.{stands_made, stands_once}
+use Rattle.store_core.proofs.StoreLemmas.{every_image_of, store_told}
+use Rattle.store_core.proofs.law.any_database.Goals as goal
+
+pub returns : goal.returns
+returns c = record {
+  once = λ set other beats others disk stands again.
+      let same = stands_once set other beats others disk stands again in (same.settings, same.beats_same);
+  made = stands_made;
+  images = every_image_of;
+  told = store_told;
+  beat_again = beat_again;
+  beat_form = λ bytes beat fits is. (beat_found bytes beat fits is).0;
+  beat_spelt = λ bytes beat fits is. (beat_found bytes beat fits is).1;
+  records_again = λ set rest limits are. history_again set (with_all [] rest) rest refl limits are;
+}

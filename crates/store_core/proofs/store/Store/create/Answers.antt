@@ -1,0 +1,52 @@
+use Rattle.std.proofs.Common.{◌≡◌, List, false, length, inl, sym, ap, ◌∙◌, subst, arith}
+use Rattle.host_model.specs.declared.file.File.{File}
+use Rattle.host_model.specs.Past.{Event}
+use Rattle.host_model.specs.Moments.{Throughout}
+use Rattle.host_model.specs.Disks.{EveryDisk}
+use Rattle.host_model.proofs.CallLemmas.{unmoved}
+use Rattle.store_core.specs.Stands.{is_made, StandsIfMade}
+use Rattle.store_core.proofs.DiskCases.{no_image_begun}
+use Rattle.store_core.proofs.FirstRecordLaw.{length-settings_body}
+use Rattle.store_core.proofs.StoreLemmas.{made_moments}
+use Rattle.store_core.proofs.store.Store.create.Goals as goal
+
+pub returns-in_default-clause-any_moment : goal.returns-in_default-clause-any_moment
+returns-in_default-clause-any_moment g c h none =
+    unmoved (EveryDisk (StandsIfMade c.args.settings.now)) (g.H.Host.past c.args.host.now) (g.H.Host.past c.is_made.new.host) (c.is_made.ensures.past h)
+    (λ disk images. inl (none disk images))
+
+pub returns-then-made-clause-any_moment : goal.returns-then-made-clause-any_moment
+returns-then-made-clause-any_moment g c h none =
+    unmoved (EveryDisk (StandsIfMade c.args.settings.now)) (g.H.Host.past c.args.host.now) (g.H.Host.past c.is_made.new.host) (c.is_made.ensures.past h)
+    (λ disk images. inl (none disk images))
+
+pub returns-in_default-write_settings-clause-any_moment : goal.returns-in_default-write_settings-clause-any_moment
+returns-in_default-write_settings-clause-any_moment g c h none =
+    unmoved (EveryDisk (StandsIfMade c.args.settings.now)) (g.H.Host.past c.args.host.now) (g.H.Host.past c.is_made.new.host) (c.is_made.ensures.past h)
+    (λ disk images. inl (none disk images))
+
+pub make-requires : goal.make-requires
+make-requires g c =
+    let size = ap length (c.as_slice.ensures ∙ c.in-Ok-write_settings.ensures) ∙ length-settings_body c.args.settings.now in omega (arith, size)
+
+pub returns-in_err-journal-clause-any_moment : goal.returns-in_err-journal-clause-any_moment
+returns-in_err-journal-clause-any_moment g c h none =
+    let old = g.H.Host.past c.args.host.now in
+    let middle = g.H.Host.past c.is_made.new.host in
+    let new = g.H.Host.past c.make.new.host in
+    let set = c.args.settings.now in
+    let none_here = subst (EveryDisk (λ disk. is_made disk ≡ false)) (sym (c.is_made.ensures.past h)) none in
+    let begun = no_image_begun middle (λ file. g.met.H.Host.reads_an_image c.is_made.new.host file h) none_here in
+    subst (λ (past : List Event). Throughout (EveryDisk (StandsIfMade set)) past new) (c.is_made.ensures.past h)
+    (made_moments middle new set c.as_slice.result.now (c.as_slice.ensures ∙ c.in-Ok-write_settings.ensures) c.requires (c.make.ensures.any_moment h begun))
+
+pub returns-clause-any_moment : goal.returns-clause-any_moment
+returns-clause-any_moment g c h none =
+    let old = g.H.Host.past c.args.host.now in
+    let middle = g.H.Host.past c.is_made.new.host in
+    let new = g.H.Host.past c.make.new.host in
+    let set = c.args.settings.now in
+    let none_here = subst (EveryDisk (λ disk. is_made disk ≡ false)) (sym (c.is_made.ensures.past h)) none in
+    let begun = no_image_begun middle (λ file. g.met.H.Host.reads_an_image c.is_made.new.host file h) none_here in
+    subst (λ (past : List Event). Throughout (EveryDisk (StandsIfMade set)) past new) (c.is_made.ensures.past h)
+    (made_moments middle new set c.as_slice.result.now (c.as_slice.ensures ∙ c.in-Ok-write_settings.ensures) c.requires (c.make.ensures.any_moment h begun))

@@ -1,0 +1,61 @@
+-- What a fault of a store leaves it as.
+use Rattle.std.specs.Prelude.{◌≡◌, ℕ, ◌⊎◌, Option, Some, None, Result, Ok, Err}
+use Rattle.store_core.specs.declared.fault.StoreFault.{StoreFault}
+use Rattle.store_core.specs.declared.fault.StoreFault.TheVariants.{DiskFault, NotADatabase, Damaged, MomentOrder, Reopen, Exists, Memory}
+use Rattle.store_core.specs.declared.fault.Why.{Why}
+use Rattle.store_core.specs.declared.fault.Why.TheVariants as why
+
+-- the cause that a fault leaves
+abbrev pub cause_of : StoreFault → Option Why
+cause_of DiskFault = Some why.Disk
+cause_of NotADatabase = None
+cause_of (Damaged part) = None
+cause_of MomentOrder = None
+cause_of (Reopen cause) = None
+cause_of Exists = None
+cause_of Memory = Some why.Memory
+
+-- the cause after a call: the first one stays
+abbrev pub fault_after : {T : Type 0} → Option Why → Result T StoreFault → Option Why
+fault_after (Some cause) result = Some cause
+fault_after None (Ok value) = None
+fault_after None (Err fault) = cause_of fault
+
+-- a fault is Reopen with the first cause where there is one, and else it is another
+abbrev pub ReopensWith : Option Why → StoreFault → Type 0
+ReopensWith before DiskFault = before ≡ None
+ReopensWith before NotADatabase = before ≡ None
+ReopensWith before (Damaged part) = before ≡ None
+ReopensWith before MomentOrder = before ≡ None
+ReopensWith before (Reopen cause) = before ≡ Some cause
+ReopensWith before Exists = before ≡ None
+ReopensWith before Memory = before ≡ None
+
+-- a call answers Reopen with the first cause where there is one, and only there
+abbrev pub Reopens : {T : Type 0} → Option Why → Result T StoreFault → Type 0
+Reopens before (Ok value) = before ≡ None
+Reopens before (Err fault) = ReopensWith before fault
+
+-- the faults of each call
+abbrev pub IsCreateFault : StoreFault → Type 0
+IsCreateFault fault = (fault ≡ DiskFault) ⊎ (fault ≡ Exists) ⊎ (fault ≡ Memory)
+
+abbrev pub IsOpenFault : StoreFault → Type 0
+IsOpenFault fault = (fault ≡ DiskFault) ⊎ (fault ≡ NotADatabase) ⊎ (fault ≡ Damaged 4) ⊎ (fault ≡ Memory)
+
+abbrev pub IsReplayFault : StoreFault → Type 0
+IsReplayFault fault = (fault ≡ Memory) ⊎ ((cause : Why) × (fault ≡ Reopen cause))
+
+abbrev pub IsCommitFault : StoreFault → Type 0
+IsCommitFault fault = (fault ≡ DiskFault) ⊎ (fault ≡ MomentOrder) ⊎ (fault ≡ Memory) ⊎ ((cause : Why) × (fault ≡ Reopen cause))
+
+-- the faults that change nothing
+abbrev pub LeavesAll : StoreFault → Type 0
+LeavesAll fault = (fault ≡ MomentOrder) ⊎ ((cause : Why) × (fault ≡ Reopen cause))
+
+-- the faults of one step
+abbrev pub IsStepFault : StoreFault → Type 0
+IsStepFault fault = (fault ≡ DiskFault) ⊎ (fault ≡ Memory)
+
+abbrev pub IsReadFault : StoreFault → Type 0
+IsReadFault fault = (fault ≡ DiskFault) ⊎ (fault ≡ Damaged 4) ⊎ (fault ≡ Memory)

@@ -1,0 +1,6 @@
+pub mod Beats
+pub mod Faults
+pub mod FirstRecord
+pub mod Records
+pub mod Stands
+pub mod Store

@@ -1,0 +1,91 @@
+-- What contracts see of a store, and of what a store is.
+use Rattle.std.specs.Prelude.{◌≡◌, ℕ, ◌+◌, ◌-◌, ◌^◌, min, List, [], ◌∷◌, length, Option, Some, None}
+use Rattle.host_model.specs.declared.file.File.{File}
+use Rattle.host_model.specs.declared.file.File.TheVariants.{JournalA}
+use Rattle.host_model.specs.Past.{Event, of}
+use Rattle.journal_core.specs.Journal.{JournalState, IsOpen}
+use Rattle.entry_codec.specs.declared.entry.Settings.{Settings}
+use Rattle.store_core.specs.declared.beat.Beat.{Beat}
+use Rattle.store_core.specs.declared.fault.Why.{Why}
+use Rattle.store_core.specs.FirstRecord.{InLimits}
+use Rattle.store_core.specs.Records.{last_moment, records, with_all, AreBeats}
+
+pub record StoreState : Type 0 where
+  pub settings : Settings
+  -- how many beats were applied: the count stands still at 2^64 - 1
+  pub count : ℕ
+  -- the last moment of a beat that was applied, or 0
+  pub last : ℕ
+  -- the first cause for which the store must be opened again
+  pub fault : Option Why
+  -- the beats that are still to be applied, the oldest first
+  pub waiting : List Beat
+  pub journal : JournalState
+
+-- a count of so many beats
+abbrev pub counted : ℕ → ℕ
+counted n = min n (2 ^ 64 - 1)
+
+-- after one more beat was applied
+abbrev pub raised : ℕ → ℕ
+raised count = counted (count + 1)
+
+-- all beats have been applied
+abbrev pub IsReplayed : StoreState → Type 0
+IsReplayed store = store.waiting ≡ []
+
+-- the journal of generation 0, in its file
+pub record IsPlaced (journal : JournalState) : Type 0 where
+  pub file : journal.file ≡ JournalA
+  pub generation : journal.generation ≡ 0
+
+-- the store is that of these settings and beats, has applied these beats, and the others, the oldest
+-- first, are still to be applied
+pub record IsStoreAt (past : List Event) (store : StoreState) (set : Settings) (beats rest : List Beat) : Type 0 where
+  pub place : IsPlaced store.journal
+  pub journal : IsOpen (of JournalA past) store.journal (records set (with_all beats rest))
+  pub limits : InLimits set
+  pub beats_are : AreBeats (with_all beats rest)
+  pub settings : store.settings ≡ set
+  pub waiting : store.waiting ≡ rest
+  pub count : store.count ≡ counted (length beats)
+  pub last : store.last ≡ last_moment beats
+  pub going : store.fault ≡ None
+
+-- the store is that of these settings and beats, and all are applied
+abbrev pub IsStoreOf : List Event → StoreState → Settings → List Beat → Type 0
+IsStoreOf past store set beats = IsStoreAt past store set beats []
+
+-- what a call of a store requires of its host: it holds after `open` of every image
+pub record IsReady (honest : Type 0) (past : List Event) (store : StoreState) : Type 0 where
+  pub place : IsPlaced store.journal
+  pub journal : store.fault ≡ None → honest → (bodies : List (List ℕ)) × IsOpen (of JournalA past) store.journal bodies
+
+-- the store stands at some front of these beats, the rest of which is still to be applied; it is the
+-- empty one
+pub record OpensAt (past : List Event) (store : StoreState) (set : Settings) (beats : List Beat) : Type 0 where
+  pub applied : List Beat
+  pub rest : List Beat
+  pub whole : with_all applied rest ≡ beats
+  pub from_start : applied ≡ []
+  pub is_at : IsStoreAt past store set applied rest
+
+-- a replay gave the next beat and applied it, or there is none
+abbrev pub Replays : List Event → StoreState → Settings → List Beat → List Beat → Option Beat → Type 0
+Replays past store set beats [] None = IsStoreAt past store set beats []
+Replays past store set beats [] (Some beat) = ⊥
+Replays past store set beats (next ∷ rest) None = ⊥
+Replays past store set beats (next ∷ rest) (Some beat) = (beat ≡ next) × IsStoreAt past store set (beat ∷ beats) rest
+
+-- the first of the beats that wait was taken, if there was one
+abbrev pub TakesFirst : List Beat → Option Beat → List Beat → Type 0
+TakesFirst old None new = (old ≡ []) × (new ≡ [])
+TakesFirst old (Some beat) new = old ≡ beat ∷ new
+
+-- a store that was just made
+pub record IsNew (set : Settings) (store : StoreState) : Type 0 where
+  pub settings : store.settings ≡ set
+  pub count : store.count ≡ 0
+  pub last : store.last ≡ 0
+  pub fault : store.fault ≡ None
+  pub waiting : store.waiting ≡ []

@@ -1,0 +1,58 @@
+use thiserror::Error;
+
+/// Why a store is of no more use.
+#[derive(Clone, Copy, Debug, PartialEq, Eq, Error)]
+pub enum Why {
+    /// A call on the disk failed.
+    #[error("the disk failed")]
+    Disk,
+    /// There was no memory.
+    #[error("out of memory")]
+    Memory,
+}
+
+/// Why a call on a store did not do what it was asked to do.
+#[derive(Clone, Copy, Debug, PartialEq, Eq, Error)]
+pub enum StoreFault {
+    /// A call on the disk failed.
+    #[error("the disk failed")]
+    DiskFault,
+    /// There is no database on the disk.
+    #[error("there is no database")]
+    NotADatabase,
+    /// What is on the disk is no database: the part of its form with this number does not hold.
+    #[error("the database is damaged in part {0}")]
+    Damaged(u32),
+    /// The moment of a beat is not above the last one.
+    #[error("the moment is not above the last one")]
+    MomentOrder,
+    /// An earlier call failed so, and the database must be opened again.
+    #[error("the database must be opened again: {0}")]
+    Reopen(Why),
+    /// There is a database on the disk already.
+    #[error("there is a database already")]
+    Exists,
+    /// There was no memory.
+    #[error("out of memory")]
+    Memory,
+}
+
+impl StoreFault {
+    ghost use Rattle.std.specs.Prelude.{◌≡◌};
+    ghost use Rattle.store_core.specs.Faults.{cause_of};
+
+    /// Why the store is of no more use after this fault, if it is not.
+    pub(crate) fn cause(self) -> Option<Why>
+        ensures { result ≡ cause_of self }
+    {
+        match self {
+            StoreFault::DiskFault => Some(Why::Disk),
+            StoreFault::Memory => Some(Why::Memory),
+            StoreFault::NotADatabase
+            | StoreFault::Damaged(_)
+            | StoreFault::MomentOrder
+            | StoreFault::Reopen(_)
+            | StoreFault::Exists => None,
+        }
+    }
+}

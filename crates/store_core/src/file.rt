@@ -1,0 +1,164 @@
+//! The file of the database: whether there is one, and the journal in it.
+
+ghost use Rattle.std.specs.Prelude.{◌≡◌, ℕ, ◌≤◌, ◌^◌, List, [], ◌∷◌, ◌++◌, false, length, IfOk, IfErr, IsErr, IsErrOf, OnOk, OnErr};
+ghost use Rattle.host_model.specs.Images.{contents, IsImage, IsSynced};
+ghost use Rattle.host_model.specs.Past.{of};
+ghost use Rattle.host_model.specs.Disks.{reads_as};
+ghost use Rattle.host_model.specs.Cause.{HasCause};
+ghost use Rattle.host_model.specs.Moments.{Throughout, EveryImage, OnlyOn};
+ghost use Rattle.journal_core.specs.Form.{IsJournal};
+ghost use Rattle.journal_core.specs.Journal.{IsOpen, StandsForEither};
+ghost use Rattle.store_core.specs.Faults.{IsReadFault, IsStepFault};
+ghost use Rattle.store_core.specs.Stands.{is_begun, is_made, HoldsIfBegun};
+ghost use Rattle.store_core.specs.Store.{IsPlaced};
+
+use crate::fault::StoreFault;
+use host_model::{Failed, File, Host};
+use journal_core::{Journal, JournalFault, RecordList, prepare};
+use std::alloc::Global;
+
+/// The bytes of a journal without records.
+const EMPTY: u64 = 17;
+
+/// The most bytes of a journal to which a record may be added.
+const MOST: u64 = 1 << 60;
+
+/// Whether there is a database on the disk.
+pub(crate) fn is_made<H: Host>(host: &mut H) -> Result<bool, Failed>
+    ensures value { IfOk result (λ made. H.honest → made ≡ is_made (reads_as (H.past host.old))) }
+    ensures past { H.honest → H.past host.new ≡ H.past host.old }
+    ensures cause { HasCause (H.disk_faults host.old) (H.disk_faults host.new) (IsErr result) }
+    ensures output { H.tell_faults host.new ≡ H.tell_faults host.old }
+{
+    if host.len(File::JournalA)? <= EMPTY {
+        return Ok(false);
+    }
+    let mut gate = [0];
+    host.read(File::JournalA, 16, &mut gate)?;
+    Ok(gate[0] == 1)
+}
+
+/// Cuts the file to the length of an empty journal, where it has more.
+fn cut_down<H: Host>(host: &mut H) -> Result<(), Failed>
+    ensures any_moment { H.honest → EveryImage File.JournalA (λ bytes. is_begun bytes ≡ false) (H.past host.old)
+        → Throughout (EveryImage File.JournalA (λ bytes. is_begun bytes ≡ false)) (H.past host.old) (H.past host.new) }
+    ensures short { OnOk result (H.honest → length (contents (of File.JournalA (H.past host.new))) ≤ 17) }
+    ensures only_here { H.honest → OnlyOn File.JournalA (H.past host.old) (H.past host.new) }
+    ensures cause { HasCause (H.disk_faults host.old) (H.disk_faults host.new) (IsErr result) }
+    ensures output { H.tell_faults host.new ≡ H.tell_faults host.old }
+{
+    if host.len(File::JournalA)? <= EMPTY {
+        return Ok(());
+    }
+    host.cut(File::JournalA, EMPTY)
+}
+
+/// Makes the file hold at most as many bytes as an empty journal.
+fn shorten<H: Host>(host: &mut H) -> Result<(), Failed>
+    ensures any_moment { H.honest → EveryImage File.JournalA (λ bytes. is_begun bytes ≡ false) (H.past host.old)
+        → Throughout (EveryImage File.JournalA (λ bytes. is_begun bytes ≡ false)) (H.past host.old) (H.past host.new) }
+    ensures short { OnOk result (H.honest → length (contents (of File.JournalA (H.past host.new))) ≤ 17) }
+    ensures synced { OnOk result (H.honest → IsSynced (of File.JournalA (H.past host.new))) }
+    ensures only_here { H.honest → OnlyOn File.JournalA (H.past host.old) (H.past host.new) }
+    ensures cause { HasCause (H.disk_faults host.old) (H.disk_faults host.new) (IsErr result) }
+    ensures output { H.tell_faults host.new ≡ H.tell_faults host.old }
+{
+    cut_down(host)?;
+    host.sync(File::JournalA)
+}
+
+/// Makes an empty journal, whatever the file held. No stop leaves a database.
+pub(crate) fn start<H: Host>(host: &mut H) -> Result<Journal, StoreFault>
+    ensures any_moment { H.honest → EveryImage File.JournalA (λ bytes. is_begun bytes ≡ false) (H.past host.old)
+        → Throughout (EveryImage File.JournalA (λ bytes. is_begun bytes ≡ false)) (H.past host.old) (H.past host.new) }
+    ensures started { IfOk result (λ journal. H.honest → IsOpen (of File.JournalA (H.past host.new)) journal []) }
+    ensures place { IfOk result IsPlaced }
+    ensures size { IfOk result (λ journal. journal.bytes ≡ 17) }
+    ensures only_here { H.honest → OnlyOn File.JournalA (H.past host.old) (H.past host.new) }
+    ensures faults { IfErr result (λ fault. fault ≡ StoreFault.DiskFault) }
+    ensures cause { HasCause (H.disk_faults host.old) (H.disk_faults host.new) (IsErrOf result StoreFault.DiskFault) }
+    ensures output { H.tell_faults host.new ≡ H.tell_faults host.old }
+{
+    if shorten(host).is_err() {
+        return Err(StoreFault::DiskFault);
+    }
+    if prepare(host, File::JournalA, 0).is_err() {
+        return Err(StoreFault::DiskFault);
+    }
+    Ok(Journal::empty(File::JournalA, 0))
+}
+
+/// Adds a record to the journal, where it has at most 2^60 bytes. At every moment a stop leaves the
+/// journal with the record or without it.
+pub(crate) fn append<H: Host>(
+    journal: &mut Journal,
+    host: &mut H,
+    body: &[u8],
+) -> Result<(), StoreFault>
+    requires place { IsPlaced journal.old }
+    requires size { length body.now ≤ 2 ^ 26 }
+    requires open { H.honest → (records : List (List ℕ)) × IsOpen (of File.JournalA (H.past host.old)) journal.old records }
+    ensures any_moment { H.honest → (records : List (List ℕ)) → IsOpen (of File.JournalA (H.past host.old)) journal.old records
+        → Throughout (EveryImage File.JournalA (StandsForEither 0 records body.now)) (H.past host.old) (H.past host.new) }
+    ensures stored { OnOk result (H.honest → (records : List (List ℕ)) → IsOpen (of File.JournalA (H.past host.old)) journal.old records
+        → IsOpen (of File.JournalA (H.past host.new)) journal.new (records ++ body.now ∷ [])) }
+    ensures place { IsPlaced journal.new }
+    ensures stays { OnErr result (journal.new ≡ journal.old) }
+    ensures only_here { H.honest → OnlyOn File.JournalA (H.past host.old) (H.past host.new) }
+    ensures faults { IfErr result IsStepFault }
+    ensures untouched { IsErrOf result StoreFault.Memory → host.new ≡ host.old }
+    ensures cause { HasCause (H.disk_faults host.old) (H.disk_faults host.new) (IsErrOf result StoreFault.DiskFault) }
+    ensures output { H.tell_faults host.new ≡ H.tell_faults host.old }
+    ensures reads { H.reads host.new ≡ H.reads host.old }
+{
+    if journal.bytes() > MOST {
+        return Err(StoreFault::Memory);
+    }
+    if journal.append(host, body).is_err() {
+        return Err(StoreFault::DiskFault);
+    }
+    Ok(())
+}
+
+/// Makes a journal with one record, whatever the file held. At every moment a stop leaves no database, or
+/// the journal with the record.
+pub(crate) fn make<H: Host>(host: &mut H, body: &[u8]) -> Result<Journal, StoreFault>
+    requires { length body.now ≤ 2 ^ 26 }
+    ensures any_moment { H.honest → EveryImage File.JournalA (λ bytes. is_begun bytes ≡ false) (H.past host.old)
+        → Throughout (EveryImage File.JournalA (HoldsIfBegun body.now)) (H.past host.old) (H.past host.new) }
+    ensures made { IfOk result (λ journal. H.honest → IsOpen (of File.JournalA (H.past host.new)) journal (body.now ∷ [])) }
+    ensures place { IfOk result IsPlaced }
+    ensures only_here { H.honest → OnlyOn File.JournalA (H.past host.old) (H.past host.new) }
+    ensures faults { IfErr result (λ fault. fault ≡ StoreFault.DiskFault) }
+    ensures cause { HasCause (H.disk_faults host.old) (H.disk_faults host.new) (IsErrOf result StoreFault.DiskFault) }
+    ensures output { H.tell_faults host.new ≡ H.tell_faults host.old }
+{
+    let mut journal = start(host)?;
+    if journal.append(host, body).is_err() {
+        return Err(StoreFault::DiskFault);
+    }
+    Ok(journal)
+}
+
+/// Opens the journal. It syncs the file and then only reads.
+pub(crate) fn open<H: Host>(
+    alloc: Global,
+    host: &mut H,
+) -> Result<(Journal, RecordList), StoreFault>
+    ensures opened { IfOk result (λ found. H.honest → IsOpen (of File.JournalA (H.past host.new)) found.0 found.1) }
+    ensures place { IfOk result (λ found. IsPlaced found.0) }
+    ensures any_moment { H.honest → Throughout (EveryImage File.JournalA (IsImage (of File.JournalA (H.past host.old)))) (H.past host.old) (H.past host.new) }
+    ensures same_bytes { H.honest → contents (of File.JournalA (H.past host.new)) ≡ contents (of File.JournalA (H.past host.old)) }
+    ensures only_here { H.honest → OnlyOn File.JournalA (H.past host.old) (H.past host.new) }
+    ensures damaged { (part : ℕ) → IsErrOf result (StoreFault.Damaged part) → H.honest → IsJournal 0 (contents (of File.JournalA (H.past host.old))) → ⊥ }
+    ensures faults { IfErr result IsReadFault }
+    ensures cause { HasCause (H.disk_faults host.old) (H.disk_faults host.new) (IsErrOf result StoreFault.DiskFault) }
+    ensures output { H.tell_faults host.new ≡ H.tell_faults host.old }
+{
+    match Journal::open(alloc, host, File::JournalA, 0) {
+        Ok(found) => Ok(found),
+        Err(JournalFault::DiskFault) => Err(StoreFault::DiskFault),
+        Err(JournalFault::Memory) => Err(StoreFault::Memory),
+        Err(JournalFault::NotAJournal(_) | JournalFault::TooLong) => Err(StoreFault::Damaged(4)),
+    }
+}

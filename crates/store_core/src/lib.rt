@@ -1,0 +1,39 @@
+//! The database of an agent on a disk: its settings, and its beats in order.
+//!
+//! A beat is a moment, points and a note, which is bytes of the layer above. The database is a journal in
+//! one file: its first record has the settings, and each later one a beat, whose moments rise. A disk holds
+//! one database at most, and which one is a function of the records.
+//!
+//! At every moment of `commit` a stop leaves the beats that were there, with the new one or without it,
+//! and a beat whose commit answered `Ok` is never lost again. At every moment of `create` a stop leaves no
+//! database, or the one without beats. `open` gives just what is on the disk, or says that there is no
+//! database or that it is damaged; `replay` then gives the beats one by one. Once the disk has failed or
+//! memory was refused, each call on the store answers so, with the first cause.
+//!
+//! It stands on `journal_core` for the records, on `host_model` for what a stop may leave, and on
+//! `entry_codec` for the entry of the settings. Over a host that tells nothing of its past each call is
+//! still safe and returns. Where records wait for their replay they are kept in memory, and nothing else is.
+#![tactic(auto)]
+
+mod beat;
+mod fault;
+mod file;
+mod form;
+mod law;
+mod reading;
+mod records;
+mod settings;
+mod store;
+mod waiting;
+mod writing;
+
+pub use beat::{Beat, BeatPoint, BeatPointList};
+pub use entry_codec::{Settings, TierSettings};
+pub use fault::{StoreFault, Why};
+pub use fixed_num::ByteList;
+pub use law::any_database;
+pub use settings::is_in_limits;
+pub use store::Store;
+
+#[cfg(test)]
+mod tests;

@@ -1,0 +1,321 @@
+ghost use Rattle.std.specs.Prelude.{◌≡◌, ℕ, ◌+◌, ◌≤◌, ◌^◌, ◌↔◌, ◌⊎◌, true, false, List, [], ◌∷◌, length, IsTrue, IsErrOf, IsSomeAnd, IfOk, IfErr, OnOk, OnErr, Err};
+ghost use Rattle.host_model.specs.declared.file.File.{File as AFile};
+ghost use Rattle.host_model.specs.Images.{IsImage};
+ghost use Rattle.host_model.specs.Past.{Event, of, IsDisk};
+ghost use Rattle.host_model.specs.Disks.{EveryDisk, reads_as};
+ghost use Rattle.host_model.specs.Cause.{HasCause};
+ghost use Rattle.host_model.specs.Moments.{Throughout, EveryImage, OnlyOn};
+ghost use Rattle.entry_codec.specs.declared.entry.Settings.{Settings as ASettings};
+ghost use Rattle.store_core.specs.declared.beat.Beat.{Beat as ABeat};
+ghost use Rattle.store_core.specs.Beats.{beat_bytes, InForm};
+ghost use Rattle.store_core.specs.Faults.{fault_after, IsCommitFault, IsCreateFault, IsOpenFault, IsReplayFault, IsStepFault, LeavesAll, Reopens};
+ghost use Rattle.store_core.specs.FirstRecord.{InLimits};
+ghost use Rattle.store_core.specs.Records.{is_later, last_after};
+ghost use Rattle.store_core.specs.Stands.{is_made, IsDamaged, Stands, StandsAround, StandsIfMade};
+
+use crate::beat::Beat;
+use crate::fault::{StoreFault, Why};
+use crate::file;
+use crate::records::{is_later, last_after, read_records};
+use crate::settings::write_settings;
+use crate::waiting::Waiting;
+use crate::writing::write_beat;
+use entry_codec::Settings;
+use host_model::{File, Host};
+use journal_core::{Journal, JournalFault};
+use std::alloc::Global;
+use std::marker::Model;
+
+/// A database that has been made or opened, with the host that it is on. Each call on it is handed that
+/// host, which since then only its calls, and `tell`, have touched.
+#[derive(Debug, Drop)]
+pub struct Store {
+    alloc: Global,
+    settings: Settings,
+    /// How many beats were applied.
+    count: u64,
+    /// The last moment of a beat that was applied, or 0.
+    last: u32,
+    /// The first cause for which the database must be opened again.
+    fault: Option<Why>,
+    waiting: Waiting,
+    journal: Journal,
+}
+
+impl Model for Store {
+    ghost use Rattle.store_core.specs.Store.{StoreState};
+
+    ghost Value = { StoreState };
+
+    ghost view = { λ store. record {
+      settings = store.settings;
+      count = store.count;
+      last = store.last;
+      fault = store.fault;
+      waiting = store.waiting;
+      journal = store.journal;
+    } };
+}
+
+impl Store {
+    ghost use Rattle.store_core.specs.Store.{raised, IsNew, IsPlaced, IsReady, IsReplayed, IsStoreAt, IsStoreOf, OpensAt, Replays, TakesFirst};
+
+    /// Makes a database with these settings, where there is none: whatever else the file held is gone.
+    ///
+    /// `Exists` exactly where there is one, and then nothing has happened. Where there was none whatever a
+    /// stop left, then at every moment a stop leaves none, or the new one without beats; at `Ok` the latter.
+    pub fn create<H: Host>(alloc: Global, host: &mut H, settings: &Settings) -> Result<Store, StoreFault>
+        requires { InLimits settings.now }
+        ensures created { IfOk result (λ store. H.honest → IsStoreOf (H.past host.new) store settings.now []) }
+        ensures ready { IfOk result (IsReady H.honest (H.past host.new)) }
+        ensures new { IfOk result (IsNew settings.now) }
+
+        ensures any_moment { H.honest → EveryDisk (λ disk. is_made disk ≡ false) (H.past host.old)
+            → Throughout (EveryDisk (StandsIfMade settings.now)) (H.past host.old) (H.past host.new) }
+        ensures only_here { H.honest → OnlyOn File.JournalA (H.past host.old) (H.past host.new) }
+
+        // Exactly where there is a database it is refused, or the disk failed, and nothing has happened.
+        ensures exists { IsErrOf result StoreFault.Exists → H.honest → is_made (reads_as (H.past host.old)) ≡ true }
+        ensures none { OnOk result (H.honest → is_made (reads_as (H.past host.old)) ≡ false) }
+        ensures made { H.honest → is_made (reads_as (H.past host.old)) ≡ true
+            → (IsErrOf result StoreFault.Exists ⊎ IsErrOf result StoreFault.DiskFault) × (H.past host.new ≡ H.past host.old) }
+        ensures memory { IsErrOf result StoreFault.Memory → H.honest → H.past host.new ≡ H.past host.old }
+        ensures faults { IfErr result IsCreateFault }
+        ensures cause { HasCause (H.disk_faults host.old) (H.disk_faults host.new) (IsErrOf result StoreFault.DiskFault) }
+        ensures output { H.tell_faults host.new ≡ H.tell_faults host.old }
+    {
+        let Ok(made) = file::is_made(host) else {
+            return Err(StoreFault::DiskFault);
+        };
+        if made {
+            return Err(StoreFault::Exists);
+        }
+        let Ok(body) = write_settings(alloc, settings) else {
+            return Err(StoreFault::Memory);
+        };
+        let journal = file::make(host, body.as_slice())?;
+        Ok(Store {
+            alloc,
+            settings: *settings,
+            count: 0,
+            last: 0,
+            fault: None,
+            waiting: Waiting::new(alloc),
+            journal,
+        })
+    }
+
+    /// Opens the database, none of whose beats is applied yet. The disk is only read and synced.
+    ///
+    /// `NotADatabase` exactly where there is none, and `Damaged(4)` exactly where what is there holds no
+    /// settings and beats.
+    pub fn open<H: Host>(alloc: Global, host: &mut H) -> Result<Store, StoreFault>
+        ensures opened { IfOk result (λ store. H.honest → (set : ASettings) (beats : List ABeat)
+            → Stands set beats (reads_as (H.past host.old)) → OpensAt (H.past host.new) store set beats) }
+        ensures ready { IfOk result (IsReady H.honest (H.past host.new)) }
+        ensures going { IfOk result (λ store. store.fault ≡ None) }
+        ensures new { IfOk result (λ store. (store.count ≡ 0) × (store.last ≡ 0)) }
+
+        // Every image at every moment is one from before, and what the files read as stays.
+        ensures any_moment { H.honest → Throughout (EveryDisk (IsDisk (H.past host.old))) (H.past host.old) (H.past host.new) }
+        ensures same { H.honest → (file : AFile) → reads_as (H.past host.new) file ≡ reads_as (H.past host.old) file }
+        ensures only_here { H.honest → OnlyOn File.JournalA (H.past host.old) (H.past host.new) }
+
+        ensures none { IsErrOf result StoreFault.NotADatabase → H.honest → is_made (reads_as (H.past host.old)) ≡ false }
+        ensures some { OnOk result (H.honest → is_made (reads_as (H.past host.old)) ≡ true) }
+        ensures stands { IfOk result (λ store. H.honest → (set : ASettings) × (beats : List ABeat) × Stands set beats (reads_as (H.past host.old))) }
+        ensures damaged { (part : ℕ) → IsErrOf result (StoreFault.Damaged part) → H.honest → IsDamaged (reads_as (H.past host.old)) }
+        ensures faults { IfErr result IsOpenFault }
+        ensures cause { HasCause (H.disk_faults host.old) (H.disk_faults host.new) (IsErrOf result StoreFault.DiskFault) }
+        ensures output { H.tell_faults host.new ≡ H.tell_faults host.old }
+    {
+        let Ok(made) = file::is_made(host) else {
+            return Err(StoreFault::DiskFault);
+        };
+        if !made {
+            return Err(StoreFault::NotADatabase);
+        }
+        let (journal, records) = file::open(alloc, host)?;
+        match read_records(alloc, records.as_slice()) {
+            Err(_) => Err(StoreFault::Memory),
+            Ok(None) => Err(StoreFault::Damaged(4)),
+            Ok(Some((settings, waiting))) => Ok(Store {
+                alloc,
+                settings,
+                count: 0,
+                last: 0,
+                fault: None,
+                waiting,
+                journal,
+            }),
+        }
+    }
+
+    /// The settings with which the database was made.
+    pub fn settings(&self) -> &Settings
+        ensures { result.now ≡ self.now.settings }
+    {
+        &self.settings
+    }
+
+    /// How many beats were applied. The count stands still at 2^64 - 1.
+    pub fn count(&self) -> u64
+        ensures { result ≡ self.now.count }
+    {
+        self.count
+    }
+
+    /// The last moment of a beat that was applied, or 0.
+    pub fn last(&self) -> u32
+        ensures { result ≡ self.now.last }
+    {
+        self.last
+    }
+
+    /// Whether all beats that were there at the opening have been applied.
+    pub fn is_replayed(&self) -> bool
+        ensures { IsTrue result ↔ IsReplayed self.now }
+    {
+        self.waiting.is_empty()
+    }
+
+    /// Counts a beat of this moment.
+    fn apply(&mut self, moment: Option<u32>)
+        ensures { self.new ≡ record self.old { count = raised self.old.count; last = last_after self.old.last moment } }
+    {
+        self.count = self.count.saturating_add(1);
+        self.last = last_after(self.last, moment);
+    }
+
+    /// Gives the next beat that was there at the opening, and applies it: `None` where all are applied.
+    ///
+    /// After `Memory` the database must be opened again.
+    pub fn replay(&mut self) -> Result<Option<Beat>, StoreFault>
+        ensures next { (past : List Event) (set : ASettings) (beats rest : List ABeat) → IsStoreAt past self.old set beats rest
+            → IfOk result (Replays past self.new set beats rest) }
+
+        // The same, of a store that is of no beats.
+        ensures takes { IfOk result (λ next. TakesFirst self.old.waiting next self.new.waiting) }
+        ensures stays { OnErr result ((self.new.count ≡ self.old.count) × (self.new.last ≡ self.old.last)) }
+        ensures settings { self.new.settings ≡ self.old.settings }
+        ensures journal { self.new.journal ≡ self.old.journal }
+
+        // After a refusal each call answers Reopen with its cause.
+        ensures fault { self.new.fault ≡ fault_after self.old.fault result }
+        ensures reopens { Reopens self.old.fault result }
+        ensures faults { IfErr result IsReplayFault }
+        ensures unchanged { IfErr result (λ fault. LeavesAll fault → self.new ≡ self.old) }
+    {
+        if let Some(cause) = self.fault {
+            return Err(StoreFault::Reopen(cause));
+        }
+        Ok(self.apply_next())
+    }
+
+    fn apply_next(&mut self) -> Option<Beat>
+        ensures next { (past : List Event) (set : ASettings) (beats rest : List ABeat) → IsStoreAt past self.old set beats rest
+            → Replays past self.new set beats rest result }
+        ensures takes { TakesFirst self.old.waiting result self.new.waiting }
+        ensures settings { self.new.settings ≡ self.old.settings }
+        ensures journal { self.new.journal ≡ self.old.journal }
+        ensures fault { self.new.fault ≡ self.old.fault }
+    {
+        match self.waiting.take_first() {
+            None => None,
+            Some(beat) => {
+                self.apply(beat.moment);
+                Some(beat)
+            }
+        }
+    }
+
+    /// Adds a beat. At `Ok` it is stored, so that it is there after every later stop; at every moment a
+    /// stop leaves the beats with the new one or without it.
+    ///
+    /// `MomentOrder` exactly where the moment is at most the last one, and then nothing has changed. After
+    /// `DiskFault` or `Memory` the database must be opened again. Past 2^60 bytes of the journal the answer
+    /// is `Memory`.
+    pub fn commit<H: Host>(&mut self, host: &mut H, beat: &Beat) -> Result<(), StoreFault>
+        requires ready { IsReady H.honest (H.past host.old) self.old }
+        requires replayed { IsReplayed self.old }
+        requires form { InForm beat.now }
+        requires size { length (beat_bytes beat.now) ≤ 2 ^ 26 }
+        ensures any_moment { H.honest → (set : ASettings) (beats : List ABeat) → IsStoreOf (H.past host.old) self.old set beats
+            → Throughout (EveryDisk (StandsAround set beats beat.now)) (H.past host.old) (H.past host.new) }
+        ensures stored { OnOk result (H.honest → (set : ASettings) (beats : List ABeat) → IsStoreOf (H.past host.old) self.old set beats
+            → IsStoreOf (H.past host.new) self.new set (beat.now ∷ beats)) }
+
+        // Nothing has changed where the moment is not above the last one, or an earlier call was refused.
+        ensures order { IsErrOf result StoreFault.MomentOrder
+            ↔ ((self.old.fault ≡ None) × IsSomeAnd beat.now.moment (λ moment. moment ≤ self.old.last)) }
+        ensures unchanged { IfErr result (λ fault. LeavesAll fault → (self.new ≡ self.old) × (host.new ≡ host.old)) }
+        ensures same_host { IsErrOf result StoreFault.Memory → host.new ≡ host.old }
+
+        // After a refusal each call answers Reopen with its cause.
+        ensures fault { self.new.fault ≡ fault_after self.old.fault result }
+        ensures reopens { Reopens self.old.fault result }
+        ensures faults { IfErr result IsCommitFault }
+
+        // What a later call requires and answers.
+        ensures ready { IsReady H.honest (H.past host.new) self.new }
+        ensures replayed { IsReplayed self.new }
+        ensures count { OnOk result (self.new.count ≡ raised self.old.count) }
+        ensures last { OnOk result (self.new.last ≡ last_after self.old.last beat.now.moment) }
+        ensures stays { OnErr result ((self.new.count ≡ self.old.count) × (self.new.last ≡ self.old.last)) }
+        ensures settings { self.new.settings ≡ self.old.settings }
+
+        ensures only_here { H.honest → OnlyOn File.JournalA (H.past host.old) (H.past host.new) }
+        ensures cause { HasCause (H.disk_faults host.old) (H.disk_faults host.new) (IsErrOf result StoreFault.DiskFault) }
+        ensures output { H.tell_faults host.new ≡ H.tell_faults host.old }
+        ensures reads { H.reads host.new ≡ H.reads host.old }
+    {
+        if let Some(why) = self.fault {
+            return Err(StoreFault::Reopen(why));
+        }
+        if !is_later(self.last, beat.moment) {
+            return Err(StoreFault::MomentOrder);
+        }
+        match self.add(host, beat) {
+            Ok(()) => Ok(()),
+            Err(fault) => {
+                self.fault = fault.cause();
+                Err(fault)
+            }
+        }
+    }
+
+    /// Adds a beat that may follow the others.
+    fn add<H: Host>(&mut self, host: &mut H, beat: &Beat) -> Result<(), StoreFault>
+        requires ready { IsReady H.honest (H.past host.old) self.old }
+        requires going { self.old.fault ≡ None }
+        requires form { InForm beat.now }
+        requires size { length (beat_bytes beat.now) ≤ 2 ^ 26 }
+        requires later { is_later self.old.last beat.now.moment ≡ true }
+        ensures any_moment { H.honest → (set : ASettings) (beats : List ABeat) → IsStoreOf (H.past host.old) self.old set beats
+            → Throughout (EveryDisk (StandsAround set beats beat.now)) (H.past host.old) (H.past host.new) }
+        ensures stored { OnOk result (H.honest → (set : ASettings) (beats : List ABeat) → IsStoreOf (H.past host.old) self.old set beats
+            → IsStoreOf (H.past host.new) self.new set (beat.now ∷ beats)) }
+        ensures ready { OnOk result (IsReady H.honest (H.past host.new) self.new) }
+        ensures place { IsPlaced self.new.journal }
+        ensures applied { OnOk result (self.new ≡ record self.old {
+          count = raised self.old.count;
+          last = last_after self.old.last beat.now.moment;
+          journal = self.new.journal;
+        }) }
+        ensures stays { OnErr result (self.new ≡ self.old) }
+        ensures only_here { H.honest → OnlyOn File.JournalA (H.past host.old) (H.past host.new) }
+        ensures faults { IfErr result IsStepFault }
+        ensures untouched { IsErrOf result StoreFault.Memory → host.new ≡ host.old }
+        ensures cause { HasCause (H.disk_faults host.old) (H.disk_faults host.new) (IsErrOf result StoreFault.DiskFault) }
+        ensures output { H.tell_faults host.new ≡ H.tell_faults host.old }
+        ensures reads { H.reads host.new ≡ H.reads host.old }
+    {
+        let body = match write_beat(self.alloc, beat) {
+            Ok(body) => body,
+            Err(_) => return Err(StoreFault::Memory),
+        };
+        file::append(&mut self.journal, host, body.as_slice())?;
+        self.apply(beat.moment);
+        Ok(())
+    }
+}

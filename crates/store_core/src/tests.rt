@@ -1,0 +1,137 @@
+use crate::{Beat, BeatPoint, BeatPointList, ByteList, Settings, Store, StoreFault, TierSettings, Why, is_in_limits};
+use host_model::{CallList, File, Host, Keep, MemoryHost};
+use std::alloc::Global;
+use std::test::Fail;
+
+const TIER: TierSettings = TierSettings {
+    items: 262_144,
+    extents: 1024,
+};
+
+const SETTINGS: Settings = Settings {
+    id: 7,
+    tier0: TIER,
+    tier1: TIER,
+    tier2: TIER,
+};
+
+/// The word of 42.
+const WORD: u32 = 0x2940_1640;
+
+fn host_of(alloc: Global, fails: &[u64]) -> Result<MemoryHost, Fail> {
+    let list = CallList::from_vec(fails.to_vec(alloc)?);
+    Ok(MemoryHost::new(alloc, list)?)
+}
+
+/// A beat at the moment 60 with a point.
+fn beat_of(alloc: Global) -> Result<Beat, Fail> {
+    let mut points = BeatPointList::new(alloc);
+    points.push(BeatPoint {
+        series: 3,
+        step: 1,
+        word: WORD,
+    })?;
+    Ok(Beat {
+        moment: Some(60),
+        points,
+        note: ByteList::from_slice(alloc, b"note")?,
+    })
+}
+
+/// Whether it is the beat that `beat_of` makes.
+fn is_the_beat(found: &Option<Beat>) -> bool {
+    match found {
+        None => false,
+        Some(beat) => {
+            let point = BeatPoint {
+                series: 3,
+                step: 1,
+                word: WORD,
+            };
+            beat.moment == Some(60)
+                && beat.points.as_slice() == [point].as_slice()
+                && beat.note.as_slice() == b"note".as_slice()
+        }
+    }
+}
+
+/// Makes a database and stores a beat. It gives what the commit answered, and what it answers then.
+fn make(
+    alloc: Global,
+    host: &mut MemoryHost,
+    beat: &Beat,
+) -> Result<[Option<StoreFault>; 2], StoreFault> {
+    if !is_in_limits(&SETTINGS) || !beat.is_in_form() || !beat.fits_a_record() {
+        return Err(StoreFault::Damaged(0));
+    }
+    let mut store = Store::create(alloc, host, &SETTINGS)?;
+    let first = store.commit(host, beat).err();
+    let again = store.commit(host, beat).err();
+    Ok([first, again])
+}
+
+/// Opens the database, and replays the first beat, if there is one.
+fn replay(alloc: Global, host: &mut MemoryHost) -> Result<Option<Beat>, StoreFault> {
+    let mut store = Store::open(alloc, host)?;
+    store.replay()
+}
+
+#[test]
+fn a_new_database_has_68_bytes(rt: HostRuntime) -> Result<(), Fail> {
+    let mut host = host_of(rt.alloc(), &[])?;
+    assert!(rt; is_in_limits(&SETTINGS));
+    let store = Store::create(rt.alloc(), &mut host, &SETTINGS)?;
+    assert_eq!(rt; host.len(File::JournalA)?, 68);
+    let mut bytes = [0; 68];
+    host.read(File::JournalA, 0, &mut bytes)?;
+    assert_eq!(rt; &bytes[..21], b"NDAJRNL1\0\0\0\0\0\0\0\0\x01\x2e\0\0\0".as_slice());
+    assert_eq!(rt; &bytes[21..43], b"\0\0\0\0\0\0\0\0\x22\0\0\0\0\x01\x07\0\0\0\0\0\0\0".as_slice());
+    assert_eq!(rt; &bytes[43..51], b"\0\0\x04\0\0\x04\0\0".as_slice());
+    assert_eq!(rt; bytes[67], 0);
+    assert_eq!(rt; store.count(), 0);
+    assert_eq!(rt; store.last(), 0);
+    assert_eq!(rt; store.settings().id, 7);
+    assert!(rt; store.is_replayed());
+    let again = Store::create(rt.alloc(), &mut host, &SETTINGS);
+    assert!(rt; matches!(again, Err(StoreFault::Exists)));
+    Ok(())
+}
+
+#[test]
+fn a_stored_beat_is_given_again(rt: HostRuntime) -> Result<(), Fail> {
+    let mut host = host_of(rt.alloc(), &[])?;
+    let answers = make(rt.alloc(), &mut host, &beat_of(rt.alloc())?)?;
+    assert_eq!(rt; answers, [None, Some(StoreFault::MomentOrder)]);
+    assert_eq!(rt; host.len(File::JournalA)?, 101);
+    let mut host = host.stop(Keep::None)?;
+    let mut store = Store::open(rt.alloc(), &mut host)?;
+    assert_eq!(rt; store.count(), 0);
+    assert!(rt; is_the_beat(&store.replay()?));
+    assert!(rt; store.replay()?.is_none());
+    assert_eq!(rt; store.count(), 1);
+    assert_eq!(rt; store.last(), 60);
+    Ok(())
+}
+
+#[test]
+fn a_commit_whose_second_sync_failed(rt: HostRuntime) -> Result<(), Fail> {
+    for (keep, stored) in [(Keep::All, true), (Keep::None, false), (Keep::Fill(255), false)] {
+        let mut host = host_of(rt.alloc(), &[18])?;
+        let answers = make(rt.alloc(), &mut host, &beat_of(rt.alloc())?)?;
+        let reopen = StoreFault::Reopen(Why::Disk);
+        assert_eq!(rt; answers, [Some(StoreFault::DiskFault), Some(reopen)]);
+        let mut host = host.stop(keep)?;
+        assert_eq!(rt; replay(rt.alloc(), &mut host)?.is_some(), stored);
+    }
+    Ok(())
+}
+
+#[test]
+fn no_database_and_a_damaged_one(rt: HostRuntime) -> Result<(), Fail> {
+    let mut host = host_of(rt.alloc(), &[])?;
+    assert_eq!(rt; replay(rt.alloc(), &mut host).err(), Some(StoreFault::NotADatabase));
+    host.write_at(File::JournalA, 0, &[0; 16])?;
+    host.write_at(File::JournalA, 16, &[1, 0])?;
+    assert_eq!(rt; replay(rt.alloc(), &mut host).err(), Some(StoreFault::Damaged(4)));
+    Ok(())
+}

@@ -1,0 +1,55 @@
+ghost use Rattle.std.specs.Prelude.{◌≡◌, ◌↔◌, [], ◌∷◌, ◌++◌, IsTrue, OnOk};
+ghost use Rattle.store_core.specs.Store.{TakesFirst};
+
+use crate::beat::Beat;
+use std::alloc::{AllocError, Global};
+use std::collections::VecDeque;
+use std::marker::Model;
+
+/// Beats that wait for their replay, the oldest first.
+#[derive(Debug, Drop)]
+pub(crate) struct Waiting {
+    beats: VecDeque<Beat>,
+}
+
+impl Model for Waiting {
+    ghost use Rattle.std.specs.Prelude.{List};
+    ghost use Rattle.store_core.specs.declared.beat.Beat.{Beat as ABeat};
+
+    ghost Value = { List ABeat };
+
+    ghost view = { λ waiting. waiting.beats.items };
+}
+
+impl Waiting {
+    pub(crate) fn new(alloc: Global) -> Waiting
+        ensures { result ≡ [] }
+    {
+        Waiting {
+            beats: VecDeque::new(alloc),
+        }
+    }
+
+    pub(crate) fn is_empty(&self) -> bool
+        ensures { IsTrue result ↔ (self.now ≡ []) }
+    {
+        self.beats.is_empty()
+    }
+
+    /// Puts a beat behind the others.
+    pub(crate) fn add(&mut self, beat: Beat) -> Result<(), AllocError>
+        ensures { OnOk result (self.new ≡ self.old ++ beat ∷ []) }
+    {
+        match self.beats.push_back(beat) {
+            Ok(()) => Ok(()),
+            Err(_) => Err(AllocError),
+        }
+    }
+
+    /// Takes the first beat.
+    pub(crate) fn take_first(&mut self) -> Option<Beat>
+        ensures { TakesFirst self.old result self.new }
+    {
+        self.beats.pop_front()
+    }
+}
