@@ -21,6 +21,8 @@ mod command;
 mod conversion;
 mod convert;
 mod stop;
+#[cfg(test)]
+mod tests;
 
 /// Does what the words of a command line ask for, and says how it ended.
 ///

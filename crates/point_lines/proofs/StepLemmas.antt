@@ -202,16 +202,20 @@ module _ (reader : Reader) (past : List Line) (said : Line) (leads_to : Step) (s
 
 -- a DISABLE line was read too
 reads-disable : (reader : Reader) (past : List Line) (out : List ℕ) → Stepped reader past line.Disable step.Disabled → StopsFor reader past (placed past line.Disable) stop.Disabled out out
-reads-disable reader past out stepped = (placed-ok past line.Disable stepped.accepted_line, refl, record {
-  lines = stepped.lines;
-  skips = stepped.skips;
-  feed = stepped.feed;
-  definitions = stepped.definitions;
-  moment = stepped.moment;
-  rows = stepped.rows;
-  accepted = (stepped.accepted_line, stepped.accepted);
-  divisors = stepped.divisors;
-})
+reads-disable reader past out stepped = (
+  placed-ok past line.Disable stepped.accepted_line,
+  refl,
+  record {
+    lines = stepped.lines;
+    skips = stepped.skips;
+    feed = stepped.feed;
+    definitions = stepped.definitions;
+    moment = stepped.moment;
+    rows = stepped.rows;
+    accepted = (stepped.accepted_line, stepped.accepted);
+    divisors = stepped.divisors;
+  },
+)
 
 module _ (reader : Reader) (past : List Line) (said : Line) (out : List ℕ) where
   pub reads-nothing : Stepped reader past said step.Nothing → Reads reader past (placed past said) out out

@@ -336,10 +336,7 @@ fn the_widest_beat_is_taken_and_no_more(rt: HostRuntime) -> Result<(), Fail> {
     let mut feed = Feed::new(rt.alloc(), 1);
     assert!(rt; take_charts(rt.alloc(), &mut feed, &registry, 4_096, 16)?);
     for (line, want) in [
-        (
-            "CHART chart.4096 n t u",
-            Some(BlockFault::TooManyCharts),
-        ),
+        ("CHART chart.4096 n t u", Some(BlockFault::TooManyCharts)),
         ("CHART chart.4095 n t u", None),
         ("DIMENSION 15", None),
         ("DIMENSION 16", Some(BlockFault::TooManyDimensions)),
