@@ -1,3 +1,4 @@
 pub mod CloseLemmas
 pub mod DivisorLemmas
+mod Rows
 pub mod StepLemmas
