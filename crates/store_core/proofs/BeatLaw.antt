@@ -4,7 +4,7 @@ use Rattle.std.specs.List.{flat_map}
 use Rattle.std.proofs.lemmas.List.{append-nil}
 use Rattle.std.proofs.lemmas.List.Concat.{flat_map-cons}
 use Rattle.field_codec.specs.Field.{IsBytes, IsField}
-use Rattle.field_codec.specs.Reading.{ReadOf, read_as, read_bytes, read_u32}
+use Rattle.field_codec.specs.Reading.{ReadOf, read_as}
 use Rattle.field_codec.specs.Spelling.{sized_bytes, u32_bytes}
 use Rattle.field_codec.proofs.Combined.{as_field}
 use Rattle.field_codec.proofs.Fields.{bytes_field, u32_field}

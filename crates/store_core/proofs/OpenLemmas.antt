@@ -1,5 +1,5 @@
 -- What a store is when it was opened.
-use Rattle.std.proofs.Common.{◌≡◌, ℕ, List, [], ◌∷◌, Option, Some, None, refl, sym, ap, ◌∙◌, subst}
+use Rattle.std.proofs.Common.{◌≡◌, ℕ, List, [], Option, Some, None, refl, sym, ap, ◌∙◌, subst}
 use Rattle.host_model.specs.declared.file.File.TheVariants.{JournalA}
 use Rattle.host_model.specs.Images.{contents}
 use Rattle.host_model.specs.Past.{Event, of}
@@ -11,7 +11,7 @@ use Rattle.entry_codec.specs.declared.entry.Settings.{Settings}
 use Rattle.store_core.specs.declared.beat.Beat.{Beat}
 use Rattle.store_core.specs.Records.{history_in, records, with_all}
 use Rattle.store_core.specs.Stands.{Stands}
-use Rattle.store_core.specs.Store.{IsPlaced, IsStoreAt, OpensAt, StoreState}
+use Rattle.store_core.specs.Store.{IsPlaced, OpensAt, StoreState}
 use Rattle.store_core.proofs.RecordLaw.{history_again, history_found, oldest_first, AreBytes}
 use Rattle.store_core.proofs.StoreLemmas.{open_reads}
 

@@ -1,5 +1,5 @@
 -- The law of records: those of a database read as it, and what records read as has them.
-use Rattle.std.proofs.Common.{◌≡◌, ℕ, suc, Bool, true, false, cond, List, [], ◌∷◌, ◌++◌, map, Option, Some, None, refl, sym, ap, ◌∙◌, subst, append_assoc, append-nil}
+use Rattle.std.proofs.Common.{◌≡◌, ℕ, Bool, true, false, cond, List, [], ◌∷◌, ◌++◌, map, Option, Some, None, refl, sym, ap, ◌∙◌, subst, append_assoc, append-nil}
 use Rattle.std.specs.List.{AllByRecursion}
 use Rattle.std.specs.Option.{option_map}
 use Rattle.field_codec.specs.Field.{IsBytes}
@@ -7,7 +7,7 @@ use Rattle.entry_codec.specs.declared.entry.Settings.{Settings}
 use Rattle.store_core.specs.declared.beat.Beat.{Beat}
 use Rattle.store_core.specs.Beats.{beat_bytes, beat_in, InForm}
 use Rattle.store_core.specs.FirstRecord.{settings_body, settings_in, InLimits}
-use Rattle.store_core.specs.Records.{beats_from, history_in, if_later, is_later, last_after, last_moment, next_beat, records, then_beats, with_all, with_settings, AreBeats, Rises}
+use Rattle.store_core.specs.Records.{beats_from, history_in, if_later, is_later, last_after, last_moment, next_beat, records, then_beats, with_all, with_settings, AreBeats}
 use Rattle.store_core.proofs.BeatLaw.{beat_again, beat_found}
 use Rattle.store_core.proofs.FirstRecordLaw.{settings_again, settings_found}
 

@@ -1,5 +1,5 @@
 -- What a fault of a store leaves it as.
-use Rattle.std.specs.Prelude.{◌≡◌, ℕ, ◌⊎◌, Option, Some, None, Result, Ok, Err}
+use Rattle.std.specs.Prelude.{◌≡◌, ◌⊎◌, Option, Some, None, Result, Ok, Err}
 use Rattle.store_core.specs.declared.fault.StoreFault.{StoreFault}
 use Rattle.store_core.specs.declared.fault.StoreFault.TheVariants.{DiskFault, NotADatabase, Damaged, MomentOrder, Reopen, Exists, Memory}
 use Rattle.store_core.specs.declared.fault.Why.{Why}

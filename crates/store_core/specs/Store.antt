@@ -1,6 +1,5 @@
 -- What contracts see of a store, and of what a store is.
 use Rattle.std.specs.Prelude.{◌≡◌, ℕ, ◌+◌, ◌-◌, ◌^◌, min, List, [], ◌∷◌, length, Option, Some, None}
-use Rattle.host_model.specs.declared.file.File.{File}
 use Rattle.host_model.specs.declared.file.File.TheVariants.{JournalA}
 use Rattle.host_model.specs.Past.{Event, of}
 use Rattle.journal_core.specs.Journal.{JournalState, IsOpen}

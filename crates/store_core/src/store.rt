@@ -64,7 +64,11 @@ impl Store {
     ///
     /// `Exists` exactly where there is one, and then nothing has happened. Where there was none whatever a
     /// stop left, then at every moment a stop leaves none, or the new one without beats; at `Ok` the latter.
-    pub fn create<H: Host>(alloc: Global, host: &mut H, settings: &Settings) -> Result<Store, StoreFault>
+    pub fn create<H: Host>(
+        alloc: Global,
+        host: &mut H,
+        settings: &Settings,
+    ) -> Result<Store, StoreFault>
         requires { InLimits settings.now }
         ensures created { IfOk result (λ store. H.honest → IsStoreOf (H.past host.new) store settings.now []) }
         ensures ready { IfOk result (IsReady H.honest (H.past host.new)) }

@@ -1,4 +1,7 @@
-use crate::{Beat, BeatPoint, BeatPointList, ByteList, Settings, Store, StoreFault, TierSettings, Why, is_in_limits};
+use crate::{
+    Beat, BeatPoint, BeatPointList, ByteList, Settings, Store, StoreFault, TierSettings, Why,
+    is_in_limits,
+};
 use host_model::{CallList, File, Host, Keep, MemoryHost};
 use std::alloc::Global;
 use std::test::Fail;
@@ -84,8 +87,14 @@ fn a_new_database_has_68_bytes(rt: HostRuntime) -> Result<(), Fail> {
     assert_eq!(rt; host.len(File::JournalA)?, 68);
     let mut bytes = [0; 68];
     host.read(File::JournalA, 0, &mut bytes)?;
-    assert_eq!(rt; &bytes[..21], b"NDAJRNL1\0\0\0\0\0\0\0\0\x01\x2e\0\0\0".as_slice());
-    assert_eq!(rt; &bytes[21..43], b"\0\0\0\0\0\0\0\0\x22\0\0\0\0\x01\x07\0\0\0\0\0\0\0".as_slice());
+    assert_eq!(rt;
+        &bytes[..21],
+        b"NDAJRNL1\0\0\0\0\0\0\0\0\x01\x2e\0\0\0".as_slice()
+    );
+    assert_eq!(rt;
+        &bytes[21..43],
+        b"\0\0\0\0\0\0\0\0\x22\0\0\0\0\x01\x07\0\0\0\0\0\0\0".as_slice()
+    );
     assert_eq!(rt; &bytes[43..51], b"\0\0\x04\0\0\x04\0\0".as_slice());
     assert_eq!(rt; bytes[67], 0);
     assert_eq!(rt; store.count(), 0);
@@ -115,7 +124,11 @@ fn a_stored_beat_is_given_again(rt: HostRuntime) -> Result<(), Fail> {
 
 #[test]
 fn a_commit_whose_second_sync_failed(rt: HostRuntime) -> Result<(), Fail> {
-    for (keep, stored) in [(Keep::All, true), (Keep::None, false), (Keep::Fill(255), false)] {
+    for (keep, stored) in [
+        (Keep::All, true),
+        (Keep::None, false),
+        (Keep::Fill(255), false),
+    ] {
         let mut host = host_of(rt.alloc(), &[18])?;
         let answers = make(rt.alloc(), &mut host, &beat_of(rt.alloc())?)?;
         let reopen = StoreFault::Reopen(Why::Disk);
@@ -129,9 +142,15 @@ fn a_commit_whose_second_sync_failed(rt: HostRuntime) -> Result<(), Fail> {
 #[test]
 fn no_database_and_a_damaged_one(rt: HostRuntime) -> Result<(), Fail> {
     let mut host = host_of(rt.alloc(), &[])?;
-    assert_eq!(rt; replay(rt.alloc(), &mut host).err(), Some(StoreFault::NotADatabase));
+    assert_eq!(rt;
+        replay(rt.alloc(), &mut host).err(),
+        Some(StoreFault::NotADatabase)
+    );
     host.write_at(File::JournalA, 0, &[0; 16])?;
     host.write_at(File::JournalA, 16, &[1, 0])?;
-    assert_eq!(rt; replay(rt.alloc(), &mut host).err(), Some(StoreFault::Damaged(4)));
+    assert_eq!(rt;
+        replay(rt.alloc(), &mut host).err(),
+        Some(StoreFault::Damaged(4))
+    );
     Ok(())
 }

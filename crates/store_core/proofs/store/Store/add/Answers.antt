@@ -1,4 +1,4 @@
-use Rattle.std.proofs.Common.{ap, sym, ◌∙◌}
+use Rattle.std.proofs.Common.{ap, ◌∙◌}
 use Rattle.host_model.specs.Moments.{begins}
 use Rattle.store_core.specs.Store.{StoreState}
 use Rattle.store_core.proofs.StoreLemmas.{append_moments, nothing_done}

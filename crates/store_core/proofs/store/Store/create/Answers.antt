@@ -1,5 +1,4 @@
 use Rattle.std.proofs.Common.{◌≡◌, List, false, length, inl, sym, ap, ◌∙◌, subst, arith}
-use Rattle.host_model.specs.declared.file.File.{File}
 use Rattle.host_model.specs.Past.{Event}
 use Rattle.host_model.specs.Moments.{Throughout}
 use Rattle.host_model.specs.Disks.{EveryDisk}

@@ -1,5 +1,4 @@
 use Rattle.std.proofs.Common.{List, [], refl, sym, ap, ◌∙◌, subst, rules}
-use Rattle.host_model.specs.declared.file.File.{File}
 use Rattle.host_model.specs.Past.{Event, IsDisk}
 use Rattle.host_model.specs.Moments.{Throughout}
 use Rattle.host_model.specs.Disks.{EveryDisk, reads_as}
