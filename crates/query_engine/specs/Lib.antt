@@ -1,0 +1,7 @@
+pub mod Holding
+pub mod Windows
+pub mod Joining
+pub mod Tiers
+pub mod Planning
+pub mod InMemory
+pub mod ListPoints
