@@ -44,6 +44,7 @@ in_tier widths floor tier start window points rising grid high = go (eqb tier 0)
   where
     width : ℕ
     width = get_or widths tier 0
+
     go : (b : Bool) → eqb tier 0 ≡ b → record_in_tier widths floor tier start window points ≡ record_between start (start + window) points
     go true e =
         let low : floor 0 ≤ start = subst (λ i. floor i ≤ start) (eqb-true tier 0 e) high in
@@ -68,6 +69,7 @@ own_cell widths floor request i tier points rising may = go (ltb (start_of reque
   where
     grid : tier ≢ 0 → (start_of request i % get_or widths tier 0 ≡ 0) × (request.window % get_or widths tier 0 ≡ 0)
     grid not = let parts = may_parts widths request.after request.window tier may not in (start_whole request i (get_or widths tier 0) parts.0 parts.1, parts.1)
+
     go : (b : Bool) → ltb (start_of request i) (floor tier) ≡ b
         → cell_in_tier widths floor tier request.group (start_of request i) request.window points ≡ cell request.group (floor tier) (start_of request i) request.window points
     go true e = cond-true (ltb (start_of request i) (floor tier)) _ _ e ∙ sym (cond-true (ltb (start_of request i) (floor tier)) _ _ e)

@@ -108,6 +108,7 @@ one_count from to point = go (point_of point.word)
     at : (b : Bool) (a : Added) → length (cond b (a ∷ []) []) ≤ 1
     at true a = omega arith
     at false a = omega arith
+
     go : (o : Option Value) → length (members_between from to (filter_map (λ (p : Point). option_map (λ (v : Value). record { moment = p.moment; units = v.units; anomalous = v.anomalous }) o) (point ∷ []))) ≤ 1
     go None = omega arith
     go (Some v) = at (is_between from to point.moment) _
@@ -179,6 +180,7 @@ members-split from mid to least (point ∷ points) h low high =
         ∙ sym (append_assoc (one from mid point) (members_between from mid (values points)) (members_between mid to (values points)))
         ∙ ap (λ (l : List Added). l ++ members_between mid to (values points)) (sym (members-cons from mid point points))
         ∙ ap (λ (l : List Added). members_between from mid (values (point ∷ points)) ++ l) (sym second)
+
     late : Rises least point points → mid ≤ point.moment
         → members_between from to (values (point ∷ points)) ≡ members_between from mid (values (point ∷ points)) ++ members_between mid to (values (point ∷ points))
     late is after =
@@ -199,6 +201,7 @@ members_few from to least (point ∷ points) h =
   where
     count : length (members_between from to (values (point ∷ points))) ≡ length (one from to point) + length (members_between from to (values points))
     count = ap length (members-cons from to point points) ∙ length-append (one from to point) (members_between from to (values points))
+
     go : Rises least point points → IsFew (length (members_between from to (values points))) from to (point.moment + 1) → (b : Bool) → is_between from to point.moment ≡ b
         → IsFew (length (members_between from to (values (point ∷ points)))) from to least
     go is few true e =
@@ -250,6 +253,7 @@ members_asked keep from to least (point ∷ points) h all =
     out : keep point ≡ false → point.moment < 2 ^ 32 → (b : Bool) → is_between from to point.moment ≡ b → is_between from to point.moment ≡ false
     out gone fits false e = e
     out gone fits true e = absurd (both_ways (keep point) gone (all point fits e))
+
     go : (b : Bool) → keep point ≡ b → Rises least point points → members_between from to (values (filter keep points)) ≡ members_between from to (values points)
         → members_between from to (values (cond b (point ∷ filter keep points) (filter keep points))) ≡ members_between from to (values (point ∷ points))
     go true e is rest =

@@ -128,12 +128,14 @@ module _ (floor : ℕ → ℕ) (may : ℕ → Bool) where
     where
       test : ℕ → Bool
       test k = may k && is_lowest floor may count k
+
       low : is_lowest floor may count tier ≡ true
       low = all_below (λ other. not (may other) || leb (floor tier) (floor other)) count (λ other inside. at other inside (may other) refl)
         where
           at : (other : ℕ) → other < count → (b : Bool) → may other ≡ b → (not (may other) || leb (floor tier) (floor other)) ≡ true
           at other inside true e = or_right (not (may other)) (leb (floor tier) (floor other)) (le-leb (floor tier) (floor other) (is.lowest other inside e))
           at other inside false e = or_left (not (may other)) (leb (floor tier) (floor other)) (not_from_false (may other) e)
+
       higher : (j : ℕ) → tier < j → j < count → test j ≡ false
       higher j above inside = at (may j) refl
         where
@@ -152,6 +154,7 @@ module _ (floor : ℕ → ℕ) (may : ℕ → Bool) where
     where
       next : n + 1 + 1 ≡ count
       next = omega (arith, e)
+
       go : (tier : ℕ) × IsLowestTier floor may (n + 1) tier → (tier : ℕ) × IsLowestTier floor may count tier
       go (tier, is) = by (may (n + 1)) refl
         where

@@ -26,9 +26,11 @@ one_is from to point = go (point_of point.word)
     by : (b : Bool) (a : Added) → record_of (cond b (a ∷ []) []) ≡ cond b (Some (single a.units a.anomalous)) None
     by true a = single_is a
     by false a = refl
+
     none : (b : Bool) → None ≡ cond b (option_map (λ (a : Added). single a.units a.anomalous) None) None
     none true = refl
     none false = refl
+
     go : (o : Option Value) → record_of (members_between from to (filter_map (λ (p : Point). option_map (λ (v : Value). record { moment = p.moment; units = v.units; anomalous = v.anomalous }) o) (point ∷ [])))
         ≡ cond (is_between from to point.moment) (option_map (λ (a : Added). single a.units a.anomalous) (option_map (λ (v : Value). record { moment = point.moment; units = v.units; anomalous = v.anomalous }) o)) None
     go None = none (is_between from to point.moment)

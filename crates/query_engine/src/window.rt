@@ -6,10 +6,9 @@ ghost use Rattle.query_engine.specs.Planning.{IsPlan};
 ghost use Rattle.query_engine.specs.Windows.{record_between};
 
 use crate::fault::PointFault;
-use crate::joining;
 use crate::plan::Plan;
 use crate::points::Points;
-use crate::span;
+use crate::{joining, span};
 use fixed_num::Record;
 use std::alloc::Global;
 

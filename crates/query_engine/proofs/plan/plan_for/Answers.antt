@@ -11,11 +11,11 @@ returns-clause-plan g c =
     let tier = c.lowest_tier-tier.result in
     elim c.if-tier-eq0.branch [
       | then-tier-eq0 w ↦ record {
-          inside = c.lowest_tier-tier.ensures.inside;
-          floor = c.floor.ensures;
-          positive = omega (arith, w.step-is);
-          step = λ not. absurd (not w.if-tier-eq0.true);
-        }
+        inside = c.lowest_tier-tier.ensures.inside;
+        floor = c.floor.ensures;
+        positive = omega (arith, w.step-is);
+        step = λ not. absurd (not w.if-tier-eq0.true);
+      }
       | else-tier-eq0 w ↦
           let positive : 0 < get_or holding.widths tier 0 = (widths_are holding.widths law.widths).positive tier c.lowest_tier-tier.ensures.inside in
           record {
