@@ -1,13 +1,13 @@
-use Rattle.std.proofs.Common.{◌≡◌, ℕ, suc, ◌+◌, ◌*◌, ◌^◌, ◌<◌, ◌≤◌, ◌⊎◌, inl, inr, min, Bool, true, false, cond, List, [], ◌∷◌, ◌++◌, length, Option, Some, None, IfSome, ℤ, pos, ◌+ℤ◌, ◌≤ℤ◌, unsigned_abs, arith, refl, sym, ap, ◌∙◌}
+use Rattle.std.proofs.Common.{◌≡◌, ℕ, ◌+◌, ◌*◌, ◌^◌, ◌<◌, ◌≤◌, List, [], ◌∷◌, ◌++◌, length, Option, Some, None, IfSome, ℤ, ◌+ℤ◌, unsigned_abs, arith, refl, sym, ap, ◌∙◌}
 use Rattle.std.specs.Int.{int_min, int_max}
 use Rattle.std.proofs.Math.IntN.{+ℤ_assoc, +ℤ_idl}
 use Rattle.std.proofs.lemmas.Int.{ints, int_min_is, int_max_is}
 use Rattle.std.proofs.lemmas.List.{length-append, append-nil}
 use Rattle.fixed_num.specs.declared.units.Record.{Record}
-use Rattle.tier_rollup.specs.Buckets.{Added, limit, IsWithinLimit, least, greatest, total, one_if, anomalous_count, record_of}
+use Rattle.tier_rollup.specs.Buckets.{Added, limit, least, greatest, total, anomalous_count, record_of}
 use Rattle.tier_rollup.specs.Rolling.{AreWithin}
-use Rattle.tier_rollup.proofs.RecordLemmas.{parts, same_parts, abs-add, anomalous-le, total_bound}
-use Rattle.query_engine.specs.Joining.{merged, joined, HasRoom, HaveRoom}
+use Rattle.tier_rollup.proofs.RecordLemmas.{same_parts, anomalous-le, total_bound}
+use Rattle.query_engine.specs.Joining.{joined, HaveRoom}
 
 -- ---- two records
 

@@ -1,12 +1,12 @@
-use Rattle.std.proofs.Common.{◌≡◌, ◌≢◌, ℕ, zero, suc, ◌+◌, ◌-◌, ◌*◌, ◌/◌, ◌%◌, ◌^◌, ◌<◌, ◌≤◌, min, Bool, true, false, cond, eqb, ltb, List, length, get_or, Option, Some, None, arith, refl, sym, ap, subst, ◌∙◌, ℤ}
-use Rattle.std.proofs.Math.Nat.{mod-add-div', add-mul-mod_self_right}
-use Rattle.std.proofs.lemmas.Bool.{eqb-true, eqb-false, ltb-true, ltb-false, le-ltb, cond-true, cond-false}
+use Rattle.std.proofs.Common.{◌≡◌, ◌≢◌, ℕ, zero, suc, ◌+◌, ◌*◌, ◌/◌, ◌%◌, ◌≤◌, Bool, true, false, cond, eqb, ltb, List, get_or, Option, None, arith, refl, sym, ap, subst, ◌∙◌}
+use Rattle.std.proofs.Math.Nat.{add-mul-mod_self_right}
+use Rattle.std.proofs.lemmas.Bool.{eqb-true, eqb-false, ltb-false, le-ltb, cond-true, cond-false}
 use Rattle.std.specs.Option.{option_map}
 use Rattle.fixed_num.specs.declared.units.Record.{Record}
 use Rattle.query_engine.specs.declared.point.Point.{Point}
 use Rattle.query_engine.specs.declared.request.Group.{Group}
 use Rattle.query_engine.specs.declared.request.Request.{Request}
-use Rattle.query_engine.specs.Holding.{are_rising_from, points_between, record_at}
+use Rattle.query_engine.specs.Holding.{are_rising_from}
 use Rattle.query_engine.specs.Joining.{joined}
 use Rattle.query_engine.specs.Tiers.{record_of_buckets, record_in_tier, cell_in_tier}
 use Rattle.query_engine.specs.Windows.{cell, group_of, may_read, record_between, start_of}

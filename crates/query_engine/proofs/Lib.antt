@@ -6,3 +6,5 @@ pub mod TierLemmas
 pub mod LawLemmas
 pub mod Keeping
 pub mod TableLemmas
+pub mod SeriesLemmas
+mod Rows

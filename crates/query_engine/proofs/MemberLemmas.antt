@@ -1,6 +1,6 @@
-use Rattle.std.proofs.Common.{◌≡◌, ℕ, zero, suc, ◌+◌, ◌-◌, ◌*◌, ◌^◌, ◌<◌, ◌≤◌, Bool, true, false, cond, ltb, leb, ◌&&◌, List, [], ◌∷◌, ◌++◌, length, take, filter, append_assoc, inl, inr, Option, Some, None, arith, refl, sym, ap, ◌∙◌}
-use Rattle.std.proofs.lemmas.Bool.{and_parts, and_from, and_left, and_right, leb-true, ltb-true, le-leb, lt-leb, lt-ltb, le-ltb, cond-true, cond-false, both_ways, cases_lt}
-use Rattle.std.proofs.lemmas.List.{length-append, append-nil}
+use Rattle.std.proofs.Common.{◌≡◌, ℕ, zero, suc, ◌+◌, ◌-◌, ◌^◌, ◌<◌, ◌≤◌, Bool, true, false, cond, ltb, leb, ◌&&◌, List, [], ◌∷◌, ◌++◌, length, take, filter, append_assoc, inl, inr, Option, Some, None, arith, refl, sym, ap, ◌∙◌}
+use Rattle.std.proofs.lemmas.Bool.{and_parts, and_from, and_left, and_right, leb-true, ltb-true, le-leb, lt-leb, lt-ltb, le-ltb, cond-false, both_ways, cases_lt}
+use Rattle.std.proofs.lemmas.List.{length-append}
 use Rattle.std.proofs.lemmas.List.Elements.{filter-append, filter_map-append}
 use Rattle.std.specs.List.{filter_map, cons_option}
 use Rattle.std.specs.Option.{option_map}
@@ -9,7 +9,7 @@ use Rattle.storage_number.specs.Word.{point_of}
 use Rattle.tier_rollup.specs.Buckets.{Added, IsWithinLimit}
 use Rattle.tier_rollup.specs.Rolling.{AreWithin}
 use Rattle.query_engine.specs.declared.point.Point.{Point}
-use Rattle.query_engine.specs.Holding.{are_rising_from, value_of, values, is_asked, points_between}
+use Rattle.query_engine.specs.Holding.{are_rising_from, value_of, values}
 use Rattle.query_engine.specs.Windows.{is_between, members_between}
 use Rattle.query_engine.proofs.WordLemmas.{word_within}
 

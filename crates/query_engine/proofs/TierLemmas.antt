@@ -1,11 +1,10 @@
-use Rattle.std.proofs.Common.{◌≡◌, ◌≢◌, ℕ, zero, suc, ◌+◌, ◌-◌, ◌*◌, ◌/◌, ◌%◌, ◌<◌, ◌≤◌, ◌⊎◌, inl, inr, Bool, true, false, not, cond, eqb, ltb, leb, ◌&&◌, ◌||◌, List, [], ◌∷◌, length, get_or, Option, Some, None, arith, refl, sym, ap, subst, ◌∙◌}
-use Rattle.std.proofs.Math.Nat.{mod-add-div', add-mul-mod_self_right}
-use Rattle.std.proofs.lemmas.Bool.{and_parts, and_from, and_left, and_right, or_parts, or_cases, or_from, or_left, or_right, not_from_true, not_from_false, leb-true, leb-false, ltb-true, le-leb, lt-leb, eqb-true, eq-eqb, ne_eqb, cond-true, cond-false, cases_eq, cases_lt, both_ways}
+use Rattle.std.proofs.Common.{◌≡◌, ◌≢◌, ℕ, zero, suc, ◌+◌, ◌-◌, ◌%◌, ◌<◌, ◌≤◌, inl, inr, Bool, true, false, not, eqb, ltb, leb, ◌&&◌, ◌||◌, List, [], ◌∷◌, length, get_or, Option, Some, arith, refl, sym, ap, subst, ◌∙◌}
+use Rattle.std.proofs.lemmas.Bool.{and_parts, and_from, and_left, and_right, or_cases, or_from, or_left, or_right, not_from_true, not_from_false, ltb-true, le-leb, lt-leb, eqb-true, ne_eqb, cond-true, cond-false, cases_eq, cases_lt, both_ways}
 use Rattle.std.specs.Option.{unwrap_or}
 use Rattle.std.specs.List.{find, list_all}
 use Rattle.query_engine.specs.Holding.{are_above, are_widths}
 use Rattle.query_engine.specs.Planning.{IsLowestTier}
-use Rattle.query_engine.specs.Windows.{may_read, below, is_lowest, lowest_tier, tier_for}
+use Rattle.query_engine.specs.Windows.{may_read, below, is_lowest, lowest_tier}
 
 -- ---- widths
 

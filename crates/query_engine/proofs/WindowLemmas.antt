@@ -1,8 +1,8 @@
-use Rattle.std.proofs.Common.{◌≡◌, ℕ, zero, suc, ◌+◌, ◌-◌, ◌*◌, ◌/◌, ◌%◌, ◌^◌, ◌<◌, ◌≤◌, min, Bool, true, false, cond, ltb, leb, ◌&&◌, List, [], ◌∷◌, ◌++◌, length, get_or, take, filter, Option, Some, None, IfSome, arith, refl, sym, ap, subst, ◌∙◌}
+use Rattle.std.proofs.Common.{◌≡◌, ℕ, zero, ◌+◌, ◌-◌, ◌*◌, ◌/◌, ◌%◌, ◌^◌, ◌<◌, ◌≤◌, min, Bool, true, false, cond, ltb, leb, ◌&&◌, List, [], ◌∷◌, ◌++◌, length, get_or, take, Option, Some, None, arith, refl, sym, ap, subst, ◌∙◌}
 use Rattle.std.proofs.Math.Nat.{mod-add-div', add-mul-mod_self_right, lt_of_mul-lt-mul_right, mul-le-mul_right}
-use Rattle.std.proofs.lemmas.Bool.{and_from, le-leb, le-ltb, cond-true, cond-false}
+use Rattle.std.proofs.lemmas.Bool.{and_from, le-leb, le-ltb, cond-false}
 use Rattle.std.proofs.lemmas.List.{take_more}
-use Rattle.std.specs.List.{cons_option, filter_map}
+use Rattle.std.specs.List.{filter_map}
 use Rattle.std.specs.Option.{option_map}
 use Rattle.fixed_num.specs.declared.units.Record.{Record}
 use Rattle.storage_number.specs.declared.point.Point.{Point as Value}
@@ -12,10 +12,10 @@ use Rattle.tier_rollup.specs.Growing.{single}
 use Rattle.tier_rollup.specs.Rolling.{AreWithin}
 use Rattle.tier_rollup.proofs.RecordLemmas.{single_is}
 use Rattle.query_engine.specs.declared.point.Point.{Point}
-use Rattle.query_engine.specs.Holding.{are_rising_from, value_of, values, is_asked, points_between, record_at}
-use Rattle.query_engine.specs.Joining.{joined, record_of_point, record_of_one, HaveRoom}
+use Rattle.query_engine.specs.Holding.{are_rising_from, values, is_asked, points_between, record_at}
+use Rattle.query_engine.specs.Joining.{joined, record_of_one, HaveRoom}
 use Rattle.query_engine.specs.Windows.{is_between, members_between, record_between}
-use Rattle.query_engine.proofs.MemberLemmas.{one, one_out, members-append, members-split, members_few, members_within, members_none, members_none_high, members_asked, rising_take, rising_filter, between_low, between_high}
+use Rattle.query_engine.proofs.MemberLemmas.{one, members-append, members-split, members_few, members_within, members_none, members_none_high, members_asked, rising_take, rising_filter, between_low, between_high}
 use Rattle.query_engine.proofs.JoinLemmas.{joined-none, record_of-append, room}
 
 -- ---- a further point of a span

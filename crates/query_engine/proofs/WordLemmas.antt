@@ -1,8 +1,7 @@
-use Rattle.std.proofs.Common.{◌≡◌, ℕ, ◌+◌, ◌*◌, ◌%◌, ◌^◌, ◌<◌, ◌≤◌, Bool, true, false, cond, ltb, leb, Option, Some, None, unsigned_abs, arith, refl, sym, ap, ◌∙◌}
+use Rattle.std.proofs.Common.{◌≡◌, ℕ, ◌*◌, ◌^◌, ◌<◌, ◌≤◌, Bool, true, false, cond, leb, Option, Some, None, unsigned_abs, arith, refl, sym, ap, ◌∙◌}
 use Rattle.std.proofs.Math.Nat.{mul-le-mul_left, mul-le-mul_right, le_trans}
 use Rattle.std.proofs.lemmas.Bool.{agree_below_at, leb-true}
 use Rattle.std.specs.Option.{option_map_or}
-use Rattle.fixed_num.specs.Rounding.{signed}
 use Rattle.fixed_num.proofs.RoundingLemmas.{unsigned_abs-signed}
 use Rattle.storage_number.specs.declared.point.Point.{Point as Value}
 use Rattle.storage_number.specs.declared.step.Step.{Step}

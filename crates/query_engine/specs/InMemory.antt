@@ -1,4 +1,4 @@
-use Rattle.std.specs.Prelude.{◌≡◌, ℕ, zero, suc, ◌&&◌, List, [], ◌∷◌, slice_index, slice_index_or, Bool, true, Option, Some, IsTrue, refl}
+use Rattle.std.specs.Prelude.{ℕ, zero, suc, List, [], ◌∷◌, slice_index, slice_index_or, Some, IsTrue, refl}
 use Rattle.std.specs.List.{list_all}
 use Rattle.std.proofs.Common.{subst}
 use Rattle.std.proofs.lemmas.Bool.{and_parts}

@@ -1,6 +1,4 @@
-use Rattle.std.specs.Prelude.{ℕ, List, slice_index, Some}
 use Rattle.query_engine.specs.declared.list_points.ListPoints.{ListPoints}
-use Rattle.query_engine.specs.declared.point.Point.{Point}
 use Rattle.query_engine.specs.Holding.{Holding}
 use Rattle.query_engine.specs.InMemory.{holding_in}
 

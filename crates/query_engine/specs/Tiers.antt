@@ -1,4 +1,4 @@
-use Rattle.std.specs.Prelude.{ℕ, zero, suc, ◌+◌, ◌/◌, nat_lt, if◌then◌else◌, List, ◌==◌, slice_index, Option, Some, None, ℤ}
+use Rattle.std.specs.Prelude.{ℕ, zero, suc, ◌+◌, ◌/◌, nat_lt, if◌then◌else◌, List, ◌==◌, slice_index, Option, None, ℤ}
 use Rattle.std.specs.Option.{option_map}
 use Rattle.fixed_num.specs.declared.units.Record.{Record}
 use Rattle.query_engine.specs.declared.point.Point.{Point}

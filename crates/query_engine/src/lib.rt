@@ -38,7 +38,7 @@ mod window;
 
 pub use answers::answer;
 pub use fault::PointFault;
-pub use law::any_tiers;
+pub use law::{any_series, any_tiers};
 pub use list_points::ListPoints;
 pub use point::{MomentList, Point, PointList, SeriesPointsList};
 pub use points::Points;

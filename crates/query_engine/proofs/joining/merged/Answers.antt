@@ -1,4 +1,4 @@
-use Rattle.std.proofs.Common.{◌≡◌, ◌+◌, ℤ, ◌+ℤ◌, SFits, to_z, of_z, to_z-of_z, rules, ap, ◌∙◌}
+use Rattle.std.proofs.Common.{◌+◌, ℤ, ◌+ℤ◌, SFits, to_z, of_z, to_z-of_z, rules, ap, ◌∙◌}
 use Rattle.std.specs.Int.{int_min, int_max, saturate_to_bits, w128}
 use Rattle.tier_rollup.proofs.RecordLemmas.{same_parts, unsaturated, counted}
 use Rattle.query_engine.proofs.joining.merged.Goals as goal

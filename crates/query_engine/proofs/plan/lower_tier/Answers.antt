@@ -1,4 +1,4 @@
-use Rattle.std.proofs.Common.{ℕ, ◌<◌, List, get_or, arith, sym, ap, subst, ◌∙◌}
+use Rattle.std.proofs.Common.{ℕ, ◌<◌, List, get_or, arith, sym, subst}
 use Rattle.std.proofs.lemmas.Bool.{both_ways}
 use Rattle.query_engine.specs.Windows.{may_read}
 use Rattle.query_engine.proofs.TierLemmas.{widths_are, divided, lowest_left, may_not}
