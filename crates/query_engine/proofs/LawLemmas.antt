@@ -6,7 +6,7 @@ use Rattle.fixed_num.specs.declared.units.Record.{Record}
 use Rattle.query_engine.specs.declared.point.Point.{Point}
 use Rattle.query_engine.specs.declared.request.Group.{Group}
 use Rattle.query_engine.specs.declared.request.Request.{Request}
-use Rattle.query_engine.specs.Holding.{are_rising_from}
+use Rattle.query_engine.specs.Points.{are_rising_from}
 use Rattle.query_engine.specs.Joining.{joined}
 use Rattle.query_engine.specs.Tiers.{record_of_buckets, record_in_tier, cell_in_tier}
 use Rattle.query_engine.specs.Windows.{cell, group_of, may_read, record_between, start_of}

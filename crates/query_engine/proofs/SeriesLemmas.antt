@@ -13,7 +13,7 @@ use Rattle.tier_rollup.specs.Buckets.{Added, IsWithinLimit, holds, members, reco
 use Rattle.tier_rollup.specs.Rolling.{IsAfter, IsRising, AreWithin}
 use Rattle.tier_rollup.proofs.RecordLemmas.{same_parts}
 use Rattle.query_engine.specs.declared.point.Point.{Point}
-use Rattle.query_engine.specs.Holding.{are_rising_from, values}
+use Rattle.query_engine.specs.Points.{are_rising_from, values}
 use Rattle.query_engine.specs.Joining.{joined}
 use Rattle.query_engine.proofs.JoinLemmas.{record_of-append}
 use Rattle.query_engine.proofs.MemberLemmas.{Rises, rises, values_within}

@@ -2,7 +2,7 @@ use Rattle.std.proofs.Common.{◌≡◌, ◌≢◌, ℕ, zero, suc, ◌+◌, ◌
 use Rattle.std.proofs.lemmas.Bool.{and_parts, and_from, and_left, and_right, or_cases, or_from, or_left, or_right, not_from_true, not_from_false, ltb-true, le-leb, lt-leb, eqb-true, ne_eqb, cond-true, cond-false, cases_eq, cases_lt, both_ways}
 use Rattle.std.specs.Option.{unwrap_or}
 use Rattle.std.specs.List.{find, list_all}
-use Rattle.query_engine.specs.Holding.{are_above, are_widths}
+use Rattle.query_engine.specs.Points.{are_above, are_widths}
 use Rattle.query_engine.specs.Planning.{IsLowestTier}
 use Rattle.query_engine.specs.Windows.{may_read, below, is_lowest, lowest_tier}
 

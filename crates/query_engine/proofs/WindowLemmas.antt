@@ -12,7 +12,7 @@ use Rattle.tier_rollup.specs.Growing.{single}
 use Rattle.tier_rollup.specs.Rolling.{AreWithin}
 use Rattle.tier_rollup.proofs.RecordLemmas.{single_is}
 use Rattle.query_engine.specs.declared.point.Point.{Point}
-use Rattle.query_engine.specs.Holding.{are_rising_from, values, is_asked, points_between, record_at}
+use Rattle.query_engine.specs.Points.{are_rising_from, values, is_asked, points_between, record_at}
 use Rattle.query_engine.specs.Joining.{joined, record_of_one, HaveRoom}
 use Rattle.query_engine.specs.Windows.{is_between, members_between, record_between}
 use Rattle.query_engine.proofs.MemberLemmas.{one, members-append, members-split, members_few, members_within, members_none, members_none_high, members_asked, rising_take, rising_filter, between_low, between_high}

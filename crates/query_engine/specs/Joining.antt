@@ -5,7 +5,7 @@ use Rattle.fixed_num.specs.declared.units.Record.{Record}
 use Rattle.tier_rollup.specs.Buckets.{Added}
 use Rattle.tier_rollup.specs.Growing.{single}
 use Rattle.query_engine.specs.declared.point.Point.{Point}
-use Rattle.query_engine.specs.Holding.{value_of}
+use Rattle.query_engine.specs.Points.{value_of}
 use Rattle.query_engine.specs.Windows.{is_between}
 
 -- the record of the points of two records

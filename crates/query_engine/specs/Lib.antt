@@ -1,4 +1,4 @@
-pub mod Holding
+pub mod Points
 pub mod Windows
 pub mod Joining
 pub mod Tiers

@@ -3,7 +3,7 @@ use Rattle.std.specs.Option.{option_map}
 use Rattle.fixed_num.specs.declared.units.Record.{Record}
 use Rattle.query_engine.specs.declared.point.Point.{Point}
 use Rattle.query_engine.specs.declared.request.Group.{Group}
-use Rattle.query_engine.specs.Holding.{points_between, record_at}
+use Rattle.query_engine.specs.Points.{points_between, record_at}
 use Rattle.query_engine.specs.Joining.{joined}
 use Rattle.query_engine.specs.Windows.{record_between, group_of}
 

@@ -11,7 +11,7 @@ use Rattle.query_engine.specs.declared.request.Group.TheVariants.{Average, Min, 
 use Rattle.query_engine.specs.declared.request.Request.{Request}
 use Rattle.query_engine.specs.declared.table.Table.{Table}
 use Rattle.query_engine.specs.declared.table.TableRow.{TableRow}
-use Rattle.query_engine.specs.Holding.{values}
+use Rattle.query_engine.specs.Points.{values}
 
 -- ---- a cell
 

@@ -1,7 +1,6 @@
 ghost use Rattle.std.specs.Prelude.{◌≡◌, ◌≢◌, ℕ, ◌+◌, ◌*◌, ◌%◌, ◌^◌, ◌<◌, ◌≤◌, List, [], ◌∷◌, ◌++◌, map, IfOk, OnOk, IsErrOf};
 ghost use Rattle.host_model.specs.Cause.{HasCause};
 ghost use Rattle.query_engine.specs.declared.point.Point.{Point as APoint};
-ghost use Rattle.query_engine.specs.Holding.{Tells};
 ghost use Rattle.query_engine.specs.Planning.{IsPlan};
 ghost use Rattle.query_engine.specs.Windows.{cell, row_of, start_of, table_of};
 
@@ -33,12 +32,13 @@ fn read_cells<P: Points>(
     start: u64,
     window: u32,
 ) -> Result<CellList, PointFault>
-    requires plan { IsPlan (P.holding points.old) plan }
+    requires plan { IsPlan (P.tiers points.old) plan }
     requires room { start + window < 2 ^ 64 }
     requires buckets { plan.tier ≢ 0 → (start % plan.step ≡ 0) × (window % plan.step ≡ 0) }
-    ensures cells { IfOk result (λ cells. (told : ℕ → List APoint) → Tells (P.holding points.old) told
+    ensures cells { IfOk result (λ cells. (told : ℕ → List APoint) → P.tells points.old told
         → cells ≡ map (λ one. cell group plan.floor start window (told one)) series.now) }
-    ensures holding { P.holding points.new ≡ P.holding points.old }
+    ensures tiers { P.tiers points.new ≡ P.tiers points.old }
+    ensures told { (told : ℕ → List APoint) → P.tells points.old told → P.tells points.new told }
     ensures cause { HasCause (P.faults points.old) (P.faults points.new) (IsErrOf result PointFault.Disk) }
 {
     let mut cells = CellList::new(alloc);
@@ -65,11 +65,12 @@ fn read_row<P: Points>(
     request: &Request,
     i: u32,
 ) -> Result<TableRow, PointFault>
-    requires plan { IsPlan (P.holding points.old) plan }
+    requires plan { IsPlan (P.tiers points.old) plan }
     requires buckets { plan.tier ≢ 0 → (request.now.after % plan.step ≡ 0) × (request.now.window % plan.step ≡ 0) }
-    ensures row { IfOk result (λ row. (told : ℕ → List APoint) → Tells (P.holding points.old) told
+    ensures row { IfOk result (λ row. (told : ℕ → List APoint) → P.tells points.old told
         → row ≡ row_of plan.floor told request.now i) }
-    ensures holding { P.holding points.new ≡ P.holding points.old }
+    ensures tiers { P.tiers points.new ≡ P.tiers points.old }
+    ensures told { (told : ℕ → List APoint) → P.tells points.old told → P.tells points.new told }
     ensures cause { HasCause (P.faults points.old) (P.faults points.new) (IsErrOf result PointFault.Disk) }
 {
     let start = start_of(request, i);
@@ -91,9 +92,10 @@ pub fn answer<P: Points>(
     points: &mut P,
     request: &Request,
 ) -> Result<Table, PointFault>
-    ensures answered { IfOk result (λ table. (told : ℕ → List APoint) → Tells (P.holding points.old) told
-        → table ≡ table_of (P.holding points.old).widths (P.holding points.old).floor told request.now) }
-    ensures holding { P.holding points.new ≡ P.holding points.old }
+    ensures answered { IfOk result (λ table. (told : ℕ → List APoint) → P.tells points.old told
+        → table ≡ table_of (P.tiers points.old).widths (P.tiers points.old).floor told request.now) }
+    ensures tiers { P.tiers points.new ≡ P.tiers points.old }
+    ensures told { (told : ℕ → List APoint) → P.tells points.old told → P.tells points.new told }
     ensures cause { HasCause (P.faults points.old) (P.faults points.new) (IsErrOf result PointFault.Disk) }
 {
     let plan = plan::plan_for(points, request.after, request.window);

@@ -3,7 +3,6 @@ ghost use Rattle.std.specs.Option.{option_map};
 ghost use Rattle.fixed_num.specs.Rounding.{nearest};
 ghost use Rattle.host_model.specs.Cause.{HasCause};
 ghost use Rattle.query_engine.specs.declared.point.Point.{Point as APoint};
-ghost use Rattle.query_engine.specs.Holding.{Tells};
 ghost use Rattle.query_engine.specs.Planning.{IsPlan};
 ghost use Rattle.query_engine.specs.Windows.{group_of, cell};
 
@@ -60,12 +59,13 @@ pub(crate) fn read_cell<P: Points>(
     start: u64,
     window: u32,
 ) -> Result<Option<Units>, PointFault>
-    requires plan { IsPlan (P.holding points.old) plan }
+    requires plan { IsPlan (P.tiers points.old) plan }
     requires room { start + window < 2 ^ 64 }
     requires buckets { plan.tier ≢ 0 → (start % plan.step ≡ 0) × (window % plan.step ≡ 0) }
-    ensures cell { IfOk result (λ found. (told : ℕ → List APoint) → Tells (P.holding points.old) told
+    ensures cell { IfOk result (λ found. (told : ℕ → List APoint) → P.tells points.old told
         → found ≡ cell group plan.floor start window (told series)) }
-    ensures holding { P.holding points.new ≡ P.holding points.old }
+    ensures tiers { P.tiers points.new ≡ P.tiers points.old }
+    ensures told { (told : ℕ → List APoint) → P.tells points.old told → P.tells points.new told }
     ensures cause { HasCause (P.faults points.old) (P.faults points.new) (IsErrOf result PointFault.Disk) }
 {
     if start < u64::from(plan.floor) {

@@ -4,7 +4,7 @@ ghost use Rattle.tier_rollup.specs.Rolling.{AreWithin, IsRising};
 ghost use Rattle.query_engine.specs.declared.point.Point.{Point as APoint};
 ghost use Rattle.query_engine.specs.declared.request.Group.{Group as AGroup};
 ghost use Rattle.query_engine.specs.declared.request.Request.{Request as ARequest};
-ghost use Rattle.query_engine.specs.Holding.{are_series, are_widths, values};
+ghost use Rattle.query_engine.specs.Points.{are_series, are_widths, values};
 ghost use Rattle.query_engine.specs.Planning.{IsLowestTier};
 ghost use Rattle.query_engine.specs.Tiers.{cell_in_tier};
 ghost use Rattle.query_engine.specs.Windows.{cell, may_read, start_of, tier_for};

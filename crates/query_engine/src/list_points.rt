@@ -1,6 +1,6 @@
 ghost use Rattle.std.specs.Prelude.{◌≡◌, ◌≢◌, ℕ, ◌<◌, ◌≤◌, ◌*◌, List, [], filter, length, slice_index, slice_index_or, IsTrue, Some, IfOk, IsErrOf};
 ghost use Rattle.std.specs.List.{list_all};
-ghost use Rattle.query_engine.specs.Holding.{are_series, are_widths, is_asked, record_at};
+ghost use Rattle.query_engine.specs.Points.{are_series, are_widths, is_asked, record_at};
 ghost use Rattle.query_engine.specs.InMemory.{series_in};
 
 use crate::fault::PointFault;
@@ -16,21 +16,22 @@ pub struct ListPoints {
     widths: MomentList,
     floors: MomentList,
     points: SeriesPointsList,
-    ghost tiers: { IsTrue (are_widths widths) },
+    ghost widths_of_tiers: { IsTrue (are_widths widths) },
     ghost floor_of_each: { length floors ≡ length widths },
     ghost rising: { IsTrue (list_all are_series points) },
 }
 
 impl ListPoints {
-    ghost use Rattle.query_engine.specs.ListPoints.{holding_of};
-    ghost use Rattle.query_engine.specs.InMemory.{holding_in};
+    ghost use Rattle.query_engine.specs.ListPoints.{points_of, tiers_of};
+    ghost use Rattle.query_engine.specs.InMemory.{tiers_in};
 
     /// Tiers of these widths and floors over the points of each series, that of series 0 first.
     pub fn new(widths: MomentList, floors: MomentList, points: SeriesPointsList) -> ListPoints
         requires widths { IsTrue (are_widths widths) }
         requires floors { length floors ≡ length widths }
         requires series { IsTrue (list_all are_series points) }
-        ensures { holding_of result ≡ holding_in widths floors points }
+        ensures tiers { tiers_of result ≡ tiers_in widths floors }
+        ensures points { points_of result ≡ series_in points }
     {
         ListPoints {
             widths,
@@ -82,10 +83,12 @@ fn record_at(points: &[Point], width: u32, floor: u32, bucket: u32) -> Option<Re
 }
 
 impl Points for ListPoints {
-    ghost use Rattle.query_engine.specs.ListPoints.{holding_of};
-    ghost use Rattle.query_engine.specs.InMemory.{is_holding_in};
+    ghost use Rattle.query_engine.specs.ListPoints.{points_of, tiers_of};
+    ghost use Rattle.query_engine.specs.InMemory.{told_series};
 
-    ghost holding = { holding_of };
+    ghost tiers = { tiers_of };
+
+    ghost tells = { λ source told. told ≡ points_of source };
 
     ghost faults = { λ _. 0 };
 
@@ -131,5 +134,7 @@ impl Points for ListPoints {
         ))
     }
 
-    ghost is_holding = { λ source. is_holding_in source.widths source.floors source.points source.tiers source.rising };
+    ghost rising_widths = { λ source. source.widths_of_tiers };
+
+    ghost rising_series = { λ source told tells series. told_series source.points source.rising told tells series };
 }

@@ -1,5 +1,5 @@
 ghost use Rattle.std.specs.Prelude.{◌≡◌, ◌+◌, ◌<◌, ◌≤◌, ◌^◌, IsTrue};
-ghost use Rattle.query_engine.specs.Holding.{are_series};
+ghost use Rattle.query_engine.specs.Points.{are_series};
 ghost use Rattle.query_engine.specs.Joining.{joined, record_of_one, HaveRoom};
 ghost use Rattle.query_engine.specs.Windows.{is_between, record_between};
 

@@ -288,10 +288,11 @@ struct Broken {
 }
 
 impl Points for Broken {
-    ghost use Rattle.std.specs.Prelude.{[], ◌∷◌, None, refl};
-    ghost use Rattle.std.proofs.lemmas.Option.{none-some};
+    ghost use Rattle.std.specs.Prelude.{[], ◌∷◌, refl};
 
-    ghost holding = { λ _. record { widths = 1 ∷ []; floor = λ _. 0; told = None } };
+    ghost tiers = { λ _. record { widths = 1 ∷ []; floor = λ _. 0 } };
+
+    ghost tells = { λ _ told. ⊥ };
 
     ghost faults = { λ source. source.faults };
 
@@ -328,7 +329,9 @@ impl Points for Broken {
         Ok(None)
     }
 
-    ghost is_holding = { λ source. record { widths = refl; series = λ told tells series. absurd (none-some told tells) } };
+    ghost rising_widths = { λ source. refl };
+
+    ghost rising_series = { λ source told tells series. absurd tells };
 }
 
 #[test]

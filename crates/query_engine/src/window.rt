@@ -1,7 +1,6 @@
 ghost use Rattle.std.specs.Prelude.{◌≡◌, ◌≢◌, ℕ, ◌+◌, ◌%◌, ◌^◌, ◌<◌, ◌≤◌, List, IfOk, IsErrOf};
 ghost use Rattle.host_model.specs.Cause.{HasCause};
 ghost use Rattle.query_engine.specs.declared.point.Point.{Point as APoint};
-ghost use Rattle.query_engine.specs.Holding.{Tells};
 ghost use Rattle.query_engine.specs.Planning.{IsPlan};
 ghost use Rattle.query_engine.specs.Windows.{record_between};
 
@@ -23,9 +22,10 @@ fn read_points<P: Points>(
     requires from { from < 2 ^ 32 }
     requires to { from < to }
     requires short { to < from + 2 ^ 32 }
-    ensures found { IfOk result (λ found. (told : ℕ → List APoint) → Tells (P.holding points.old) told
-        → (P.holding points.old).floor 0 ≤ from → found ≡ record_between from to (told series)) }
-    ensures holding { P.holding points.new ≡ P.holding points.old }
+    ensures found { IfOk result (λ found. (told : ℕ → List APoint) → P.tells points.old told
+        → (P.tiers points.old).floor 0 ≤ from → found ≡ record_between from to (told series)) }
+    ensures tiers { P.tiers points.new ≡ P.tiers points.old }
+    ensures told { (told : ℕ → List APoint) → P.tells points.old told → P.tells points.new told }
     ensures cause { HasCause (P.faults points.old) (P.faults points.new) (IsErrOf result PointFault.Disk) }
 {
     let last = (to - 1).min(u64::from(u32::MAX));
@@ -42,14 +42,15 @@ fn read_piece<P: Points>(
     from: u64,
     to: u64,
 ) -> Result<Option<Record>, PointFault>
-    requires plan { IsPlan (P.holding points.old) plan }
+    requires plan { IsPlan (P.tiers points.old) plan }
     requires from { from < 2 ^ 32 }
     requires to { from < to }
     requires short { to < from + 2 ^ 32 }
     requires bucket { plan.tier ≢ 0 → (from % plan.step ≡ 0) × (to ≡ from + plan.step) }
-    ensures found { IfOk result (λ found. (told : ℕ → List APoint) → Tells (P.holding points.old) told
+    ensures found { IfOk result (λ found. (told : ℕ → List APoint) → P.tells points.old told
         → plan.floor ≤ from → found ≡ record_between from to (told series)) }
-    ensures holding { P.holding points.new ≡ P.holding points.old }
+    ensures tiers { P.tiers points.new ≡ P.tiers points.old }
+    ensures told { (told : ℕ → List APoint) → P.tells points.old told → P.tells points.new told }
     ensures cause { HasCause (P.faults points.old) (P.faults points.new) (IsErrOf result PointFault.Disk) }
 {
     if plan.tier == 0 {
@@ -68,12 +69,13 @@ pub(crate) fn read_window<P: Points>(
     start: u64,
     window: u32,
 ) -> Result<Option<Record>, PointFault>
-    requires plan { IsPlan (P.holding points.old) plan }
+    requires plan { IsPlan (P.tiers points.old) plan }
     requires room { start + window < 2 ^ 64 }
     requires buckets { plan.tier ≢ 0 → (start % plan.step ≡ 0) × (window % plan.step ≡ 0) }
-    ensures found { IfOk result (λ found. (told : ℕ → List APoint) → Tells (P.holding points.old) told
+    ensures found { IfOk result (λ found. (told : ℕ → List APoint) → P.tells points.old told
         → plan.floor ≤ start → found ≡ record_between start (start + window) (told series)) }
-    ensures holding { P.holding points.new ≡ P.holding points.old }
+    ensures tiers { P.tiers points.new ≡ P.tiers points.old }
+    ensures told { (told : ℕ → List APoint) → P.tells points.old told → P.tells points.new told }
     ensures cause { HasCause (P.faults points.old) (P.faults points.new) (IsErrOf result PointFault.Disk) }
 {
     let end = start + u64::from(window);

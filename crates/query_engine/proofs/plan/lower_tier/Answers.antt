@@ -7,23 +7,22 @@ use Rattle.query_engine.proofs.plan.lower_tier.Goals.{else-divides-via-then-divi
 
 pub divides-requires : goal.divides-requires
 divides-requires g c =
-    let holding = g.P.Points.holding c.args.points.now in
-    let law = g.met.P.Points.is_holding c.args.points.now in
+    let tiers = g.P.Points.tiers c.args.points.now in
     subst (λ (widths : List ℕ). 0 < get_or widths c.args.other 0) (sym c.widths.ensures)
-    ((widths_are holding.widths law.widths).positive c.args.other c.requires.inside)
+    ((widths_are tiers.widths (g.met.P.Points.rising_widths c.args.points.now)).positive c.args.other c.requires.inside)
 
 pub returns-else-divides : goal.returns-else-divides
 returns-else-divides g c =
-    let holding = g.P.Points.holding c.args.points.now in
-    let may = may_read holding.widths c.args.after c.args.window in
+    let tiers = g.P.Points.tiers c.args.points.now in
+    let may = may_read tiers.widths c.args.after c.args.window in
     elim c.else-divides.branch [
       | else-divides-via-then-divides+else-floor w ↦
-          lowest_left holding.floor may c.args.other c.args.tier c.requires.lowest
+          lowest_left tiers.floor may c.args.other c.args.tier c.requires.lowest
           (λ yes. omega (arith, w.if-floor.false, w.floor.ensures, w.floor-then-divides.ensures))
       | else-divides-via-else-divides w ↦
-          lowest_left holding.floor may c.args.other c.args.tier c.requires.lowest
+          lowest_left tiers.floor may c.args.other c.args.tier c.requires.lowest
           (λ yes. absurd (both_ways (may c.args.other)
-          (may_not holding.widths c.args.after c.args.window c.args.other c.requires.first
-          (divided holding.widths c.widths.result.now c.args.after c.args.window c.args.other c.divides.result c.widths.ensures c.divides.ensures w.if-divides.false))
+          (may_not tiers.widths c.args.after c.args.window c.args.other c.requires.first
+          (divided tiers.widths c.widths.result.now c.args.after c.args.window c.args.other c.divides.result c.widths.ensures c.divides.ensures w.if-divides.false))
           yes))
     ]

@@ -4,7 +4,6 @@ use Rattle.query_engine.proofs.plan.lowest_tier.Goals as goal
 
 pub overflow_cast-other : goal.overflow_cast-other
 overflow_cast-other g c =
-    let holding = g.P.Points.holding c.args.points.now in
-    let law = g.met.P.Points.is_holding c.args.points.now in
-    let few : length holding.widths ≤ 256 = (widths_are holding.widths law.widths).few in
+    let tiers = g.P.Points.tiers c.args.points.now in
+    let few : length tiers.widths ≤ 256 = (widths_are tiers.widths (g.met.P.Points.rising_widths c.args.points.now)).few in
     omega (arith, few, ap length c.widths-other-end.ensures, c.loop-other-test.true)

@@ -6,8 +6,7 @@ use Rattle.query_engine.proofs.plan.plan_for.Goals.{then-tier-eq0, else-tier-eq0
 
 pub returns-clause-plan : goal.returns-clause-plan
 returns-clause-plan g c =
-    let holding = g.P.Points.holding c.args.points.now in
-    let law = g.met.P.Points.is_holding c.args.points.now in
+    let tiers = g.P.Points.tiers c.args.points.now in
     let tier = c.lowest_tier-tier.result in
     elim c.if-tier-eq0.branch [
       | then-tier-eq0 w ↦ record {
@@ -17,7 +16,7 @@ returns-clause-plan g c =
         step = λ not. absurd (not w.if-tier-eq0.true);
       }
       | else-tier-eq0 w ↦
-          let positive : 0 < get_or holding.widths tier 0 = (widths_are holding.widths law.widths).positive tier c.lowest_tier-tier.ensures.inside in
+          let positive : 0 < get_or tiers.widths tier 0 = (widths_are tiers.widths (g.met.P.Points.rising_widths c.args.points.now)).positive tier c.lowest_tier-tier.ensures.inside in
           record {
             inside = c.lowest_tier-tier.ensures.inside;
             floor = c.floor.ensures;
@@ -28,5 +27,5 @@ returns-clause-plan g c =
 
 pub returns-clause-tier : goal.returns-clause-tier
 returns-clause-tier g c =
-    let holding = g.P.Points.holding c.args.points.now in
-    sym (lowest_is holding.floor (may_read holding.widths c.args.after c.args.window) (length holding.widths) c.lowest_tier-tier.result c.lowest_tier-tier.ensures)
+    let tiers = g.P.Points.tiers c.args.points.now in
+    sym (lowest_is tiers.floor (may_read tiers.widths c.args.after c.args.window) (length tiers.widths) c.lowest_tier-tier.result c.lowest_tier-tier.ensures)

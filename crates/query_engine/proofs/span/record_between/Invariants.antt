@@ -1,6 +1,6 @@
 use Rattle.std.proofs.Common.{◌≡◌, ◌+◌, ◌<◌, ◌^◌, take}
 use Rattle.std.specs.Bool.{IsTrue}
-use Rattle.query_engine.specs.Holding.{are_series}
+use Rattle.query_engine.specs.Points.{are_series}
 use Rattle.query_engine.specs.Windows.{record_between}
 use Rattle.query_engine.proofs.span.record_between.Given as goal
 

@@ -1,6 +1,5 @@
-use Rattle.std.proofs.Common.{◌≡◌, ◌+◌, ◌%◌, ◌^◌, ◌<◌, ◌≤◌, arith, refl, sym, ap, subst, ◌∙◌}
+use Rattle.std.proofs.Common.{◌≡◌, ◌+◌, ◌%◌, ◌^◌, ◌<◌, ◌≤◌, arith, refl, ap, ◌∙◌}
 use Rattle.std.proofs.Math.Nat.{add-mod_right}
-use Rattle.query_engine.specs.Holding.{Holding, Tells}
 use Rattle.query_engine.proofs.WindowLemmas.{empty_span, end_whole, next_whole, window_more, window_done}
 use Rattle.query_engine.proofs.window.read_window.Goals as goal
 
@@ -10,6 +9,7 @@ loop-from-init g c = record {
   high = omega arith;
   on_grid = λ not. (c.requires.buckets not).0;
   same = refl;
+  still = λ told tells. tells;
   record_so_far = λ told tells high. empty_span c.args.start (told c.args.series);
   later = omega arith;
 }
@@ -42,21 +42,21 @@ loop-from-preserved g c =
           next_whole c.loop-from.from (c.args.start + c.args.window) step c.requires.plan.positive from end (omega (arith, c.loop-from-test.true, c.from.ensures)) in
           let is : to ≡ c.loop-from.from + step = omega (arith, next, c.min-to.ensures, c.from.ensures, c.from-in-loop-from-2.ensures) in
           ap (λ n. n % step) is ∙ add-mod_right c.loop-from.from step ∙ from;
-      same = c.read_piece.ensures.holding ∙ c.loop-from.invariant.same;
+      same = c.read_piece.ensures.tiers ∙ c.loop-from.invariant.same;
+      still = λ told tells. c.read_piece.ensures.told told (c.loop-from.invariant.still told tells);
       record_so_far = λ told tells high.
-          let here : Tells (g.P.Points.holding c.loop-from.points) told = subst (λ (h : Holding). Tells h told) (sym c.loop-from.invariant.same) tells in
-          let rising = (g.met.P.Points.is_holding c.args.points.now).series told tells c.args.series in
+          let rising = g.met.P.Points.rising_series c.args.points.now told tells c.args.series in
           let above : c.args.plan.floor ≤ c.loop-from.from = omega (arith, high, low) in
           let short : to < c.args.start + 2 ^ 32 = omega (arith, inside, c.from.ensures, c.ranges.window.fits) in
           window_more c.args.start c.loop-from.from to (told c.args.series) c.loop-from.record c.in_ok-piece.piece c.joined-record.result
           rising low forward short
-          (c.loop-from.invariant.record_so_far told tells high) (c.in_ok-piece.ensures.found told here above) c.joined-record.ensures;
+          (c.loop-from.invariant.record_so_far told tells high) (c.in_ok-piece.ensures.found told (c.loop-from.invariant.still told tells) above) c.joined-record.ensures;
       later = omega (arith, c.loop-from.invariant.later, c.read_piece.ensures.cause.later);
     }
 
 pub returns-else-from-clause-found : goal.returns-else-from-clause-found
 returns-else-from-clause-found g c = λ told tells high.
-    let rising = (g.met.P.Points.is_holding c.args.points.now).series told tells c.args.series in
+    let rising = g.met.P.Points.rising_series c.args.points.now told tells c.args.series in
     let end : c.loop-from.from ≤ c.args.start + c.args.window = omega (arith, c.loop-from.invariant.high, c.from.ensures) in
     c.loop-from.invariant.record_so_far told tells high
     ∙ window_done c.args.start c.loop-from.from (c.args.start + c.args.window) (told c.args.series) rising c.loop-from.invariant.low end

@@ -1,4 +1,4 @@
-use Rattle.std.specs.Prelude.{◌≡◌, ℕ, ◌+◌, ◌*◌, ◌^◌, Bool, true, false, ◌&&◌, ◌==◌, nat_le, nat_lt, IsTrue, if◌then◌else◌, List, [], ◌∷◌, length, filter, Option, Some, None}
+use Rattle.std.specs.Prelude.{ℕ, ◌+◌, ◌*◌, ◌^◌, Bool, true, false, ◌&&◌, ◌==◌, nat_le, nat_lt, if◌then◌else◌, List, [], ◌∷◌, length, filter, Option, None}
 use Rattle.std.specs.List.{filter_map}
 use Rattle.std.specs.Option.{option_map}
 use Rattle.fixed_num.specs.declared.units.Record.{Record}
@@ -9,18 +9,12 @@ use Rattle.query_engine.specs.declared.point.Point.{Point}
 
 -- Each list of points is earliest first.
 
--- what an object with points stands for
-pub record Holding : Type 0 where
+-- the tiers of an object with points
+pub record Tiers : Type 0 where
   -- the width of each tier, that of tier 0 first
   pub widths : List ℕ
   -- the floor of each tier: nothing below it is answered
   pub floor : ℕ → ℕ
-  -- all points of each series, where they are told
-  pub told : Option (ℕ → List Point)
-
--- the object tells these points
-abbrev pub Tells : Holding → (ℕ → List Point) → Type 0
-Tells holding told = holding.told ≡ Some told
 
 -- each number is above the one before
 abbrev pub are_above : ℕ → List ℕ → Bool
@@ -41,11 +35,6 @@ are_rising_from least (point ∷ points) =
 -- the points of a series: their moments rise
 abbrev pub are_series : List Point → Bool
 are_series points = are_rising_from 0 points
-
--- the widths are those of tiers, and each series is one
-pub record IsHolding (holding : Holding) : Type 0 where
-  pub widths : IsTrue (are_widths holding.widths)
-  pub series : (told : ℕ → List Point) → Tells holding told → (series : ℕ) → IsTrue (are_series (told series))
 
 -- the point as one that a tier takes in, where its word is a storage number
 abbrev pub value_of : Point → Option Added
