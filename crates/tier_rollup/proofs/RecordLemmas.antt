@@ -54,7 +54,7 @@ one_if-le : (b : Bool) → one_if b ≤ 1
 one_if-le true = omega arith
 one_if-le false = omega arith
 
-anomalous-le : (points : List Added) → anomalous_count points ≤ length points
+pub anomalous-le : (points : List Added) → anomalous_count points ≤ length points
 anomalous-le [] = omega arith
 anomalous-le (point ∷ points) =
     let rest : anomalous_count points ≤ length points = anomalous-le points in
@@ -64,7 +64,7 @@ anomalous-le (point ∷ points) =
     more : (m n k : ℕ) → m ≤ n → k ≤ 1 → m + k ≤ suc n
     more m n k rest one = omega arith
 
-total_bound : (points : List Added) → AreWithin points → unsigned_abs (total points) ≤ length points * limit
+pub total_bound : (points : List Added) → AreWithin points → unsigned_abs (total points) ≤ length points * limit
 total_bound [] within = omega arith
 total_bound (point ∷ points) within =
     let rest : unsigned_abs (total points) ≤ length points * limit = total_bound points within.1 in

@@ -1,0 +1,10 @@
+pub mod WordLemmas
+pub mod MemberLemmas
+pub mod JoinLemmas
+pub mod WindowLemmas
+pub mod TierLemmas
+pub mod LawLemmas
+pub mod Keeping
+pub mod TableLemmas
+pub mod SeriesLemmas
+mod Rows
