@@ -63,13 +63,17 @@ whole_lookup = refl
 -- ---- texts
 
 key_before_all : config_read (codes "warn: 1") ≡ Ok (none_but 1)
-unfolding config_read lines begins key_value line_read is_utf8 chars
+unfolding config_read lines begins key_value line_read is_utf8 chars lib.Utf8.encode
 key_before_all = refl
 
 no_name : config_read (codes "alarm:") ≡ Err (NoNameAt 1)
-unfolding config_read lines begins key_value name is_utf8 chars
+unfolding config_read lines begins key_value name is_utf8 chars lib.Utf8.encode
 no_name = refl
 
 on_nothing : config_read (codes "alarm: x") ≡ Err (NoOn 1)
-unfolding config_read lines begins key_value name is_utf8 chars
+unfolding config_read lines begins key_value name is_utf8 chars lib.Utf8.encode
 on_nothing = refl
+
+ended_first : config_read (fed (codes "alarm: a") (codes "alarm:")) ≡ Err (NoOn 1)
+unfolding config_read lines begins key_value name is_utf8 chars lib.Utf8.encode
+ended_first = refl
