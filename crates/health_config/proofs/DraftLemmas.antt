@@ -1,9 +1,9 @@
 -- What one setting more does to what is set.
-use Rattle.std.proofs.Common.{◌≡◌, ◌≤◌, ℕ, ◌+◌, Bool, List, [], ◌∷◌, ◌++◌, Option, Some, None, Result, Ok, Err, refl, sym, ap, ◌∙◌, arith, append_assoc}
+use Rattle.std.proofs.Common.{◌≡◌, ◌≤◌, ◌+◌, Bool, List, [], ◌∷◌, ◌++◌, Option, Some, None, Result, Ok, Err, refl, sym, ap, ◌∙◌, arith, append_assoc}
 use Rattle.std.specs.Option.{option_or}
 use Rattle.health_config.specs.declared.fault.ConfigFault.{ConfigFault}
 use Rattle.health_config.specs.declared.lines.Line.{Line}
-use Rattle.health_config.specs.Draft.{Draft, drafted, last, skips, skipped_count, with, draft_read, Sets}
+use Rattle.health_config.specs.Draft.{Draft, drafted, last, skips, skipped_count, with}
 use Rattle.health_config.specs.Fault.{◌>>=◌}
 use Rattle.health_config.specs.Setting.{Setting, skipped, settings, said_at}
 

@@ -1,9 +1,9 @@
 -- Where the sections of lines lie.
-use Rattle.std.proofs.Common.{◌≡◌, ℕ, zero, suc, ◌+◌, Bool, List, [], ◌∷◌, length, take, drop, Option, Some, None, is_none, refl, sym, ap, ◌∙◌, subst, arith, one-add, cond}
+use Rattle.std.proofs.Common.{◌≡◌, ℕ, ◌+◌, Bool, List, [], ◌∷◌, take, drop, Option, Some, None, is_none, refl, sym, ap, one-add, cond}
 use Rattle.std.specs.List.{prefix_len}
 use Rattle.health_config.specs.declared.lines.Line.{Line}
 use Rattle.health_config.specs.Key.{begins}
-use Rattle.health_config.specs.Sections.{Group, Sections, section, sections}
+use Rattle.health_config.specs.Sections.{section, sections}
 
 -- a line that begins no entity
 abbrev pub goes_on : Line → Bool

@@ -1,5 +1,5 @@
 -- The words of `delay`, each with its value.
-use Rattle.std.specs.Prelude.{ℕ, Bool, true, false, ◌&&◌, if◌then◌else◌, List, [], ◌∷◌, Option, Some, None, is_none, Result, Ok, Err, ℤ, codes}
+use Rattle.std.specs.Prelude.{ℕ, false, ◌&&◌, if◌then◌else◌, List, [], ◌∷◌, Some, None, is_none, Result, Ok, Err, codes}
 use Rattle.std.specs.Str.{bytes_eq}
 use Rattle.simple_pattern.specs.Words.{words}
 use Rattle.health_config.specs.declared.delay.Delay.{Delay}

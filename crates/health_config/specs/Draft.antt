@@ -1,5 +1,5 @@
 -- What the lines of an entity set together: for each key the last one.
-use Rattle.std.specs.Prelude.{◌≡◌, ℕ, ◌+◌, Bool, true, false, List, [], ◌∷◌, Option, Some, None, Result, Ok, Err, ℤ}
+use Rattle.std.specs.Prelude.{◌≡◌, ℕ, ◌+◌, Bool, List, [], ◌∷◌, Option, Some, None, Result, Ok, ℤ}
 use Rattle.std.specs.Option.{option_map, option_or}
 use Rattle.health_expr.specs.Tree.{Tree}
 use Rattle.health_expr.specs.TreeOf.{tree_of}
@@ -9,7 +9,7 @@ use Rattle.health_config.specs.declared.fault.ConfigFault.{ConfigFault}
 use Rattle.health_config.specs.declared.lines.Line.{Line}
 use Rattle.health_config.specs.declared.lookup.LookupLine.{LookupLine}
 use Rattle.health_config.specs.Fault.{◌>>=◌}
-use Rattle.health_config.specs.Setting.{Setting, on, lookup, calc, warn, crit, every, green, red, units, info, to, delay, options, skipped, nothing, settings}
+use Rattle.health_config.specs.Setting.{Setting, on, lookup, calc, warn, crit, every, green, red, units, info, to, delay, options, skipped, settings}
 
 -- what is set, key by key, and how many lines were skipped
 pub record Draft : Type 0 where

@@ -1,20 +1,16 @@
 -- An alarm of an entity's lines.
-use Rattle.std.specs.Prelude.{ℕ, ◌==◌, ◌+◌, ◌^◌, Bool, true, false, ◌||◌, nat_lt, if◌then◌else◌, List, [], ◌∷◌, ◌++◌, length, map, Option, Some, None, is_some, unwrap_or, Result, Ok, Err, ℤ, pos}
+use Rattle.std.specs.Prelude.{ℕ, ◌==◌, ◌^◌, Bool, false, ◌||◌, nat_lt, if◌then◌else◌, List, [], length, Option, Some, None, unwrap_or, Result, Ok, Err, ℤ, pos}
 use Rattle.std.specs.List.{list_any}
-use Rattle.std.specs.Option.{option_map, option_or, option_and_then}
+use Rattle.std.specs.Option.{option_map, option_or}
 use Rattle.std.specs.Str.{is_utf8}
 use Rattle.words.specs.Words.{is_blank}
 use Rattle.health_expr.specs.Tree.{Tree}
 use Rattle.health_expr.specs.TreeOf.{tree_of}
-use Rattle.health_config.specs.declared.delay.Delay.{Delay}
 use Rattle.health_config.specs.declared.entity.Entity.{Entity}
-use Rattle.health_config.specs.declared.fault.ConfigFault.{ConfigFault}
-use Rattle.health_config.specs.declared.fault.ConfigFault.TheVariants.{NoOn}
 use Rattle.health_config.specs.declared.fault.ValueFault.{ValueFault}
 use Rattle.health_config.specs.declared.fault.ValueFault.TheVariants.{Bad, NoName}
 use Rattle.health_config.specs.declared.lookup.Lookup.{Lookup}
 use Rattle.health_config.specs.declared.lookup.LookupLine.{LookupLine}
-use Rattle.health_config.specs.Fault.{◌>>=◌}
 use Rattle.health_config.specs.Delay as of_delay
 use Rattle.health_config.specs.Draft.{Draft}
 use Rattle.health_config.specs.Key.{key_value}

@@ -1,5 +1,5 @@
 -- Durations and numbers.
-use Rattle.std.specs.Prelude.{ℕ, ◌==◌, ◌-◌, ◌*◌, ◌^◌, Bool, ◌&&◌, nat_le, if◌then◌else◌, List, length, take, slice_index, Option, Some, None, Result, Ok, Err, ℤ, pos, int_le}
+use Rattle.std.specs.Prelude.{ℕ, ◌==◌, ◌-◌, ◌*◌, ◌^◌, ◌&&◌, nat_le, if◌then◌else◌, List, length, take, slice_index, Option, Some, None, Result, Ok, Err, ℤ, pos, int_le}
 use Rattle.std.specs.Str.Parse.{digits_value, without_leading_sign}
 use Rattle.fixed_num.specs.declared.units.NumberFault.{NumberFault}
 use Rattle.fixed_num.specs.UnitsText.{is_numeral, units_read}

@@ -1,5 +1,5 @@
 -- The entities of a text: each line that begins one, and the lines up to the next.
-use Rattle.std.specs.Prelude.{◌≡◌, ◌<◌, Bool, List, [], ◌∷◌, length, Option, Some, None}
+use Rattle.std.specs.Prelude.{Bool, List, [], ◌∷◌, Option, Some, None}
 use Rattle.health_config.specs.declared.lines.Line.{Line}
 use Rattle.health_config.specs.Key.{begins}
 

@@ -1,4 +1,4 @@
-use Rattle.std.proofs.Common.{ℕ, List, [], ◌∷◌, ◌++◌, ◌∙◌, ap, sym, arith}
+use Rattle.std.proofs.Common.{List, [], ◌∷◌, ◌++◌, ◌∙◌, ap, sym, arith}
 use Rattle.health_config.specs.declared.lines.Line.{Line}
 use Rattle.health_config.specs.Draft.{Draft, with}
 use Rattle.health_config.specs.Setting.{settings}
