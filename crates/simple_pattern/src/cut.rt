@@ -40,8 +40,9 @@ fn without_separators(commas: bool, text: &str) -> &str
     &text[separators_len(commas, text)..]
 }
 
-/// The first word of a text, and what follows it.
-fn first_word(commas: bool, text: &str) -> Option<(&str, &str)>
+/// The first word of a text, and what follows it: words stand between blanks, and where `commas`,
+/// between `,` and `|` too. `None` where the text has no word.
+pub fn first_word(commas: bool, text: &str) -> Option<(&str, &str)>
     ensures { MatchOption result (words commas text.now ≡ [])
         (λ cut. words commas text.now ≡ cut.0.now ∷ words commas cut.1.now) }
 {

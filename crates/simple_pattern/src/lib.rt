@@ -14,6 +14,7 @@ mod glob;
 mod law;
 mod pattern;
 
+pub use cut::first_word;
 pub use fault::PatternFault;
 pub use law::any_glob;
 pub use pattern::{Pattern, WORD_LIMIT};

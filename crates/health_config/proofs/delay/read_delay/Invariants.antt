@@ -1,0 +1,15 @@
+use Rattle.std.proofs.Common.{◌≡◌, false, length}
+use denote.Shadow.{shadow}
+use denote.Text.{Utf8}
+use Rattle.simple_pattern.specs.Words.{words}
+use Rattle.health_config.specs.Delay.{none, with_all}
+use Rattle.health_config.proofs.delay.read_delay.Given as goal
+
+abbrev pub invariant-loop-word : goal.invariant-loop-word
+invariant-loop-word l = record {
+  same : with_all l.delay (words false l.ahead) ≡ with_all none (words false l.fn.text);
+  text : shadow (Utf8 l.ahead);
+}
+
+abbrev pub decreases-loop-word : goal.decreases-loop-word
+decreases-loop-word l = length (words false l.ahead)

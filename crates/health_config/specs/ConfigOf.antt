@@ -1,0 +1,7 @@
+-- What a `Config` shows.
+use Rattle.health_config.specs.declared.config.Config.{Config}
+use Rattle.health_config.specs.Config.{Configuration, tally_of}
+
+-- its alarms, with expressions as their trees, and how many keys were skipped
+abbrev pub configuration_of : Config → Configuration
+configuration_of config = tally_of config.tally

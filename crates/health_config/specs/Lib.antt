@@ -1,0 +1,12 @@
+pub mod Config
+pub mod ConfigOf
+pub mod Delay
+pub mod Draft
+pub mod Entity
+pub mod Fault
+pub mod Key
+pub mod Lines
+pub mod Lookup
+pub mod Number
+pub mod Sections
+pub mod Setting
