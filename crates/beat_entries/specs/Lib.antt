@@ -1,1 +1,3 @@
+pub mod Defined
 pub mod Entry
+pub mod Gathered

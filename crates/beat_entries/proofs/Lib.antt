@@ -1,0 +1,4 @@
+pub mod Ascending
+pub mod EntryLemmas
+pub mod Gathering
+pub mod Slots
