@@ -1,3 +1,4 @@
 pub mod Defined
 pub mod Entry
 pub mod Gathered
+pub mod Restoring

@@ -12,6 +12,9 @@
 
 mod definitions;
 mod entry;
+mod refusal;
+mod restoring;
 mod rows;
 
-pub use entry::entry_of;
+pub use entry::{entry_of, restore};
+pub use refusal::EntryRefusal;
