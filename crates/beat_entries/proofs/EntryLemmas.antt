@@ -327,7 +327,7 @@ module _ (registry : Registry) (beat : OpenBeat) where
         (all-gathered (row_at registry) (λ (c : Row). c.chart < length registry.charts) (λ row c e. chart_of-within registry row.chart c.chart (row-known row c e)) beat.rows) up row-picked
 
 -- ---- the order of its numbers
-if-some : {X : Type 0} (b : Bool) (found : Option X) (x : X) → (if b then found else None) ≡ Some x → found ≡ Some x
+pub if-some : {X : Type 0} (b : Bool) (found : Option X) (x : X) → (if b then found else None) ≡ Some x → found ≡ Some x
 if-some true found x e = e
 if-some false found x e = absurd (none-some x e)
 

@@ -1,6 +1,9 @@
+pub mod AlikeLemmas
 pub mod Ascending
+pub mod DefinedLemmas
 pub mod EntryLemmas
 pub mod Gathering
+pub mod PutLemmas
 pub mod RestoringLemmas
 pub mod Slots
 pub mod Steps

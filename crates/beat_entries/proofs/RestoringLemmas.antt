@@ -156,6 +156,11 @@ tests-each : {X : Type 0} (p : X → Bool) (xs : List X) → list_all p xs ≡ t
 tests-each p [] all = tt
 tests-each p (x ∷ xs) all = let parts = and_parts (p x) (list_all p xs) all in (parts.0, tests-each p xs parts.1)
 
+pub number-known : (registry : Registry) (chart : List ℕ) (x : Value) (y : OpenValue) → IsValueOf registry chart x y → series_of registry chart y.id ≡ Some x.series
+number-known registry chart x y of =
+    let parts = map-some (λ (series : ℕ). record { series = series; value = y.value; anomalous = y.anomalous }) (series_of registry chart y.id) x of in
+    parts.1.0 ∙ ap (λ (v : Value). Some v.series) parts.1.1
+
 module _ (registry : Registry) (entry : Collected) (canonical : is_collected_canonical entry ≡ true) where
   abbrev row_key : Row → ℕ
   row_key row = row.chart
@@ -173,14 +178,9 @@ module _ (registry : Registry) (entry : Collected) (canonical : is_collected_can
   rows-same : (x x' : Row) (y y' : OpenRow) → IsRowOf registry x y → IsRowOf registry x' y' → same_row y y' ≡ true → x.chart ≡ x'.chart
   rows-same x x' y y' of of' same = same_Some x.chart x'.chart (sym of.chart ∙ ap (chart_of registry) (same_text y.chart y'.chart same) ∙ of'.chart)
 
-  number-known : (chart : List ℕ) (x : Value) (y : OpenValue) → IsValueOf registry chart x y → series_of registry chart y.id ≡ Some x.series
-  number-known chart x y of =
-      let parts = map-some (λ (series : ℕ). record { series = series; value = y.value; anomalous = y.anomalous }) (series_of registry chart y.id) x of in
-      parts.1.0 ∙ ap (λ (v : Value). Some v.series) parts.1.1
-
   values-same : (chart : List ℕ) (x x' : Value) (y y' : OpenValue) → IsValueOf registry chart x y → IsValueOf registry chart x' y' → same_value y y' ≡ true → x.series ≡ x'.series
   values-same chart x x' y y' of of' same =
-      same_Some x.series x'.series (sym (number-known chart x y of) ∙ ap (series_of registry chart) (same_text y.id y'.id same) ∙ number-known chart x' y' of')
+      same_Some x.series x'.series (sym (number-known registry chart x y of) ∙ ap (series_of registry chart) (same_text y.id y'.id same) ∙ number-known registry chart x' y' of')
 
   row-apart : (x : Row) (y : OpenRow) → IsRowOf registry x y → are_values_ascending x ≡ true → AreApart same_value y.values
   row-apart x y of up = of-apart (IsValueOf registry y.chart) value_key same_value (values-same y.chart) x.values y.values of.values (ascending-strict value_key x.values up)
@@ -198,7 +198,7 @@ module _ (registry : Registry) (entry : Collected) (canonical : is_collected_can
   row-known : (x : Row) (y : OpenRow) → IsRowOf registry x y → Anything x → IsKnown y
   row-known x y of any =
       All-from_recursion (λ (value : OpenValue). IsSome (series_of registry y.chart value.id)) y.values
-      (of-all (IsValueOf registry y.chart) Anything (λ (value : OpenValue). IsSome (series_of registry y.chart value.id)) (λ v w one any. ap is_some (number-known y.chart v w one)) x.values y.values of.values (anything x.values))
+      (of-all (IsValueOf registry y.chart) Anything (λ (value : OpenValue). IsSome (series_of registry y.chart value.id)) (λ v w one any. ap is_some (number-known registry y.chart v w one)) x.values y.values of.values (anything x.values))
 
   pub restored-regular : (beat : OpenBeat) → AreOf (IsRowOf registry) entry.rows beat.rows → IsRegular registry beat
   restored-regular beat are = record {

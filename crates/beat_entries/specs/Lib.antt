@@ -1,3 +1,4 @@
+pub mod Alike
 pub mod Defined
 pub mod Entry
 pub mod Gathered

@@ -12,9 +12,11 @@
 
 mod definitions;
 mod entry;
+mod law;
 mod refusal;
 mod restoring;
 mod rows;
 
 pub use entry::{entry_of, restore};
+pub use law::{any_alike, any_defined};
 pub use refusal::EntryRefusal;
