@@ -52,7 +52,7 @@ find-of {X} {Y} R p q agree (x ∷ xs) (y ∷ ys) of = by (p x) (q y) (agree x y
     by false true e rest = absurd (true≢false (sym e))
     by false false e rest = rest
 
-first-at : {A : Type 0} (p : A → Bool) (xs : List A) (n : ℕ) → IsFirst p xs n → (a : A) × ((slice_get xs n ≡ Some a) × (p a ≡ true))
+pub first-at : {A : Type 0} (p : A → Bool) (xs : List A) (n : ℕ) → IsFirst p xs n → (a : A) × ((slice_get xs n ≡ Some a) × (p a ≡ true))
 first-at p [] n first = absurd first
 first-at p (x ∷ xs) zero first = (x, (refl, first))
 first-at p (x ∷ xs) (suc n) first = first-at p xs n first.1

@@ -69,16 +69,16 @@ module _ (h : List Beat) (moment : ℕ) (beat : OpenBeat) (owned : AreOwned (reg
     apart_charts = owned.charts;
     apart_dimensions = owned.dimensions;
     charts = All-from_recursion (λ (def : ChartDef). find (is_chart def.id) registry.charts ≡ Some def) beat.charts
-      (put-found same_chart chart-itself chart-alike (registry_of h).charts beat.charts owned.charts);
+        (put-found same_chart chart-itself chart-alike (registry_of h).charts beat.charts owned.charts);
     dimensions = All-from_recursion (λ (dimension : OpenDim). find (is_dimension dimension.chart dimension.def.id) registry.dimensions ≡ Some dimension) beat.dimensions
-      (put-found same_dimension dimension-itself dimension-alike (registry_of h).dimensions beat.dimensions owned.dimensions);
+        (put-found same_dimension dimension-itself dimension-alike (registry_of h).dimensions beat.dimensions owned.dimensions);
     owners = All-from_recursion (λ (dimension : OpenDim). IsSome (chart_of registry dimension.chart)) beat.dimensions
-      (all-weaker (λ (dimension : OpenDim). has_chart (registry_of h) beat dimension.chart ≡ true) (λ (dimension : OpenDim). IsSome (chart_of registry dimension.chart)) owner-there beat.dimensions
-      (recursion_from_All (λ (dimension : OpenDim). has_chart (registry_of h) beat dimension.chart ≡ true) beat.dimensions owned.owners));
+        (all-weaker (λ (dimension : OpenDim). has_chart (registry_of h) beat dimension.chart ≡ true) (λ (dimension : OpenDim). IsSome (chart_of registry dimension.chart)) owner-there beat.dimensions
+        (recursion_from_All (λ (dimension : OpenDim). has_chart (registry_of h) beat dimension.chart ≡ true) beat.dimensions owned.owners));
   }
 
 -- ---- the definitions of an entry
-charts-back : (defs things : List ChartDef) (n : ℕ)
+pub charts-back : (defs things : List ChartDef) (n : ℕ)
     → map chart_def (filter_map (λ (place : ℕ × ChartDef). if list_any (is_chart place.1.id) defs then Some (record { number = place.0; def = place.1 }) else None) (enumerate_from n things))
     ≡ filter (λ (def : ChartDef). list_any (same_chart def) defs) things
 charts-back defs [] n = refl
@@ -120,7 +120,7 @@ module _ (registry : Registry) (dims : List OpenDim) (owners : AllByRecursion (�
           let some : IsSome (chart_of registry x.chart) = found-all (λ (dimension : OpenDim). IsSome (chart_of registry dimension.chart)) (same_dimension a) dims x owners f in
           with_chart (chart_of registry a.chart) refl (ap (λ (text : List ℕ). is_some (chart_of registry text)) charts ∙ some)
 
-  dimensions-back : (things : List OpenDim) (n : ℕ) → map back (filter_map pick (enumerate_from n things)) ≡ filter defined things
+  pub dimensions-back : (things : List OpenDim) (n : ℕ) → map back (filter_map pick (enumerate_from n things)) ≡ filter defined things
   dimensions-back [] n = refl
   dimensions-back (a ∷ things) n = by (defined a) refl (dimensions-back things (n + 1))
     where
@@ -138,9 +138,9 @@ registry-alike h moment beat like owned of =
     let defined = beat-defined h moment beat owned in
     let charts : put_all same_chart (registry_of h).charts like.charts ≡ r.charts
     = ap (put_all same_chart (registry_of h).charts) (of.charts ∙ charts-back beat.charts r.charts 0)
-      ∙ put-again same_chart chart-itself chart-alike (registry_of h).charts beat.charts (apart-charts h) in
+    ∙ put-again same_chart chart-itself chart-alike (registry_of h).charts beat.charts (apart-charts h) in
     let owners = recursion_from_All (λ (dimension : OpenDim). IsSome (chart_of r dimension.chart)) beat.dimensions defined.owners in
     let dimensions : put_all same_dimension (registry_of h).dimensions like.dimensions ≡ r.dimensions
     = ap (put_all same_dimension (registry_of h).dimensions) (of.dimensions ∙ dimensions-back r beat.dimensions owners r.dimensions 0)
-      ∙ put-again same_dimension dimension-itself dimension-alike (registry_of h).dimensions beat.dimensions (apart-registry h) in
+    ∙ put-again same_dimension dimension-itself dimension-alike (registry_of h).dimensions beat.dimensions (apart-registry h) in
     λ i. record { charts = charts i; dimensions = dimensions i }

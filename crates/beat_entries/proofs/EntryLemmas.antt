@@ -49,7 +49,7 @@ find-never : {X : Type 0} (xs : List X) → find (λ (x : X). false) xs ≡ None
 find-never [] = refl
 find-never (x ∷ xs) = find-never xs
 
-at-found : {X : Type 0} (p : X → Bool) (xs : List X) (n : ℕ) (x : X) → position p xs ≡ Some n → slice_get xs n ≡ Some x → find p xs ≡ Some x
+pub at-found : {X : Type 0} (p : X → Bool) (xs : List X) (n : ℕ) (x : X) → position p xs ≡ Some n → slice_get xs n ≡ Some x → find p xs ≡ Some x
 at-found p xs n x found at = sym (find-position p xs) ∙ ap (option_and_then (slice_get xs)) found ∙ at
 
 pub ok-both : {X E : Type 0} (P Q R : X → Type 0) → ((x : X) → P x → Q x → R x) → (result : Result X E) → IfOk result P → IfOk result Q → IfOk result R

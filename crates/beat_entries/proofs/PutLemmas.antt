@@ -50,7 +50,7 @@ module _ {A : Type 0} (same : A → A → Bool) (itself : (x : A) → same x x �
   apart-put_all ys (x ∷ xs) apart = apart-put_all (put same ys x) xs (apart-put ys x apart)
 
   -- ---- by its last definition
-  find-put : (k : A) (ys : List A) (x : A) → find (same k) (put same ys x) ≡ cond (same k x) (Some x) (find (same k) ys)
+  pub find-put : (k : A) (ys : List A) (x : A) → find (same k) (put same ys x) ≡ cond (same k x) (Some x) (find (same k) ys)
   find-put k [] x = refl
   find-put k (y ∷ ys) x = by (same x y) refl (same k x) refl (same k y) refl (find-put k ys x)
     where
@@ -83,8 +83,8 @@ module _ {A : Type 0} (same : A → A → Bool) (itself : (x : A) → same x x �
   apart-self (x ∷ xs) apart = (
     ap (λ (b : Bool). cond b (Some x) (find (same x) xs)) (itself x),
     all-weaker (λ (y : A). (same x y ≡ false) × (find (same y) xs ≡ Some y)) (λ (y : A). find (same y) (x ∷ xs) ≡ Some y)
-    (λ y both. ap (λ (b : Bool). cond b (Some x) (find (same y) xs)) (turned y x ∙ both.0) ∙ both.1) xs
-    (all-both (λ (y : A). same x y ≡ false) (λ (y : A). find (same y) xs ≡ Some y) xs (none-all (same x) xs apart.0) (apart-self xs apart.1)),
+        (λ y both. ap (λ (b : Bool). cond b (Some x) (find (same y) xs)) (turned y x ∙ both.0) ∙ both.1) xs
+        (all-both (λ (y : A). same x y ≡ false) (λ (y : A). find (same y) xs ≡ Some y) xs (none-all (same x) xs apart.0) (apart-self xs apart.1)),
   )
 
   pub put-found : (ys xs : List A) → AreApart same xs → AllByRecursion (λ (x : A). find (same x) (put_all same ys xs) ≡ Some x) xs

@@ -172,7 +172,7 @@ module _ (registry : Registry) (entry : Collected) (canonical : is_collected_can
   unfolding is_collected_canonical
   orders =
       let last = and_parts (is_ascending (map (λ (d : NumberedChart). d.number) entry.charts) && is_ascending (map (λ (d : NumberedDimension). d.series) entry.dimensions) && is_ascending (map row_key entry.rows))
-        (list_all are_values_ascending entry.rows) canonical in
+      (list_all are_values_ascending entry.rows) canonical in
       ((and_parts (is_ascending (map (λ (d : NumberedChart). d.number) entry.charts) && is_ascending (map (λ (d : NumberedDimension). d.series) entry.dimensions)) (is_ascending (map row_key entry.rows)) last.0).1, last.1)
 
   rows-same : (x x' : Row) (y y' : OpenRow) → IsRowOf registry x y → IsRowOf registry x' y' → same_row y y' ≡ true → x.chart ≡ x'.chart
@@ -204,10 +204,10 @@ module _ (registry : Registry) (entry : Collected) (canonical : is_collected_can
   restored-regular beat are = record {
     rows = of-apart (IsRowOf registry) row_key same_row rows-same entry.rows beat.rows are (ascending-strict row_key entry.rows orders.0);
     values = All-from_recursion (λ (row : OpenRow). AreApart same_value row.values) beat.rows
-      (of-all (IsRowOf registry) (λ (row : Row). are_values_ascending row ≡ true) (λ (row : OpenRow). AreApart same_value row.values) row-apart entry.rows beat.rows are (tests-each are_values_ascending entry.rows orders.1));
+        (of-all (IsRowOf registry) (λ (row : Row). are_values_ascending row ≡ true) (λ (row : OpenRow). AreApart same_value row.values) row-apart entry.rows beat.rows are (tests-each are_values_ascending entry.rows orders.1));
     charts = All-from_recursion (λ (row : OpenRow). IsSome (chart_of registry row.chart)) beat.rows
-      (of-all (IsRowOf registry) Anything (λ (row : OpenRow). IsSome (chart_of registry row.chart)) (λ x y of any. ap is_some of.chart) entry.rows beat.rows are (anything entry.rows));
+        (of-all (IsRowOf registry) Anything (λ (row : OpenRow). IsSome (chart_of registry row.chart)) (λ x y of any. ap is_some of.chart) entry.rows beat.rows are (anything entry.rows));
     dimensions = All-from_recursion IsKnown beat.rows (of-all (IsRowOf registry) Anything IsKnown row-known entry.rows beat.rows are (anything entry.rows));
     limit = All-from_recursion (λ (row : OpenRow). length row.values ≤ 1024) beat.rows
-      (of-all (IsRowOf registry) Anything (λ (row : OpenRow). length row.values ≤ 1024) (λ x y of any. of.limit) entry.rows beat.rows are (anything entry.rows));
+        (of-all (IsRowOf registry) Anything (λ (row : OpenRow). length row.values ≤ 1024) (λ x y of any. of.limit) entry.rows beat.rows are (anything entry.rows));
   }

@@ -44,8 +44,8 @@ module _ {A C : Type 0} (f g : ℕ × A → Option C) where
       let head : f (n, a) ≡ g (n, a) = ap (λ (k : ℕ). f (k, a)) (sym (add-zero n)) ∙ same zero a refl ∙ ap (λ (k : ℕ). g (k, a)) (add-zero n) in
       let tail : filter_map f (enumerate_from (n + 1) things) ≡ filter_map g (enumerate_from (n + 1) things)
       = places-same things (n + 1) (λ m b at.
-          let later : (n + 1) + m ≡ n + suc m = omega arith in
-          ap (λ (k : ℕ). f (k, b)) later ∙ same (suc m) b at ∙ ap (λ (k : ℕ). g (k, b)) (sym later)) in
+      let later : (n + 1) + m ≡ n + suc m = omega arith in
+      ap (λ (k : ℕ). f (k, b)) later ∙ same (suc m) b at ∙ ap (λ (k : ℕ). g (k, b)) (sym later)) in
       λ i. cons_option (head i) (tail i)
 
 -- ---- by number
@@ -96,7 +96,7 @@ module _ {C : Type 0} (key : C → ℕ) where
             | inl own ↦
                 let later : AllByRecursion (Within (n + 1) (length things)) xs
                 = all-weaker (λ (y : C). (key x < key y) × Within n (suc (length things)) y) (Within (n + 1) (length things)) (λ y both. (omega (arith, own, both.0), omega (arith, both.1.1))) xs
-                  (all-both (λ (y : C). key x < key y) (Within n (suc (length things))) xs strict.0 within.1) in
+                (all-both (λ (y : C). key x < key y) (Within n (suc (length things))) xs strict.0 within.1) in
                 ap (λ (l : List C). x ∷ l) (again xs strict.1 later (λ m le. looks m (omega (arith, le)) ∙ find-other m x xs (λ e. absurd (omega (arith, e, own, le)))))
                 ∙ ap (λ (found : Option C). cons_option found rest) (sym (looks n (omega arith) ∙ find-own n x xs own))
             | inr other ↦
@@ -105,7 +105,7 @@ module _ {C : Type 0} (key : C → ℕ) where
                 = (above, all-weaker (λ (y : C). key x < key y) (λ (y : C). n < key y) (λ y lt. omega (arith, above, lt)) xs strict.0) in
                 let later : AllByRecursion (Within (n + 1) (length things)) (x ∷ xs)
                 = all-weaker (λ (y : C). (n < key y) × Within n (suc (length things)) y) (Within (n + 1) (length things)) (λ y both. (omega (arith, both.0), omega (arith, both.1.1))) (x ∷ xs)
-                  (all-both (λ (y : C). n < key y) (Within n (suc (length things))) (x ∷ xs) all_above within) in
+                (all-both (λ (y : C). n < key y) (Within n (suc (length things))) (x ∷ xs) all_above within) in
                 again (x ∷ xs) strict later (λ m le. looks m (omega (arith, le)))
                 ∙ ap (λ (found : Option C). cons_option found rest) (sym (looks n (omega arith) ∙ find-above n (x ∷ xs) all_above))
           ]
@@ -155,7 +155,7 @@ module _ {C : Type 0} (key : C → ℕ) where
   strict-from [] up most = tt
   strict-from (x ∷ xs) up most = (
     above-from (key x) xs (recursion_from_All (λ (y : C). key x ≤ key y) xs (λ k d within. up zero (suc k) d (omega arith) (omega arith)))
-    (omega (arith, most (key x), count-own (key x) x xs refl)),
+        (omega (arith, most (key x), count-own (key x) x xs refl)),
     strict-from xs (λ i j d le within. up (suc i) (suc j) d (omega arith) (omega arith)) (λ n. omega (arith, most n, count-cons n x xs)),
   )
 
@@ -165,8 +165,8 @@ module _ {C : Type 0} (key : C → ℕ) where
   apart-finds (x ∷ xs) apart = (
     find-own (key x) x xs refl,
     all-weaker (λ (c : C). (at (key x) c ≡ false) × (find (at (key c)) xs ≡ Some c)) (λ (c : C). find (at (key c)) (x ∷ xs) ≡ Some c)
-    (λ c both. find-other (key c) x xs (λ e. true≢false (sym (ap (λ (n : ℕ). nat_eq n (key c)) (sym e) ∙ nat_eq_same (key c)) ∙ both.0)) ∙ both.1) xs
-    (all-both (λ (c : C). at (key x) c ≡ false) (λ (c : C). find (at (key c)) xs ≡ Some c) xs (none-all (at (key x)) xs apart.0) (apart-finds xs apart.1)),
+        (λ c both. find-other (key c) x xs (λ e. true≢false (sym (ap (λ (n : ℕ). nat_eq n (key c)) (sym e) ∙ nat_eq_same (key c)) ∙ both.0)) ∙ both.1) xs
+        (all-both (λ (c : C). at (key x) c ≡ false) (λ (c : C). find (at (key c)) xs ≡ Some c) xs (none-all (at (key x)) xs apart.0) (apart-finds xs apart.1)),
   )
 
   module _ (ys xs : List C) (apart : AreApart same_key ys) (same : IsPermutation ys xs) where
@@ -200,6 +200,6 @@ module _ {C : Type 0} (key : C → ℕ) where
         let strict : Strict xs = strict-from xs up (λ n. omega (arith, count-most n ys apart, sum_by-IsPermutation (λ (x : C). cond (at n x) 1 0) ys xs same)) in
         let there : AllByRecursion (Within 0 (length things)) xs
         = all-weaker (λ (c : C). key c < length things) (Within 0 (length things)) (λ c lt. (omega arith, omega (arith, lt))) xs
-          (recursion_from_All (λ (c : C). key c < length things) xs (All-permutation (λ (c : C). key c < length things) ys xs same (All-from_recursion (λ (c : C). key c < length things) ys within))) in
+        (recursion_from_All (λ (c : C). key c < length things) xs (All-permutation (λ (c : C). key c < length things) ys xs same (All-from_recursion (λ (c : C). key c < length things) ys within))) in
         in_order (λ (n : ℕ). find (at n) ys) things 0 xs strict there (λ m le. find-same m)
         ∙ places-same (looked (λ (n : ℕ). find (at n) ys)) pick things 0 (λ m a here. ap (λ (k : ℕ). find (at k) ys) (zero-add m) ∙ picks m a here ∙ ap (λ (k : ℕ). pick (k, a)) (sym (zero-add m)))

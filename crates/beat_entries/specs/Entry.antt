@@ -47,7 +47,7 @@ entry_values registry row = filter_map (λ (place : ℕ × OpenDim). entry_value
 abbrev pub entry_rows : Registry → OpenBeat → List Row
 entry_rows registry beat =
     filter_map (λ (place : ℕ × ChartDef). option_map (λ (row : OpenRow). record { chart = place.0; values = entry_values registry row })
-      (find (λ (row : OpenRow). bytes_eq place.1.id row.chart) beat.rows))
+    (find (λ (row : OpenRow). bytes_eq place.1.id row.chart) beat.rows))
     (enumerate_from 0 registry.charts)
 
 -- the entry of a beat at this moment

@@ -137,9 +137,5 @@ pub(crate) fn dimensions(
     requires { IsDefinedIn registry.now beat.now }
     ensures { IfOk result (λ list. list ≡ entry_dimensions registry.now beat.now) }
 {
-    sort_dimensions(gather_dimensions(
-        alloc,
-        registry,
-        beat.dimensions.as_slice(),
-    )?)
+    sort_dimensions(gather_dimensions(alloc, registry, beat.dimensions.as_slice())?)
 }

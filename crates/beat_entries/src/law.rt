@@ -1,18 +1,25 @@
-ghost use Rattle.std.specs.Prelude.{◌≡◌, ℕ, List, ◌∷◌};
+ghost use Rattle.std.specs.Prelude.{◌≡◌, ℕ, true, List, ◌∷◌, Option};
 ghost use Rattle.algorithms.specs.declared.last.Last.{Last};
-ghost use Rattle.std.specs.Prelude.{Option};
 ghost use Rattle.history.specs.declared.beat.OpenBeat.{OpenBeat};
 ghost use Rattle.history.specs.History.{Beat, collected, registry_of};
 ghost use Rattle.beat_points.specs.LastRows.{AreLastOf};
 ghost use Rattle.beat_points.specs.Regular.{IsRegular};
-ghost use Rattle.beat_entries.specs.Alike.{AreAlike, AreOwned};
+ghost use Rattle.beat_entries.specs.Alike.{AreAlike, AreOwned, MayFollow};
 ghost use Rattle.beat_entries.specs.Defined.{IsDefinedIn};
 ghost use Rattle.beat_entries.specs.Entry.{entry_of};
-ghost use Rattle.beat_entries.specs.Restoring.{IsBeatOf};
+ghost use Rattle.beat_entries.specs.Restoring.{goes_on, IsBeatOf};
 
 /// The law of the registry of a history with one beat more: it has the beat's definitions. It does nothing.
 pub fn any_defined()
     ensures { (h : List Beat) (moment : ℕ) (beat : OpenBeat) → AreOwned (registry_of h) beat → IsDefinedIn (registry_of (collected moment beat ∷ h)) beat }
+{}
+
+/// The law of the entry of a beat that may follow a history: it goes on from the history's registry, so that
+/// it is restored unless there is no memory. It does nothing.
+pub fn any_next()
+    ensures { (h : List Beat) (moment : ℕ) (beat : OpenBeat) → AreOwned (registry_of h) beat → MayFollow (registry_of h) beat
+        → IsRegular (registry_of (collected moment beat ∷ h)) beat
+        → goes_on (registry_of h) (entry_of (registry_of (collected moment beat ∷ h)) moment beat) ≡ true }
 {}
 
 /// The laws of a beat that was restored of the entry of another: a history with the one has the same

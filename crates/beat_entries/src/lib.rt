@@ -18,5 +18,5 @@ mod restoring;
 mod rows;
 
 pub use entry::{entry_of, restore};
-pub use law::{any_alike, any_defined};
+pub use law::{any_alike, any_defined, any_next};
 pub use refusal::EntryRefusal;

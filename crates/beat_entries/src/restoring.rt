@@ -57,10 +57,7 @@ pub(crate) fn charts(
 }
 
 /// The dimension of an entry by the id of its chart.
-fn open_dimension(
-    registry: &Registry,
-    dimension: &NumberedDimension,
-) -> Result<OpenDim, AllocError>
+fn open_dimension(registry: &Registry, dimension: &NumberedDimension) -> Result<OpenDim, AllocError>
     requires { dimension.now.chart < length registry.now.charts }
     ensures { IfOk result (λ made. made ≡ dimension_back registry.now dimension.now) }
 {
@@ -183,8 +180,8 @@ fn take_values(
 {
     let mut made = ListOf::new(alloc);
     for value in values {
-        let open = take_value(registry, chart, value)?;
-        made.push(open)?;
+        let taken = take_value(registry, chart, value)?;
+        made.push(taken)?;
     }
     Ok(made)
 }
@@ -218,8 +215,8 @@ pub(crate) fn rows(
 {
     let mut made = ListOf::new(alloc);
     for row in rows {
-        let open = take_row(alloc, registry, row)?;
-        made.push(open)?;
+        let taken = take_row(alloc, registry, row)?;
+        made.push(taken)?;
     }
     Ok(made)
 }

@@ -51,13 +51,13 @@ fn gather_values(
     alloc: Global,
     registry: &Registry,
     chart: u32,
-    open: &[OpenValue],
+    given: &[OpenValue],
 ) -> Result<Vec<Value>, AllocError>
     requires { chart < length registry.now.charts }
-    ensures { IfOk result (λ values. values.items ≡ filter_map (value_at registry.now (chart_id registry.now chart)) open.now) }
+    ensures { IfOk result (λ values. values.items ≡ filter_map (value_at registry.now (chart_id registry.now chart)) given.now) }
 {
     let mut values = Vec::new(alloc);
-    for value in open {
+    for value in given {
         push_value(&mut values, registry, chart, value)?;
     }
     Ok(values)
@@ -72,11 +72,7 @@ fn sort_values(mut values: Vec<Value>) -> Result<ValueList, AllocError>
 }
 
 /// A row with its number, and its values in the order of theirs.
-fn number_row(
-    alloc: Global,
-    registry: &Registry,
-    row: &OpenRow,
-) -> Result<Option<Row>, AllocError>
+fn number_row(alloc: Global, registry: &Registry, row: &OpenRow) -> Result<Option<Row>, AllocError>
     requires own { AreApart same_dimension registry.now.dimensions }
     requires apart { AreApart same_value row.now.values }
     ensures { IfOk result (λ made. made ≡ row_at registry.now row.now) }
@@ -111,14 +107,14 @@ fn push_row(
 fn gather_rows(
     alloc: Global,
     registry: &Registry,
-    open: &[OpenRow],
+    given: &[OpenRow],
 ) -> Result<Vec<Row>, AllocError>
     requires own { AreApart same_dimension registry.now.dimensions }
-    requires apart { All (λ (row : Open). AreApart same_value row.values) open.now }
-    ensures { IfOk result (λ rows. rows.items ≡ filter_map (row_at registry.now) open.now) }
+    requires apart { All (λ (row : Open). AreApart same_value row.values) given.now }
+    ensures { IfOk result (λ rows. rows.items ≡ filter_map (row_at registry.now) given.now) }
 {
     let mut rows = Vec::new(alloc);
-    for row in open {
+    for row in given {
         push_row(alloc, &mut rows, registry, row)?;
     }
     Ok(rows)

@@ -16,8 +16,7 @@ loop-chart-preserved c =
     let at = sym c.chart-item.is in
     let within = c.loop-chart-test.true in
     let before = c.loop-chart.invariant in
-    let pushed : c.push.new.self ≡ c.loop-chart.defs ++ chart.def ∷ [] = c.in_ok-push.ensures.ok ∙ ap (λ (def : ChartDef). c.loop-chart.defs ++ def ∷ []) c.in_ok-clone.ensures.cases in
-    (
+    let pushed : c.push.new.self ≡ c.loop-chart.defs ++ chart.def ∷ [] = c.in_ok-push.ensures.ok ∙ ap (λ (def : ChartDef). c.loop-chart.defs ++ def ∷ []) c.in_ok-clone.ensures.cases in (
       charts-pushed first c.loop-chart.registry c.take_chart.new.registry c.loop-chart.defs c.push.new.self chart before.0 c.in_ok-take_chart.ensures.ok pushed,
       (
         map-more chart_def numbered i chart c.loop-chart.defs c.push.new.self within at pushed before.1.0,

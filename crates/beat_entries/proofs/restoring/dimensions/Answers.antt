@@ -18,8 +18,7 @@ loop-dimension-preserved c =
     let before = c.loop-dimension.invariant in
     let pushed : c.push.new.self ≡ c.loop-dimension.defs ++ dimension_back c.loop-dimension.registry dimension ∷ []
     = c.in_ok-push.ensures.ok ∙ ap (λ (made : OpenDim). c.loop-dimension.defs ++ made ∷ []) c.in_ok-made.ensures.made in
-    let back : dimension_back c.loop-dimension.registry dimension ≡ dimension_back first dimension = ap (λ (r : Registry). dimension_back r dimension) before.0 in
-    (
+    let back : dimension_back c.loop-dimension.registry dimension ≡ dimension_back first dimension = ap (λ (r : Registry). dimension_back r dimension) before.0 in (
       dimensions-pushed first c.loop-dimension.registry c.take_dimension.new.registry c.loop-dimension.defs c.push.new.self dimension before.0 c.in_ok-made.ensures.ok pushed,
       (
         map-more (dimension_back first) numbered i dimension c.loop-dimension.defs c.push.new.self within at (pushed ∙ ap (λ (made : OpenDim). c.loop-dimension.defs ++ made ∷ []) back) before.1.0,

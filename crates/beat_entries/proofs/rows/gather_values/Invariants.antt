@@ -5,4 +5,4 @@ use Rattle.beat_entries.specs.Gathered.{value_at}
 use Rattle.beat_entries.proofs.rows.gather_values.Given as goal
 
 abbrev pub invariant-loop-value : goal.invariant-loop-value
-invariant-loop-value l = l.values.items ≡ filter_map (value_at l.registry (chart_id l.registry l.chart)) (take l.value-index l.open)
+invariant-loop-value l = l.values.items ≡ filter_map (value_at l.registry (chart_id l.registry l.chart)) (take l.value-index l.given)
