@@ -1,0 +1,12 @@
+pub mod AlikeLemmas
+pub mod Ascending
+pub mod DefinedLemmas
+pub mod EntryLemmas
+pub mod FollowLemmas
+pub mod Gathering
+pub mod NextLemmas
+pub mod PutLemmas
+pub mod RestoringLemmas
+pub mod SingleLemmas
+pub mod Slots
+pub mod Steps

@@ -1,0 +1,185 @@
+-- The entry of a beat that may follow a history goes on from the history's registry.
+use Rattle.std.proofs.Common.{◌≡◌, ℕ, zero, suc, ◌+◌, ◌<◌, ◌≤◌, Bool, true, false, cond, ◌&&◌, ◌||◌, nat_eq, nat_le, List, [], ◌∷◌, ◌++◌, map, filter, length, position, slice_get, Option, Some, None, IsSome, All, is_some, is_none, refl, sym, ap, subst, ◌∙◌, arith, true≢false, add-zero, lt-ltb, if◌then◌else◌}
+use Rattle.std.specs.List.{find, list_any, list_all, filter_map, cons_option, count_by, enumerate_from, AllByRecursion}
+use Rattle.std.specs.Option.{option_map, option_map_or, option_and_then}
+use Rattle.std.specs.Str.{bytes_eq}
+use Rattle.std.proofs.lemmas.Bool.{lt-leb, le-leb}
+use Rattle.std.proofs.lemmas.List.{length_push}
+use Rattle.std.proofs.lemmas.List.Sums.{sum_by-cons}
+use Rattle.std.proofs.lemmas.Option.{none-some, same_Some}
+use Rattle.chart_registry.specs.Defining.{chart_id, nothing_open}
+use Rattle.chart_registry.proofs.Applying.{any-put}
+use Rattle.chart_registry.proofs.Places.{IsFirst, first-from_position, position-first, put-absent, list_any-position, find-position, count_by-push}
+use Rattle.chart_registry.proofs.RegistryLemmas.{chart_refusal-present, chart_refusal-absent, dimension_refusal-present, dimension_refusal-absent}
+use Rattle.chart_registry.proofs.RowsLemmas.{same_text, bytes_eq_same}
+use Rattle.entry_codec.specs.declared.charts.NumberedChart.{NumberedChart}
+use Rattle.entry_codec.specs.declared.dimensions.NumberedDimension.{NumberedDimension}
+use Rattle.history.specs.declared.beat.OpenDim.{OpenDim}
+use Rattle.history.specs.declared.chart.ChartDef.{ChartDef}
+use Rattle.history.specs.declared.fault.BlockFault.{BlockFault}
+use Rattle.history.specs.declared.fault.BlockFault.TheVariants as block
+use Rattle.history.specs.Put.{put, put_all}
+use Rattle.history.specs.Refusal.{chart_refusal, dimension_refusal, dimensions_full}
+use Rattle.history.specs.Registry.{Registry, is_chart, is_of, is_dimension, same_chart, same_dimension, chart_of, series_of}
+use Rattle.beat_points.specs.Regular.{AreApart}
+use Rattle.beat_points.proofs.CountLemmas.{nat_eq_same, one_if}
+use Rattle.beat_points.proofs.Growing.{length-put_all, same_dimension-alike}
+use Rattle.beat_entries.specs.Restoring.{all_taken, chart_def, is_number, with_chart, takes_chart, dimension_back, with_dimension, takes_dimension}
+use Rattle.beat_entries.proofs.AlikeLemmas.{first-at}
+use Rattle.beat_entries.proofs.DefinedLemmas.{chart-itself, chart-alike, dimension-itself, dimension-alike}
+use Rattle.beat_entries.proofs.PutLemmas.{turned, find-put}
+use Rattle.beat_entries.proofs.Slots.{all-both, none-all}
+use Rattle.beat_entries.proofs.Steps.{number-yes}
+use Rattle.beat_points.proofs.OrderLemmas.{all-weaker}
+
+-- ---- what is put keeps its place, and there are no fewer
+module _ {A : Type 0} (same : A → A → Bool) (p : A → Bool) (alike : (x y : A) → same x y ≡ true → p x ≡ p y) where
+  first-put : (ys : List A) (x : A) (n : ℕ) → IsFirst p ys n → IsFirst p (put same ys x) n
+  first-put [] x n h = absurd h
+  first-put (y ∷ ys) x zero h = by (same x y) refl
+    where
+      by : (b : Bool) → same x y ≡ b → IsFirst p (if b then x ∷ ys else y ∷ put same ys x) zero
+      by true e = alike x y e ∙ h
+      by false e = h
+  first-put (y ∷ ys) x (suc n) h = by (same x y) refl (first-put ys x n h.1)
+    where
+      by : (b : Bool) → same x y ≡ b → IsFirst p (put same ys x) n → IsFirst p (if b then x ∷ ys else y ∷ put same ys x) (suc n)
+      by true e rest = (alike x y e ∙ h.0, h.1)
+      by false e rest = (h.0, rest)
+
+  first-put_all : (ys xs : List A) (n : ℕ) → IsFirst p ys n → IsFirst p (put_all same ys xs) n
+  first-put_all ys [] n h = h
+  first-put_all ys (x ∷ xs) n h = first-put_all (put same ys x) xs n (first-put ys x n h)
+
+  -- what was put has the number that it has at last
+  number-kept : (ys xs last : List A) (x : A) (n : ℕ) → put_all same (put same ys x) xs ≡ last → p x ≡ true → position p last ≡ Some n → is_number n (position p (put same ys x)) ≡ true
+  number-kept ys xs last x n whole here number = by (position p (put same ys x)) refl
+    where
+      or-true : (b : Bool) → (b || true) ≡ true
+      or-true true = refl
+      or-true false = refl
+
+      there : is_some (position p (put same ys x)) ≡ true
+      there = list_any-position p (put same ys x) ∙ any-put same p alike ys x ∙ ap (λ (b : Bool). list_any p ys || b) here ∙ or-true (list_any p ys)
+
+      by : (found : Option ℕ) → position p (put same ys x) ≡ found → is_number n found ≡ true
+      by None e = absurd (true≢false (sym there ∙ ap is_some e))
+      by (Some k) e =
+          let at_last : position p last ≡ Some k
+          = ap (position p) (sym whole) ∙ position-first p (put_all same (put same ys x) xs) k (first-put_all (put same ys x) xs k (first-from_position p (put same ys x) k e)) in
+          number-yes n k (Some k) refl (same_Some k n (sym at_last ∙ number))
+
+  count-put : (ys : List A) (x : A) → count_by p ys ≤ count_by p (put same ys x)
+  count-put [] x = omega arith
+  count-put (y ∷ ys) x = by (same x y) refl (count-put ys x)
+    where
+      by : (b : Bool) → same x y ≡ b → count_by p ys ≤ count_by p (put same ys x) → count_by p (y ∷ ys) ≤ count_by p (if b then x ∷ ys else y ∷ put same ys x)
+      by true e le =
+          let alike_one : one_if (p x) ≡ one_if (p y) = ap one_if (alike x y e) in
+          omega (arith, alike_one, sum_by-cons (λ (z : A). cond (p z) 1 0) x ys, sum_by-cons (λ (z : A). cond (p z) 1 0) y ys)
+      by false e le = omega (arith, le, sum_by-cons (λ (z : A). cond (p z) 1 0) y (put same ys x), sum_by-cons (λ (z : A). cond (p z) 1 0) y ys)
+
+  count-put_all : (ys xs : List A) → count_by p ys ≤ count_by p (put_all same ys xs)
+  count-put_all ys [] = omega arith
+  count-put_all ys (x ∷ xs) = omega (arith, count-put ys x, count-put_all (put same ys x) xs)
+
+all-map : {A B : Type 0} (f : A → B) (P : B → Type 0) (xs : List A) → AllByRecursion P (map f xs) → AllByRecursion (λ (x : A). P (f x)) xs
+all-map f P [] all = tt
+all-map f P (x ∷ xs) all = (all.0, all-map f P xs all.1)
+
+-- ---- charts
+module _ (last : List ChartDef) (few : length last ≤ 4096) where
+  -- a chart that may be defined over these, and that has its number at last
+  pub record MayChart (charts : List ChartDef) (chart : NumberedChart) : Type 0 where
+    pub grid : 0 < chart.def.update_every
+    pub number : position (is_chart chart.def.id) last ≡ Some chart.number
+    pub kept : (old : ChartDef) → find (is_chart chart.def.id) charts ≡ Some old → old.update_every ≡ chart.def.update_every
+
+  id-alike : (id : List ℕ) (x y : ChartDef) → same_chart x y ≡ true → is_chart id x ≡ is_chart id y
+  id-alike id x y e = ap (bytes_eq id) (same_text x.id y.id e)
+
+  not-refused : (s : Registry) (chart : NumberedChart) (rest : List ChartDef) → MayChart s.charts chart → put_all same_chart (put same_chart s.charts chart.def) rest ≡ last
+      → chart_refusal s nothing_open chart.def ≡ None
+  not-refused s chart rest may whole = by (chart_of s chart.def.id) refl
+    where
+      by : (found : Option ℕ) → chart_of s chart.def.id ≡ found → chart_refusal s nothing_open chart.def ≡ None
+      by None e =
+          let pushed : put same_chart s.charts chart.def ≡ s.charts ++ chart.def ∷ [] = put-absent same_chart chart.def s.charts e in
+          let room : length s.charts < 4096
+          = omega (arith, few, ap length whole, length-put_all same_chart (is_chart []) (id-alike []) (put same_chart s.charts chart.def) rest, ap length pushed, length_push s.charts chart.def) in
+          chart_refusal-absent s chart.def e ∙ ap (λ (b : Bool). if b then Some block.TooManyCharts else None) (lt-leb 4096 (length s.charts) room)
+      by (Some n) e =
+          let there = first-at (is_chart chart.def.id) s.charts n (first-from_position (is_chart chart.def.id) s.charts n e) in
+          let old = there.0 in
+          let found : find (is_chart chart.def.id) s.charts ≡ Some old = sym (find-position (is_chart chart.def.id) s.charts) ∙ ap (option_and_then (slice_get s.charts)) e ∙ there.1.0 in
+          let grid : nat_eq old.update_every chart.def.update_every ≡ true = ap (nat_eq old.update_every) (sym (may.kept old found)) ∙ nat_eq_same old.update_every in
+          chart_refusal-present s chart.def old n e there.1.0 ∙ ap (λ (b : Bool). if b then None else Some block.GridChanged) grid
+
+  pub charts-taken : (s : Registry) (charts : List NumberedChart) → put_all same_chart s.charts (map chart_def charts) ≡ last → AreApart same_chart (map chart_def charts)
+      → AllByRecursion (MayChart s.charts) charts → all_taken takes_chart with_chart s charts ≡ true
+  charts-taken s [] whole apart may = refl
+  charts-taken s (chart ∷ charts) whole apart may =
+      let takes : takes_chart s chart ≡ true
+      = λ i. lt-ltb 0 chart.def.update_every may.0.grid i && is_none (not-refused s chart (map chart_def charts) may.0 whole i)
+      && number-kept same_chart (is_chart chart.def.id) (id-alike chart.def.id) s.charts (map chart_def charts) last chart.def chart.number whole (chart-itself chart.def) may.0.number i in
+      ap (λ (b : Bool). b && all_taken takes_chart with_chart (with_chart s chart) charts) takes
+      ∙ charts-taken (with_chart s chart) charts whole apart.1
+      (all-weaker (λ (x : NumberedChart). MayChart s.charts x × (same_chart chart.def x.def ≡ false)) (MayChart (put same_chart s.charts chart.def))
+      (λ x both. record {
+        grid = both.0.grid;
+        number = both.0.number;
+        kept = λ old found. both.0.kept old
+            (sym (find-put same_chart chart-itself chart-alike x.def s.charts chart.def
+            ∙ ap (λ (b : Bool). cond b (Some chart.def) (find (is_chart x.def.id) s.charts)) (turned same_chart chart-itself chart-alike x.def chart.def ∙ both.1)) ∙ found);
+      }) charts
+      (all-both (MayChart s.charts) (λ (x : NumberedChart). same_chart chart.def x.def ≡ false) charts may.1
+      (all-map chart_def (λ (def : ChartDef). same_chart chart.def def ≡ false) charts (none-all (same_chart chart.def) (map chart_def charts) apart.0))))
+
+-- ---- dimensions
+module _ (last : List OpenDim) (few : length last ≤ 65536) (each : (chart : List ℕ) → count_by (is_of chart) last ≤ 1024) where
+  pub record MayDimension (s : Registry) (dimension : NumberedDimension) : Type 0 where
+    pub chart : dimension.chart < length s.charts
+    pub number : position (same_dimension (dimension_back s dimension)) last ≡ Some dimension.series
+
+  of-alike : (chart : List ℕ) (x y : OpenDim) → same_dimension x y ≡ true → is_of chart x ≡ is_of chart y
+  of-alike chart x y e = ap (bytes_eq chart) (same_text x.chart y.chart (both x y e))
+    where
+      both : (x y : OpenDim) → same_dimension x y ≡ true → bytes_eq x.chart y.chart ≡ true
+      both x y e = by (bytes_eq x.chart y.chart) e
+        where
+          by : (b : Bool) → (b && bytes_eq x.def.id y.def.id) ≡ true → b ≡ true
+          by true e = refl
+          by false e = e
+
+  not-full : (s : Registry) (dimension : NumberedDimension) (rest : List OpenDim) → put_all same_dimension (put same_dimension s.dimensions (dimension_back s dimension)) rest ≡ last
+      → dimension_refusal s nothing_open (chart_id s dimension.chart) dimension.def ≡ None
+  not-full s dimension rest whole = by (series_of s (chart_id s dimension.chart) dimension.def.id) refl
+    where
+      by : (found : Option ℕ) → series_of s (chart_id s dimension.chart) dimension.def.id ≡ found → dimension_refusal s nothing_open (chart_id s dimension.chart) dimension.def ≡ None
+      by None e =
+          let made = dimension_back s dimension in
+          let pushed : put same_dimension s.dimensions made ≡ s.dimensions ++ made ∷ [] = put-absent same_dimension made s.dimensions e in
+          let more = length-put_all same_dimension (is_of (chart_id s dimension.chart)) (of-alike (chart_id s dimension.chart)) (put same_dimension s.dimensions made) rest in
+          let room : length s.dimensions + 0 < 65536 = omega (arith, few, ap length whole, more, ap length pushed, length_push s.dimensions made) in
+          let counts = count-put_all same_dimension (is_of (chart_id s dimension.chart)) (of-alike (chart_id s dimension.chart)) (put same_dimension s.dimensions made) rest in
+          let own : count_by (is_of (chart_id s dimension.chart)) (s.dimensions ++ made ∷ []) ≡ count_by (is_of (chart_id s dimension.chart)) s.dimensions + 1
+          = count_by-push (is_of (chart_id s dimension.chart)) s.dimensions made true (bytes_eq_same (chart_id s dimension.chart) (chart_id s dimension.chart) refl) in
+          let own_room : count_by (is_of (chart_id s dimension.chart)) s.dimensions + 0 < 1024
+          = omega (arith, each (chart_id s dimension.chart), ap (count_by (is_of (chart_id s dimension.chart))) whole, counts, ap (count_by (is_of (chart_id s dimension.chart))) pushed, own) in
+          let full : false ≡ dimensions_full s nothing_open (chart_id s dimension.chart)
+          = λ i. sym (lt-leb 1024 (count_by (is_of (chart_id s dimension.chart)) s.dimensions + 0) own_room) i || sym (lt-leb 65536 (length s.dimensions + 0) room) i in
+          dimension_refusal-absent s (chart_id s dimension.chart) dimension.def false e full
+      by (Some n) e = dimension_refusal-present s (chart_id s dimension.chart) dimension.def n e
+
+  pub dimensions-taken : (s : Registry) (dimensions : List NumberedDimension) → put_all same_dimension s.dimensions (map (dimension_back s) dimensions) ≡ last
+      → AllByRecursion (MayDimension s) dimensions → all_taken takes_dimension with_dimension s dimensions ≡ true
+  dimensions-taken s [] whole may = refl
+  dimensions-taken s (dimension ∷ dimensions) whole may =
+      let made = dimension_back s dimension in
+      let takes : takes_dimension s dimension ≡ true
+      = λ i. lt-ltb dimension.chart (length s.charts) may.0.chart i && is_none (not-full s dimension (map (dimension_back s) dimensions) whole i)
+      && number-kept same_dimension (same_dimension made) (same_dimension-alike made.chart made.def.id) s.dimensions (map (dimension_back s) dimensions) last made dimension.series whole
+      (dimension-itself made) may.0.number i in
+      ap (λ (b : Bool). b && all_taken takes_dimension with_dimension (with_dimension s dimension) dimensions) takes
+      ∙ dimensions-taken (with_dimension s dimension) dimensions whole
+      (all-weaker (MayDimension s) (MayDimension (with_dimension s dimension)) (λ x one. record { chart = one.chart; number = one.number }) dimensions may.1)

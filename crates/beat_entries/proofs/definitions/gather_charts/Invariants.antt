@@ -1,0 +1,7 @@
+use Rattle.std.proofs.Common.{◌≡◌, take}
+use Rattle.std.specs.List.{filter_map}
+use Rattle.beat_entries.specs.Gathered.{chart_at}
+use Rattle.beat_entries.proofs.definitions.gather_charts.Given as goal
+
+abbrev pub invariant-loop-def : goal.invariant-loop-def
+invariant-loop-def l = l.charts.items ≡ filter_map (chart_at l.registry) (take l.def-index l.defs)

@@ -1,0 +1,10 @@
+use Rattle.std.proofs.Common.{List, rules, sym, subst}
+use Rattle.std.specs.List.Sorted.{IsNonDecreasingBy}
+use Rattle.std.proofs.lemmas.List.Sorted.{IsNonDecreasingBy-from_sort_by_key}
+use Rattle.entry_codec.specs.declared.row.Value.{Value}
+use Rattle.beat_entries.proofs.rows.sort_values.Goals as goal
+
+pub returns-clause-rises : goal.returns-clause-rises
+returns-clause-rises c =
+    subst (λ (list : List Value). IsNonDecreasingBy (λ (item : Value). item.series) list) (sym c.from_vec.ensures)
+    (IsNonDecreasingBy-from_sort_by_key (λ (item : Value). item.series) c.sort_by_key.new.self.items c.in_ok-sort_by_key.ensures.sorted (λ a r q k. search rules))

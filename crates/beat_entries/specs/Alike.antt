@@ -1,0 +1,30 @@
+-- Beats that leave the same.
+use Rattle.std.specs.Prelude.{◌≡◌, ◌<◌, ◌≤◌, ℕ, true, List, length, count_by, find, Some, All}
+use Rattle.history.specs.declared.beat.OpenBeat.{OpenBeat}
+use Rattle.history.specs.declared.beat.OpenDim.{OpenDim}
+use Rattle.history.specs.declared.chart.ChartDef.{ChartDef}
+use Rattle.history.specs.Refusal.{has_chart, has_row}
+use Rattle.history.specs.Registry.{Registry, is_chart, is_of, same_chart, same_dimension, with_definitions}
+use Rattle.beat_points.specs.LastRows.{value_in}
+use Rattle.beat_points.specs.Regular.{AreApart}
+
+-- The beat defines each chart and each dimension once, and no dimension of a chart that neither it nor the
+-- registry has.
+pub record AreOwned (registry : Registry) (beat : OpenBeat) : Type 0 where
+  pub charts : AreApart same_chart beat.charts
+  pub dimensions : AreApart same_dimension beat.dimensions
+  pub owners : All (λ (dimension : OpenDim). has_chart registry beat dimension.chart ≡ true) beat.dimensions
+
+-- The beat may follow a history with this registry: each chart has an update_every, which is the one that it
+-- has had, and with the beat's definitions there are no more charts and dimensions than there may be.
+pub record MayFollow (registry : Registry) (beat : OpenBeat) : Type 0 where
+  pub grids : All (λ (def : ChartDef). 0 < def.update_every) beat.charts
+  pub kept : All (λ (def : ChartDef). (old : ChartDef) → find (is_chart def.id) registry.charts ≡ Some old → old.update_every ≡ def.update_every) beat.charts
+  pub charts : length (with_definitions registry beat.charts beat.dimensions).charts ≤ 4096
+  pub dimensions : length (with_definitions registry beat.charts beat.dimensions).dimensions ≤ 65536
+  pub each : (chart : List ℕ) → count_by (is_of chart) (with_definitions registry beat.charts beat.dimensions).dimensions ≤ 1024
+
+-- they have rows of the same charts, and set each dimension to the same value with the same mark
+pub record AreAlike (like beat : OpenBeat) : Type 0 where
+  pub rows : (chart : List ℕ) → has_row like chart ≡ has_row beat chart
+  pub values : (chart id : List ℕ) → value_in like.rows chart id ≡ value_in beat.rows chart id
