@@ -9,7 +9,7 @@ use Rattle.std.specs.List.{prefix_len}
 use Rattle.std.specs.Prelude.{slice_index}
 use Rattle.health_expr.specs.declared.word.Kind.{Kind}
 use Rattle.health_expr.specs.declared.word.Kind.TheVariants.{End}
-use Rattle.health_expr.specs.declared.words.Words.TheInside.{Inside}
+use Rattle.health_expr.specs.declared.cursor.Words.TheInside.{Inside}
 use Rattle.words.specs.Words.{is_blank}
 use Rattle.health_expr.specs.Cut.{Cut, is_letter, is_brace, digits_len, decimals_len, unknown, braced, named, dollar, number, letters, single, mark, marked, first_word}
 use Rattle.health_expr.specs.Cursor.{words_ahead, IsReady}

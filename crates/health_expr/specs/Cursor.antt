@@ -1,7 +1,7 @@
 -- A reader of words, and the words that it has before it.
 use Rattle.std.specs.Prelude.{◌≡◌, ◌<◌, ◌+◌, ◌^◌, List, length}
 use Rattle.std.specs.List.{prefix_len}
-use Rattle.health_expr.specs.declared.words.Words.TheInside.{Inside}
+use Rattle.health_expr.specs.declared.cursor.Words.TheInside.{Inside}
 use Rattle.words.specs.Words.{is_blank}
 use Rattle.health_expr.specs.Cut.{first_word}
 use Rattle.health_expr.specs.Word.{Is}

@@ -15,6 +15,7 @@
 
 mod arithmetic;
 mod build;
+mod cursor;
 mod expr;
 mod fault;
 mod law;
@@ -22,7 +23,6 @@ mod operator;
 mod parser;
 mod value;
 mod word;
-mod words;
 
 pub use expr::Expr;
 pub use fault::ExprFault;

@@ -8,11 +8,11 @@ ghost use Rattle.health_expr.specs.Reads.{Reads, ReadsAll};
 ghost use Rattle.health_expr.specs.TreeOf.{tree_of};
 
 use crate::build::{chain, choice, prefixed, push};
+use crate::cursor::Words;
 use crate::expr::Expr;
 use crate::fault::ExprFault;
 use crate::operator::{Operator, Prefix};
 use crate::word::Kind;
-use crate::words::Words;
 use fixed_num::{Text, read_units};
 use std::alloc::Global;
 

@@ -4,7 +4,7 @@ use Rattle.health_expr.specs.contracts.word.Kind.{the_type}
 use Rattle.health_expr.specs.declared.word.Kind.{Kind}
 use Rattle.health_expr.specs.Words.{Placed, sees}
 use Rattle.health_expr.proofs.WordsLemmas.{known}
-use Rattle.health_expr.proofs.words.Words.sees.Goals as goal
+use Rattle.health_expr.proofs.cursor.Words.sees.Goals as goal
 
 pub returns-clause-value : goal.returns-clause-value
 unfolding sees

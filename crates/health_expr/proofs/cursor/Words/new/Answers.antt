@@ -2,7 +2,7 @@ use Rattle.std.proofs.Common.{ℕ, List, arith, ap, ◌∙◌}
 use Rattle.std.specs.List.{prefix_len}
 use Rattle.words.specs.Words.{is_blank}
 use Rattle.health_expr.proofs.WordsLemmas.{stripped, begun, begun_shorter}
-use Rattle.health_expr.proofs.words.Words.new.Goals as goal
+use Rattle.health_expr.proofs.cursor.Words.new.Goals as goal
 
 pub invariant_of-result : goal.invariant_of-result
 invariant_of-result c =

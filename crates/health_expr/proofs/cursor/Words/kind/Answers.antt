@@ -1,7 +1,7 @@
 use Rattle.std.proofs.Common.{ap, ◌∙◌}
 use Rattle.health_expr.specs.Words.{Placed}
 use Rattle.health_expr.proofs.WordsLemmas.{known}
-use Rattle.health_expr.proofs.words.Words.kind.Goals as goal
+use Rattle.health_expr.proofs.cursor.Words.kind.Goals as goal
 
 pub returns : goal.returns
 returns c = c.self.invariant.next.kind ∙ ap (λ (w : Placed). w.kind) (known c.self.inside _ c.self.view_is c.self.invariant)

@@ -1,7 +1,7 @@
 use Rattle.std.proofs.Common.{◌<◌, List, length, arith, subst, sym}
 use Rattle.health_expr.specs.Words.{Placed}
 use Rattle.health_expr.proofs.WordsLemmas.{behind, shorter}
-use Rattle.health_expr.proofs.words.Words.pass.Goals as goal
+use Rattle.health_expr.proofs.cursor.Words.pass.Goals as goal
 
 pub invariant_of-self : goal.invariant_of-self
 invariant_of-self c =
