@@ -3,7 +3,7 @@ use Rattle.std.proofs.Common.{◌≡◌, ℕ, List, [], ◌++◌, length, refl, 
 use Rattle.std.proofs.lemmas.List.{nil_from_length}
 use Rattle.host_model.specs.declared.file.File.{File}
 use Rattle.host_model.specs.Images.{IsImage}
-use Rattle.host_model.specs.Past.{Event, of, told, IsOther, IsDisk, IsText}
+use Rattle.host_model.specs.Past.{Event, of, told, IsOther, IsText}
 use Rattle.host_model.specs.Moments.{Throughout, EveryImage, EveryStop, OnlyOn}
 use Rattle.host_model.specs.Disks.{EveryDisk}
 use Rattle.host_model.proofs.MomentLemmas.{Grows, strengthened, weakened, only_on_each, told-append, text_at_start}
