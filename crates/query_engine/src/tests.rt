@@ -290,14 +290,14 @@ struct Broken {
 impl Points for Broken {
     ghost use Rattle.std.specs.Prelude.{[], ◌∷◌, refl};
 
-    ghost tiers = { λ _. record { widths = 1 ∷ []; floor = λ _. 0 } };
+    ghost tiers = { λ _. record { widths = 1 ∷ 7 ∷ []; floor = λ _. 0 } };
 
     ghost tells = { λ _ told. ⊥ };
 
     ghost faults = { λ source. source.faults };
 
     fn widths(&self) -> &[u32] {
-        &[1]
+        &[1, 7]
     }
 
     fn floor(&self, _tier: u8) -> u32 {
