@@ -370,12 +370,20 @@ def main():
     print("// Written by tools/convert_texts.py.")
     print()
     print("use host_model::Status;")
+    told = [(title, text, *convert(text)) for title, text in TEXTS]
+    read = [row for row in told if row[3] == "Status::Ok"]
+    refused = [row for row in told if row[3] != "Status::Ok"]
     print()
-    print("/// What a text shows, the text, what is told of it, and the status.")
-    print(f"pub static TEXTS: [(&str, &str, &str, Status); {len(TEXTS)}] = [")
-    for title, text in TEXTS:
-        told, status = convert(text)
-        print(f"    ({quoted(title)}, {quoted(text)}, {quoted(told)}, {status}),")
+    print("/// What a text that is read to its end shows, the text, and what is told of it.")
+    print(f"pub static READ: [(&str, &str, &str); {len(read)}] = [")
+    for title, text, output, _ in read:
+        print(f"    ({quoted(title)}, {quoted(text)}, {quoted(output)}),")
+    print("];")
+    print()
+    print("/// Why a text is refused, the text, what is told of it, and the status.")
+    print(f"pub static REFUSED: [(&str, &str, &str, Status); {len(refused)}] = [")
+    for title, text, output, status in refused:
+        print(f"    ({quoted(title)}, {quoted(text)}, {quoted(output)}, {status}),")
     print("];")
 
 

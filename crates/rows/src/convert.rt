@@ -5,11 +5,21 @@ mod table;
 use crate::run::{Outside, run};
 use host_model::Status;
 use std::test::Fail;
-use table::TEXTS;
+use table::{READ, REFUSED};
 
 #[test]
 fn tells_the_points_of_a_text(rt: HostRuntime) -> Result<(), Fail> {
-    for (title, text, told, status) in &TEXTS {
+    for (title, text, told) in &READ {
+        let end = run(rt.alloc(), &["convert"], Outside::sound(text.as_bytes()))?;
+        assert_eq!(rt; end.status, Status::Ok, "{title}");
+        assert_eq!(rt; end.told.as_str(), *told, "{title}");
+    }
+    Ok(())
+}
+
+#[test]
+fn tells_why_a_text_is_refused(rt: HostRuntime) -> Result<(), Fail> {
+    for (title, text, told, status) in &REFUSED {
         let end = run(rt.alloc(), &["convert"], Outside::sound(text.as_bytes()))?;
         assert_eq!(rt; end.status, *status, "{title}");
         assert_eq!(rt; end.told.as_str(), *told, "{title}");
