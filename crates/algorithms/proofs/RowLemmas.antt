@@ -2,7 +2,7 @@
 use Rattle.std.proofs.Common.{◌≡◌, ℕ, suc, ◌*◌, ◌≤◌, Bool, List, [], ◌∷◌, length, drop, take, map, Option, Result, Ok, Err, IfOk, ℤ, ◌+ℤ◌, unsigned_abs, arith, sym, refl, ap, ◌∙◌}
 use Rattle.std.proofs.lemmas.List.{take_all, length-map}
 use Rattle.std.proofs.lemmas.Simd.{map-map}
-use Rattle.entry_codec.specs.declared.row.Value.{Value}
+use Rattle.history.specs.declared.row.Value.{Value}
 use Rattle.history.specs.declared.dimension.DimDef.{DimDef}
 use Rattle.history.specs.Points.{Cell, word_by, row_words, total, total_difference}
 use Rattle.algorithms.specs.declared.fault.AlgoFault.{AlgoFault}

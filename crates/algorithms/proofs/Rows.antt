@@ -1,6 +1,6 @@
 -- The definitions, checked on small rows by computation.
 use Rattle.std.proofs.Common.{◌≡◌, ℕ, Bool, true, false, List, [], ◌∷◌, ℤ, pos, Option, Some, None, refl, codes}
-use Rattle.entry_codec.specs.declared.row.Value.{Value}
+use Rattle.history.specs.declared.row.Value.{Value}
 use Rattle.history.specs.declared.dimension.Algorithm.{Algorithm}
 use Rattle.history.specs.declared.dimension.Algorithm.TheVariants.{Incremental, PercentageOfAbsoluteRow, PercentageOfIncrementalRow}
 use Rattle.history.specs.declared.dimension.DimDef.{DimDef}

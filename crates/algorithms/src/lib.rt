@@ -7,8 +7,7 @@
 //! in 128 bits, and no sum or product comes near their limit. A call takes memory for its result and for
 //! one list of samples that it gives back.
 //!
-//! The crate stands on the definitions of `history`, on the values of `entry_codec`, and on the packing
-//! of `storage_number`.
+//! The crate stands on the values and definitions of `history`, and on the packing of `storage_number`.
 #![tactic(auto)]
 
 mod fault;

@@ -8,9 +8,8 @@ use crate::fault::AlgoFault;
 use crate::last::{Last, LastList};
 use crate::sample::{self, Sample};
 use crate::{total, word};
-use entry_codec::{Value, ValueList};
 use fixed_num::ListOf;
-use history::DimDef;
+use history::{DimDef, Value, ValueList};
 use std::alloc::Global;
 
 /// The most values of a row.

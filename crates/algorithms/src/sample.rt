@@ -4,8 +4,7 @@ ghost use Rattle.algorithms.specs.Cells.{first_before, before_of, cell_of, divis
 ghost use Rattle.algorithms.specs.Samples.{before_at, cell_at};
 
 use crate::last::Last;
-use entry_codec::Value;
-use history::{Algorithm, DimDef};
+use history::{Algorithm, DimDef, Value};
 
 /// A value that was collected before another, and how many seconds.
 #[derive(Clone, Copy, Debug)]

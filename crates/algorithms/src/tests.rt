@@ -1,9 +1,8 @@
 mod table;
 
 use super::*;
-use entry_codec::{Value, ValueList};
 use fixed_num::{ListOf, Text};
-use history::{Algorithm, DimDef};
+use history::{Algorithm, DimDef, Value, ValueList};
 use std::alloc::Global;
 use std::process::Abort;
 use std::test::Fail;

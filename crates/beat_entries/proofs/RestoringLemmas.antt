@@ -12,8 +12,8 @@ use Rattle.chart_registry.proofs.RowsLemmas.{same_text}
 use Rattle.entry_codec.specs.declared.charts.NumberedChart.{NumberedChart}
 use Rattle.entry_codec.specs.declared.dimensions.NumberedDimension.{NumberedDimension}
 use Rattle.entry_codec.specs.declared.entry.Collected.{Collected}
-use Rattle.entry_codec.specs.declared.row.Row.{Row}
-use Rattle.entry_codec.specs.declared.row.Value.{Value}
+use Rattle.history.specs.declared.row.Row.{Row}
+use Rattle.history.specs.declared.row.Value.{Value}
 use Rattle.entry_codec.specs.Entries.{are_values_ascending, is_collected_canonical}
 use Rattle.entry_codec.specs.Lists.{is_ascending}
 use Rattle.history.specs.declared.beat.OpenBeat.{OpenBeat}

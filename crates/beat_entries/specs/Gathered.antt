@@ -3,8 +3,8 @@ use Rattle.std.specs.Prelude.{ℕ, List, Option}
 use Rattle.std.specs.Option.{option_map, option_and_then}
 use Rattle.entry_codec.specs.declared.charts.NumberedChart.{NumberedChart}
 use Rattle.entry_codec.specs.declared.dimensions.NumberedDimension.{NumberedDimension}
-use Rattle.entry_codec.specs.declared.row.Row.{Row}
-use Rattle.entry_codec.specs.declared.row.Value.{Value}
+use Rattle.history.specs.declared.row.Row.{Row}
+use Rattle.history.specs.declared.row.Value.{Value}
 use Rattle.history.specs.declared.beat.OpenDim.{OpenDim}
 use Rattle.history.specs.declared.beat.OpenRow.{OpenRow}
 use Rattle.history.specs.declared.beat.OpenValue.{OpenValue}

@@ -7,9 +7,11 @@ ghost use Rattle.beat_entries.specs.declared.refusal.EntryRefusal.TheVariants.{N
 
 use crate::refusal::EntryRefusal;
 use chart_registry::{Registry, RegistryFault};
-use entry_codec::{NumberedChart, NumberedDimension, Row, Value};
+use entry_codec::{NumberedChart, NumberedDimension};
 use fixed_num::{ListOf, Text};
-use history::{ChartDefList, OpenDim, OpenDimList, OpenRow, OpenRowList, OpenValue, OpenValueList};
+use history::{
+    ChartDefList, OpenDim, OpenDimList, OpenRow, OpenRowList, OpenValue, OpenValueList, Row, Value,
+};
 use std::alloc::{AllocError, Global};
 
 /// The most values of one row.

@@ -11,9 +11,8 @@ ghost use Rattle.beat_entries.specs.Entry.{entry_values, entry_rows};
 ghost use Rattle.beat_entries.specs.Gathered.{value_at, row_at};
 
 use chart_registry::Registry;
-use entry_codec::{Row, RowList, Value, ValueList};
 use fixed_num::ListOf;
-use history::{OpenBeat, OpenRow, OpenValue};
+use history::{OpenBeat, OpenRow, OpenValue, Row, RowList, Value, ValueList};
 use std::alloc::{AllocError, Global};
 
 /// A value with its number, in a row of the chart with this number.

@@ -9,7 +9,7 @@ use Rattle.algorithms.specs.Cells.{cells, last_of, numbered}
 use Rattle.algorithms.specs.Cells as algorithms
 use Rattle.algorithms.specs.Words.{packed}
 use Rattle.algorithms.proofs.CellLemmas.{cell_of-same}
-use Rattle.entry_codec.specs.declared.row.Value.{Value}
+use Rattle.history.specs.declared.row.Value.{Value}
 use Rattle.history.specs.declared.beat.OpenBeat.{OpenBeat}
 use Rattle.history.specs.declared.beat.OpenDim.{OpenDim}
 use Rattle.history.specs.declared.beat.OpenRow.{OpenRow}

@@ -13,9 +13,8 @@ use crate::numbered;
 use crate::series_word::{SeriesWord, SeriesWordList};
 use algorithms::{Last, row_points};
 use chart_registry::Registry;
-use entry_codec::Value;
 use fixed_num::ListOf;
-use history::OpenRow;
+use history::{OpenRow, Value};
 use std::alloc::Global;
 
 /// Adds the word of a numbered value, if there is one.

@@ -7,9 +7,8 @@ ghost use Rattle.beat_points.specs.Numbered.{IsNumbered, AreNumbered};
 use crate::fault::PointFault;
 use algorithms::{DimList, Last, LastList};
 use chart_registry::Registry;
-use entry_codec::ValueList;
 use fixed_num::ListOf;
-use history::{DimDef, OpenValue};
+use history::{DimDef, OpenValue, ValueList};
 use std::alloc::Global;
 
 /// The values of a row by number, each with the last row and the definition of its dimension.
@@ -31,10 +30,10 @@ fn last_of(last: &[Option<Last>], series: u32) -> Option<Last>
 }
 
 /// A value by number.
-fn value_of(series: u32, value: &OpenValue) -> entry_codec::Value
+fn value_of(series: u32, value: &OpenValue) -> history::Value
     ensures { result ≡ record { series = series; value = value.now.value; anomalous = value.now.anomalous } }
 {
-    entry_codec::Value {
+    history::Value {
         series,
         value: value.value,
         anomalous: value.anomalous,
@@ -44,7 +43,7 @@ fn value_of(series: u32, value: &OpenValue) -> entry_codec::Value
 /// Adds a value to a row.
 fn push_value(
     row: &mut NumberedRow,
-    value: entry_codec::Value,
+    value: history::Value,
     last: Option<Last>,
     def: DimDef,
 ) -> Result<(), PointFault>

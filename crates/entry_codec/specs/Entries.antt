@@ -19,8 +19,8 @@ use Rattle.entry_codec.specs.declared.entry.Settings.{Settings}
 use Rattle.entry_codec.specs.declared.entry.TierSettings.{TierSettings}
 use Rattle.entry_codec.specs.declared.fault.EntryFault.{EntryFault}
 use Rattle.entry_codec.specs.declared.fault.EntryFault.TheVariants as faults
-use Rattle.entry_codec.specs.declared.row.Row.{Row}
-use Rattle.entry_codec.specs.declared.row.Value.{Value}
+use Rattle.history.specs.declared.row.Row.{Row}
+use Rattle.history.specs.declared.row.Value.{Value}
 use Rattle.entry_codec.specs.declared.words.CopiedWord.{CopiedWord}
 use Rattle.entry_codec.specs.Charts.{chart_bytes, copied_chart_bytes, read_chart, read_copied_chart, IsChart, IsCopiedChart}
 use Rattle.entry_codec.specs.Dimensions.{copied_dimension_bytes, dimension_bytes, read_copied_dimension, read_dimension, IsCopiedDimension, IsDimension}

@@ -3,8 +3,8 @@ use Rattle.std.specs.Prelude.{ℕ, ℤ, ◌<◌, ◌^◌, Bool, List, ◌++◌, 
 use Rattle.std.specs.Int.{w64}
 use Rattle.field_codec.specs.Reading.{ReadOf, read_as, read_u32, read_i64, read_flag}
 use Rattle.field_codec.specs.Spelling.{u32_bytes, i64_bytes, flag_bytes}
-use Rattle.entry_codec.specs.declared.row.Row.{Row}
-use Rattle.entry_codec.specs.declared.row.Value.{Value}
+use Rattle.history.specs.declared.row.Row.{Row}
+use Rattle.history.specs.declared.row.Value.{Value}
 use Rattle.entry_codec.specs.Lists.{◌>>◌, read_list, list_bytes, IsShortListOf}
 
 abbrev pub value_of : (ℕ × ℤ) × Bool → Value

@@ -6,8 +6,8 @@ ghost use Rattle.entry_codec.specs.Entries.{are_values_ascending, is_canonical, 
 
 use crate::entry::{Collected, Copied, Entry};
 use crate::list;
-use crate::row::Row;
 use crate::words::CopiedWord;
+use history::Row;
 
 fn are_values_ascending(rows: &[Row]) -> bool
     ensures { result ≡ list_all are_values_ascending rows.now }

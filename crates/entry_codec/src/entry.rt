@@ -1,8 +1,8 @@
 use crate::charts::{ChartList, CopiedChartList};
 use crate::dimensions::{CopiedDimensionList, DimensionList};
-use crate::row::RowList;
 use crate::words::CopiedWordList;
 use field_codec::ByteList;
+use history::RowList;
 
 /// How much a tier keeps.
 #[derive(Clone, Copy, Debug, PartialEq, Eq)]

@@ -24,7 +24,6 @@ mod law;
 mod list;
 mod marks;
 mod reading;
-mod row;
 mod rows;
 mod text;
 mod words;
@@ -36,7 +35,6 @@ pub use entry::{Collected, Copied, Entry, Gap, Settings, TierSettings};
 pub use fault::EntryFault;
 pub use law::every_entry;
 pub use reading::read_entry;
-pub use row::{Row, RowList, Value, ValueList};
 pub use words::{CopiedWord, CopiedWordList};
 pub use writing::{has_spelling, write_entry};
 

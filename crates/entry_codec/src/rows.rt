@@ -1,8 +1,8 @@
 ghost use Rattle.std.specs.Prelude.{◌≡◌, ◌++◌, ◌↔◌, Ok, Err, IsTrue, IfOk, IfErr, OnOk, IsOkUnless};
 
 use crate::list::{self, Item};
-use crate::row::{Row, Value};
 use field_codec::{FieldFault, Reader, Writer};
+use history::{Row, Value};
 use std::alloc::Global;
 
 impl Item for Value {

@@ -1,6 +1,6 @@
 use super::*;
 use fixed_num::{ListOf, Text};
-use history::{Algorithm, ChartDef, ChartKind, DimDef};
+use history::{Algorithm, ChartDef, ChartKind, DimDef, Row, Value};
 use std::alloc::{AllocError, Global};
 use std::test::Fail;
 

@@ -1,9 +1,10 @@
 //! What a collector's text says, and the history that it leads to: plain values and their definitions.
 //!
-//! A `Line` is one line as it was read, an `OpenBeat` what lines say between two moments. The
-//! definitions say, by looking back over the lines before, which line may follow, what the beat of a
-//! MOMENT is, which charts and dimensions a history has, and which points its values give. No function
-//! of the agent does these things here; the crates above are proved to do them.
+//! A `Line` is one line as it was read, an `OpenBeat` what lines say between two moments, and a `Row` is a
+//! row whose chart and dimensions have their numbers. The definitions say, by looking back over the lines
+//! before, which line may follow, what the beat of a MOMENT is, which charts and dimensions a history has,
+//! and which points its values give. No function of the agent does these things here; the crates above are
+//! proved to do them.
 #![tactic(auto)]
 
 mod beat;
@@ -11,6 +12,7 @@ mod chart;
 mod dimension;
 mod fault;
 mod line;
+mod row;
 
 pub use beat::{
     ChartDefList, OpenBeat, OpenDim, OpenDimList, OpenRow, OpenRowList, OpenValue, OpenValueList,
@@ -19,3 +21,4 @@ pub use chart::{ChartDef, ChartKind};
 pub use dimension::{Algorithm, DimDef};
 pub use fault::BlockFault;
 pub use line::Line;
+pub use row::{Row, RowList, Value, ValueList};

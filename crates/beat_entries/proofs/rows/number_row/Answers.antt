@@ -3,8 +3,8 @@ use Rattle.std.specs.List.{filter_map}
 use Rattle.std.specs.List.Sorted.{IsPermutation}
 use Rattle.std.specs.Option.{option_map}
 use Rattle.chart_registry.specs.Defining.{chart_id}
-use Rattle.entry_codec.specs.declared.row.Row.{Row}
-use Rattle.entry_codec.specs.declared.row.Value.{Value}
+use Rattle.history.specs.declared.row.Row.{Row}
+use Rattle.history.specs.declared.row.Value.{Value}
 use Rattle.history.specs.Registry.{chart_of}
 use Rattle.beat_entries.specs.Entry.{entry_values}
 use Rattle.beat_entries.specs.Gathered.{value_at, row_at}

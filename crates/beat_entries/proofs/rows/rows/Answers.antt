@@ -1,7 +1,7 @@
 use Rattle.std.proofs.Common.{◌≡◌, List, ap, subst, ◌∙◌}
 use Rattle.std.specs.List.{filter_map}
 use Rattle.std.specs.List.Sorted.{IsPermutation, IsNonDecreasingBy}
-use Rattle.entry_codec.specs.declared.row.Row.{Row}
+use Rattle.history.specs.declared.row.Row.{Row}
 use Rattle.beat_entries.specs.Entry.{entry_rows}
 use Rattle.beat_entries.specs.Gathered.{row_at}
 use Rattle.beat_entries.proofs.EntryLemmas.{rows-are, ok-both}

@@ -2,7 +2,7 @@ use Rattle.std.proofs.Common.{◌≡◌, ◌+◌, ◌++◌, ◌∷◌, [], Optio
 use Rattle.algorithms.specs.declared.last.Last.{Last}
 use Rattle.algorithms.specs.Cells.{numbered}
 use Rattle.chart_registry.specs.Defining.{chart_id}
-use Rattle.entry_codec.specs.declared.row.Value.{Value}
+use Rattle.history.specs.declared.row.Value.{Value}
 use Rattle.history.specs.declared.beat.OpenValue.{OpenValue}
 use Rattle.history.specs.declared.dimension.DimDef.{DimDef}
 use Rattle.history.specs.Registry.{series_of}

@@ -1,9 +1,9 @@
 use fixed_num::ListOf;
 
-/// Values of one row.
+/// Values of one row, by number.
 pub type ValueList = ListOf<Value>;
 
-/// Rows of one beat.
+/// Rows of one beat, by number.
 pub type RowList = ListOf<Row>;
 
 /// A value that was collected for a dimension.
