@@ -1,0 +1,4 @@
+pub mod ColumnLemmas
+pub mod NumberLemmas
+mod Rows
+pub mod SpanLemmas

@@ -1,0 +1,8 @@
+use Rattle.std.proofs.Common.{◌≡◌, ◌++◌, take}
+use Rattle.std.specs.List.{flat_map}
+use Rattle.query_text.specs.Told.{row_text}
+use Rattle.query_text.proofs.reply.push_rows.Given as goal
+
+abbrev pub invariant-loop-row : goal.invariant-loop-row
+invariant-loop-row l =
+    l.out ≡ l.fn.out ++ flat_map row_text (take l.row-index l.rows)
