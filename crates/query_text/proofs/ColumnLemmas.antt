@@ -1,5 +1,5 @@
 -- The columns of a query, one dimension after the other.
-use Rattle.std.proofs.Common.{◌≡◌, ℕ, zero, suc, ◌+◌, ◌<◌, Bool, true, false, cond, List, [], ◌∷◌, ◌++◌, length, drop, slice_get, IfSome, All, if◌then◌else◌, refl, sym, ap, subst, ◌∙◌, append_assoc, arith}
+use Rattle.std.proofs.Common.{◌≡◌, ℕ, zero, suc, ◌+◌, ◌<◌, Bool, true, false, List, [], ◌∷◌, ◌++◌, length, drop, slice_get, IfSome, All, if◌then◌else◌, refl, sym, ap, subst, ◌∙◌, append_assoc, arith}
 use Rattle.std.proofs.lemmas.List.Elements.{All-append, All-from_recursion}
 use Rattle.history.specs.declared.beat.OpenDim.{OpenDim}
 use Rattle.query_text.specs.Shown.{is_column, columns_from}
@@ -20,9 +20,10 @@ columns_step chart pattern [] first place shown within is = absurd (omega arith)
 columns_step chart pattern (dimension ∷ others) first zero shown within is =
     first_column chart pattern first dimension others shown _ is refl
 columns_step chart pattern (dimension ∷ others) first (suc place) shown within is =
+    let same : suc (place + 1) ≡ suc place + 1 = omega arith in
     subst (λ (next : ℕ). columns_from chart pattern first (drop (suc place) (dimension ∷ others))
     ≡ (if shown then first ∷ [] else []) ++ columns_from chart pattern (first + 1) (drop next (dimension ∷ others)))
-    (omega arith) (columns_step chart pattern others first place shown (omega arith) is)
+    same (columns_step chart pattern others first place shown (omega arith) is)
 
 -- one dimension more
 pub columns_kept : (chart : List ℕ) (pattern : List (List ℕ)) (dimensions : List OpenDim) (place : ℕ) (shown : Bool) (old new all : List ℕ) → place < length dimensions

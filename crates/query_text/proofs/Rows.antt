@@ -1,5 +1,5 @@
 -- what the definitions say of small queries, worked out by hand
-use Rattle.std.proofs.Common.{◌≡◌, ℕ, ◌^◌, ◌-◌, Bool, true, false, List, [], ◌∷◌, codes, Ok, Err, pos, negsuc, Some, None, refl}
+use Rattle.std.proofs.Common.{◌≡◌, ◌^◌, ◌-◌, [], ◌∷◌, codes, Ok, Err, refl}
 use Rattle.query_text.specs.declared.fault.QueryFault.TheVariants.{BadWord, BadNumber}
 use Rattle.query_text.specs.Asked.{windows, number_read, pattern_text, words_read}
 
