@@ -3,6 +3,8 @@ use fixed_num::{Record, Units};
 use std::alloc::Global;
 use std::test::Fail;
 
+mod random;
+
 /// A point of each series has its word from the layout of storage numbers, as 10 is `0x3198_9680`.
 macro_rules! points {
     ($rt:expr; $(($moment:expr, $word:expr)),*) => {
