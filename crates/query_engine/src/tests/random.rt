@@ -12,7 +12,7 @@ use std::alloc::{AllocError, Global};
 use std::process::Abort;
 use std::test::Fail;
 
-/// The widths of the tiers.
+/// The widths of the tiers, as `source_of` writes them too.
 const WIDTHS: [u32; 5] = [1, 6, 24, 6_000, 48_000];
 
 /// Numbers that follow from a seed.
@@ -96,7 +96,7 @@ fn draw_sample(draws: &mut Draws, moment: u32) -> Sample {
     }
 }
 
-/// So many points, each less than a gap and a second after the one before.
+/// So many points, each at least one second after the one before and at most a gap after it.
 fn draw_samples(
     alloc: Global,
     draws: &mut Draws,
@@ -121,13 +121,14 @@ fn points_of(alloc: Global, samples: &[Sample]) -> Result<PointList, AllocError>
     Ok(PointList::from_vec(points))
 }
 
-/// Whether a moment is at or after another.
+/// Whether a moment is at or after one.
 fn is_from(least: u64, moment: u32) -> bool
     ensures { result ≡ (nat_le least moment && nat_lt moment (2 ^ 32)) }
 {
     least <= u64::from(moment)
 }
 
+/// The next moment, also after the last.
 fn after(moment: u32) -> u64
     ensures { result ≡ moment + 1 }
 {
@@ -279,8 +280,8 @@ fn may_read(width: u32, after: u32, window: u32) -> bool {
     after.is_multiple_of(width) && window.is_multiple_of(width)
 }
 
-/// The floor of the tier that is read, the lowest of those that may be read. Which tier it is of tells
-/// nothing more.
+/// The floor of the tier that is read, the lowest of those that may be read. Of two tiers with this floor
+/// either gives the same answer, so their numbers are not asked for.
 fn floor_for(floors: &[u32], after: u32, window: u32) -> u32 {
     let mut lowest = u32::MAX;
     for (width, floor) in WIDTHS.iter().zip(floors) {
