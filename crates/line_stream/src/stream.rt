@@ -1,0 +1,188 @@
+ghost use Rattle.std.specs.Prelude.{◌≡◌, ℕ, ◌+◌, ◌^◌, ◌<◌, ◌≤◌, ◌++◌, true, List, [], length, Option, None, OnOk, IfOk, IfErr};
+ghost use Rattle.std.specs.List.{AllPass};
+ghost use Rattle.host_model.specs.Cause.{Rose};
+ghost use Rattle.plugin_text.specs.Lines.{fits};
+ghost use Rattle.line_stream.specs.Chain.{acts_of, Chain};
+ghost use Rattle.line_stream.specs.Run.{input_limit, Ended, Ran, Steps, Stops};
+ghost use Rattle.line_stream.specs.Stream.{HandsOver, HasTaken};
+
+use crate::taker::Taker;
+use fixed_num::ByteList;
+use host_model::{Host, Source, Status};
+use plugin_text::{LineFault, LineList, Splitter};
+use std::alloc::Global;
+
+/// The most bytes that are taken of an input.
+const INPUT_LIMIT: usize = 1 << 40;
+
+/// How many bytes are asked of the source at once.
+const PIECE_SIZE: usize = 1 << 16;
+
+/// What is kept of the part of a text that was taken.
+#[derive(Drop)]
+pub(crate) struct Stream {
+    pub(crate) splitter: Splitter,
+    /// The lines of the last piece.
+    pub(crate) lines: LineList,
+    /// How many lines were handed over.
+    pub(crate) count: u64,
+}
+
+/// Hands over the next line.
+fn hand_line<H: Host, T: Taker<H>>(
+    taker: &mut T,
+    host: &mut H,
+    count: &mut u64,
+    line: &[u8],
+) -> Result<(), Status>
+    requires ready { T.ready taker.old host.old (count.old + 1) }
+    requires few { count.old < 2 ^ 40 }
+    requires short { fits line.now ≡ true }
+    ensures takes { T.takes taker.old host.old (count.old + 1) line.now result taker.new host.new }
+    ensures count { OnOk result (count.new ≡ count.old + 1) }
+    ensures ready { OnOk result (T.ready taker.new host.new (count.new + 1)) }
+{
+    let number = *count + 1;
+    taker.take_line(host, number, line)?;
+    *count = number;
+    Ok(())
+}
+
+/// Hands over lines behind those that `count` counts.
+fn hand_over<H: Host, T: Taker<H>>(
+    taker: &mut T,
+    host: &mut H,
+    count: &mut u64,
+    lines: &[ByteList],
+) -> Result<(), Status>
+    requires ready { T.ready taker.old host.old (count.old + 1) }
+    requires few { count.old + length lines.now ≤ 2 ^ 40 }
+    requires short { AllPass fits lines.now }
+    ensures handed { (start : T) (begin : H) (front : List (List ℕ)) → length front ≡ count.old → Chain (acts_of T.takes T.pauses T.ends T.overflows) start begin front taker.old host.old
+        → HandsOver (acts_of T.takes T.pauses T.ends T.overflows) start begin front lines.now result taker.new host.new }
+    ensures count { OnOk result (count.new ≡ count.old + length lines.now) }
+    ensures ready { OnOk result (T.ready taker.new host.new (count.new + 1)) }
+{
+    for line in lines {
+        hand_line(taker, host, count, line.as_slice())?;
+    }
+    Ok(())
+}
+
+impl Stream {
+    fn new(alloc: Global) -> Stream
+        ensures splitter { (result.splitter.rest ≡ []) × (result.splitter.refused ≡ None) }
+        ensures count { result.count ≡ 0 }
+    {
+        Stream {
+            splitter: Splitter::new(alloc),
+            lines: LineList::new(alloc),
+            count: 0,
+        }
+    }
+
+    /// Takes the next piece of the text. `Err` is how the run ends.
+    fn take_piece<H: Host, T: Taker<H>>(
+        &mut self,
+        taker: &mut T,
+        host: &mut H,
+        piece: &[u8],
+    ) -> Result<(), Status>
+        requires ready { T.ready taker.old host.old (self.old.count + 1) }
+        requires room { (start : T) × (begin : H) × (text : List ℕ) × HasTaken (acts_of T.takes T.pauses T.ends T.overflows) self.old start begin text taker.old host.old × (length text + length piece.now ≤ input_limit) }
+        ensures goes_on { OnOk result ((start : T) (begin : H) (text : List ℕ) → HasTaken (acts_of T.takes T.pauses T.ends T.overflows) self.old start begin text taker.old host.old
+            → HasTaken (acts_of T.takes T.pauses T.ends T.overflows) self.new start begin (text ++ piece.now) taker.new host.new) }
+        ensures stops { IfErr result (λ status. (start : T) (begin : H) (text : List ℕ) → HasTaken (acts_of T.takes T.pauses T.ends T.overflows) self.old start begin text taker.old host.old
+            → (left : Option (List ℕ)) → Ended (acts_of T.takes T.pauses T.ends T.overflows) status start begin (text ++ piece.now) taker.new host.new left ⊥) }
+        ensures ready { OnOk result (T.ready taker.new host.new (self.new.count + 1)) }
+    {
+        self.lines.clear();
+        match self.splitter.feed(piece, &mut self.lines) {
+            Ok(()) => {
+                hand_over(taker, host, &mut self.count, self.lines.as_slice())?;
+                taker.pause(host)
+            }
+            Err(LineFault::LineTooLong) => {
+                hand_over(taker, host, &mut self.count, self.lines.as_slice())?;
+                Err(taker.overflow(host, self.count + 1))
+            }
+            // Of the other refusals a splitter has want of memory alone.
+            Err(_) => Err(Status::Memory),
+        }
+    }
+}
+
+/// Takes more of the input. `Err` is how the run ends.
+fn take_next<S: Source, H: Host, T: Taker<H>>(
+    stream: &mut Stream,
+    piece: &mut [u8],
+    taker: &mut T,
+    source: &mut S,
+    host: &mut H,
+) -> Result<usize, Status>
+    requires ready { T.ready taker.old host.old (stream.old.count + 1) }
+    requires room { (start : T) × (begin : H) × (text : List ℕ) × HasTaken (acts_of T.takes T.pauses T.ends T.overflows) stream.old start begin text taker.old host.old × (length text + length piece.old ≤ input_limit) }
+    requires some { 0 < length piece.old }
+    ensures goes_on { IfOk result (λ n. (start : T) (begin : H) (text : List ℕ) → HasTaken (acts_of T.takes T.pauses T.ends T.overflows) stream.old start begin text taker.old host.old
+        → Steps (λ all. HasTaken (acts_of T.takes T.pauses T.ends T.overflows) stream.new start begin all taker.new host.new) n text (S.left source.old) (S.left source.new)) }
+    ensures within { IfOk result (λ n. (0 < n) × (n ≤ length piece.old)) }
+    ensures stops { IfErr result (λ status. (start : T) (begin : H) (text : List ℕ) → HasTaken (acts_of T.takes T.pauses T.ends T.overflows) stream.old start begin text taker.old host.old → length text + length piece.old ≤ input_limit
+        → Stops (acts_of T.takes T.pauses T.ends T.overflows) status start begin text taker.new host.new (S.left source.old) (S.left source.new) (Rose (S.faults source.old) (S.faults source.new))) }
+    ensures ready { OnOk result (T.ready taker.new host.new (stream.new.count + 1)) }
+    ensures count { S.faults source.old ≤ S.faults source.new }
+{
+    match source.pull(piece) {
+        Err(_) => Err(Status::ReadFault),
+        Ok(0) => Err(taker.end(host, stream.count, stream.splitter.rest())),
+        Ok(taken) => match stream.take_piece(taker, host, &piece[..taken]) {
+            Ok(()) => Ok(taken),
+            Err(status) => Err(status),
+        },
+    }
+}
+
+/// Takes the input piece by piece, each into `piece`.
+fn take_pieces<S: Source, H: Host, T: Taker<H>>(
+    stream: &mut Stream,
+    piece: &mut [u8],
+    taker: &mut T,
+    source: &mut S,
+    host: &mut H,
+) -> Status
+    requires ready { T.ready taker.old host.old 1 }
+    requires start { (stream.old.splitter.rest ≡ []) × (stream.old.splitter.refused ≡ None) × (stream.old.count ≡ 0) }
+    requires some { 0 < length piece.old }
+    ensures ran { Ran (acts_of T.takes T.pauses T.ends T.overflows) result taker.old host.old taker.new host.new (S.left source.old) (S.left source.new) (Rose (S.faults source.old) (S.faults source.new)) }
+    ensures count { S.faults source.old ≤ S.faults source.new }
+{
+    let mut budget = INPUT_LIMIT;
+    while budget > 0 {
+        let room = budget.min(piece.len());
+        match take_next(stream, &mut piece[..room], taker, source, host) {
+            Ok(taken) => budget -= taken,
+            Err(status) => return status,
+        }
+    }
+    Status::InputLimit
+}
+
+/// Takes a text from the source, hands its lines to the taker, and says how the run ended.
+///
+/// No more than 2^40 bytes are taken. Where a line is too long nothing behind it is handed over. Want of memory
+/// may end the run at any place, with `Status::Memory`.
+pub fn take_text<S: Source, H: Host, T: Taker<H>>(
+    alloc: Global,
+    taker: &mut T,
+    source: &mut S,
+    host: &mut H,
+) -> Status
+    requires { T.ready taker.old host.old 1 }
+    ensures ran { Ran (acts_of T.takes T.pauses T.ends T.overflows) result taker.old host.old taker.new host.new (S.left source.old) (S.left source.new) (Rose (S.faults source.old) (S.faults source.new)) }
+    ensures count { S.faults source.old ≤ S.faults source.new }
+{
+    let Ok(mut piece) = vec![in alloc; 0; PIECE_SIZE] else {
+        return Status::Memory;
+    };
+    let mut stream = Stream::new(alloc);
+    take_pieces(&mut stream, &mut piece, taker, source, host)
+}
