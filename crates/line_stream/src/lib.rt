@@ -14,3 +14,6 @@ mod taker;
 
 pub use stream::take_text;
 pub use taker::Taker;
+
+#[cfg(test)]
+mod tests;
