@@ -1,8 +1,13 @@
 pub mod DefinedLemmas
+pub mod FollowLemmas
 pub mod HistoryLemmas
 pub mod KeptLemmas
 pub mod Lists
 pub mod NewLemmas
+pub mod OpeningLemmas
+pub mod OpenFaults
 pub mod Outcomes
 pub mod PointLemmas
+pub mod ReplayLemmas
 pub mod Sound
+pub mod Within

@@ -1,6 +1,6 @@
 ghost use Rattle.std.specs.Prelude.{◌≡◌, ◌⊎◌, ◌∷◌, [], ℕ, List, None, true, false, IfOk, IfErr, IsErrOf, OnOk, OnErr};
 ghost use Rattle.host_model.specs.declared.file.File.{File as AFile};
-ghost use Rattle.host_model.specs.Past.{told, IsDisk};
+ghost use Rattle.host_model.specs.Past.{told, Event, IsDisk};
 ghost use Rattle.host_model.specs.Disks.{EveryDisk, reads_as};
 ghost use Rattle.host_model.specs.Cause.{HasCause};
 ghost use Rattle.host_model.specs.Moments.{Throughout};
@@ -12,19 +12,20 @@ ghost use Rattle.collect_block.specs.declared.step.Step.TheVariants as step;
 ghost use Rattle.collect_block.specs.Feed.{IsFeedOf, Becomes, step_of};
 ghost use Rattle.entry_codec.specs.declared.entry.Settings.{Settings as ASettings};
 ghost use Rattle.store_core.specs.FirstRecord.{InLimits};
-ghost use Rattle.store_core.specs.Stands.{is_made};
+ghost use Rattle.store_core.specs.Stands.{is_made, IsDamaged};
 ghost use Rattle.store_core.specs.Store.{raised};
 ghost use Rattle.agent_core.specs.Calls.{Beats, Creates, Lines, Opens};
 ghost use Rattle.agent_core.specs.Fed.{IsFed};
 ghost use Rattle.agent_core.specs.Said.{said_of};
 ghost use Rattle.agent_core.specs.Faults.{fault_after, IsCreating, IsOpening, LeavesAll, RefusedBy, Reopens};
 ghost use Rattle.agent_core.specs.Kept.{StandsForHistory, StandsForNew, StandsForOneOf};
+ghost use Rattle.agent_core.specs.Replay.{HasReplayed, IsOpenedFor};
 ghost use Rattle.agent_core.specs.Rules.{beat_refusal, count_with, history_with, last_with, line_refusal, IsOpenBeat};
 
 use crate::fault::AgentFault;
 use crate::keeping::add;
 use crate::refusal::refusal;
-use crate::replaying::{opening_fault, replay_all};
+use crate::replaying::{open_store, replay_all};
 use crate::reply::{Reply, Said};
 use beat_points::LastRows;
 use chart_registry::Registry;
@@ -145,14 +146,42 @@ impl Agent {
         ensures { Opens H.honest (record { past = H.past host.old; disk_faults = H.disk_faults host.old; tell_faults = H.tell_faults host.old })
             result (record { past = H.past host.new; disk_faults = H.disk_faults host.new; tell_faults = H.tell_faults host.new }) }
     {
-        match Store::open(alloc, host) {
+        Agent::load(alloc, host)
+    }
+
+    fn load<H: Host>(alloc: Global, host: &mut H) -> Result<Agent, AgentFault>
+        ensures opened { IfOk result (λ agent. H.honest → (set : ASettings) (h : List HistoryBeat) → StandsForHistory set h (reads_as (H.past host.old))
+            → IsAgentOf (H.past host.new) agent set h) }
+        ensures ready { IfOk result (AgentIsReady H.honest (H.past host.new)) }
+        ensures going { IfOk result (λ agent. agent.fault ≡ None) }
+        ensures any_moment { H.honest → Throughout (EveryDisk (IsDisk (H.past host.old))) (H.past host.old) (H.past host.new) }
+        ensures same { H.honest → (file : AFile) → reads_as (H.past host.new) file ≡ reads_as (H.past host.old) file }
+        ensures stands { H.honest → (set : ASettings) (h : List HistoryBeat) → StandsForHistory set h (reads_as (H.past host.old))
+            → IfErr result (λ fault. (fault ≡ AgentFault.DiskFault) ⊎ (fault ≡ AgentFault.Memory)) }
+        ensures none { IsErrOf result AgentFault.NotADatabase → H.honest → is_made (reads_as (H.past host.old)) ≡ false }
+        ensures some { OnOk result (H.honest → is_made (reads_as (H.past host.old)) ≡ true) }
+        ensures damaged { IsErrOf result (AgentFault.Damaged 4) → H.honest → IsDamaged (reads_as (H.past host.old)) }
+        ensures faults { IfErr result IsOpening }
+        ensures cause { HasCause (H.disk_faults host.old) (H.disk_faults host.new) (IsErrOf result AgentFault.DiskFault) }
+        ensures output { H.honest → told (H.past host.new) ≡ told (H.past host.old) }
+        ensures tells { H.tell_faults host.new ≡ H.tell_faults host.old }
+    {
+        match open_store(alloc, host) {
             Ok(store) => Agent::replayed(alloc, store),
-            Err(fault) => Err(opening_fault(fault)),
+            Err(fault) => Err(fault),
         }
     }
 
     /// The agent of a store that was just opened, once all its beats are replayed.
-    fn replayed(alloc: Global, mut store: Store) -> Result<Agent, AgentFault> {
+    fn replayed(alloc: Global, mut store: Store) -> Result<Agent, AgentFault>
+        requires going { store.fault ≡ None }
+        ensures replayed { IfOk result (HasReplayed store) }
+        ensures of { IfOk result (λ agent. (past : List Event) (set : ASettings) (h : List HistoryBeat) → IsOpenedFor past store set h
+            → IsAgentOf past agent set h) }
+        ensures stands { IfErr result (λ fault. (past : List Event) (set : ASettings) (h : List HistoryBeat) → IsOpenedFor past store set h
+            → fault ≡ AgentFault.Memory) }
+        ensures faults { IfErr result (λ fault. (fault ≡ AgentFault.Memory) ⊎ (fault ≡ AgentFault.Damaged 5)) }
+    {
         let mut registry = Registry::new(alloc);
         let mut last_rows = LastRows::new(alloc);
         replay_all(alloc, &mut store, &mut registry, &mut last_rows)?;
