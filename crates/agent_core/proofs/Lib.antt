@@ -1,3 +1,4 @@
+pub mod ClosedLemmas
 pub mod DefinedLemmas
 pub mod HistoryLemmas
 pub mod KeptLemmas
@@ -6,3 +7,4 @@ pub mod NewLemmas
 pub mod Outcomes
 pub mod PointLemmas
 pub mod Sound
+pub mod Within
