@@ -1,3 +1,4 @@
+pub mod ClosedLemmas
 pub mod DefinedLemmas
 pub mod FollowLemmas
 pub mod HistoryLemmas
