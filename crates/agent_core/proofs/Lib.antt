@@ -1,4 +1,5 @@
 pub mod DefinedLemmas
+pub mod FedLemmas
 pub mod HistoryLemmas
 pub mod KeptLemmas
 pub mod Lists
@@ -6,3 +7,4 @@ pub mod NewLemmas
 pub mod Outcomes
 pub mod PointLemmas
 pub mod Sound
+pub mod StepLemmas

@@ -6,3 +6,4 @@ pub mod Kept
 pub mod Replies
 pub mod Rules
 pub mod Said
+pub mod Steps
