@@ -25,9 +25,11 @@ use Rattle.beat_points.specs.Regular.{AreApart, same_row}
 use Rattle.beat_points.specs.Text.{HaveDivisors}
 use Rattle.beat_points.proofs.ApartLemmas.{apart-filter, apart-push}
 use Rattle.collect_block.specs.declared.feed.Feed.{Feed}
-use Rattle.collect_block.specs.Feed.{Becomes, IsFeedOf}
+use Rattle.collect_block.specs.declared.step.Step.{Step}
+use Rattle.collect_block.specs.Feed.{step_of, Becomes, IsFeedOf}
 use Rattle.agent_core.specs.Fed.{OpenEachFirst, OpensFirst, IsFed}
 use Rattle.agent_core.specs.Rules.{IsOpenBeat}
+use Rattle.agent_core.specs.Steps.{IsOpenStep}
 use Rattle.agent_core.proofs.DefinedLemmas.{charts-sameness, dimensions-sameness}
 use Rattle.agent_core.proofs.HistoryLemmas.{passed, Divides}
 use Rattle.agent_core.proofs.Lists.{all-put, apart-put, IsSameness}
@@ -153,8 +155,16 @@ open-beat every past some firsts divisors = record {
   divisors = All-from_recursion Divides (dimensions past) (dimensions-divide past divisors);
 }
 
-pub fed-beat : (feed : Feed) (fed : IsFed feed) → IsOpenBeat (beat fed.every fed.past)
+fed-beat : (feed : Feed) (fed : IsFed feed) → IsOpenBeat (beat fed.every fed.past)
 fed-beat feed fed = open-beat fed.every fed.past fed.feed_of.grid fed.blocks fed.divisors
+
+-- what a feed gives
+step-open : (feed : Feed) (fed : IsFed feed) (line : Line) → IsOpenStep (step_of fed.every fed.past line)
+step-open feed fed (line.Moment moment) = fed-beat feed fed
+step-open feed fed line = tt
+
+pub fed-step : (feed : Feed) (line : Line) (step : Step) (fed : IsFed feed) → ((every : ℕ) (past : List Line) → IsFeedOf feed every past → step ≡ step_of every past line) → IsOpenStep step
+fed-step feed line step fed gives = subst IsOpenStep (sym (gives fed.every fed.past fed.feed_of)) (step-open feed fed line)
 
 -- ---- one line more
 opens-first : (registry : Registry) (every : ℕ) (past : List Line) (copies : Bool) (last : ℕ) (line : Line) → refusal registry every past copies last line ≡ None → OpensFirst every past line

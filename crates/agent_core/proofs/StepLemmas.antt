@@ -10,7 +10,7 @@ use Rattle.history.specs.declared.beat.OpenBeat.{OpenBeat}
 use Rattle.history.specs.declared.fault.BlockFault.{BlockFault}
 use Rattle.history.specs.declared.fault.BlockFault.TheVariants as block
 use Rattle.history.specs.declared.line.Line.{Line}
-use Rattle.history.specs.declared.line.Line.TheVariants.{Moment}
+use Rattle.history.specs.declared.line.Line.TheVariants.{Disable, Moment, Query}
 use Rattle.history.specs.History.{Beat}
 use Rattle.history.specs.Refusal.{refusal}
 use Rattle.history.specs.Registry.{Registry}
@@ -41,68 +41,39 @@ use Rattle.agent_core.proofs.KeptLemmas.{nothing_done}
 use Rattle.agent_core.proofs.Outcomes.{always, on_err, on_ok}
 
 -- ---- a step
-abbrev told_of : Result Reply AgentFault → Result Said AgentFault
-told_of (Ok reply) = Ok (Stored reply)
-told_of (Err fault) = Err fault
+abbrev answered : Said → Result Said AgentFault
+answered said = Ok said
 
-module _ (honest : Type 0) (host host' : Seen) (agent agent' : AgentState) where
-  -- a beat, whose fault becomes the step's
-  pub beat-stored : (beat : OpenBeat) (moment : ℕ) (reply : Reply) → agent.fault ≡ None → Beats honest host agent beat moment (Ok reply) host' agent'
-      → Takes honest host agent (step.Beat beat moment) (Ok (Stored reply)) host' agent'
-  beat-stored beat moment reply going did = record {
-    any_moment = did.any_moment;
-    done = did.done;
-    said = λ i. Stored (record { count = did.number i });
-    counts = did.counts;
-    last = did.last;
-    refused = did.refused going;
-    beats = tt;
-    unchanged = tt;
-    fault = did.fault;
-    reopens = did.reopens;
-    stays = tt;
-    id = did.id;
-    ready = did.ready;
-    cause = record { later = did.cause.later; failed = λ e. absurd (ok-is_no_err (Stored reply) DiskFault e) };
-    output = did.output;
-    tells = did.tells;
-  }
-    where
-      ok-is_no_err : (said : Said) (fault : AgentFault) → Ok {E = AgentFault} said ≡ Err fault → ⊥
-      ok-is_no_err said fault e = cc
+never-disk : (said : Said) → answered said ≡ Err DiskFault → ⊥
+never-disk said e = cc
 
-  pub beat-refused : (beat : OpenBeat) (moment : ℕ) (fault : AgentFault) → agent.fault ≡ None → Beats honest host agent beat moment (Err fault) host' agent'
-      → Takes honest host agent (step.Beat beat moment) (Err fault) host' agent'
-  beat-refused beat moment fault going did = record {
-    any_moment = did.any_moment;
-    done = tt;
-    said = tt;
-    counts = tt;
-    last = tt;
-    refused = did.refused going;
-    beats = tt;
-    unchanged = did.unchanged;
-    fault = did.fault;
-    reopens = did.reopens;
-    stays = did.stays;
-    id = did.id;
-    ready = did.ready;
-    cause = record { later = did.cause.later; failed = λ e. did.cause.failed (same-fault fault DiskFault e) };
-    output = did.output;
-    tells = did.tells;
-  }
-    where
-      same-fault : (one other : AgentFault) → Err {T = Said} one ≡ Err other → Err {T = Reply} one ≡ Err other
-      same-fault one other e = cc
+abbrev stored : Reply → Result Reply AgentFault
+stored reply = Ok reply
+
+-- a beat that was stored
+pub beat-stored : (honest : Type 0) (host host' : Seen) (agent agent' : AgentState) (beat : OpenBeat) (moment : ℕ) (reply : Reply) → agent.fault ≡ None → Beats honest host agent beat moment (Ok reply) host' agent'
+    → Takes honest host agent (step.Beat beat moment) (answered (Stored reply)) host' agent'
+beat-stored honest host host' agent agent' beat moment reply going did = record {
+  any_moment = did.any_moment;
+  done = did.done;
+  said = λ i. Stored (record { count = did.number i });
+  counts = did.counts;
+  last = did.last;
+  refused = did.refused going;
+  beats = tt;
+  unchanged = tt;
+  fault = did.fault ∙ ap (λ (f : Option Why). fault_after f (stored reply)) going ∙ sym (ap (λ (f : Option Why). fault_after f (answered (Stored reply))) going);
+  reopens = did.reopens;
+  stays = tt;
+  id = did.id;
+  ready = did.ready;
+  cause = record { later = did.cause.later; failed = λ e. absurd (never-disk (Stored reply) e) };
+  output = did.output;
+  tells = did.tells;
+}
 
 -- a step with no beat
 module _ (honest : Type 0) (host : Seen) (agent : AgentState) (going : agent.fault ≡ None) (ready : AgentIsReady honest host.past agent) where
-  abbrev answered : Said → Result Said AgentFault
-  answered said = Ok said
-
-  never-disk : (said : Said) → answered said ≡ Err DiskFault → ⊥
-  never-disk said e = cc
-
   pub step-quiet : (step : Step) → (HasBeat step → ⊥) → Takes honest host agent step (answered (step_said agent.count step)) host agent
   step-quiet (step.Beat beat moment) none = absurd (none tt)
   step-quiet step none = record {
@@ -148,7 +119,10 @@ last-is last every past (Moment moment) = refl
 last-is last every past line = refl
 
 said-is : (count every : ℕ) (past : List Line) (line : Line) → said_of count line ≡ step_said count (step_of every past line)
-said-is count every past line = elim line [ _ ↦ refl ]
+said-is count every past (Moment moment) = refl
+said-is count every past (Query text) = refl
+said-is count every past Disable = refl
+said-is count every past line = refl
 
 moment-of : (every : ℕ) (past : List Line) (line : Line) → HasBeat (step_of every past line) → (moment : ℕ) × (line ≡ Moment moment)
 moment-of every past (Moment moment) has = (moment, refl)
@@ -204,6 +178,10 @@ module _ (honest : Type 0) (host host' : Seen) (agent agent' : AgentState) (feed
   }
 
 -- ---- a line that it did not take
+-- an agent for which memory was short
+abbrev pub short_of : AgentState → AgentState
+short_of agent = record agent { fault = Some why.Memory }
+
 module _ (honest : Type 0) (host : Seen) (agent : AgentState) (feed feed' : Feed) (line : Line) (fed : IsFed feed) (same : feed' ≡ feed) where
   abbrev failed : AgentFault → Result Said AgentFault
   failed fault = Err fault
@@ -267,9 +245,6 @@ module _ (honest : Type 0) (host : Seen) (agent : AgentState) (feed feed' : Feed
       by : (line : Line) → ((moment : ℕ) → line ≡ Moment moment → ⊥) → closing_refusal agent.registry agent.copies agent.last every past line ≡ None
       by (Moment moment) quiet = absurd (quiet moment refl)
       by line quiet = refl
-
-  abbrev short_of : AgentState → AgentState
-  short_of agent = record agent { fault = Some why.Memory }
 
   pub line-short : agent.fault ≡ None
       → ((every : ℕ) (past : List Line) → IsFeedOf feed every past → refusal agent.registry every past agent.copies agent.last line ≡ None)

@@ -187,11 +187,13 @@ impl Agent {
         }
         match feed.line(&self.registry, self.last, self.copies, line) {
             Ok(step) => self.take_step(host, step),
-            Err(BlockFault::Memory) => {
-                self.fault = Some(Why::Memory);
-                Err(AgentFault::Memory)
-            }
-            Err(fault) => Err(AgentFault::Refused(fault)),
+            Err(fault) => match fault {
+                BlockFault::Memory => {
+                    self.fault = Some(Why::Memory);
+                    Err(AgentFault::Memory)
+                }
+                reason => Err(AgentFault::Refused(reason)),
+            },
         }
     }
 
