@@ -1,15 +1,15 @@
 -- A beat that may be handed in and passed its tests, once the registry has its definitions.
-use Rattle.std.proofs.Common.{◌≡◌, ℕ, ◌<◌, Bool, true, false, not, ◌&&◌, ◌||◌, List, [], ◌∷◌, All, Option, Some, IsSome, is_some, refl, sym, ap, ◌∙◌}
+use Rattle.std.proofs.Common.{◌≡◌, ℕ, ◌+◌, ◌≤◌, Bool, true, false, not, ◌&&◌, ◌||◌, nat_lt, List, [], ◌∷◌, length, count_by, All, Option, Some, IsSome, is_some, refl, sym, ap, ◌∙◌}
 use Rattle.std.specs.List.{find, list_any, AllByRecursion}
 use Rattle.std.specs.Str.{bytes_eq}
-use Rattle.std.proofs.lemmas.Bool.{and_parts}
+use Rattle.std.proofs.lemmas.Bool.{and_parts, ltb-false}
 use Rattle.std.proofs.lemmas.List.Elements.{All-from_recursion, All-weaker}
 use Rattle.history.specs.declared.beat.OpenBeat.{OpenBeat}
 use Rattle.history.specs.declared.beat.OpenDim.{OpenDim}
 use Rattle.history.specs.declared.beat.OpenRow.{OpenRow}
 use Rattle.history.specs.declared.beat.OpenValue.{OpenValue}
 use Rattle.history.specs.declared.chart.ChartDef.{ChartDef}
-use Rattle.history.specs.Refusal.{has_chart, has_dimension}
+use Rattle.history.specs.Refusal.{has_chart, has_dimension, is_new_dimension}
 use Rattle.history.specs.Registry.{Registry, is_chart, is_dimension, same_chart, same_dimension, chart_of, series_of, with_definitions}
 use Rattle.chart_registry.proofs.Applying.{has_chart-applied}
 use Rattle.chart_registry.proofs.Places.{list_any-position}
@@ -19,7 +19,7 @@ use Rattle.beat_points.specs.Regular.{AreApart, IsRegular}
 use Rattle.beat_points.proofs.Growing.{same_dimension-alike}
 use Rattle.beat_points.proofs.OrderLemmas.{all-weaker}
 use Rattle.beat_entries.specs.Defined.{IsDefinedIn}
-use Rattle.agent_core.specs.Rules.{lacks_chart, lacks_dimension, row_lacks_dimension, IsChartDef, IsOpenBeat}
+use Rattle.agent_core.specs.Rules.{fills_chart, is_too_long, lacks_chart, lacks_dimension, row_lacks_dimension, too_many_dimensions, IsOpenBeat}
 use Rattle.agent_core.proofs.Lists.{any-put_all, apart-put_all, found-put_all, none-fails, none-passes, IsSameness}
 
 pub charts-sameness : IsSameness same_chart
@@ -99,18 +99,26 @@ module _ (registry : Registry) (beat : OpenBeat) where
       All-from_recursion AreValuesThere beat.rows
       (all-weaker (λ (row : OpenRow). row_lacks_dimension registry beat row ≡ false) AreValuesThere row-there beat.rows (none-passes (row_lacks_dimension registry beat) beat.rows has))
 
-  module _ (is_open : IsOpenBeat beat) where
-    pub grids : All (λ (def : ChartDef). 0 < def.update_every) beat.charts
-    grids = All-weaker IsChartDef (λ (def : ChartDef). 0 < def.update_every) (λ def is. is.every_second) beat.charts is_open.charts
+  -- no row is longer than a chart can be
+  short : (row : OpenRow) → is_too_long row ≡ false → length row.values ≤ 1024
+  short row e = ltb-false 1024 (length row.values) e
 
+  limits : too_many_dimensions registry beat ≡ false → All (λ (row : OpenRow). length row.values ≤ 1024) beat.rows
+  limits few =
+      let in_all = or_false (nat_lt 65536 (length registry.dimensions + count_by (is_new_dimension registry) beat.dimensions)) (list_any (fills_chart registry beat) beat.dimensions || list_any is_too_long beat.rows) few in
+      let rows = or_false (list_any (fills_chart registry beat) beat.dimensions) (list_any is_too_long beat.rows) in_all.1 in
+      All-from_recursion (λ (row : OpenRow). length row.values ≤ 1024) beat.rows
+      (all-weaker (λ (row : OpenRow). is_too_long row ≡ false) (λ (row : OpenRow). length row.values ≤ 1024) short beat.rows (none-passes is_too_long beat.rows rows.1))
+
+  module _ (is_open : IsOpenBeat beat) where
     module _ (has_charts : lacks_chart registry beat ≡ false) where
-      pub regular-after : lacks_dimension registry beat ≡ false → IsRegular after beat
-      regular-after has_dimensions = record {
+      pub regular-after : lacks_dimension registry beat ≡ false → too_many_dimensions registry beat ≡ false → IsRegular after beat
+      regular-after has_dimensions few = record {
         rows = is_open.apart_rows;
         values = is_open.apart_values;
         charts = rows-there has_charts;
         dimensions = values-there has_dimensions;
-        limit = is_open.few_values;
+        limit = limits few;
       }
 
       pub defined-after : AreApart same_chart registry.charts → AreApart same_dimension registry.dimensions → IsDefinedIn after beat

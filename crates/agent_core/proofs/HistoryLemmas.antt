@@ -2,18 +2,18 @@
 use Rattle.std.proofs.Common.{◌≡◌, ◌≢◌, ℕ, ◌<◌, ◌≤◌, Bool, true, false, nat_le, List, [], ◌∷◌, All, Option, Some, None, pos, refl, sym, ap, ◌∙◌, arith, if◌then◌else◌, is_some}
 use Rattle.std.specs.List.{AllByRecursion}
 use Rattle.std.proofs.lemmas.Bool.{leb-false}
-use Rattle.std.proofs.lemmas.List.Elements.{All-from_recursion, recursion_from_All, All-weaker}
+use Rattle.std.proofs.lemmas.List.Elements.{All-from_recursion, recursion_from_All}
 use Rattle.std.proofs.lemmas.Option.{none-some}
 use Rattle.history.specs.declared.beat.OpenBeat.{OpenBeat}
 use Rattle.history.specs.declared.beat.OpenDim.{OpenDim}
-use Rattle.history.specs.declared.fault.BlockFault.TheVariants.{NoChart, NoDimension, MomentOrder, MixedRoles}
+use Rattle.history.specs.declared.fault.BlockFault.TheVariants.{NoChart, NoDimension, MomentOrder, MixedRoles, GridChanged, TooManyCharts, TooManyDimensions}
 use Rattle.history.specs.History.{Beat, collected, copied, health, missing, child, last, registry_of}
 use Rattle.history.specs.Registry.{Registry, same_dimension}
 use Rattle.beat_points.specs.Points.{IsBefore}
 use Rattle.beat_points.proofs.LawLemmas.{before-collected, before-none}
 use Rattle.store_core.specs.declared.beat.Beat.{Beat as StoreBeat}
 use Rattle.agent_core.specs.Kept.{AreBeatsOf, Follows}
-use Rattle.agent_core.specs.Rules.{beat_refusal, lacks_chart, lacks_dimension, IsDimDef, IsOpenBeat}
+use Rattle.agent_core.specs.Rules.{beat_refusal, changes_grid, lacks_chart, lacks_dimension, too_many_charts, too_many_dimensions, IsOpenBeat}
 use Rattle.agent_core.proofs.Lists.{all-put_all}
 
 -- the tests that a beat passed
@@ -21,8 +21,9 @@ pub record Passed (registry : Registry) (last moment : ℕ) (beat : OpenBeat) : 
   pub later : last < moment
   pub has_charts : lacks_chart registry beat ≡ false
   pub has_dimensions : lacks_dimension registry beat ≡ false
+  pub few : too_many_dimensions registry beat ≡ false
 
-passed : {A : Type 0} (b : Bool) (x : A) (rest : Option A) → (if b then Some x else rest) ≡ None → (b ≡ false) × (rest ≡ None)
+pub passed : {A : Type 0} (b : Bool) (x : A) (rest : Option A) → (if b then Some x else rest) ≡ None → (b ≡ false) × (rest ≡ None)
 passed true x rest e = absurd (none-some x (sym e))
 passed false x rest e = (refl, e)
 
@@ -33,7 +34,10 @@ passes registry copies last moment beat free =
     let order = passed (nat_le moment last) (MomentOrder last) _ roles.1 in
     let charts = passed (lacks_chart registry beat) NoChart _ order.1 in
     let dimensions = passed (lacks_dimension registry beat) NoDimension _ charts.1 in
-    record { later = leb-false moment last order.0; has_charts = charts.0; has_dimensions = dimensions.0 }
+    let grid = passed (changes_grid registry beat) GridChanged _ dimensions.1 in
+    let room = passed (too_many_charts registry beat) TooManyCharts _ grid.1 in
+    let few = passed (too_many_dimensions registry beat) TooManyDimensions _ room.1 in
+    record { later = leb-false moment last order.0; has_charts = charts.0; has_dimensions = dimensions.0; few = few.0 }
 
 pub follows-passed : (h : List Beat) (moment : ℕ) (beat : OpenBeat) → Follows h moment beat → Passed (registry_of h) (last h) moment beat
 follows-passed h moment beat follows = passes (registry_of h) (is_some (child h)) (last h) moment beat follows.accepted
@@ -58,7 +62,7 @@ abbrev pub Divides : OpenDim → Type 0
 Divides dimension = dimension.def.divisor ≢ pos 0
 
 open-divides : (beat : OpenBeat) → IsOpenBeat beat → AllByRecursion Divides beat.dimensions
-open-divides beat is_open = recursion_from_All Divides beat.dimensions (All-weaker (λ (dimension : OpenDim). IsDimDef dimension.def) Divides (λ dimension def. def.divisor) beat.dimensions is_open.dimensions)
+open-divides beat is_open = recursion_from_All Divides beat.dimensions is_open.divisors
 
 divides-of : (h : List Beat) (beats : List StoreBeat) → AreBeatsOf h beats → AllByRecursion Divides (registry_of h).dimensions
 divides-of [] beats are = tt

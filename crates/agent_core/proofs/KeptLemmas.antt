@@ -13,7 +13,10 @@ use Rattle.history.specs.Registry.{Registry, with_definitions}
 use Rattle.beat_points.specs.declared.series_word.SeriesWord.{SeriesWord}
 use Rattle.beat_points.specs.LastRows.{AreLastOf}
 use Rattle.beat_points.specs.Points.{beat_points, IsNext}
+use Rattle.beat_entries.specs.Entry.{entry_of}
+use Rattle.entry_codec.specs.declared.entry.Entry.TheVariants as entry
 use Rattle.entry_codec.specs.declared.entry.Settings.{Settings}
+use Rattle.entry_codec.specs.Entries.{HasSpelling}
 use Rattle.store_core.specs.declared.beat.Beat.{Beat as StoreBeat}
 use Rattle.store_core.specs.declared.beat.BeatPoint.{BeatPoint}
 use Rattle.store_core.specs.Stands.{Stands, StandsAround}
@@ -62,9 +65,14 @@ module _ (past : List Event) (store : StoreState) (registry : Registry) (lasts :
         → ((g : List Beat) → IsNext registry' lasts g moment beat → kept ≡ kept_of g moment beat) → kept ≡ kept_of h moment beat
     kept-after kept registry' applied says = says h (next-after registry' applied)
 
-    module _ (kept : StoreBeat) (is_kept : kept ≡ kept_of h moment beat) where
+    -- the entry is spelt by the registry with the beat's definitions
+    pub spelt-after : (registry' : Registry) → registry' ≡ with_definitions registry beat.charts beat.dimensions
+        → HasSpelling (entry.Collected (entry_of registry' moment beat)) → HasSpelling (entry.Collected (entry_of (registry_of (collected moment beat ∷ h)) moment beat))
+    spelt-after registry' applied spelt = subst (λ (r : Registry). HasSpelling (entry.Collected (entry_of r moment beat))) (applied ∙ is_next.registry_is) spelt
+
+    module _ (kept : StoreBeat) (is_kept : kept ≡ kept_of h moment beat) (spelt : HasSpelling (entry.Collected (entry_of (registry_of (collected moment beat ∷ h)) moment beat))) where
       pub kept-follows : AreBeatsOf (collected moment beat ∷ h) (kept ∷ holds.beats)
-      kept-follows = (record { follows = follows; is_kept = is_kept }, holds.are)
+      kept-follows = (record { follows = follows; is_kept = is_kept; spelt = spelt }, holds.are)
 
       around : (disk : File → List ℕ) → StandsAround set holds.beats kept disk → StandsForHistory set h disk ⊎ StandsForHistory set (collected moment beat ∷ h) disk
       around disk (inl stands) = inl (record { beats = holds.beats; are = holds.are; stands = stands })

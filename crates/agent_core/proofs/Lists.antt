@@ -18,7 +18,7 @@ none-passes q [] e = tt
 none-passes q (x ∷ xs) e = let parts = or_false (q x) (list_any q xs) e in (parts.0, none-passes q xs parts.1)
 
 module _ {A : Type 0} (same : A → A → Bool) (P : A → Type 0) where
-  all-put : (xs : List A) (x : A) → AllByRecursion P xs → P x → AllByRecursion P (put same xs x)
+  pub all-put : (xs : List A) (x : A) → AllByRecursion P xs → P x → AllByRecursion P (put same xs x)
   all-put [] x all here = (here, tt)
   all-put (y ∷ ys) x all here = by (same x y) (all-put ys x all.1 here)
     where
@@ -57,7 +57,7 @@ module _ {A : Type 0} (same : A → A → Bool) (is : IsSameness same) where
       by true false p q = absurd (true≢false (sym (sym (is.left x z y (is.turned z x p)) ∙ e) ∙ q))
       by false true p q = absurd (true≢false (sym (is.left z y x q ∙ is.turned x y e) ∙ p))
 
-  apart-put : (xs : List A) (x : A) → AreApart same xs → AreApart same (put same xs x)
+  pub apart-put : (xs : List A) (x : A) → AreApart same xs → AreApart same (put same xs x)
   apart-put [] x apart = (refl, tt)
   apart-put (y ∷ ys) x apart = by (same x y) refl (apart-put ys x apart.1)
     where

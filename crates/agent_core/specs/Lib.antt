@@ -7,3 +7,4 @@ pub mod Replay
 pub mod Replies
 pub mod Rules
 pub mod Said
+pub mod Steps

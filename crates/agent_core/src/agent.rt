@@ -5,22 +5,18 @@ ghost use Rattle.host_model.specs.Disks.{EveryDisk, reads_as};
 ghost use Rattle.host_model.specs.Cause.{HasCause};
 ghost use Rattle.host_model.specs.Moments.{Throughout};
 ghost use Rattle.history.specs.History.{Beat as HistoryBeat, collected};
-ghost use Rattle.history.specs.declared.line.Line.{Line as ALine};
-ghost use Rattle.history.specs.declared.line.Line.TheVariants as line;
 ghost use Rattle.beat_points.specs.Text.{HaveDivisors};
-ghost use Rattle.collect_block.specs.declared.step.Step.TheVariants as step;
-ghost use Rattle.collect_block.specs.Feed.{IsFeedOf, Becomes, step_of};
 ghost use Rattle.entry_codec.specs.declared.entry.Settings.{Settings as ASettings};
 ghost use Rattle.store_core.specs.FirstRecord.{InLimits};
 ghost use Rattle.store_core.specs.Stands.{is_made, IsDamaged};
 ghost use Rattle.store_core.specs.Store.{raised};
 ghost use Rattle.agent_core.specs.Calls.{Beats, Creates, Lines, Opens};
 ghost use Rattle.agent_core.specs.Fed.{IsFed};
-ghost use Rattle.agent_core.specs.Said.{said_of};
 ghost use Rattle.agent_core.specs.Faults.{fault_after, IsCreating, IsOpening, LeavesAll, RefusedBy, Reopens};
 ghost use Rattle.agent_core.specs.Kept.{StandsForHistory, StandsForNew, StandsForOneOf};
 ghost use Rattle.agent_core.specs.Replay.{HasReplayed, IsOpenedFor};
-ghost use Rattle.agent_core.specs.Rules.{beat_refusal, count_with, history_with, last_with, line_refusal, IsOpenBeat};
+ghost use Rattle.agent_core.specs.Rules.{beat_refusal, IsOpenBeat};
+ghost use Rattle.agent_core.specs.Steps.{IsOpenStep, Takes};
 
 use crate::fault::AgentFault;
 use crate::keeping::add;
@@ -220,21 +216,29 @@ impl Agent {
         }
         match feed.line(&self.registry, self.last, self.copies, line) {
             Ok(step) => self.take_step(host, step),
-            Err(BlockFault::Memory) => {
-                self.fault = Some(Why::Memory);
-                Err(AgentFault::Memory)
-            }
-            Err(fault) => Err(AgentFault::Refused(fault)),
+            Err(fault) => match fault {
+                BlockFault::Memory => {
+                    self.fault = Some(Why::Memory);
+                    Err(AgentFault::Memory)
+                }
+                reason => Err(AgentFault::Refused(reason)),
+            },
         }
     }
 
-    /// Takes what a line led to.
-    fn take_step<H: Host>(&mut self, host: &mut H, step: Step) -> Result<Said, AgentFault> {
+    /// Does what a line led to.
+    fn take_step<H: Host>(&mut self, host: &mut H, step: Step) -> Result<Said, AgentFault>
+        requires ready { AgentIsReady H.honest (H.past host.old) self.old }
+        requires going { self.old.fault ≡ None }
+        requires is_open { IsOpenStep step }
+        ensures { Takes H.honest (record { past = H.past host.old; disk_faults = H.disk_faults host.old; tell_faults = H.tell_faults host.old }) self.old
+            step result (record { past = H.past host.new; disk_faults = H.disk_faults host.new; tell_faults = H.tell_faults host.new }) self.new }
+    {
         match step {
             Step::Nothing => Ok(Said::Nothing),
             Step::Query(text) => Ok(Said::Asked(text)),
             Step::Disabled => Ok(Said::Disabled),
-            Step::Beat(beat, moment) => match self.store_beat(host, &beat, moment) {
+            Step::Beat(beat, moment) => match self.beat(host, &beat, moment) {
                 Ok(reply) => Ok(Said::Stored(reply)),
                 Err(fault) => Err(fault),
             },

@@ -11,7 +11,10 @@ ghost use Rattle.beat_points.specs.LastRows.{AreLastOf};
 ghost use Rattle.beat_points.specs.Points.{IsNext};
 ghost use Rattle.beat_points.specs.Regular.{AreApart, IsRegular};
 ghost use Rattle.beat_entries.specs.Defined.{IsDefinedIn};
+ghost use Rattle.beat_entries.specs.Entry.{entry_of};
+ghost use Rattle.entry_codec.specs.declared.entry.Entry.TheVariants as entry;
 ghost use Rattle.entry_codec.specs.declared.entry.Settings.{Settings as ASettings};
+ghost use Rattle.entry_codec.specs.Entries.{HasSpelling};
 ghost use Rattle.store_core.specs.declared.beat.Beat.{Beat as StoreBeat};
 ghost use Rattle.store_core.specs.Beats.{beat_bytes, InForm};
 ghost use Rattle.store_core.specs.Records.{last_after};
@@ -20,7 +23,7 @@ ghost use Rattle.store_core.specs.Store.{IsReady, IsReplayed, IsStoreOf};
 ghost use Rattle.agent_core.specs.Agent.{Holds};
 ghost use Rattle.agent_core.specs.Faults.{IsSpending};
 ghost use Rattle.agent_core.specs.Kept.{kept_of, note_of, Follows, StandsForHistory};
-ghost use Rattle.agent_core.specs.Rules.{lacks_chart, lacks_dimension, IsOpenBeat};
+ghost use Rattle.agent_core.specs.Rules.{lacks_chart, lacks_dimension, too_many_dimensions, IsOpenBeat};
 
 use crate::fault::AgentFault;
 use crate::points::stored_points;
@@ -42,7 +45,8 @@ fn note_of(
 ) -> Result<ByteList, AllocError>
     requires regular { IsRegular registry.now beat.now }
     requires defined { IsDefinedIn registry.now beat.now }
-    ensures { IfOk result (λ note. note ≡ note_of registry.now moment beat.now) }
+    ensures note { IfOk result (λ note. note ≡ note_of registry.now moment beat.now) }
+    ensures spelt { OnOk result (HasSpelling (entry.Collected (entry_of registry.now moment beat.now))) }
 {
     let entry = Entry::Collected(entry_of(alloc, registry, moment, beat)?);
     match write_entry(alloc, &entry) {
@@ -62,6 +66,7 @@ fn kept_of(
     requires regular { IsRegular registry.now beat.now }
     requires defined { IsDefinedIn registry.now beat.now }
     ensures kept { IfOk result (λ kept. (h : List HistoryBeat) → IsNext registry.now last_rows.now h moment beat.now → kept ≡ kept_of h moment beat.now) }
+    ensures spelt { OnOk result (HasSpelling (entry.Collected (entry_of registry.now moment beat.now))) }
     ensures moment { IfOk result (λ kept. kept.moment ≡ Some moment) }
 {
     let Ok(words) = last_rows.points(alloc, registry, beat, moment) else {
@@ -103,8 +108,10 @@ fn keep(
     requires dimensions { AreApart same_dimension registry.old.dimensions }
     requires has_charts { lacks_chart registry.old beat.now ≡ false }
     requires has_dimensions { lacks_dimension registry.old beat.now ≡ false }
+    requires few { too_many_dimensions registry.old beat.now ≡ false }
     ensures applied { OnOk result (registry.new ≡ with_definitions registry.old beat.now.charts beat.now.dimensions) }
     ensures kept { IfOk result (λ kept. (h : List HistoryBeat) → IsNext registry.new last_rows.now h moment beat.now → kept ≡ kept_of h moment beat.now) }
+    ensures spelt { OnOk result (HasSpelling (entry.Collected (entry_of registry.new moment beat.now))) }
     ensures moment { IfOk result (λ kept. kept.moment ≡ Some moment) }
     ensures form { IfOk result InForm }
     ensures size { IfOk result (λ kept. length (beat_bytes kept) ≤ 2 ^ 26) }
@@ -181,6 +188,7 @@ pub(crate) fn add<H: Host>(
     requires dimensions { AreApart same_dimension registry.old.dimensions }
     requires has_charts { lacks_chart registry.old beat.now ≡ false }
     requires has_dimensions { lacks_dimension registry.old beat.now ≡ false }
+    requires few { too_many_dimensions registry.old beat.now ≡ false }
     ensures any_moment { H.honest → (set : ASettings) (h : List HistoryBeat) → Holds (H.past host.old) store.old registry.old last_rows.old set h → Follows h moment beat.now
         → Throughout (EveryDisk (λ disk. StandsForHistory set h disk ⊎ StandsForHistory set (collected moment beat.now ∷ h) disk)) (H.past host.old) (H.past host.new) }
     ensures done { OnOk result (H.honest → (set : ASettings) (h : List HistoryBeat) → Holds (H.past host.old) store.old registry.old last_rows.old set h → Follows h moment beat.now

@@ -4,7 +4,7 @@ use Rattle.history.specs.Registry.{Registry, same_chart, same_dimension}
 use Rattle.beat_points.specs.Regular.{AreApart}
 use Rattle.store_core.specs.Records.{last_after}
 use Rattle.agent_core.proofs.DefinedLemmas.{charts-apart, dimensions-apart}
-use Rattle.agent_core.proofs.KeptLemmas.{climbs, holds-more, kept-after, next-after, stays}
+use Rattle.agent_core.proofs.KeptLemmas.{climbs, holds-more, kept-after, next-after, spelt-after, stays}
 use Rattle.agent_core.proofs.Outcomes.{always, on_ok}
 use Rattle.agent_core.proofs.keeping.add.Goals as goal
 
@@ -21,7 +21,8 @@ returns-in_err-commit-clause-any_moment g c true_host set h holds follows =
     let beat = c.args.beat.now in
     let kept = c.in-Ok.kept in
     let is_kept = kept-after past store registry lasts set h holds c.args.moment beat follows kept c.keep.new.registry c.in-Ok.ensures.applied c.in-Ok.ensures.kept in
-    climbs past store registry lasts set h holds c.args.moment beat follows kept is_kept (g.H.Host.past c.commit.new.host) (c.commit.ensures.any_moment true_host set holds.beats holds.store_of)
+    let spelt = spelt-after past store registry lasts set h holds c.args.moment beat follows c.keep.new.registry c.in-Ok.ensures.applied c.in-Ok.ensures.spelt in
+    climbs past store registry lasts set h holds c.args.moment beat follows kept is_kept spelt (g.H.Host.past c.commit.new.host) (c.commit.ensures.any_moment true_host set holds.beats holds.store_of)
 
 pub returns-clause-any_moment : goal.returns-clause-any_moment
 returns-clause-any_moment g c true_host set h holds follows =
@@ -32,7 +33,8 @@ returns-clause-any_moment g c true_host set h holds follows =
     let beat = c.args.beat.now in
     let kept = c.in-Ok.kept in
     let is_kept = kept-after past store registry lasts set h holds c.args.moment beat follows kept c.keep.new.registry c.in-Ok.ensures.applied c.in-Ok.ensures.kept in
-    climbs past store registry lasts set h holds c.args.moment beat follows kept is_kept (g.H.Host.past c.commit.new.host) (c.commit.ensures.any_moment true_host set holds.beats holds.store_of)
+    let spelt = spelt-after past store registry lasts set h holds c.args.moment beat follows c.keep.new.registry c.in-Ok.ensures.applied c.in-Ok.ensures.spelt in
+    climbs past store registry lasts set h holds c.args.moment beat follows kept is_kept spelt (g.H.Host.past c.commit.new.host) (c.commit.ensures.any_moment true_host set holds.beats holds.store_of)
 
 pub returns-clause-done : goal.returns-clause-done
 returns-clause-done g c =
@@ -45,7 +47,8 @@ returns-clause-done g c =
     on_ok _ _ c.take_rows.result c.take_rows.ensures.taken (λ taken true_host set h holds follows.
     let applied = c.in-Ok.ensures.applied in
     let is_kept = kept-after past store registry lasts set h holds c.args.moment beat follows kept c.keep.new.registry applied c.in-Ok.ensures.kept in
-    holds-more past store registry lasts set h holds c.args.moment beat follows kept is_kept (g.H.Host.past c.commit.new.host) c.commit.new.store c.keep.new.registry c.take_rows.new.last_rows
+    let spelt = spelt-after past store registry lasts set h holds c.args.moment beat follows c.keep.new.registry applied c.in-Ok.ensures.spelt in
+    holds-more past store registry lasts set h holds c.args.moment beat follows kept is_kept spelt (g.H.Host.past c.commit.new.host) c.commit.new.store c.keep.new.registry c.take_rows.new.last_rows
     (c.in_ok-commit.ensures.stored true_host set holds.beats holds.store_of) applied
     (taken h (next-after past store registry lasts set h holds c.args.moment beat follows c.keep.new.registry applied)))
 

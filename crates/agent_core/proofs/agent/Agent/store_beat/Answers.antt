@@ -18,6 +18,11 @@ add-requires-clause-has_dimensions g c =
     let free : beat_refusal c.self.inside.registry c.self.inside.copies c.self.inside.last c.args.moment c.args.beat.now ≡ None = grind arith in
     (passes c.self.inside.registry c.self.inside.copies c.self.inside.last c.args.moment c.args.beat.now free).has_dimensions
 
+pub add-requires-clause-few : goal.add-requires-clause-few
+add-requires-clause-few g c =
+    let free : beat_refusal c.self.inside.registry c.self.inside.copies c.self.inside.last c.args.moment c.args.beat.now ≡ None = grind arith in
+    (passes c.self.inside.registry c.self.inside.copies c.self.inside.last c.args.moment c.args.beat.now free).few
+
 pub returns-in-Ok-clause-any_moment : goal.returns-in-Ok-clause-any_moment
 returns-in-Ok-clause-any_moment g c true_host set h is_of =
     let free : beat_refusal c.self.inside.registry c.self.inside.copies c.self.inside.last c.args.moment c.args.beat.now ≡ None = grind arith in
