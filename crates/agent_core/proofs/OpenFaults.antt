@@ -1,13 +1,9 @@
 -- Why an agent is not opened: the faults of its store, and of its replay.
-use Rattle.std.proofs.Common.{◌≡◌, ◌⊎◌, ℕ, inl, inr, Result, Ok, Err, IfOk, IfErr, IsErrOf, OnOk, refl, sym, ap, ◌∙◌, subst}
-use Rattle.host_model.specs.declared.file.File.{File}
-use Rattle.host_model.specs.Cause.{HasCause}
+use Rattle.std.proofs.Common.{◌≡◌, ◌⊎◌, inl, inr, Result, Ok, Err, IfErr, ap}
 use Rattle.store_core.specs.declared.fault.StoreFault.{StoreFault}
 use Rattle.store_core.specs.declared.fault.StoreFault.TheVariants as store
 use Rattle.store_core.specs.Faults.{IsOpenFault}
-use Rattle.agent_core.specs.declared.fault.AgentFault.{AgentFault}
-use Rattle.agent_core.specs.declared.fault.AgentFault.TheVariants.{DiskFault, NotADatabase, Damaged, Memory}
-use Rattle.agent_core.specs.Faults.{IsOpening}
+use Rattle.agent_core.specs.declared.fault.AgentFault.TheVariants.{DiskFault, Memory}
 use Rattle.agent_core.specs.Replay.{fault_of}
 
 -- where there is a database that is not damaged

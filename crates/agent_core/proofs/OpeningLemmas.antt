@@ -3,18 +3,17 @@ use Rattle.std.proofs.Common.{◌≡◌, ℕ, suc, false, List, [], ◌∷◌, l
 use Rattle.host_model.specs.declared.file.File.{File}
 use Rattle.host_model.specs.Past.{Event}
 use Rattle.algorithms.specs.declared.last.Last.{Last}
-use Rattle.history.specs.History.{Beat, collected, copied, health, missing, child, last, registry_of}
+use Rattle.history.specs.History.{Beat, collected, copied, health, missing, child, last}
 use Rattle.history.specs.Registry.{Registry, empty}
 use Rattle.beat_points.specs.LastRows.{AreLastOf}
 use Rattle.entry_codec.specs.declared.entry.Settings.{Settings}
 use Rattle.store_core.specs.declared.beat.Beat.{Beat as StoreBeat}
 use Rattle.store_core.specs.Records.{last_after, last_moment, with_all}
 use Rattle.store_core.specs.Stands.{Stands}
-use Rattle.store_core.specs.Store.{counted, IsReady, IsReplayed, IsStoreAt, IsStoreOf, OpensAt, Replays, StoreState}
-use Rattle.store_core.proofs.StoreLemmas.{ready_same}
-use Rattle.agent_core.specs.Agent.{AgentIsReady, AgentState, IsAgentOf}
+use Rattle.store_core.specs.Store.{counted, IsReplayed, IsStoreAt, IsStoreOf, OpensAt, Replays, StoreState}
+use Rattle.agent_core.specs.Agent.{AgentState, IsAgentOf}
 use Rattle.agent_core.specs.Kept.{AreBeatsOf, IsBeatOf, StandsForHistory}
-use Rattle.agent_core.specs.Replay.{onto, AreNextOf, ArePartsOf, HasReplayed, IsOpenedFor, IsReplaying}
+use Rattle.agent_core.specs.Replay.{onto, AreNextOf, ArePartsOf, IsOpenedFor, IsReplaying}
 
 -- ---- the beginning
 

@@ -1,6 +1,6 @@
 //! The parts of an agent from what a store kept.
 
-ghost use Rattle.std.specs.Prelude.{◌≡◌, ◌⊎◌, ◌<◌, ◌∷◌, [], ℕ, List, Some, None, Ok, true, false, length, IfOk, IfErr, IsErrOf, OnOk};
+ghost use Rattle.std.specs.Prelude.{◌≡◌, ◌⊎◌, ◌<◌, ◌∷◌, List, Some, None, Ok, true, false, length, IfOk, IfErr, IsErrOf, OnOk};
 ghost use Rattle.host_model.specs.declared.file.File.{File as AFile};
 ghost use Rattle.host_model.specs.Past.{told, Event, IsDisk};
 ghost use Rattle.host_model.specs.Disks.{EveryDisk, reads_as};
@@ -18,7 +18,7 @@ ghost use Rattle.store_core.specs.declared.beat.Beat.{Beat as StoreBeat};
 ghost use Rattle.store_core.specs.Stands.{is_made, IsDamaged, Stands};
 ghost use Rattle.store_core.specs.Store.{IsReady, IsReplayed, IsStoreAt, OpensAt, Replays, TakesFirst};
 ghost use Rattle.agent_core.specs.Faults.{IsOpening};
-ghost use Rattle.agent_core.specs.Kept.{AreBeatsOf, IsBeatOf, StandsForHistory};
+ghost use Rattle.agent_core.specs.Kept.{AreBeatsOf, IsBeatOf};
 ghost use Rattle.agent_core.specs.Replay.{fault_of, ArePartsOf, IsReplaying};
 
 use crate::fault::AgentFault;
@@ -39,10 +39,8 @@ fn opening_fault(fault: StoreFault) -> AgentFault
         StoreFault::DiskFault => AgentFault::DiskFault,
         StoreFault::NotADatabase => AgentFault::NotADatabase,
         StoreFault::Damaged(part) => AgentFault::Damaged(part),
-        StoreFault::Exists
-        | StoreFault::MomentOrder
-        | StoreFault::Reopen(_)
-        | StoreFault::Memory => AgentFault::Memory,
+        StoreFault::Exists | StoreFault::MomentOrder | StoreFault::Reopen(_) | StoreFault::Memory =>
+            AgentFault::Memory,
     }
 }
 
@@ -75,6 +73,8 @@ fn entry_in(alloc: Global, kept: &Beat) -> Result<Collected, AgentFault>
     ensures read { IfOk result (λ entry. read_entry kept.now.note ≡ Ok (Entry.Collected entry)) }
     ensures moment { IfOk result (λ entry. kept.now.moment ≡ Some entry.moment) }
     ensures canonical { IfOk result (λ entry. is_collected_canonical entry ≡ true) }
+
+    // It is damaged only where there is no such entry.
     ensures refused { IfErr result (λ fault. fault ≡ AgentFault.Damaged 5
         → (entry : ACollected) → read_entry kept.now.note ≡ Ok (Entry.Collected entry) → kept.now.moment ≡ Some entry.moment → ⊥) }
     ensures faults { IfErr result (λ fault. (fault ≡ AgentFault.Memory) ⊎ (fault ≡ AgentFault.Damaged 5)) }
@@ -136,6 +136,8 @@ fn replay_beat(
     requires dimensions { AreApart same_dimension registry.old.dimensions }
     ensures taken { OnOk result ((g : List HistoryBeat) (beat : HistoryBeat) → IsBeatOf g beat kept.now
         → ArePartsOf registry.old last_rows.old g → ArePartsOf registry.new last_rows.new (beat ∷ g)) }
+
+    // Where the beat is kept for one that follows the history, only memory can be short.
     ensures stands { IfErr result (λ fault. (g : List HistoryBeat) (beats : List StoreBeat) (beat : HistoryBeat) → AreBeatsOf g beats → IsBeatOf g beat kept.now
         → ArePartsOf registry.old last_rows.old g → fault ≡ AgentFault.Memory) }
     ensures charts { OnOk result (AreApart same_chart registry.new.charts) }
@@ -152,6 +154,8 @@ fn next_beat(store: &mut Store) -> Result<Option<Beat>, AgentFault>
     requires going { store.old.fault ≡ None }
     ensures next { (past : List Event) (set : ASettings) (beats rest : List StoreBeat) → IsStoreAt past store.old set beats rest
         → IfOk result (Replays past store.new set beats rest) }
+
+    // The same, of a store that is of no beats.
     ensures takes { IfOk result (λ next. TakesFirst store.old.waiting next store.new.waiting) }
     ensures journal { store.new.journal ≡ store.old.journal }
     ensures going { OnOk result (store.new.fault ≡ None) }
@@ -175,8 +179,12 @@ fn replay_next(
     requires dimensions { AreApart same_dimension registry.old.dimensions }
     ensures replaying { OnOk result ((past : List Event) (set : ASettings) (h : List HistoryBeat) → IsReplaying past store.old registry.old last_rows.old set h
         → IsReplaying past store.new registry.new last_rows.new set h) }
+
+    // Where the store is that of a history, only memory can be short.
     ensures stands { IfErr result (λ fault. (past : List Event) (set : ASettings) (h : List HistoryBeat)
         → IsReplaying past store.old registry.old last_rows.old set h → fault ≡ AgentFault.Memory) }
+
+    // The beats that wait become fewer, until there are none.
     ensures smaller { IfOk result (λ went. went ≡ true → length store.new.waiting < length store.old.waiting) }
     ensures done { IfOk result (λ went. went ≡ false → IsReplayed store.new) }
     ensures going { OnOk result (store.new.fault ≡ None) }
@@ -206,8 +214,12 @@ pub(crate) fn replay_all(
     requires dimensions { AreApart same_dimension registry.old.dimensions }
     ensures replaying { OnOk result ((past : List Event) (set : ASettings) (h : List HistoryBeat) → IsReplaying past store.old registry.old last_rows.old set h
         → IsReplaying past store.new registry.new last_rows.new set h) }
+
+    // Where the store is that of a history, only memory can be short.
     ensures stands { IfErr result (λ fault. (past : List Event) (set : ASettings) (h : List HistoryBeat)
         → IsReplaying past store.old registry.old last_rows.old set h → fault ≡ AgentFault.Memory) }
+
+    // What holds of any store.
     ensures done { OnOk result (IsReplayed store.new) }
     ensures going { OnOk result (store.new.fault ≡ None) }
     ensures journal { store.new.journal ≡ store.old.journal }

@@ -1,4 +1,4 @@
-use Rattle.std.proofs.Common.{◌≡◌, ℕ, List, None, length}
+use Rattle.std.proofs.Common.{◌≡◌, List, None, length}
 use Rattle.host_model.specs.Past.{Event}
 use Rattle.history.specs.History.{Beat}
 use Rattle.history.specs.Registry.{same_chart, same_dimension}
