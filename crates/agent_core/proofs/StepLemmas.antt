@@ -158,7 +158,7 @@ module _ (honest : Type 0) (host host' : Seen) (agent agent' : AgentState) (feed
   line-taken = record {
     any_moment = moments;
     done = on_ok _ _ result took.done (λ done true_host set h every past is_of is_feed.
-    subst (λ (g : List Beat). IsAgentOf host'.past agent' set g) (more h every past is_feed) (done true_host set h is_of));
+        subst (λ (g : List Beat). IsAgentOf host'.past agent' set g) (more h every past is_feed) (done true_host set h is_of));
     said = subst (λ (s : Said). IfOk result (λ said. said ≡ s)) (ap (step_said agent'.count) its ∙ sym (said-is agent'.count fed.every fed.past line)) took.said;
     counts = subst (λ (n : ℕ). OnOk result (agent'.count ≡ n)) (ap (step_count agent.count) its ∙ sym (count-is agent.count fed.every fed.past line)) took.counts;
     last = subst (λ (n : ℕ). OnOk result (agent'.last ≡ n)) (ap (step_last agent.last) its ∙ sym (last-is agent.last fed.every fed.past line)) took.last;
@@ -257,7 +257,7 @@ module _ (honest : Type 0) (host : Seen) (agent : AgentState) (feed feed' : Feed
     counts = tt;
     last = tt;
     refused = λ going every past is_feed.
-    ap (λ (reason : Option BlockFault). option_map_or Some reason (closing_refusal agent.registry agent.copies agent.last every past line)) (free every past is_feed) ∙ closing-none every past quiet;
+        ap (λ (reason : Option BlockFault). option_map_or Some reason (closing_refusal agent.registry agent.copies agent.last every past line)) (free every past is_feed) ∙ closing-none every past quiet;
     takes = tt;
     leaves = inl same;
     fed = subst IsFed (sym same) fed;
