@@ -1,10 +1,8 @@
 -- What an agent does with each step of a feed, and with a line that leads to no step.
-use Rattle.std.proofs.Common.{◌≡◌, ◌≢◌, ℕ, ◌⊎◌, inl, inr, Bool, List, [], ◌∷◌, Option, Some, None, Result, Ok, Err, IfOk, OnOk, OnErr, refl, sym, ap, ◌∙◌, subst, le_refl}
+use Rattle.std.proofs.Common.{◌≡◌, ◌≢◌, ℕ, inl, inr, Bool, List, [], ◌∷◌, Option, Some, None, Result, Ok, Err, IfOk, OnOk, refl, sym, ap, ◌∙◌, subst, le_refl}
 use Rattle.std.specs.Option.{option_map_or}
 use Rattle.std.proofs.lemmas.Option.{none-some}
-use Rattle.host_model.specs.Past.{Event}
 use Rattle.host_model.specs.Disks.{EveryDisk}
-use Rattle.host_model.specs.Cause.{HasCause}
 use Rattle.host_model.specs.Moments.{begins, Throughout}
 use Rattle.history.specs.declared.beat.OpenBeat.{OpenBeat}
 use Rattle.history.specs.declared.fault.BlockFault.{BlockFault}
@@ -24,7 +22,7 @@ use Rattle.entry_codec.specs.declared.entry.Settings.{Settings}
 use Rattle.store_core.specs.declared.fault.Why.{Why}
 use Rattle.store_core.specs.declared.fault.Why.TheVariants as why
 use Rattle.agent_core.specs.declared.fault.AgentFault.{AgentFault}
-use Rattle.agent_core.specs.declared.fault.AgentFault.TheVariants.{Refused, DiskFault, NotADatabase, Damaged, Reopen, Exists, Memory}
+use Rattle.agent_core.specs.declared.fault.AgentFault.TheVariants.{Refused, DiskFault, Reopen, Memory}
 use Rattle.agent_core.specs.declared.reply.Reply.{Reply}
 use Rattle.agent_core.specs.declared.reply.Said.{Said}
 use Rattle.agent_core.specs.declared.reply.Said.TheVariants.{Stored}
@@ -33,9 +31,9 @@ use Rattle.agent_core.specs.Calls.{Beats, Lines, Seen}
 use Rattle.agent_core.specs.Fed.{IsFed}
 use Rattle.agent_core.specs.Faults.{fault_after, RefusedBy}
 use Rattle.agent_core.specs.Kept.{StandsForOneOf}
-use Rattle.agent_core.specs.Rules.{closing_refusal, count_with, history_with, last_with, line_refusal, IsOpenBeat}
+use Rattle.agent_core.specs.Rules.{closing_refusal, count_with, history_with, last_with, line_refusal}
 use Rattle.agent_core.specs.Said.{said_of}
-use Rattle.agent_core.specs.Steps.{step_count, step_history, step_last, step_said, step_refusal, HasBeat, IsOpenStep, Takes}
+use Rattle.agent_core.specs.Steps.{step_count, step_history, step_last, step_said, step_refusal, HasBeat, Takes}
 use Rattle.agent_core.proofs.FedLemmas.{fed-more}
 use Rattle.agent_core.proofs.KeptLemmas.{nothing_done}
 use Rattle.agent_core.proofs.Outcomes.{always, on_err, on_ok}
