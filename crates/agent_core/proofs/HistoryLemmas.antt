@@ -1,5 +1,5 @@
 -- What holds of a history that a store keeps, and of a beat that may follow it.
-use Rattle.std.proofs.Common.{◌≡◌, ◌≢◌, ℕ, ◌<◌, ◌≤◌, Bool, true, false, nat_le, List, [], ◌∷◌, All, Option, Some, None, pos, refl, sym, ap, ◌∙◌, arith, if◌then◌else◌, is_some}
+use Rattle.std.proofs.Common.{◌≡◌, ◌≢◌, ℕ, ◌<◌, Bool, true, false, nat_le, List, [], ◌∷◌, All, Option, Some, None, pos, refl, sym, arith, if◌then◌else◌, is_some}
 use Rattle.std.specs.List.{AllByRecursion}
 use Rattle.std.proofs.lemmas.Bool.{leb-false}
 use Rattle.std.proofs.lemmas.List.Elements.{All-from_recursion, recursion_from_All}

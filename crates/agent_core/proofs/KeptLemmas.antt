@@ -1,5 +1,5 @@
 -- What is kept of a beat, and what a stop leaves of a history.
-use Rattle.std.proofs.Common.{◌≡◌, ℕ, ◌+◌, ◌-◌, ◌^◌, ◌<◌, ◌⊎◌, inl, inr, All, Bool, List, [], ◌∷◌, length, map, min, Option, Some, None, is_some, refl, sym, ap, ◌∙◌, subst, arith}
+use Rattle.std.proofs.Common.{◌≡◌, ℕ, ◌+◌, ◌⊎◌, inl, inr, All, List, ◌∷◌, length, map, Option, Some, None, sym, ap, ◌∙◌, subst, arith}
 use Rattle.host_model.specs.declared.file.File.{File}
 use Rattle.host_model.specs.Past.{Event}
 use Rattle.host_model.specs.Disks.{EveryDisk}
@@ -8,7 +8,7 @@ use Rattle.host_model.proofs.DiskLemmas.{disks_weaker}
 use Rattle.algorithms.specs.declared.last.Last.{Last}
 use Rattle.history.specs.declared.beat.OpenBeat.{OpenBeat}
 use Rattle.history.specs.declared.fault.BlockFault.{BlockFault}
-use Rattle.history.specs.History.{Beat, collected, child, last, registry_of}
+use Rattle.history.specs.History.{Beat, collected, registry_of}
 use Rattle.history.specs.Registry.{Registry, with_definitions}
 use Rattle.beat_points.specs.declared.series_word.SeriesWord.{SeriesWord}
 use Rattle.beat_points.specs.LastRows.{AreLastOf}
@@ -19,7 +19,7 @@ use Rattle.entry_codec.specs.declared.entry.Settings.{Settings}
 use Rattle.entry_codec.specs.Entries.{HasSpelling}
 use Rattle.store_core.specs.declared.beat.Beat.{Beat as StoreBeat}
 use Rattle.store_core.specs.declared.beat.BeatPoint.{BeatPoint}
-use Rattle.store_core.specs.Stands.{Stands, StandsAround}
+use Rattle.store_core.specs.Stands.{StandsAround}
 use Rattle.store_core.specs.Store.{counted, raised, IsStoreOf, StoreState}
 use Rattle.store_core.proofs.StoreLemmas.{every_image_of}
 use Rattle.agent_core.specs.Agent.{AgentState, Holds, IsAgentOf}

@@ -45,6 +45,12 @@ never agent cause now none = none-some cause (sym none ∙ now)
 abbrev IsLeft : Settings → List Beat → (File → List ℕ) → Type 0
 IsLeft set h disk = StandsForHistory set h disk ⊎ ((beat : Beat) × StandsForHistory set (beat ∷ h) disk)
 
+abbrev unstored : AgentFault → Result Reply AgentFault
+unstored fault = Err fault
+
+abbrev unsaid : AgentFault → Result Said AgentFault
+unsaid fault = Err fault
+
 -- a call was refused with this fault, and `reason` stands against it
 record Failed (host : Seen) (agent : AgentState) (reason : Option BlockFault) (fault : AgentFault) (host' : Seen) (agent' : AgentState) : Type 0 where
   pub refused : agent.fault ≡ None → IsRefusal reason fault
@@ -108,7 +114,7 @@ module _ (honest : Type 0) (host : Seen) (agent : AgentState) (beat : OpenBeat) 
   beat-failed fault did = record {
     refused = did.refused;
     unchanged = did.unchanged;
-    spends = λ going. did.fault ∙ ap (λ (f : Option Why). fault_after f (Err {T = Reply} fault)) going;
+    spends = λ going. did.fault ∙ ap (λ (f : Option Why). fault_after f (unstored fault)) going;
     reopens = did.reopens;
     count = did.stays.0;
     last = did.stays.1;
@@ -137,7 +143,7 @@ module _ (honest : Type 0) (host : Seen) (agent : AgentState) (feed : Feed) (lin
   line-failed fault did = record {
     refused = λ going. did.refused going every past is_feed;
     unchanged = did.unchanged;
-    spends = λ going. did.fault ∙ ap (λ (f : Option Why). fault_after f (Err {T = Said} fault)) going;
+    spends = λ going. did.fault ∙ ap (λ (f : Option Why). fault_after f (unsaid fault)) going;
     reopens = did.reopens;
     count = did.stays.0;
     last = did.stays.1;

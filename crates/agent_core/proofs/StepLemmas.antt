@@ -1,10 +1,8 @@
 -- What an agent does with each step of a feed, and with a line that leads to no step.
-use Rattle.std.proofs.Common.{◌≡◌, ◌≢◌, ℕ, ◌⊎◌, inl, inr, Bool, List, [], ◌∷◌, Option, Some, None, Result, Ok, Err, IfOk, OnOk, OnErr, refl, sym, ap, ◌∙◌, subst, le_refl}
+use Rattle.std.proofs.Common.{◌≡◌, ◌≢◌, ℕ, inl, inr, Bool, List, [], ◌∷◌, Option, Some, None, Result, Ok, Err, IfOk, OnOk, refl, sym, ap, ◌∙◌, subst, le_refl}
 use Rattle.std.specs.Option.{option_map_or}
 use Rattle.std.proofs.lemmas.Option.{none-some}
-use Rattle.host_model.specs.Past.{Event}
 use Rattle.host_model.specs.Disks.{EveryDisk}
-use Rattle.host_model.specs.Cause.{HasCause}
 use Rattle.host_model.specs.Moments.{begins, Throughout}
 use Rattle.history.specs.declared.beat.OpenBeat.{OpenBeat}
 use Rattle.history.specs.declared.fault.BlockFault.{BlockFault}
@@ -24,7 +22,7 @@ use Rattle.entry_codec.specs.declared.entry.Settings.{Settings}
 use Rattle.store_core.specs.declared.fault.Why.{Why}
 use Rattle.store_core.specs.declared.fault.Why.TheVariants as why
 use Rattle.agent_core.specs.declared.fault.AgentFault.{AgentFault}
-use Rattle.agent_core.specs.declared.fault.AgentFault.TheVariants.{Refused, DiskFault, NotADatabase, Damaged, Reopen, Exists, Memory}
+use Rattle.agent_core.specs.declared.fault.AgentFault.TheVariants.{Refused, DiskFault, Reopen, Memory}
 use Rattle.agent_core.specs.declared.reply.Reply.{Reply}
 use Rattle.agent_core.specs.declared.reply.Said.{Said}
 use Rattle.agent_core.specs.declared.reply.Said.TheVariants.{Stored}
@@ -33,9 +31,9 @@ use Rattle.agent_core.specs.Calls.{Beats, Lines, Seen}
 use Rattle.agent_core.specs.Fed.{IsFed}
 use Rattle.agent_core.specs.Faults.{fault_after, RefusedBy}
 use Rattle.agent_core.specs.Kept.{StandsForOneOf}
-use Rattle.agent_core.specs.Rules.{closing_refusal, count_with, history_with, last_with, line_refusal, IsOpenBeat}
+use Rattle.agent_core.specs.Rules.{closing_refusal, count_with, history_with, last_with, line_refusal}
 use Rattle.agent_core.specs.Said.{said_of}
-use Rattle.agent_core.specs.Steps.{step_count, step_history, step_last, step_said, step_refusal, HasBeat, IsOpenStep, Takes}
+use Rattle.agent_core.specs.Steps.{step_count, step_history, step_last, step_said, step_refusal, HasBeat, Takes}
 use Rattle.agent_core.proofs.FedLemmas.{fed-more}
 use Rattle.agent_core.proofs.KeptLemmas.{nothing_done}
 use Rattle.agent_core.proofs.Outcomes.{always, on_err, on_ok}
@@ -158,7 +156,7 @@ module _ (honest : Type 0) (host host' : Seen) (agent agent' : AgentState) (feed
   line-taken = record {
     any_moment = moments;
     done = on_ok _ _ result took.done (λ done true_host set h every past is_of is_feed.
-    subst (λ (g : List Beat). IsAgentOf host'.past agent' set g) (more h every past is_feed) (done true_host set h is_of));
+        subst (λ (g : List Beat). IsAgentOf host'.past agent' set g) (more h every past is_feed) (done true_host set h is_of));
     said = subst (λ (s : Said). IfOk result (λ said. said ≡ s)) (ap (step_said agent'.count) its ∙ sym (said-is agent'.count fed.every fed.past line)) took.said;
     counts = subst (λ (n : ℕ). OnOk result (agent'.count ≡ n)) (ap (step_count agent.count) its ∙ sym (count-is agent.count fed.every fed.past line)) took.counts;
     last = subst (λ (n : ℕ). OnOk result (agent'.last ≡ n)) (ap (step_last agent.last) its ∙ sym (last-is agent.last fed.every fed.past line)) took.last;
@@ -257,7 +255,7 @@ module _ (honest : Type 0) (host : Seen) (agent : AgentState) (feed feed' : Feed
     counts = tt;
     last = tt;
     refused = λ going every past is_feed.
-    ap (λ (reason : Option BlockFault). option_map_or Some reason (closing_refusal agent.registry agent.copies agent.last every past line)) (free every past is_feed) ∙ closing-none every past quiet;
+        ap (λ (reason : Option BlockFault). option_map_or Some reason (closing_refusal agent.registry agent.copies agent.last every past line)) (free every past is_feed) ∙ closing-none every past quiet;
     takes = tt;
     leaves = inl same;
     fed = subst IsFed (sym same) fed;

@@ -211,8 +211,8 @@ impl Agent {
         ensures { Lines H.honest (record { past = H.past host.old; disk_faults = H.disk_faults host.old; tell_faults = H.tell_faults host.old }) self.old feed.old
             line.now result (record { past = H.past host.new; disk_faults = H.disk_faults host.new; tell_faults = H.tell_faults host.new }) self.new feed.new }
     {
-        if let Some(cause) = self.fault {
-            return Err(AgentFault::Reopen(cause));
+        if let Some(earlier) = self.fault {
+            return Err(AgentFault::Reopen(earlier));
         }
         match feed.line(&self.registry, self.last, self.copies, line) {
             Ok(step) => self.take_step(host, step),

@@ -1,4 +1,4 @@
-use Rattle.std.proofs.Common.{◌≡◌, ℕ, List, Some, None, Err, sym, ap, ◌∙◌, subst}
+use Rattle.std.proofs.Common.{◌≡◌, ℕ, List, Some, None, Err, subst}
 use Rattle.history.specs.declared.line.Line.{Line}
 use Rattle.history.specs.declared.line.Line.TheVariants.{Moment}
 use Rattle.history.specs.Refusal.{refusal}
@@ -45,11 +45,15 @@ returns-in-Memory g c =
     subst (λ (a : AgentState). Lines g.H.Host.honest host a feed line (Err Memory) host (short_of inside) c.line.new.self) c.self.view_is
     (line-short g.H.Host.honest host inside feed c.line.new.self line c.requires.fed c.in-Err.ensures.err c.in_default.is free quiet)
 
-pub returns-in_default : goal.returns-in_default
-returns-in_default g c =
+pub returns-in_default-fault : goal.returns-in_default-fault
+returns-in_default-fault g c =
     let host : Seen = record { past = g.H.Host.past c.args.host.now; disk_faults = g.H.Host.disk_faults c.args.host.now; tell_faults = g.H.Host.tell_faults c.args.host.now } in
     let agent = c.args.self.now in
     let feed = c.args.feed.now in
     let line = c.args.line.now in
-    let x = c.in-Err in
-    ?
+    let fault = c.in-Err.fault in
+    let against : (every : ℕ) (past : List Line) → IsFeedOf feed every past → refusal agent.registry every past agent.copies agent.last line ≡ Some fault
+    = λ every past is_feed. subst (λ (a : AgentState). refusal a.registry every past a.copies a.last line ≡ Some fault) c.self.view_is
+    (refused-reason (refusal c.self.inside.registry every past c.self.inside.copies c.self.inside.last line) fault (c.in-Err.ensures.refused every past is_feed) c.in_default-fault.not-Memory) in
+    let going : agent.fault ≡ None = subst (λ (a : AgentState). a.fault ≡ None) c.self.view_is c.in_default.is in
+    line-refused g.H.Host.honest host agent feed c.line.new.self line c.requires.fed c.in-Err.ensures.err fault going c.requires.ready against
