@@ -1,0 +1,188 @@
+-- The beats that a feed closes may be handed in, and what a feed is after one line more.
+use Rattle.std.proofs.Common.{◌≡◌, ◌≢◌, ℕ, ◌==◌, ◌<◌, Bool, true, false, not, List, [], ◌∷◌, ◌++◌, Option, Some, None, is_some, ℤ, pos, refl, sym, ap, ◌∙◌, subst, arith, if◌then◌else◌}
+use Rattle.std.specs.List.{list_any, AllByRecursion}
+use Rattle.std.specs.Option.{option_map_or}
+use Rattle.std.specs.Str.{bytes_eq}
+use Rattle.std.proofs.lemmas.Bool.{eqb-false}
+use Rattle.std.proofs.lemmas.List.{append-nil}
+use Rattle.std.proofs.lemmas.List.Elements.{All-from_recursion}
+use Rattle.std.proofs.lemmas.Option.{none-some, same_Some}
+use Rattle.history.specs.declared.beat.OpenDim.{OpenDim}
+use Rattle.history.specs.declared.beat.OpenRow.{OpenRow}
+use Rattle.history.specs.declared.beat.OpenValue.{OpenValue}
+use Rattle.history.specs.declared.chart.ChartDef.{ChartDef}
+use Rattle.history.specs.declared.dimension.DimDef.{DimDef}
+use Rattle.history.specs.declared.fault.BlockFault.TheVariants as fault
+use Rattle.history.specs.declared.line.Line.{Line}
+use Rattle.history.specs.declared.line.Line.TheVariants as line
+use Rattle.history.specs.Looking.{beat, charts, dimensions, is_value, last_chart, open_block, rows, same_value, set_value, values, with_grid}
+use Rattle.history.specs.Put.{put}
+use Rattle.history.specs.Refusal.{has_chart, has_row, refusal}
+use Rattle.history.specs.Registry.{Registry, same_chart, same_dimension}
+use Rattle.chart_registry.proofs.RowsLemmas.{same_text, bytes_eq_same}
+use Rattle.beat_points.specs.Regular.{AreApart, same_row}
+use Rattle.beat_points.specs.Text.{HaveDivisors}
+use Rattle.beat_points.proofs.ApartLemmas.{apart-filter, apart-push}
+use Rattle.collect_block.specs.declared.feed.Feed.{Feed}
+use Rattle.collect_block.specs.declared.step.Step.{Step}
+use Rattle.collect_block.specs.Feed.{step_of, Becomes, IsFeedOf}
+use Rattle.agent_core.specs.Fed.{OpenEachFirst, OpensFirst, IsFed}
+use Rattle.agent_core.specs.Rules.{IsOpenBeat}
+use Rattle.agent_core.specs.Steps.{IsOpenStep}
+use Rattle.agent_core.proofs.DefinedLemmas.{charts-sameness, dimensions-sameness}
+use Rattle.agent_core.proofs.HistoryLemmas.{passed, Divides}
+use Rattle.agent_core.proofs.Lists.{all-put, apart-put, IsSameness}
+
+-- ---- the charts and dimensions of the open beat
+abbrev HasGrid : ChartDef → Type 0
+HasGrid def = 0 < def.update_every
+
+grid-of : (every : ℕ) (def : ChartDef) → 0 < every → HasGrid (with_grid every def)
+grid-of every def some = by (def.update_every == 0) refl
+  where
+    by : (b : Bool) → (def.update_every == 0) ≡ b → HasGrid (if b then record def { update_every = every } else def)
+    by true e = some
+    by false e = let other : def.update_every ≢ 0 = eqb-false def.update_every 0 e in omega arith
+
+charts-apart : (every : ℕ) (past : List Line) → AreApart same_chart (charts every past)
+charts-apart every [] = tt
+charts-apart every (line.Moment moment ∷ past) = tt
+charts-apart every (line.Chart def ∷ past) = apart-put same_chart charts-sameness (charts every past) (with_grid every def) (charts-apart every past)
+charts-apart every (line ∷ past) = charts-apart every past
+
+charts-grids : (every : ℕ) (past : List Line) → 0 < every → AllByRecursion HasGrid (charts every past)
+charts-grids every [] some = tt
+charts-grids every (line.Moment moment ∷ past) some = tt
+charts-grids every (line.Chart def ∷ past) some = all-put same_chart HasGrid (charts every past) (with_grid every def) (charts-grids every past some) (grid-of every def some)
+charts-grids every (line ∷ past) some = charts-grids every past some
+
+abbrev with_dimension : DimDef → List OpenDim → Option (List ℕ) → List OpenDim
+with_dimension def ds chart = option_map_or (λ chart. put same_dimension ds (record { chart = chart; def = def })) chart ds
+
+dimension-apart : (def : DimDef) (ds : List OpenDim) (chart : Option (List ℕ)) → AreApart same_dimension ds → AreApart same_dimension (with_dimension def ds chart)
+dimension-apart def ds None apart = apart
+dimension-apart def ds (Some chart) apart = apart-put same_dimension dimensions-sameness ds (record { chart = chart; def = def }) apart
+
+dimensions-apart : (past : List Line) → AreApart same_dimension (dimensions past)
+dimensions-apart [] = tt
+dimensions-apart (line.Moment moment ∷ past) = tt
+dimensions-apart (line.Dimension def ∷ past) = dimension-apart def (dimensions past) (last_chart past) (dimensions-apart past)
+dimensions-apart (line ∷ past) = dimensions-apart past
+
+dimension-divides : (def : DimDef) (ds : List OpenDim) (chart : Option (List ℕ)) → def.divisor ≢ pos 0 → AllByRecursion Divides ds → AllByRecursion Divides (with_dimension def ds chart)
+dimension-divides def ds None divides all = all
+dimension-divides def ds (Some chart) divides all = all-put same_dimension Divides ds (record { chart = chart; def = def }) all divides
+
+dimensions-divide : (past : List Line) → HaveDivisors past → AllByRecursion Divides (dimensions past)
+dimensions-divide [] divisors = tt
+dimensions-divide (line.Dimension def ∷ past) divisors = dimension-divides def (dimensions past) (last_chart past) divisors.0 (dimensions-divide past divisors.1)
+dimensions-divide (line.Moment moment ∷ past) divisors = tt
+dimensions-divide (line ∷ past) divisors = dimensions-divide past divisors
+
+-- ---- its rows
+values-sameness : IsSameness same_value
+values-sameness = record {
+  itself = λ x. bytes_eq_same x.id x.id refl;
+  turned = λ x y e. bytes_eq_same y.id x.id (sym (same_text x.id y.id e));
+  left = λ x y z e. ap (λ (id : List ℕ). is_value id z) (same_text x.id y.id e);
+}
+
+set-apart : (vs : List OpenValue) (id : List ℕ) (value : Option ℤ) (anomalous : Bool) → AreApart same_value vs → AreApart same_value (set_value vs id value anomalous)
+set-apart vs id (Some value) anomalous apart = apart-put same_value values-sameness vs (record { id = id; value = value; anomalous = anomalous }) apart
+set-apart vs id None anomalous apart = apart-filter same_value (λ (value : OpenValue). not (is_value id value)) vs apart
+
+values-apart : (past : List Line) → AreApart same_value (values past)
+values-apart [] = tt
+values-apart (line.Begin chart ∷ past) = tt
+values-apart (line.Set id value anomalous ∷ past) = set-apart (values past) id value anomalous (values-apart past)
+values-apart (line ∷ past) = values-apart past
+
+abbrev row_of : List OpenValue → List ℕ → OpenRow
+row_of vs chart = record { chart = chart; values = vs }
+
+abbrev with_row : List OpenRow → List OpenValue → Option (List ℕ) → List OpenRow
+with_row rs vs chart = rs ++ option_map_or (λ chart. row_of vs chart ∷ []) chart []
+
+abbrev IsApartRow : OpenRow → Type 0
+IsApartRow row = AreApart same_value row.values
+
+all-more : (rs : List OpenRow) (row : OpenRow) → AllByRecursion IsApartRow rs → IsApartRow row → AllByRecursion IsApartRow (rs ++ row ∷ [])
+all-more [] row all here = (here, tt)
+all-more (r ∷ rs) row all here = (all.0, all-more rs row all.1 here)
+
+row-values : (rs : List OpenRow) (vs : List OpenValue) (chart : Option (List ℕ)) → AllByRecursion IsApartRow rs → AreApart same_value vs → AllByRecursion IsApartRow (with_row rs vs chart)
+row-values rs vs None all apart = subst (AllByRecursion IsApartRow) (sym (append-nil rs)) all
+row-values rs vs (Some chart) all apart = all-more rs (row_of vs chart) all apart
+
+rows-values : (past : List Line) → AllByRecursion IsApartRow (rows past)
+rows-values [] = tt
+rows-values (line.Moment moment ∷ past) = tt
+rows-values (line.End ∷ past) = row-values (rows past) (values past) (open_block past) (rows-values past) (values-apart past)
+rows-values (line ∷ past) = rows-values past
+
+-- the chart of the open block has no row yet
+no-row : (every : ℕ) (past : List Line) (chart : List ℕ) → OpenEachFirst every past → open_block past ≡ Some chart → list_any (λ (row : OpenRow). bytes_eq chart row.chart) (rows past) ≡ false
+no-row every [] chart firsts opened = refl
+no-row every (line.Begin first ∷ past) chart firsts opened = ap (λ (id : List ℕ). list_any (λ (row : OpenRow). bytes_eq id row.chart) (rows past)) (sym (same_Some first chart opened)) ∙ firsts.0
+no-row every (line.End ∷ past) chart firsts opened = absurd (none-some chart opened)
+no-row every (line.Flush ∷ past) chart firsts opened = absurd (none-some chart opened)
+no-row every (line.Moment moment ∷ past) chart firsts opened = refl
+no-row every (line ∷ past) chart firsts opened = no-row every past chart firsts.1 opened
+
+same_row-left : (x y : OpenRow) → same_row x y ≡ true → same_row x ≡ same_row y
+same_row-left x y e = λ i row. bytes_eq (same_text x.chart y.chart e i) row.chart
+
+row-apart : (rs : List OpenRow) (vs : List OpenValue) (chart : Option (List ℕ)) → AreApart same_row rs
+    → ((id : List ℕ) → chart ≡ Some id → list_any (λ (row : OpenRow). bytes_eq id row.chart) rs ≡ false) → AreApart same_row (with_row rs vs chart)
+row-apart rs vs None apart none = subst (AreApart same_row) (sym (append-nil rs)) apart
+row-apart rs vs (Some chart) apart none = apart-push same_row (λ x. bytes_eq_same x.chart x.chart refl) same_row-left rs (row_of vs chart) apart (none chart refl)
+
+rows-apart : (every : ℕ) (past : List Line) → OpenEachFirst every past → AreApart same_row (rows past)
+rows-apart every [] firsts = tt
+rows-apart every (line.Moment moment ∷ past) firsts = tt
+rows-apart every (line.End ∷ past) firsts = row-apart (rows past) (values past) (open_block past) (rows-apart every past firsts.1) (λ id opened. no-row every past id firsts.1 opened)
+rows-apart every (line ∷ past) firsts = rows-apart every past firsts.1
+
+-- ---- a beat that is closed
+pub open-beat : (every : ℕ) (past : List Line) → 0 < every → OpenEachFirst every past → HaveDivisors past → IsOpenBeat (beat every past)
+open-beat every past some firsts divisors = record {
+  apart_charts = charts-apart every past;
+  apart_dimensions = dimensions-apart past;
+  apart_rows = rows-apart every past firsts;
+  apart_values = All-from_recursion IsApartRow (rows past) (rows-values past);
+  grids = All-from_recursion HasGrid (charts every past) (charts-grids every past some);
+  divisors = All-from_recursion Divides (dimensions past) (dimensions-divide past divisors);
+}
+
+fed-beat : (feed : Feed) (fed : IsFed feed) → IsOpenBeat (beat fed.every fed.past)
+fed-beat feed fed = open-beat fed.every fed.past fed.feed_of.grid fed.blocks fed.divisors
+
+-- what a feed gives
+step-open : (feed : Feed) (fed : IsFed feed) (line : Line) → IsOpenStep (step_of fed.every fed.past line)
+step-open feed fed (line.Moment moment) = fed-beat feed fed
+step-open feed fed line = tt
+
+pub fed-step : (feed : Feed) (line : Line) (step : Step) (fed : IsFed feed) → ((every : ℕ) (past : List Line) → IsFeedOf feed every past → step ≡ step_of every past line) → IsOpenStep step
+fed-step feed line step fed gives = subst IsOpenStep (sym (gives fed.every fed.past fed.feed_of)) (step-open feed fed line)
+
+-- ---- one line more
+opens-first : (registry : Registry) (every : ℕ) (past : List Line) (copies : Bool) (last : ℕ) (line : Line) → refusal registry every past copies last line ≡ None → OpensFirst every past line
+opens-first registry every past copies last (line.Begin chart) free =
+    let closed = passed (is_some (open_block past)) fault.OpenBlock _ free in
+    let there = passed (not (has_chart registry (beat every past) chart)) fault.NoChart _ closed.1 in
+    (passed (has_row (beat every past) chart) fault.SecondBlock None there.1).0
+opens-first registry every past copies last line free = tt
+
+divisors-more : (line : Line) (past : List Line) → HaveDivisors (line ∷ []) → HaveDivisors past → HaveDivisors (line ∷ past)
+divisors-more (line.Dimension def) past one more = (one.0, more)
+divisors-more line past one more = more
+
+pub fed-more : (feed feed' : Feed) (line : Line) (registry : Registry) (copies : Bool) (last : ℕ) → IsFed feed → HaveDivisors (line ∷ []) → Becomes line feed feed'
+    → ((every : ℕ) (past : List Line) → IsFeedOf feed every past → refusal registry every past copies last line ≡ None) → IsFed feed'
+fed-more feed feed' line registry copies last fed one becomes free = record {
+  every = fed.every;
+  past = line ∷ fed.past;
+  feed_of = becomes fed.every fed.past fed.feed_of;
+  blocks = (opens-first registry fed.every fed.past copies last line (free fed.every fed.past fed.feed_of), fed.blocks);
+  divisors = divisors-more line fed.past one fed.divisors;
+}

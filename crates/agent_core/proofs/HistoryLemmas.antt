@@ -1,0 +1,82 @@
+-- What holds of a history that a store keeps, and of a beat that may follow it.
+use Rattle.std.proofs.Common.{◌≡◌, ◌≢◌, ℕ, ◌<◌, Bool, true, false, nat_le, List, [], ◌∷◌, All, Option, Some, None, pos, refl, sym, arith, if◌then◌else◌, is_some}
+use Rattle.std.specs.List.{AllByRecursion}
+use Rattle.std.proofs.lemmas.Bool.{leb-false}
+use Rattle.std.proofs.lemmas.List.Elements.{All-from_recursion, recursion_from_All}
+use Rattle.std.proofs.lemmas.Option.{none-some}
+use Rattle.history.specs.declared.beat.OpenBeat.{OpenBeat}
+use Rattle.history.specs.declared.beat.OpenDim.{OpenDim}
+use Rattle.history.specs.declared.fault.BlockFault.TheVariants.{NoChart, NoDimension, MomentOrder, MixedRoles, GridChanged, TooManyCharts, TooManyDimensions}
+use Rattle.history.specs.History.{Beat, collected, copied, health, missing, child, last, registry_of}
+use Rattle.history.specs.Registry.{Registry, same_dimension}
+use Rattle.beat_points.specs.Points.{IsBefore}
+use Rattle.beat_points.proofs.LawLemmas.{before-collected, before-none}
+use Rattle.store_core.specs.declared.beat.Beat.{Beat as StoreBeat}
+use Rattle.agent_core.specs.Kept.{AreBeatsOf, Follows}
+use Rattle.agent_core.specs.Rules.{beat_refusal, changes_grid, lacks_chart, lacks_dimension, too_many_charts, too_many_dimensions, IsOpenBeat}
+use Rattle.agent_core.proofs.Lists.{all-put_all}
+
+-- the tests that a beat passed
+pub record Passed (registry : Registry) (last moment : ℕ) (beat : OpenBeat) : Type 0 where
+  pub later : last < moment
+  pub has_charts : lacks_chart registry beat ≡ false
+  pub has_dimensions : lacks_dimension registry beat ≡ false
+  pub few : too_many_dimensions registry beat ≡ false
+
+pub passed : {A : Type 0} (b : Bool) (x : A) (rest : Option A) → (if b then Some x else rest) ≡ None → (b ≡ false) × (rest ≡ None)
+passed true x rest e = absurd (none-some x (sym e))
+passed false x rest e = (refl, e)
+
+pub passes : (registry : Registry) (copies : Bool) (last moment : ℕ) (beat : OpenBeat) → beat_refusal registry copies last moment beat ≡ None → Passed registry last moment beat
+unfolding beat_refusal
+passes registry copies last moment beat free =
+    let roles = passed copies MixedRoles _ free in
+    let order = passed (nat_le moment last) (MomentOrder last) _ roles.1 in
+    let charts = passed (lacks_chart registry beat) NoChart _ order.1 in
+    let dimensions = passed (lacks_dimension registry beat) NoDimension _ charts.1 in
+    let grid = passed (changes_grid registry beat) GridChanged _ dimensions.1 in
+    let room = passed (too_many_charts registry beat) TooManyCharts _ grid.1 in
+    let few = passed (too_many_dimensions registry beat) TooManyDimensions _ room.1 in
+    record { later = leb-false moment last order.0; has_charts = charts.0; has_dimensions = dimensions.0; few = few.0 }
+
+pub follows-passed : (h : List Beat) (moment : ℕ) (beat : OpenBeat) → Follows h moment beat → Passed (registry_of h) (last h) moment beat
+follows-passed h moment beat follows = passes (registry_of h) (is_some (child h)) (last h) moment beat follows.accepted
+
+-- what was collected lies before a moment that is above the last one
+pub before-of : (h : List Beat) (beats : List StoreBeat) → AreBeatsOf h beats → (moment : ℕ) → last h < moment → IsBefore h moment
+before-of [] beats are moment less = before-none moment
+before-of (collected at beat ∷ h) [] are moment less = absurd are
+before-of (collected at beat ∷ h) (kept ∷ beats) are moment less =
+    let first = (follows-passed h at beat are.0.follows).later in
+    let earlier : last h < moment = omega (arith, first, less) in
+    before-collected h at moment beat (before-of h beats are.1 moment earlier) less
+before-of (copied copy ∷ h) [] are moment less = absurd are
+before-of (copied copy ∷ h) (kept ∷ beats) are moment less = absurd are.0
+before-of (health text ∷ h) [] are moment less = absurd are
+before-of (health text ∷ h) (kept ∷ beats) are moment less = absurd are.0
+before-of (missing gap ∷ h) [] are moment less = absurd are
+before-of (missing gap ∷ h) (kept ∷ beats) are moment less = absurd are.0
+
+-- no dimension divides by 0
+abbrev pub Divides : OpenDim → Type 0
+Divides dimension = dimension.def.divisor ≢ pos 0
+
+open-divides : (beat : OpenBeat) → IsOpenBeat beat → AllByRecursion Divides beat.dimensions
+open-divides beat is_open = recursion_from_All Divides beat.dimensions is_open.divisors
+
+divides-of : (h : List Beat) (beats : List StoreBeat) → AreBeatsOf h beats → AllByRecursion Divides (registry_of h).dimensions
+divides-of [] beats are = tt
+divides-of (collected at beat ∷ h) [] are = absurd are
+divides-of (collected at beat ∷ h) (kept ∷ beats) are =
+    all-put_all same_dimension Divides (registry_of h).dimensions beat.dimensions (divides-of h beats are.1) (open-divides beat are.0.follows.is_open)
+divides-of (copied copy ∷ h) [] are = absurd are
+divides-of (copied copy ∷ h) (kept ∷ beats) are = absurd are.0
+divides-of (health text ∷ h) [] are = absurd are
+divides-of (health text ∷ h) (kept ∷ beats) are = absurd are.0
+divides-of (missing gap ∷ h) [] are = absurd are
+divides-of (missing gap ∷ h) (kept ∷ beats) are = absurd are.0
+
+pub divides-after : (h : List Beat) (beats : List StoreBeat) (moment : ℕ) (beat : OpenBeat) → AreBeatsOf h beats → IsOpenBeat beat → All Divides (registry_of (collected moment beat ∷ h)).dimensions
+divides-after h beats moment beat are is_open =
+    All-from_recursion Divides (registry_of (collected moment beat ∷ h)).dimensions
+    (all-put_all same_dimension Divides (registry_of h).dimensions beat.dimensions (divides-of h beats are) (open-divides beat is_open))

@@ -1,0 +1,145 @@
+-- What is kept of a beat, and what a stop leaves of a history.
+use Rattle.std.proofs.Common.{◌≡◌, ℕ, ◌+◌, ◌⊎◌, inl, inr, All, List, ◌∷◌, length, map, Option, Some, None, sym, ap, ◌∙◌, subst, arith}
+use Rattle.host_model.specs.declared.file.File.{File}
+use Rattle.host_model.specs.Past.{Event}
+use Rattle.host_model.specs.Disks.{EveryDisk}
+use Rattle.host_model.specs.Moments.{Throughout}
+use Rattle.host_model.proofs.DiskLemmas.{disks_weaker}
+use Rattle.algorithms.specs.declared.last.Last.{Last}
+use Rattle.history.specs.declared.beat.OpenBeat.{OpenBeat}
+use Rattle.history.specs.declared.fault.BlockFault.{BlockFault}
+use Rattle.history.specs.History.{Beat, collected, registry_of}
+use Rattle.history.specs.Registry.{Registry, with_definitions}
+use Rattle.beat_points.specs.declared.series_word.SeriesWord.{SeriesWord}
+use Rattle.beat_points.specs.LastRows.{AreLastOf}
+use Rattle.beat_points.specs.Points.{beat_points, IsNext}
+use Rattle.beat_entries.specs.Entry.{entry_of}
+use Rattle.entry_codec.specs.declared.entry.Entry.TheVariants as entry
+use Rattle.entry_codec.specs.declared.entry.Settings.{Settings}
+use Rattle.entry_codec.specs.Entries.{HasSpelling}
+use Rattle.store_core.specs.declared.beat.Beat.{Beat as StoreBeat}
+use Rattle.store_core.specs.declared.beat.BeatPoint.{BeatPoint}
+use Rattle.store_core.specs.Stands.{StandsAround}
+use Rattle.store_core.specs.Store.{counted, raised, IsStoreOf, StoreState}
+use Rattle.store_core.proofs.StoreLemmas.{every_image_of}
+use Rattle.agent_core.specs.Agent.{AgentState, Holds, IsAgentOf}
+use Rattle.agent_core.specs.Kept.{kept_of, note_of, point_of, stored_points, AreBeatsOf, Follows, StandsForHistory, StandsForOneOf}
+use Rattle.agent_core.specs.Rules.{beat_refusal, IsOpenBeat}
+use Rattle.agent_core.proofs.HistoryLemmas.{before-of, divides-after, follows-passed, Divides}
+
+-- what is kept is put together of its parts
+pub kept-is : (registry : Registry) (lasts : List (Option Last)) (h : List Beat) (moment : ℕ) (beat : OpenBeat) (words : List SeriesWord) (points : List BeatPoint) (note : List ℕ) → IsNext registry lasts h moment beat
+    → words ≡ beat_points registry h moment beat → points ≡ map (point_of registry) words → note ≡ note_of registry moment beat
+    → record { moment = Some moment; points = points; note = note } ≡ kept_of h moment beat
+kept-is registry lasts h moment beat words points note next words_are points_are note_is =
+    let stored : points ≡ stored_points registry h moment beat = points_are ∙ ap (map (point_of registry)) words_are in
+    let whole : StoreBeat → StoreBeat = λ kept. kept in
+    let parts : whole (record { moment = Some moment; points = points; note = note }) ≡ whole (record { moment = Some moment; points = stored_points registry h moment beat; note = note_of registry moment beat })
+    = λ i. record { moment = Some moment; points = stored i; note = note_is i } in
+    let named : (r : Registry) → StoreBeat = λ r. record { moment = Some moment; points = stored_points r h moment beat; note = note_of r moment beat } in
+    parts ∙ ap named next.registry_is
+
+-- ---- the parts of an agent
+module _ (past : List Event) (store : StoreState) (registry : Registry) (lasts : List (Option Last)) (set : Settings) (h : List Beat) (holds : Holds past store registry lasts set h) where
+  -- whatever a stop leaves, the disk holds the history
+  pub stays : EveryDisk (StandsForHistory set h) past
+  stays disk images = record { beats = holds.beats; are = holds.are; stands = every_image_of past store set holds.beats holds.store_of disk images }
+
+  module _ (moment : ℕ) (beat : OpenBeat) (follows : Follows h moment beat) where
+    pub is_next : IsNext (with_definitions registry beat.charts beat.dimensions) lasts h moment beat
+    is_next =
+        let same : with_definitions registry beat.charts beat.dimensions ≡ registry_of (collected moment beat ∷ h)
+        = ap (λ (r : Registry). with_definitions r beat.charts beat.dimensions) holds.registry_is in
+        record {
+          registry_is = same;
+          lasts_are = holds.last_rows_are;
+          before = before-of h holds.beats holds.are moment (follows-passed h moment beat follows).later;
+          divisors = subst (λ (r : Registry). All Divides r.dimensions) (sym same) (divides-after h holds.beats moment beat holds.are follows.is_open);
+        }
+
+    pub next-after : (registry' : Registry) → registry' ≡ with_definitions registry beat.charts beat.dimensions → IsNext registry' lasts h moment beat
+    next-after registry' applied = subst (λ (r : Registry). IsNext r lasts h moment beat) (sym applied) is_next
+
+    -- what the code kept is what is kept
+    pub kept-after : (kept : StoreBeat) (registry' : Registry) → registry' ≡ with_definitions registry beat.charts beat.dimensions
+        → ((g : List Beat) → IsNext registry' lasts g moment beat → kept ≡ kept_of g moment beat) → kept ≡ kept_of h moment beat
+    kept-after kept registry' applied says = says h (next-after registry' applied)
+
+    -- the entry is spelt by the registry with the beat's definitions
+    pub spelt-after : (registry' : Registry) → registry' ≡ with_definitions registry beat.charts beat.dimensions
+        → HasSpelling (entry.Collected (entry_of registry' moment beat)) → HasSpelling (entry.Collected (entry_of (registry_of (collected moment beat ∷ h)) moment beat))
+    spelt-after registry' applied spelt = subst (λ (r : Registry). HasSpelling (entry.Collected (entry_of r moment beat))) (applied ∙ is_next.registry_is) spelt
+
+    module _ (kept : StoreBeat) (is_kept : kept ≡ kept_of h moment beat) (spelt : HasSpelling (entry.Collected (entry_of (registry_of (collected moment beat ∷ h)) moment beat))) where
+      pub kept-follows : AreBeatsOf (collected moment beat ∷ h) (kept ∷ holds.beats)
+      kept-follows = (record { follows = follows; is_kept = is_kept; spelt = spelt }, holds.are)
+
+      around : (disk : File → List ℕ) → StandsAround set holds.beats kept disk → StandsForHistory set h disk ⊎ StandsForHistory set (collected moment beat ∷ h) disk
+      around disk (inl stands) = inl (record { beats = holds.beats; are = holds.are; stands = stands })
+      around disk (inr stands) = inr (record { beats = kept ∷ holds.beats; are = kept-follows; stands = stands })
+
+      -- the moments of the store are those of the agent
+      pub climbs : (new : List Event) → Throughout (EveryDisk (StandsAround set holds.beats kept)) past new
+          → Throughout (EveryDisk (λ disk. StandsForHistory set h disk ⊎ StandsForHistory set (collected moment beat ∷ h) disk)) past new
+      climbs new moments = disks_weaker around moments
+
+      pub holds-more : (new : List Event) (store' : StoreState) (registry' : Registry) (lasts' : List (Option Last)) → IsStoreOf new store' set (kept ∷ holds.beats)
+          → registry' ≡ with_definitions registry beat.charts beat.dimensions → AreLastOf lasts' (collected moment beat ∷ h)
+          → Holds new store' registry' lasts' set (collected moment beat ∷ h)
+      holds-more new store' registry' lasts' store_of registry_is last_rows_are = record {
+        beats = kept ∷ holds.beats;
+        are = kept-follows;
+        store_of = store_of;
+        registry_is = registry_is ∙ is_next.registry_is;
+        last_rows_are = last_rows_are;
+      }
+
+-- ---- the agent
+counted-more : (n : ℕ) → raised (counted n) ≡ counted (n + 1)
+counted-more n = omega arith
+
+module _ (past : List Event) (agent : AgentState) (set : Settings) (h : List Beat) (is_of : IsAgentOf past agent set h) where
+  abbrev refusal : ℕ → OpenBeat → Option BlockFault
+  refusal moment beat = beat_refusal agent.registry agent.copies agent.last moment beat
+
+  pub follows-of : (moment : ℕ) (beat : OpenBeat) → IsOpenBeat beat → refusal moment beat ≡ None → Follows h moment beat
+  follows-of moment beat is_open free = record {
+    is_open = is_open;
+    accepted = sym (λ i. beat_refusal (is_of.holds.registry_is i) (is_of.copies i) (is_of.last_is i) moment beat) ∙ free;
+  }
+
+  -- nothing has happened yet
+  pub nothing_done : (reason : Option BlockFault) (more : List Beat) → EveryDisk (StandsForOneOf set h reason more) past
+  nothing_done reason more disk images = inl (stays past agent.store agent.registry agent.last_rows set h is_of.holds disk images)
+
+  pub one_of : (reason : Option BlockFault) (more : List Beat) (new : List Event) → reason ≡ None
+      → Throughout (EveryDisk (λ disk. StandsForHistory set h disk ⊎ StandsForHistory set more disk)) past new
+      → Throughout (EveryDisk (StandsForOneOf set h reason more)) past new
+  one_of reason more new free moments = disks_weaker (either reason more free) moments
+    where
+      either : (reason : Option BlockFault) (more : List Beat) → reason ≡ None → (disk : File → List ℕ) → (StandsForHistory set h disk ⊎ StandsForHistory set more disk) → StandsForOneOf set h reason more disk
+      either reason more free disk (inl stands) = inl stands
+      either reason more free disk (inr stands) = inr (free, stands)
+
+  pub one_more : (new : List Event) (agent' : AgentState) (moment : ℕ) (beat : OpenBeat) → Holds new agent'.store agent'.registry agent'.last_rows set (collected moment beat ∷ h)
+      → agent'.last ≡ moment → agent'.count ≡ raised agent.count → agent'.copies ≡ agent.copies → agent'.fault ≡ None
+      → IsAgentOf new agent' set (collected moment beat ∷ h)
+  one_more new agent' moment beat holds last_is count copies going = record {
+    holds = holds;
+    last_is = last_is;
+    count = count ∙ ap raised is_of.count ∙ counted-more (length h) ∙ ap counted (omega arith);
+    copies = copies ∙ is_of.copies;
+    going = going;
+  }
+
+-- the moments of a beat that nothing refuses; `inside` is what the agent is made of
+pub beat_moments : (past new : List Event) (agent inside : AgentState) (set : Settings) (h : List Beat) (moment : ℕ) (beat : OpenBeat) → inside ≡ agent → IsOpenBeat beat
+    → beat_refusal inside.registry inside.copies inside.last moment beat ≡ None → IsAgentOf past agent set h
+    → (Holds past inside.store inside.registry inside.last_rows set h → Follows h moment beat
+    → Throughout (EveryDisk (λ disk. StandsForHistory set h disk ⊎ StandsForHistory set (collected moment beat ∷ h) disk)) past new)
+    → Throughout (EveryDisk (StandsForOneOf set h (beat_refusal agent.registry agent.copies agent.last moment beat) (collected moment beat ∷ h))) past new
+beat_moments past new agent inside set h moment beat view is_open free is_of moments =
+    let free' : beat_refusal agent.registry agent.copies agent.last moment beat ≡ None
+    = ap (λ (a : AgentState). beat_refusal a.registry a.copies a.last moment beat) (sym view) ∙ free in
+    one_of past agent set h is_of (beat_refusal agent.registry agent.copies agent.last moment beat) (collected moment beat ∷ h) new free'
+    (moments (subst (λ (a : AgentState). Holds past a.store a.registry a.last_rows set h) (sym view) is_of.holds) (follows-of past agent set h is_of moment beat is_open free'))

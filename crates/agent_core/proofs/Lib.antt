@@ -1,0 +1,16 @@
+pub mod ClosedLemmas
+pub mod DefinedLemmas
+pub mod FedLemmas
+pub mod FollowLemmas
+pub mod HistoryLemmas
+pub mod KeptLemmas
+pub mod Lists
+pub mod NewLemmas
+pub mod OpenFaults
+pub mod OpeningLemmas
+pub mod Outcomes
+pub mod PointLemmas
+pub mod ReplayLemmas
+pub mod Sound
+pub mod StepLemmas
+pub mod Within

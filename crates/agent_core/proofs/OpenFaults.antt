@@ -1,0 +1,20 @@
+-- Why an agent is not opened: the faults of its store, and of its replay.
+use Rattle.std.proofs.Common.{◌≡◌, ◌⊎◌, inl, inr, Result, Ok, Err, IfErr, ap}
+use Rattle.store_core.specs.declared.fault.StoreFault.{StoreFault}
+use Rattle.store_core.specs.declared.fault.StoreFault.TheVariants as store
+use Rattle.store_core.specs.Faults.{IsOpenFault}
+use Rattle.agent_core.specs.declared.fault.AgentFault.TheVariants.{DiskFault, Memory}
+use Rattle.agent_core.specs.Replay.{fault_of}
+
+-- where there is a database that is not damaged
+pub disk-or-memory : (fault : StoreFault) → IsOpenFault fault → (fault ≡ store.NotADatabase → ⊥) → (fault ≡ store.Damaged 4 → ⊥)
+    → (fault_of fault ≡ DiskFault) ⊎ (fault_of fault ≡ Memory)
+disk-or-memory fault (inl e) made whole = inl (ap fault_of e)
+disk-or-memory fault (inr (inl e)) made whole = absurd (made e)
+disk-or-memory fault (inr (inr (inl e))) made whole = absurd (whole e)
+disk-or-memory fault (inr (inr (inr e))) made whole = inr (ap fault_of e)
+
+-- what holds of a fault
+pub err-weaker : {T E : Type 0} (result : Result T E) (P Q : E → Type 0) → ((fault : E) → P fault → Q fault) → IfErr result P → IfErr result Q
+err-weaker (Ok value) P Q weaker holds = tt
+err-weaker (Err fault) P Q weaker holds = weaker fault holds

@@ -1,0 +1,202 @@
+-- An agent that replays the beats of its store: where it begins, each step, and where it ends.
+use Rattle.std.proofs.Common.{◌≡◌, ℕ, suc, false, List, [], ◌∷◌, length, Option, Some, None, is_some, refl, sym, ap, ◌∙◌, subst}
+use Rattle.host_model.specs.declared.file.File.{File}
+use Rattle.host_model.specs.Past.{Event}
+use Rattle.algorithms.specs.declared.last.Last.{Last}
+use Rattle.history.specs.History.{Beat, collected, copied, health, missing, child, last}
+use Rattle.history.specs.Registry.{Registry, empty}
+use Rattle.beat_points.specs.LastRows.{AreLastOf}
+use Rattle.entry_codec.specs.declared.entry.Settings.{Settings}
+use Rattle.store_core.specs.declared.beat.Beat.{Beat as StoreBeat}
+use Rattle.store_core.specs.Records.{last_after, last_moment, with_all}
+use Rattle.store_core.specs.Stands.{Stands}
+use Rattle.store_core.specs.Store.{counted, IsReplayed, IsStoreAt, IsStoreOf, OpensAt, Replays, StoreState}
+use Rattle.agent_core.specs.Agent.{AgentState, IsAgentOf}
+use Rattle.agent_core.specs.Kept.{AreBeatsOf, IsBeatOf, StandsForHistory}
+use Rattle.agent_core.specs.Replay.{onto, AreNextOf, ArePartsOf, IsOpenedFor, IsReplaying}
+
+-- ---- the beginning
+
+-- a history, cut where the beats of its store are
+record IsCut (h : List Beat) (beats rest : List StoreBeat) : Type 0 where
+  front : List Beat
+  more : List Beat
+  whole : onto front more ≡ h
+  are : AreBeatsOf front beats
+  next : AreNextOf front more rest
+
+-- the cut one beat earlier
+earlier : (h : List Beat) (kept : StoreBeat) (beats rest : List StoreBeat) (front more : List Beat) → onto front more ≡ h → AreBeatsOf front (kept ∷ beats) → AreNextOf front more rest
+    → IsCut h beats (kept ∷ rest)
+earlier h kept beats rest [] more whole are next = absurd are
+earlier h kept beats rest (beat ∷ front) more whole are next =
+    record { front = front; more = beat ∷ more; whole = whole; are = are.1; next = (are.0, next) }
+
+cut : (h : List Beat) (beats rest : List StoreBeat) → AreBeatsOf h (with_all beats rest) → IsCut h beats rest
+cut h beats [] are = record { front = h; more = []; whole = refl; are = are; next = tt }
+cut h beats (kept ∷ rest) are =
+    let later = cut h (kept ∷ beats) rest are in
+    earlier h kept beats rest later.front later.more later.whole later.are later.next
+
+-- no beats are those of no history
+none-front : (front : List Beat) → AreBeatsOf front [] → front ≡ []
+none-front [] are = refl
+none-front (beat ∷ front) are = absurd are
+
+pub replaying-begins : (past : List Event) (store : StoreState) (registry : Registry) (lasts : List (Option Last)) (set : Settings) (h : List Beat) → IsOpenedFor past store set h
+    → registry ≡ empty → AreLastOf lasts [] → IsReplaying past store registry lasts set h
+replaying-begins past store registry lasts set h opened is_empty none =
+    let opens = opened.opens in
+    let found = cut h opens.applied opens.rest (subst (AreBeatsOf h) (sym opens.whole) opened.are) in
+    let start : found.front ≡ [] = none-front found.front (subst (AreBeatsOf found.front) opens.from_start found.are) in
+    record {
+      front = found.front;
+      more = found.more;
+      beats = opens.applied;
+      rest = opens.rest;
+      whole = found.whole;
+      are = found.are;
+      next = found.next;
+      is_at = opens.is_at;
+      parts = subst (ArePartsOf registry lasts) (sym start) (record { registry_is = is_empty; last_rows_are = none });
+    }
+
+-- ---- a step
+
+-- the beat that was replayed, and what is left
+pub record IsNextBeat (past : List Event) (store : StoreState) (set : Settings) (h : List Beat) (front : List Beat) (beats : List StoreBeat) (kept : StoreBeat) : Type 0 where
+  pub beat : Beat
+  pub more : List Beat
+  pub rest : List StoreBeat
+  pub of : IsBeatOf front beat kept
+  pub whole : onto (beat ∷ front) more ≡ h
+  pub next : AreNextOf (beat ∷ front) more rest
+  pub is_at : IsStoreAt past store set (kept ∷ beats) rest
+
+module _ (past : List Event) (store : StoreState) (set : Settings) (h : List Beat) where
+  step-of : (front more : List Beat) (beats rest : List StoreBeat) (kept : StoreBeat) → onto front more ≡ h → AreNextOf front more rest → Replays past store set beats rest (Some kept)
+      → IsNextBeat past store set h front beats kept
+  step-of front more beats [] kept whole next replays = absurd replays
+  step-of front [] beats (first ∷ rest) kept whole next replays = absurd next
+  step-of front (beat ∷ more) beats (first ∷ rest) kept whole next replays = record {
+    beat = beat;
+    more = more;
+    rest = rest;
+    of = subst (IsBeatOf front beat) (sym replays.0) next.0;
+    whole = whole;
+    next = next.1;
+    is_at = replays.1;
+  }
+
+  none-of : (beats rest : List StoreBeat) → Replays past store set beats rest None → IsStoreAt past store set beats rest
+  none-of beats [] replays = replays
+  none-of beats (first ∷ rest) replays = absurd replays
+
+-- the next beat of a history that is replayed
+pub next-of : (past : List Event) (store store' : StoreState) (registry : Registry) (lasts : List (Option Last)) (set : Settings) (h : List Beat) (kept : StoreBeat)
+    → (was : IsReplaying past store registry lasts set h) → Replays past store' set was.beats was.rest (Some kept) → IsNextBeat past store' set h was.front was.beats kept
+next-of past store store' registry lasts set h kept was replays =
+    step-of past store' set h was.front was.more was.beats was.rest kept was.whole was.next replays
+
+pub replaying-more : (past : List Event) (store store' : StoreState) (registry registry' : Registry) (lasts lasts' : List (Option Last)) (set : Settings) (h : List Beat) (kept : StoreBeat)
+    → IsReplaying past store registry lasts set h
+    → ((beats rest : List StoreBeat) → IsStoreAt past store set beats rest → Replays past store' set beats rest (Some kept))
+    → ((g : List Beat) (beat : Beat) → IsBeatOf g beat kept → ArePartsOf registry lasts g → ArePartsOf registry' lasts' (beat ∷ g))
+    → IsReplaying past store' registry' lasts' set h
+replaying-more past store store' registry registry' lasts lasts' set h kept was replays taken =
+    let step = next-of past store store' registry lasts set h kept was (replays was.beats was.rest was.is_at) in
+    record {
+      front = step.beat ∷ was.front;
+      more = step.more;
+      beats = kept ∷ was.beats;
+      rest = step.rest;
+      whole = step.whole;
+      are = (step.of, was.are);
+      next = step.next;
+      is_at = step.is_at;
+      parts = taken was.front step.beat step.of was.parts;
+    }
+
+-- the step is not refused for what is kept
+pub replaying-stands : {P : Type 0} (past : List Event) (store store' : StoreState) (registry : Registry) (lasts : List (Option Last)) (set : Settings) (h : List Beat) (kept : StoreBeat)
+    → IsReplaying past store registry lasts set h
+    → ((beats rest : List StoreBeat) → IsStoreAt past store set beats rest → Replays past store' set beats rest (Some kept))
+    → ((g : List Beat) (beats : List StoreBeat) (beat : Beat) → AreBeatsOf g beats → IsBeatOf g beat kept → ArePartsOf registry lasts g → P) → P
+replaying-stands past store store' registry lasts set h kept was replays stands =
+    let step = next-of past store store' registry lasts set h kept was (replays was.beats was.rest was.is_at) in
+    stands was.front was.beats step.beat was.are step.of was.parts
+
+pub replaying-same : (past : List Event) (store store' : StoreState) (registry : Registry) (lasts : List (Option Last)) (set : Settings) (h : List Beat)
+    → IsReplaying past store registry lasts set h
+    → ((beats rest : List StoreBeat) → IsStoreAt past store set beats rest → Replays past store' set beats rest None)
+    → IsReplaying past store' registry lasts set h
+replaying-same past store store' registry lasts set h was replays = record {
+  front = was.front;
+  more = was.more;
+  beats = was.beats;
+  rest = was.rest;
+  whole = was.whole;
+  are = was.are;
+  next = was.next;
+  is_at = none-of past store' set h was.beats was.rest (replays was.beats was.rest was.is_at);
+  parts = was.parts;
+}
+
+-- ---- the end
+
+no-more : (front more : List Beat) → AreNextOf front more [] → more ≡ []
+no-more front [] next = refl
+no-more front (beat ∷ more) next = absurd next
+
+-- what a history of collected beats answers
+record Answers (h : List Beat) (beats : List StoreBeat) : Type 0 where
+  last_is : last_moment beats ≡ last h
+  count : length beats ≡ length h
+  copies : false ≡ is_some (child h)
+
+answers : (h : List Beat) (beats : List StoreBeat) → AreBeatsOf h beats → Answers h beats
+answers [] [] are = record { last_is = refl; count = refl; copies = refl }
+answers [] (kept ∷ beats) are = absurd are
+answers (collected moment beat ∷ h) [] are = absurd are
+answers (collected moment beat ∷ h) (kept ∷ beats) are =
+    let before = answers h beats are.1 in
+    record {
+      last_is = ap (λ (k : StoreBeat). last_after (last_moment beats) k.moment) are.0.is_kept;
+      count = ap suc before.count;
+      copies = before.copies;
+    }
+answers (copied copy ∷ h) [] are = absurd are
+answers (copied copy ∷ h) (kept ∷ beats) are = absurd are.0
+answers (health text ∷ h) [] are = absurd are
+answers (health text ∷ h) (kept ∷ beats) are = absurd are.0
+answers (missing gap ∷ h) [] are = absurd are
+answers (missing gap ∷ h) (kept ∷ beats) are = absurd are.0
+
+pub replayed-is_of : (past : List Event) (agent : AgentState) (set : Settings) (h : List Beat) → IsReplaying past agent.store agent.registry agent.last_rows set h → IsReplayed agent.store
+    → agent.last ≡ agent.store.last → agent.count ≡ agent.store.count → agent.copies ≡ false → agent.fault ≡ None → IsAgentOf past agent set h
+replayed-is_of past agent set h was done last_is count copies going =
+    let none : was.rest ≡ [] = sym was.is_at.waiting ∙ done in
+    let store_of : IsStoreOf past agent.store set was.beats = subst (λ (rest : List StoreBeat). IsStoreAt past agent.store set was.beats rest) none was.is_at in
+    let end : was.more ≡ [] = no-more was.front was.more (subst (AreNextOf was.front was.more) none was.next) in
+    let all : was.front ≡ h = sym (ap (onto was.front) end) ∙ was.whole in
+    let said = answers was.front was.beats was.are in
+    subst (IsAgentOf past agent set) all (record {
+      holds = record {
+        beats = was.beats;
+        are = was.are;
+        store_of = store_of;
+        registry_is = was.parts.registry_is;
+        last_rows_are = was.parts.last_rows_are;
+      };
+      last_is = last_is ∙ was.is_at.last ∙ said.last_is;
+      count = count ∙ was.is_at.count ∙ ap counted said.count;
+      copies = copies ∙ said.copies;
+      going = going;
+    })
+
+-- ---- an agent that was opened
+
+-- the store of a disk that stands for a history
+pub opened-for : (disk : File → List ℕ) (past : List Event) (store : StoreState) → ((set : Settings) (beats : List StoreBeat) → Stands set beats disk → OpensAt past store set beats)
+    → (set : Settings) (h : List Beat) → StandsForHistory set h disk → IsOpenedFor past store set h
+opened-for disk past store opens set h stands = record { beats = stands.beats; are = stands.are; opens = opens set stands.beats stands.stands }

@@ -1,0 +1,116 @@
+-- The limits of a registry that takes the definitions of a beat, and of the registry of a history.
+use Rattle.std.proofs.Common.{◌≡◌, ℕ, ◌+◌, ◌≤◌, ◌⊎◌, inl, inr, Bool, true, false, cond, not, ◌&&◌, nat_lt, List, [], ◌∷◌, length, Option, Some, None, is_some, refl, sym, ap, ◌∙◌, arith, if◌then◌else◌}
+use Rattle.std.specs.List.{list_any, count_by}
+use Rattle.std.proofs.lemmas.Bool.{and_parts, ltb-false}
+use Rattle.std.proofs.lemmas.List.Sums.{sum_by-cons}
+use Rattle.std.proofs.lemmas.Option.{none-some}
+use Rattle.history.specs.declared.beat.OpenBeat.{OpenBeat}
+use Rattle.history.specs.declared.beat.OpenDim.{OpenDim}
+use Rattle.history.specs.declared.chart.ChartDef.{ChartDef}
+use Rattle.history.specs.declared.fault.BlockFault.TheVariants as fault
+use Rattle.history.specs.History.{Beat, collected, copied, health, missing, child, last, registry_of}
+use Rattle.history.specs.Put.{put_all}
+use Rattle.history.specs.Refusal.{is_new_chart, is_new_dimension}
+use Rattle.history.specs.Registry.{Registry, is_of, same_chart, same_dimension, with_definitions}
+use Rattle.chart_registry.proofs.Applying.{same_chart-alike}
+use Rattle.chart_registry.proofs.RegistryLemmas.{or_false}
+use Rattle.chart_registry.proofs.RowsLemmas.{same_text}
+use Rattle.beat_points.specs.Text.{HasFew}
+use Rattle.beat_points.proofs.CountLemmas.{one_if}
+use Rattle.beat_points.proofs.FewLemmas.{count-put_all, few-closed, HaveFew}
+use Rattle.beat_points.proofs.Growing.{same_dimension-alike}
+use Rattle.store_core.specs.declared.beat.Beat.{Beat as StoreBeat}
+use Rattle.agent_core.specs.Kept.{AreBeatsOf}
+use Rattle.agent_core.specs.Rules.{beat_refusal, changes_grid, dimensions_with, fills_chart, is_too_long, lacks_chart, lacks_dimension, too_many_charts, too_many_dimensions, IsWithin}
+
+-- ---- how long a list is that takes more
+pub count-cons : {A : Type 0} (p : A → Bool) (x : A) (xs : List A) → count_by p (x ∷ xs) ≡ one_if (p x) + count_by p xs
+count-cons p x xs = sum_by-cons (λ x. cond (p x) 1 0) x xs
+
+count-all : {A : Type 0} (xs : List A) → count_by (λ (x : A). true) xs ≡ length xs
+count-all [] = refl
+count-all {A} (x ∷ xs) = omega (arith, count-cons (λ (x : A). true) x xs, count-all xs)
+
+-- at most the old and the new together
+length-put_all : {A : Type 0} (same : A → A → Bool) → ((z x y : A) → same x y ≡ true → same z x ≡ same z y) → (xs ys : List A)
+    → length (put_all same xs ys) ≤ length xs + count_by (λ (y : A). not (list_any (same y) xs)) ys
+length-put_all {A} same right xs ys =
+    let few : count_by (λ (x : A). true) (put_all same xs ys) ≤ count_by (λ (x : A). true) xs + count_by (λ (y : A). not (list_any (same y) xs)) ys
+    = count-put_all same (λ (x : A). true) (λ x y e. refl) right xs ys in
+    omega (arith, few, count-all (put_all same xs ys), count-all xs)
+
+-- ---- a registry with definitions that it has room for
+pub within-counts : (registry : Registry) (cs : List ChartDef) (ds : List OpenDim) → length registry.charts + count_by (is_new_chart registry) cs ≤ 4096
+    → length registry.dimensions + count_by (is_new_dimension registry) ds ≤ 65536 → HaveFew registry ds → IsWithin (with_definitions registry cs ds)
+within-counts registry cs ds charts dimensions few = record {
+  charts = omega (arith, length-put_all same_chart (λ z. same_chart-alike z.id) registry.charts cs, charts);
+  dimensions = omega (arith, length-put_all same_dimension (λ z. same_dimension-alike z.chart z.def.id) registry.dimensions ds, dimensions);
+  each = λ chart. omega (arith, few-closed registry ds chart, few chart);
+}
+
+module _ (registry : Registry) (beat : OpenBeat) where
+  abbrev is_more : List ℕ → OpenDim → Bool
+  is_more chart dimension = is_of chart dimension && is_new_dimension registry dimension
+
+  -- a chart that takes a new dimension has room for all that it takes
+  none_or_room : (chart : List ℕ) (ds : List OpenDim) → list_any (fills_chart registry beat) ds ≡ false → (count_by (is_more chart) ds ≡ 0) ⊎ (dimensions_with registry beat chart ≤ 1024)
+  none_or_room chart [] free = inl refl
+  none_or_room chart (d ∷ ds) free =
+      let parts = or_false (fills_chart registry beat d) (list_any (fills_chart registry beat) ds) free in
+      by (is_more chart d) refl parts.0 (none_or_room chart ds parts.1)
+    where
+      by : (b : Bool) → is_more chart d ≡ b → fills_chart registry beat d ≡ false → (count_by (is_more chart) ds ≡ 0) ⊎ (dimensions_with registry beat chart ≤ 1024)
+          → (count_by (is_more chart) (d ∷ ds) ≡ 0) ⊎ (dimensions_with registry beat chart ≤ 1024)
+      by true e fits rest =
+          let both = and_parts (is_of chart d) (is_new_dimension registry d) e in
+          let room : nat_lt 1024 (dimensions_with registry beat d.chart) ≡ false = ap (λ (b : Bool). b && nat_lt 1024 (dimensions_with registry beat d.chart)) (sym both.1) ∙ fits in
+          let here : dimensions_with registry beat chart ≡ dimensions_with registry beat d.chart = ap (dimensions_with registry beat) (same_text chart d.chart both.0) in
+          inr (omega (arith, here, ltb-false 1024 (dimensions_with registry beat d.chart) room))
+      by false e fits (inl none) = inl (omega (arith, count-cons (is_more chart) d ds, ap one_if e, none))
+      by false e fits (inr few) = inr few
+
+  few-with : HasFew registry → list_any (fills_chart registry beat) beat.dimensions ≡ false → HaveFew registry beat.dimensions
+  few-with few free chart = by (none_or_room chart beat.dimensions free)
+    where
+      by : (count_by (is_more chart) beat.dimensions ≡ 0) ⊎ (dimensions_with registry beat chart ≤ 1024) → dimensions_with registry beat chart ≤ 1024
+      by (inl none) = omega (arith, none, few chart)
+      by (inr room) = room
+
+  -- the limits hold with a beat that passes its tests
+  pub within-after : IsWithin registry → too_many_charts registry beat ≡ false → too_many_dimensions registry beat ≡ false → IsWithin (with_definitions registry beat.charts beat.dimensions)
+  within-after within charts dimensions =
+      let parts = or_false (nat_lt 65536 (length registry.dimensions + count_by (is_new_dimension registry) beat.dimensions)) _ dimensions in
+      let each = or_false (list_any (fills_chart registry beat) beat.dimensions) (list_any is_too_long beat.rows) parts.1 in
+      within-counts registry beat.charts beat.dimensions (ltb-false 4096 (length registry.charts + count_by (is_new_chart registry) beat.charts) charts)
+      (ltb-false 65536 (length registry.dimensions + count_by (is_new_dimension registry) beat.dimensions) parts.0) (few-with within.each each.0)
+
+-- ---- a history
+pub passed : {A : Type 0} (b : Bool) (x : A) (rest : Option A) → (if b then Some x else rest) ≡ None → (b ≡ false) × (rest ≡ None)
+passed true x rest e = absurd (none-some x (sym e))
+passed false x rest e = (refl, e)
+
+pub room-for : (registry : Registry) (copies : Bool) (last moment : ℕ) (beat : OpenBeat) → beat_refusal registry copies last moment beat ≡ None
+    → (too_many_charts registry beat ≡ false) × (too_many_dimensions registry beat ≡ false)
+unfolding beat_refusal
+room-for registry copies last moment beat free =
+    let roles = passed copies fault.MixedRoles _ free in
+    let order = passed _ (fault.MomentOrder last) _ roles.1 in
+    let owners = passed (lacks_chart registry beat) fault.NoChart _ order.1 in
+    let series = passed (lacks_dimension registry beat) fault.NoDimension _ owners.1 in
+    let grids = passed (changes_grid registry beat) fault.GridChanged _ series.1 in
+    let charts = passed (too_many_charts registry beat) fault.TooManyCharts _ grids.1 in
+    (charts.0, (passed (too_many_dimensions registry beat) fault.TooManyDimensions _ charts.1).0)
+
+-- the limits hold of a history that a store keeps
+pub within-of : (h : List Beat) (beats : List StoreBeat) → AreBeatsOf h beats → IsWithin (registry_of h)
+within-of [] beats are = record { charts = omega arith; dimensions = omega arith; each = λ chart. omega arith }
+within-of (collected moment beat ∷ h) [] are = absurd are
+within-of (collected moment beat ∷ h) (kept ∷ beats) are =
+    let room = room-for (registry_of h) (is_some (child h)) (last h) moment beat are.0.follows.accepted in
+    within-after (registry_of h) beat (within-of h beats are.1) room.0 room.1
+within-of (copied copy ∷ h) [] are = absurd are
+within-of (copied copy ∷ h) (kept ∷ beats) are = absurd are.0
+within-of (health text ∷ h) [] are = absurd are
+within-of (health text ∷ h) (kept ∷ beats) are = absurd are.0
+within-of (missing gap ∷ h) [] are = absurd are
+within-of (missing gap ∷ h) (kept ∷ beats) are = absurd are.0

@@ -1,0 +1,6 @@
+use Rattle.std.proofs.Common.{◌≡◌, map, take}
+use Rattle.agent_core.specs.Kept.{point_of}
+use Rattle.agent_core.proofs.points.stored_points.Given as goal
+
+abbrev pub invariant-loop-word : goal.invariant-loop-word
+invariant-loop-word l = l.points ≡ map (point_of l.registry) (take l.word-index l.words)

@@ -1,0 +1,7 @@
+use Rattle.std.proofs.lemmas.Result.{err_from_is_err_and}
+use Rattle.agent_core.proofs.replaying.replay_all.Goals as goal
+
+pub returns-in_err-replay_next-clause-stands : goal.returns-in_err-replay_next-clause-stands
+returns-in_err-replay_next-clause-stands c =
+    let error = err_from_is_err_and c.from_residual.result c.from_residual.ensures.1 in
+    rw (error.1, error.2) (λ past set h was. c.in_err-replay_next.ensures.stands past set h (c.loop.invariant.replaying past set h was))

@@ -1,0 +1,21 @@
+use Rattle.std.proofs.Common.{◌≡◌, List, None, length}
+use Rattle.host_model.specs.Past.{Event}
+use Rattle.history.specs.History.{Beat}
+use Rattle.history.specs.Registry.{same_chart, same_dimension}
+use Rattle.beat_points.specs.Regular.{AreApart}
+use Rattle.entry_codec.specs.declared.entry.Settings.{Settings}
+use Rattle.agent_core.specs.Replay.{IsReplaying}
+use Rattle.agent_core.proofs.replaying.replay_all.Given as goal
+
+abbrev pub decreases-loop : goal.decreases-loop
+decreases-loop l = length l.store.waiting
+
+abbrev pub invariant-loop : goal.invariant-loop
+invariant-loop l = record {
+  replaying : (past : List Event) (set : Settings) (h : List Beat) → IsReplaying past l.initial.store l.initial.registry l.initial.last_rows set h
+      → IsReplaying past l.store l.registry l.last_rows set h;
+  going : l.store.fault ≡ None;
+  journal : l.store.journal ≡ l.initial.store.journal;
+  charts : AreApart same_chart l.registry.charts;
+  dimensions : AreApart same_dimension l.registry.dimensions;
+}

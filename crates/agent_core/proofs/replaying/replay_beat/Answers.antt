@@ -1,0 +1,43 @@
+use Rattle.std.proofs.Common.{sym, subst}
+use Rattle.std.proofs.lemmas.Result.{err_from_is_err_and, on_ok_weaker}
+use Rattle.history.specs.Registry.{Registry, same_chart, same_dimension}
+use Rattle.beat_points.specs.Regular.{AreApart}
+use Rattle.beat_entries.proofs.DefinedLemmas.{chart-alike, chart-itself, dimension-alike, dimension-itself}
+use Rattle.beat_entries.proofs.PutLemmas.{apart-put_all}
+use Rattle.agent_core.proofs.Outcomes.{always}
+use Rattle.agent_core.proofs.ReplayLemmas.{entry-goes, entry-there, only-memory, replayed-parts}
+use Rattle.agent_core.proofs.replaying.replay_beat.Goals as goal
+
+pub returns-in_err-entry-clause-stands : goal.returns-in_err-entry-clause-stands
+returns-in_err-entry-clause-stands c =
+    let error = err_from_is_err_and c.from_residual.result c.from_residual.ensures.1 in
+    rw (error.1, error.2) (λ g beats beat are of parts.
+    only-memory c.in_err-entry.field-0.0 c.in_err-entry.ensures.faults
+    (λ damaged. entry-there g beat c.args.kept.now of (c.in_err-entry.ensures.refused damaged)))
+
+pub returns-in_err-beat-clause-stands : goal.returns-in_err-beat-clause-stands
+returns-in_err-beat-clause-stands c =
+    let error = err_from_is_err_and c.from_residual-in_err-beat.result c.from_residual-in_err-beat.ensures.1 in
+    rw (error.1, error.2) (λ g beats beat are of parts.
+    only-memory c.in_err-beat.field-0.0 c.in_err-beat.ensures.faults
+    (λ damaged. entry-goes g beats beat c.args.kept.now c.args.registry.now c.args.last_rows.now c.in_ok-entry.entry are of parts c.in_ok-entry.ensures.read
+    (c.in_err-beat.ensures.refused damaged)))
+
+pub returns-clause-taken : goal.returns-clause-taken
+returns-clause-taken c =
+    on_ok_weaker c.note_rows.result (λ taken g beat of parts.
+    replayed-parts g beat c.args.kept.now c.args.registry.now c.beat_of.new.registry c.args.last_rows.now c.note_rows.new.last_rows c.in_ok-beat.beat c.in_ok-entry.entry
+    of parts c.in_ok-entry.ensures.read c.in_ok-beat.ensures.definitions c.in_ok-beat.ensures.beat taken)
+    c.note_rows.ensures.ok
+
+pub returns-clause-charts : goal.returns-clause-charts
+returns-clause-charts c =
+    always (AreApart same_chart c.beat_of.new.registry.charts) c.note_rows.result
+    (subst (λ (r : Registry). AreApart same_chart r.charts) (sym c.in_ok-beat.ensures.definitions)
+    (apart-put_all same_chart chart-itself chart-alike c.args.registry.now.charts c.in_ok-beat.beat.charts c.requires.charts))
+
+pub returns-clause-dimensions : goal.returns-clause-dimensions
+returns-clause-dimensions c =
+    always (AreApart same_dimension c.beat_of.new.registry.dimensions) c.note_rows.result
+    (subst (λ (r : Registry). AreApart same_dimension r.dimensions) (sym c.in_ok-beat.ensures.definitions)
+    (apart-put_all same_dimension dimension-itself dimension-alike c.args.registry.now.dimensions c.in_ok-beat.beat.dimensions c.requires.dimensions))

@@ -1,0 +1,24 @@
+use Rattle.std.proofs.Common.{subst}
+use Rattle.std.proofs.lemmas.Result.{err_from_is_err_and}
+use Rattle.store_core.specs.Store.{Replays}
+use Rattle.agent_core.proofs.OpeningLemmas.{replaying-more, replaying-same, replaying-stands}
+use Rattle.agent_core.proofs.replaying.replay_next.Goals as goal
+
+pub returns-in_err-replay_beat-in-Some-clause-stands : goal.returns-in_err-replay_beat-in-Some-clause-stands
+returns-in_err-replay_beat-in-Some-clause-stands c =
+    let error = err_from_is_err_and c.from_residual-in_err-replay_beat-in-Some.result c.from_residual-in_err-replay_beat-in-Some.ensures.1 in
+    rw (error.1, error.2) (λ past set h was.
+    replaying-stands past c.args.store.now c.next_beat.new.store c.args.registry.now c.args.last_rows.now set h c.in-Some.kept was
+    (λ beats rest is_at. subst (Replays past c.next_beat.new.store set beats rest) c.in-Some.is (c.in_ok-kept.ensures.next past set beats rest is_at))
+    c.in_err-replay_beat-in-Some.ensures.stands)
+
+pub returns-in_ok-replay_beat-in-Some-clause-replaying : goal.returns-in_ok-replay_beat-in-Some-clause-replaying
+returns-in_ok-replay_beat-in-Some-clause-replaying c past set h was =
+    replaying-more past c.args.store.now c.next_beat.new.store c.args.registry.now c.replay_beat.new.registry c.args.last_rows.now c.replay_beat.new.last_rows set h c.in-Some.kept was
+    (λ beats rest is_at. subst (Replays past c.next_beat.new.store set beats rest) c.in-Some.is (c.in_ok-kept.ensures.next past set beats rest is_at))
+    c.in_ok-replay_beat-in-Some.ensures.taken
+
+pub returns-in-None-clause-replaying : goal.returns-in-None-clause-replaying
+returns-in-None-clause-replaying c past set h was =
+    replaying-same past c.args.store.now c.next_beat.new.store c.args.registry.now c.args.last_rows.now set h was
+    (λ beats rest is_at. subst (Replays past c.next_beat.new.store set beats rest) c.in-None.is (c.in_ok-kept.ensures.next past set beats rest is_at))

@@ -1,0 +1,84 @@
+-- What contracts see of an agent, and of what history an agent is.
+use Rattle.std.specs.Prelude.{◌≡◌, ◌⊎◌, ℕ, Bool, List, [], ◌∷◌, length, Option, Some, None, is_some}
+use Rattle.host_model.specs.declared.file.File.{File}
+use Rattle.host_model.specs.Past.{Event}
+use Rattle.host_model.specs.Disks.{EveryDisk}
+use Rattle.algorithms.specs.declared.last.Last.{Last}
+use Rattle.history.specs.History.{Beat, child, last, registry_of}
+use Rattle.history.specs.Registry.{Registry, same_chart, same_dimension}
+use Rattle.beat_points.specs.LastRows.{AreLastOf}
+use Rattle.beat_points.specs.Regular.{AreApart}
+use Rattle.entry_codec.specs.declared.entry.Settings.{Settings}
+use Rattle.store_core.specs.declared.beat.Beat.{Beat as StoreBeat}
+use Rattle.store_core.specs.declared.fault.Why.{Why}
+use Rattle.store_core.specs.Store.{counted, IsReady, IsReplayed, IsStoreOf, StoreState}
+use Rattle.agent_core.specs.Kept.{AreBeatsOf, StandsForHistory}
+
+pub record AgentState : Type 0 where
+  pub store : StoreState
+  -- the charts and dimensions, by number
+  pub registry : Registry
+  -- the last row in which each series was set
+  pub last_rows : List (Option Last)
+  -- the last moment, or 0
+  pub last : ℕ
+  -- how many beats there are: the count stands still at 2^64 - 1
+  pub count : ℕ
+  -- the history has copied beats or gaps
+  pub copies : Bool
+  -- the first cause for which the agent must be opened again
+  pub fault : Option Why
+
+-- the number of the history
+abbrev pub id_of : AgentState → ℕ
+id_of agent = agent.store.settings.id
+
+-- these parts of an agent are of this history
+pub record Holds (past : List Event) (store : StoreState) (registry : Registry) (last_rows : List (Option Last)) (set : Settings) (h : List Beat) : Type 0 where
+  pub beats : List StoreBeat
+  pub are : AreBeatsOf h beats
+  pub store_of : IsStoreOf past store set beats
+  pub registry_is : registry ≡ registry_of h
+  pub last_rows_are : AreLastOf last_rows h
+
+-- the agent is of this history
+pub record IsAgentOf (past : List Event) (agent : AgentState) (set : Settings) (h : List Beat) : Type 0 where
+  pub holds : Holds past agent.store agent.registry agent.last_rows set h
+  pub last_is : agent.last ≡ last h
+  pub count : agent.count ≡ counted (length h)
+  pub copies : agent.copies ≡ is_some (child h)
+  pub going : agent.fault ≡ None
+
+-- the parts of an agent fit each other, whatever history it is of
+pub record Fits (honest : Type 0) (past : List Event) (agent : AgentState) : Type 0 where
+  pub store : IsReady honest past agent.store
+  pub replayed : IsReplayed agent.store
+  pub going : agent.store.fault ≡ None
+  pub same_last : agent.store.last ≡ agent.last
+  pub charts : AreApart same_chart agent.registry.charts
+  pub dimensions : AreApart same_dimension agent.registry.dimensions
+
+-- what a call of an agent requires of its host: it holds of an agent that was made or opened
+abbrev pub AgentIsReady : Type 0 → List Event → AgentState → Type 0
+AgentIsReady honest past agent = agent.fault ≡ None → Fits honest past agent
+
+-- The agent was of this history, and a call of it was refused for the disk or for memory. A stop leaves the
+-- history, or the history with the beat of that call. What the agent still answers is of the history.
+pub record IsSpentAfter (past : List Event) (agent : AgentState) (set : Settings) (h : List Beat) : Type 0 where
+  pub cause : Why
+  pub spent : agent.fault ≡ Some cause
+  pub count : agent.count ≡ counted (length h)
+  pub last_is : agent.last ≡ last h
+  pub id : id_of agent ≡ set.id
+  pub images : EveryDisk (λ disk. StandsForHistory set h disk ⊎ ((beat : Beat) × StandsForHistory set (beat ∷ h) disk)) past
+
+-- the agent is of this history, or was
+abbrev pub IsSoundBy : List Event → AgentState → Settings → List Beat → Type 0
+IsSoundBy past agent set h = IsAgentOf past agent set h ⊎ IsSpentAfter past agent set h
+
+-- an agent that was just made
+pub record IsNewAgent (set : Settings) (agent : AgentState) : Type 0 where
+  pub id : id_of agent ≡ set.id
+  pub count : agent.count ≡ 0
+  pub last_is : agent.last ≡ 0
+  pub going : agent.fault ≡ None

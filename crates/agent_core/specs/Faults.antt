@@ -1,0 +1,94 @@
+-- What a fault of an agent leaves it as.
+use Rattle.std.specs.Prelude.{◌≡◌, ℕ, ◌⊎◌, Option, Some, None, Result, Ok, Err}
+use Rattle.history.specs.declared.fault.BlockFault.{BlockFault}
+use Rattle.store_core.specs.declared.fault.Why.{Why}
+use Rattle.store_core.specs.declared.fault.Why.TheVariants as why
+use Rattle.agent_core.specs.declared.fault.AgentFault.{AgentFault}
+use Rattle.agent_core.specs.declared.fault.AgentFault.TheVariants.{Refused, DiskFault, NotADatabase, Damaged, Reopen, Exists, Memory}
+
+-- the cause that a fault leaves
+abbrev pub cause_of : AgentFault → Option Why
+cause_of (Refused fault) = None
+cause_of DiskFault = Some why.Disk
+cause_of NotADatabase = None
+cause_of (Damaged part) = None
+cause_of (Reopen cause) = None
+cause_of Exists = None
+cause_of Memory = Some why.Memory
+
+-- the cause after a call: the first one stays
+abbrev pub fault_after : {T : Type 0} → Option Why → Result T AgentFault → Option Why
+fault_after (Some cause) result = Some cause
+fault_after None (Ok value) = None
+fault_after None (Err fault) = cause_of fault
+
+-- a fault is Reopen with the first cause where there is one, and else it is another
+abbrev pub ReopensWith : Option Why → AgentFault → Type 0
+ReopensWith before (Refused fault) = before ≡ None
+ReopensWith before DiskFault = before ≡ None
+ReopensWith before NotADatabase = before ≡ None
+ReopensWith before (Damaged part) = before ≡ None
+ReopensWith before (Reopen cause) = before ≡ Some cause
+ReopensWith before Exists = before ≡ None
+ReopensWith before Memory = before ≡ None
+
+-- a call answers Reopen with the first cause where there is one, and only there
+abbrev pub Reopens : {T : Type 0} → Option Why → Result T AgentFault → Type 0
+Reopens before (Ok value) = before ≡ None
+Reopens before (Err fault) = ReopensWith before fault
+
+-- A call is refused with this fault for this reason. The disk fails, and memory is short, only where
+-- nothing stands against the call.
+abbrev pub IsRefusal : Option BlockFault → AgentFault → Type 0
+IsRefusal reason (Refused fault) = reason ≡ Some fault
+IsRefusal reason DiskFault = reason ≡ None
+IsRefusal reason NotADatabase = ⊥
+IsRefusal reason (Damaged part) = ⊥
+IsRefusal reason (Reopen cause) = ⊥
+IsRefusal reason Exists = ⊥
+IsRefusal reason Memory = reason ≡ None
+
+-- a call does what it is asked where there is no reason against it, and else is refused with the reason
+abbrev pub RefusedBy : {T : Type 0} → Option BlockFault → Result T AgentFault → Type 0
+RefusedBy reason (Ok value) = reason ≡ None
+RefusedBy reason (Err fault) = IsRefusal reason fault
+
+-- the faults that change nothing
+abbrev pub LeavesAll : AgentFault → Type 0
+LeavesAll (Refused fault) = Unit {0}
+LeavesAll DiskFault = ⊥
+LeavesAll NotADatabase = ⊥
+LeavesAll (Damaged part) = ⊥
+LeavesAll (Reopen cause) = Unit {0}
+LeavesAll Exists = ⊥
+LeavesAll Memory = ⊥
+
+-- the faults after which an agent must be opened again
+abbrev pub IsSpending : AgentFault → Type 0
+IsSpending (Refused fault) = ⊥
+IsSpending DiskFault = Unit {0}
+IsSpending NotADatabase = ⊥
+IsSpending (Damaged part) = ⊥
+IsSpending (Reopen cause) = ⊥
+IsSpending Exists = ⊥
+IsSpending Memory = Unit {0}
+
+-- the faults of `create`
+abbrev pub IsCreating : AgentFault → Type 0
+IsCreating (Refused fault) = ⊥
+IsCreating DiskFault = Unit {0}
+IsCreating NotADatabase = ⊥
+IsCreating (Damaged part) = ⊥
+IsCreating (Reopen cause) = ⊥
+IsCreating Exists = Unit {0}
+IsCreating Memory = Unit {0}
+
+-- the faults of `open`
+abbrev pub IsOpening : AgentFault → Type 0
+IsOpening (Refused fault) = ⊥
+IsOpening DiskFault = Unit {0}
+IsOpening NotADatabase = Unit {0}
+IsOpening (Damaged part) = (part ≡ 4) ⊎ (part ≡ 5)
+IsOpening (Reopen cause) = ⊥
+IsOpening Exists = ⊥
+IsOpening Memory = Unit {0}

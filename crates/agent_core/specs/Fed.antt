@@ -1,0 +1,28 @@
+-- Which feeds may close beats for an agent.
+use Rattle.std.specs.Prelude.{◌≡◌, ℕ, false, List, [], ◌∷◌}
+use Rattle.history.specs.declared.line.Line.{Line}
+use Rattle.history.specs.declared.line.Line.TheVariants.{Begin}
+use Rattle.history.specs.Looking.{beat}
+use Rattle.history.specs.Refusal.{has_row}
+use Rattle.beat_points.specs.Text.{HaveDivisors}
+use Rattle.collect_block.specs.declared.feed.Feed.{Feed}
+use Rattle.collect_block.specs.Feed.{IsFeedOf}
+
+-- the line does not open a second block of a chart in its beat
+abbrev pub OpensFirst : ℕ → List Line → Line → Type 0
+OpensFirst every past (Begin chart) = has_row (beat every past) chart ≡ false
+OpensFirst every past line = Unit {0}
+
+-- none of these lines, the latest first, does
+abbrev pub OpenEachFirst : ℕ → List Line → Type 0
+OpenEachFirst every [] = Unit {0}
+OpenEachFirst every (line ∷ past) = OpensFirst every past line × OpenEachFirst every past
+
+-- The feed has taken lines none of which opens a second block of a chart in its beat or defines a dimension
+-- that divides by 0. A new feed is so, and a line that is refused is not taken.
+pub record IsFed (feed : Feed) : Type 0 where
+  pub every : ℕ
+  pub past : List Line
+  pub feed_of : IsFeedOf feed every past
+  pub blocks : OpenEachFirst every past
+  pub divisors : HaveDivisors past

@@ -1,0 +1,84 @@
+-- How a store keeps the beats of a history, and which disks stand for it. A history has its newest beat
+-- first, and so has the store.
+use Rattle.std.specs.Prelude.{◌≡◌, ◌⊎◌, ℕ, List, [], ◌∷◌, map, find, slice_get, false, Option, Some, None, is_some}
+use Rattle.std.specs.Option.{option_map_or, option_and_then}
+use Rattle.host_model.specs.declared.file.File.{File}
+use Rattle.history.specs.declared.beat.OpenBeat.{OpenBeat}
+use Rattle.history.specs.declared.beat.OpenDim.{OpenDim}
+use Rattle.history.specs.declared.chart.ChartDef.{ChartDef}
+use Rattle.history.specs.declared.fault.BlockFault.{BlockFault}
+use Rattle.history.specs.History.{Beat, collected, copied, health, missing, child, last, registry_of}
+use Rattle.history.specs.Registry.{Registry, is_chart}
+use Rattle.beat_points.specs.declared.series_word.SeriesWord.{SeriesWord}
+use Rattle.beat_points.specs.Points.{beat_points}
+use Rattle.entry_codec.specs.declared.entry.Entry.TheVariants as entry
+use Rattle.entry_codec.specs.declared.entry.Settings.{Settings}
+use Rattle.entry_codec.specs.Entries.{entry_bytes, HasSpelling}
+use Rattle.beat_entries.specs.Entry.{entry_of}
+use Rattle.store_core.specs.declared.beat.Beat.{Beat as StoreBeat}
+use Rattle.store_core.specs.declared.beat.BeatPoint.{BeatPoint}
+use Rattle.store_core.specs.Stands.{is_made, Stands}
+use Rattle.agent_core.specs.Rules.{beat_refusal, IsOpenBeat}
+
+-- the update_every of the chart of the dimension with this number
+abbrev pub step_of : Registry → ℕ → ℕ
+step_of registry series =
+    option_map_or (λ (chart : ChartDef). chart.update_every)
+    (option_and_then (λ (dimension : OpenDim). find (is_chart dimension.chart) registry.charts) (slice_get registry.dimensions series)) 1
+
+-- a word of a beat as the point of its series
+abbrev pub point_of : Registry → SeriesWord → BeatPoint
+point_of registry point = record { series = point.series; step = step_of registry point.series; word = point.word }
+
+-- the points that a beat gives after a history: the registry has the definitions of both
+abbrev pub stored_points : Registry → List Beat → ℕ → OpenBeat → List BeatPoint
+stored_points registry h moment beat = map (point_of registry) (beat_points registry h moment beat)
+
+-- the entry of a beat, as bytes
+abbrev pub note_of : Registry → ℕ → OpenBeat → List ℕ
+note_of registry moment beat = entry_bytes (entry.Collected (entry_of registry moment beat))
+
+-- what the store keeps of a beat that was collected after a history
+abbrev pub kept_of : List Beat → ℕ → OpenBeat → StoreBeat
+kept_of h moment beat =
+    let registry = registry_of (collected moment beat ∷ h) in
+    record { moment = Some moment; points = stored_points registry h moment beat; note = note_of registry moment beat }
+
+-- the beat may be handed in, and the history does not refuse it
+pub record Follows (h : List Beat) (moment : ℕ) (beat : OpenBeat) : Type 0 where
+  pub is_open : IsOpenBeat beat
+  pub accepted : beat_refusal (registry_of h) (is_some (child h)) (last h) moment beat ≡ None
+
+-- what a store keeps of a beat that was collected after a history: its moment, its points and its entry
+pub record IsCollectedOf (h : List Beat) (moment : ℕ) (beat : OpenBeat) (kept : StoreBeat) : Type 0 where
+  pub follows : Follows h moment beat
+  pub is_kept : kept ≡ kept_of h moment beat
+  -- the entry has a spelling
+  pub spelt : HasSpelling (entry.Collected (entry_of (registry_of (collected moment beat ∷ h)) moment beat))
+
+-- The same of each kind. How copies, configurations and gaps are kept is not said yet: no call stores them.
+abbrev pub IsBeatOf : List Beat → Beat → StoreBeat → Type 0
+IsBeatOf h (collected moment beat) kept = IsCollectedOf h moment beat kept
+IsBeatOf h (copied copy) kept = ⊥
+IsBeatOf h (health text) kept = ⊥
+IsBeatOf h (missing gap) kept = ⊥
+
+-- a store keeps these beats for this history
+abbrev pub AreBeatsOf : List Beat → List StoreBeat → Type 0
+AreBeatsOf [] [] = Unit {0}
+AreBeatsOf (beat ∷ h) (kept ∷ beats) = IsBeatOf h beat kept × AreBeatsOf h beats
+AreBeatsOf h beats = ⊥
+
+-- the disk holds the database with these settings and this history
+pub record StandsForHistory (set : Settings) (h : List Beat) (disk : File → List ℕ) : Type 0 where
+  pub beats : List StoreBeat
+  pub are : AreBeatsOf h beats
+  pub stands : Stands set beats disk
+
+-- the disk holds no database, or the one with these settings and without beats
+abbrev pub StandsForNew : Settings → (File → List ℕ) → Type 0
+StandsForNew set disk = (is_made disk ≡ false) ⊎ StandsForHistory set [] disk
+
+-- the disk holds this history, or, where nothing refuses it, with the history after a call
+abbrev pub StandsForOneOf : Settings → List Beat → Option BlockFault → List Beat → (File → List ℕ) → Type 0
+StandsForOneOf set h refusal after disk = StandsForHistory set h disk ⊎ ((refusal ≡ None) × StandsForHistory set after disk)

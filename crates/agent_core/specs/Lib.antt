@@ -1,0 +1,10 @@
+pub mod Agent
+pub mod Calls
+pub mod Faults
+pub mod Fed
+pub mod Kept
+pub mod Replay
+pub mod Replies
+pub mod Rules
+pub mod Said
+pub mod Steps

@@ -1,0 +1,68 @@
+-- How an agent is opened: the beats of its store are replayed, the oldest first.
+use Rattle.std.specs.Prelude.{◌≡◌, List, [], ◌∷◌, Option, None}
+use Rattle.host_model.specs.Past.{Event}
+use Rattle.algorithms.specs.declared.last.Last.{Last}
+use Rattle.history.specs.History.{Beat, registry_of}
+use Rattle.history.specs.Registry.{Registry, same_chart, same_dimension}
+use Rattle.beat_points.specs.LastRows.{AreLastOf}
+use Rattle.beat_points.specs.Regular.{AreApart}
+use Rattle.entry_codec.specs.declared.entry.Settings.{Settings}
+use Rattle.store_core.specs.declared.beat.Beat.{Beat as StoreBeat}
+use Rattle.store_core.specs.declared.fault.StoreFault.{StoreFault}
+use Rattle.store_core.specs.declared.fault.StoreFault.TheVariants as store
+use Rattle.store_core.specs.Store.{IsReplayed, IsStoreAt, OpensAt, StoreState}
+use Rattle.agent_core.specs.declared.fault.AgentFault.{AgentFault}
+use Rattle.agent_core.specs.declared.fault.AgentFault.TheVariants.{DiskFault, NotADatabase, Damaged, Memory}
+use Rattle.agent_core.specs.Agent.{AgentState}
+use Rattle.agent_core.specs.Kept.{AreBeatsOf, IsBeatOf}
+
+-- why an agent is not opened where its store is not
+abbrev pub fault_of : StoreFault → AgentFault
+fault_of store.DiskFault = DiskFault
+fault_of store.NotADatabase = NotADatabase
+fault_of (store.Damaged part) = Damaged part
+fault_of fault = Memory
+
+-- a history with these beats, the oldest first, on top of it
+abbrev pub onto : List Beat → List Beat → List Beat
+onto g [] = g
+onto g (beat ∷ more) = onto (beat ∷ g) more
+
+-- a store keeps these beats, the oldest first, for those that follow a history
+abbrev pub AreNextOf : List Beat → List Beat → List StoreBeat → Type 0
+AreNextOf g [] [] = Unit {0}
+AreNextOf g (beat ∷ more) (kept ∷ rest) = IsBeatOf g beat kept × AreNextOf (beat ∷ g) more rest
+AreNextOf g more rest = ⊥
+
+-- a registry and last rows are those of a history
+pub record ArePartsOf (registry : Registry) (lasts : List (Option Last)) (g : List Beat) : Type 0 where
+  pub registry_is : registry ≡ registry_of g
+  pub last_rows_are : AreLastOf lasts g
+
+-- the store has replayed a front of the history, and the other parts are those of that front
+pub record IsReplaying (past : List Event) (store : StoreState) (registry : Registry) (lasts : List (Option Last)) (set : Settings) (h : List Beat) : Type 0 where
+  pub front : List Beat
+  pub more : List Beat
+  pub beats : List StoreBeat
+  pub rest : List StoreBeat
+  pub whole : onto front more ≡ h
+  pub are : AreBeatsOf front beats
+  pub next : AreNextOf front more rest
+  pub is_at : IsStoreAt past store set beats rest
+  pub parts : ArePartsOf registry lasts front
+
+-- the store was opened, with the beats that it keeps for this history
+pub record IsOpenedFor (past : List Event) (store : StoreState) (set : Settings) (h : List Beat) : Type 0 where
+  pub beats : List StoreBeat
+  pub are : AreBeatsOf h beats
+  pub opens : OpensAt past store set beats
+
+-- the agent has replayed all of this store, of whatever beats that is
+pub record HasReplayed (store : StoreState) (agent : AgentState) : Type 0 where
+  pub journal : agent.store.journal ≡ store.journal
+  pub store_going : agent.store.fault ≡ None
+  pub replayed : IsReplayed agent.store
+  pub same_last : agent.store.last ≡ agent.last
+  pub going : agent.fault ≡ None
+  pub charts : AreApart same_chart agent.registry.charts
+  pub dimensions : AreApart same_dimension agent.registry.dimensions

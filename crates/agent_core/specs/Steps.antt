@@ -1,0 +1,80 @@
+-- What an agent does with what a line led to, and what it promises of it.
+use Rattle.std.specs.Prelude.{◌≡◌, ℕ, Bool, List, ◌∷◌, Option, None, Result, IfOk, IfErr, IsErrOf, OnOk, OnErr}
+use Rattle.host_model.specs.Past.{told}
+use Rattle.host_model.specs.Disks.{EveryDisk}
+use Rattle.host_model.specs.Cause.{HasCause}
+use Rattle.host_model.specs.Moments.{Throughout}
+use Rattle.history.specs.declared.fault.BlockFault.{BlockFault}
+use Rattle.history.specs.History.{Beat, collected}
+use Rattle.history.specs.Registry.{Registry}
+use Rattle.collect_block.specs.declared.step.Step.{Step}
+use Rattle.collect_block.specs.declared.step.Step.TheVariants as step
+use Rattle.entry_codec.specs.declared.entry.Settings.{Settings}
+use Rattle.store_core.specs.Store.{raised}
+use Rattle.agent_core.specs.declared.fault.AgentFault.{AgentFault}
+use Rattle.agent_core.specs.declared.fault.AgentFault.TheVariants.{DiskFault}
+use Rattle.agent_core.specs.declared.reply.Said.{Said}
+use Rattle.agent_core.specs.declared.reply.Said.TheVariants.{Nothing, Stored, Asked, Disabled}
+use Rattle.agent_core.specs.Agent.{id_of, AgentIsReady, AgentState, IsAgentOf}
+use Rattle.agent_core.specs.Calls.{Seen}
+use Rattle.agent_core.specs.Faults.{fault_after, LeavesAll, RefusedBy, Reopens}
+use Rattle.agent_core.specs.Kept.{StandsForOneOf}
+use Rattle.agent_core.specs.Rules.{beat_refusal, IsOpenBeat}
+
+-- a beat of the step may be handed in
+abbrev pub IsOpenStep : Step → Type 0
+IsOpenStep (step.Beat beat moment) = IsOpenBeat beat
+IsOpenStep step = Unit {0}
+
+-- the step has a beat
+abbrev pub HasBeat : Step → Type 0
+HasBeat (step.Beat beat moment) = Unit {0}
+HasBeat step = ⊥
+
+-- why its beat may not follow
+abbrev pub step_refusal : Registry → Bool → ℕ → Step → Option BlockFault
+step_refusal registry copies last (step.Beat beat moment) = beat_refusal registry copies last moment beat
+step_refusal registry copies last step = None
+
+-- the history, the count and the last moment with its beat
+abbrev pub step_history : List Beat → Step → List Beat
+step_history h (step.Beat beat moment) = collected moment beat ∷ h
+step_history h step = h
+
+abbrev pub step_count : ℕ → Step → ℕ
+step_count count (step.Beat beat moment) = raised count
+step_count count step = count
+
+abbrev pub step_last : ℕ → Step → ℕ
+step_last last (step.Beat beat moment) = moment
+step_last last step = last
+
+-- what is said of it, where there are so many beats with its own
+abbrev pub step_said : ℕ → Step → Said
+step_said count step.Nothing = Nothing
+step_said count (step.Beat beat moment) = Stored (record { count = count })
+step_said count (step.Query text) = Asked text
+step_said count step.Disabled = Disabled
+
+-- an agent that was going took a step, which with this result left it and the host so
+pub record Takes (honest : Type 0) (host : Seen) (agent : AgentState) (step : Step) (result : Result Said AgentFault) (host' : Seen) (agent' : AgentState) : Type 0 where
+  -- at every moment a stop leaves the history, or, where nothing refuses the beat, the history with it
+  pub any_moment : honest → (set : Settings) (h : List Beat) → IsAgentOf host.past agent set h
+      → Throughout (EveryDisk (StandsForOneOf set h (step_refusal agent.registry agent.copies agent.last step) (step_history h step))) host.past host'.past
+  -- at Ok the agent is of the history with the beat, if there is one
+  pub done : OnOk result (honest → (set : Settings) (h : List Beat) → IsAgentOf host.past agent set h → IsAgentOf host'.past agent' set (step_history h step))
+  pub said : IfOk result (λ said. said ≡ step_said agent'.count step)
+  pub counts : OnOk result (agent'.count ≡ step_count agent.count step)
+  pub last : OnOk result (agent'.last ≡ step_last agent.last step)
+  pub refused : RefusedBy (step_refusal agent.registry agent.copies agent.last step) result
+  -- only a beat is refused
+  pub beats : OnErr result (HasBeat step)
+  pub unchanged : IfErr result (λ fault. LeavesAll fault → (agent' ≡ agent) × (host' ≡ host))
+  pub fault : agent'.fault ≡ fault_after agent.fault result
+  pub reopens : Reopens agent.fault result
+  pub stays : OnErr result ((agent'.count ≡ agent.count) × (agent'.last ≡ agent.last))
+  pub id : id_of agent' ≡ id_of agent
+  pub ready : AgentIsReady honest host'.past agent'
+  pub cause : HasCause host.disk_faults host'.disk_faults (IsErrOf result DiskFault)
+  pub output : honest → told host'.past ≡ told host.past
+  pub tells : host'.tell_faults ≡ host.tell_faults

@@ -1,0 +1,346 @@
+ghost use Rattle.std.specs.Prelude.{◌≡◌, ◌⊎◌, ◌∷◌, [], ℕ, List, None, true, false, IfOk, IfErr, IsErrOf, OnOk, OnErr};
+ghost use Rattle.host_model.specs.declared.file.File.{File as AFile};
+ghost use Rattle.host_model.specs.Past.{told, Event, IsDisk};
+ghost use Rattle.host_model.specs.Disks.{EveryDisk, reads_as};
+ghost use Rattle.host_model.specs.Cause.{HasCause};
+ghost use Rattle.host_model.specs.Moments.{Throughout};
+ghost use Rattle.history.specs.History.{Beat as HistoryBeat, collected};
+ghost use Rattle.beat_points.specs.Text.{HaveDivisors};
+ghost use Rattle.entry_codec.specs.declared.entry.Settings.{Settings as ASettings};
+ghost use Rattle.store_core.specs.FirstRecord.{InLimits};
+ghost use Rattle.store_core.specs.Stands.{is_made, IsDamaged};
+ghost use Rattle.store_core.specs.Store.{raised};
+ghost use Rattle.agent_core.specs.Calls.{Beats, Creates, Lines, Opens};
+ghost use Rattle.agent_core.specs.Fed.{IsFed};
+ghost use Rattle.agent_core.specs.Faults.{fault_after, IsCreating, IsOpening, LeavesAll, RefusedBy, Reopens};
+ghost use Rattle.agent_core.specs.Kept.{StandsForHistory, StandsForNew, StandsForOneOf};
+ghost use Rattle.agent_core.specs.Replay.{HasReplayed, IsOpenedFor};
+ghost use Rattle.agent_core.specs.Rules.{beat_refusal, IsOpenBeat};
+ghost use Rattle.agent_core.specs.Steps.{IsOpenStep, Takes};
+
+use crate::fault::AgentFault;
+use crate::keeping::add;
+use crate::refusal::refusal;
+use crate::replaying::{open_store, replay_all};
+use crate::reply::{Reply, Said};
+use beat_points::LastRows;
+use chart_registry::Registry;
+use collect_block::{Feed, Step};
+use entry_codec::Settings;
+use history::{BlockFault, Line, OpenBeat};
+use host_model::Host;
+use std::alloc::Global;
+use std::marker::Model;
+use store_core::{Store, StoreFault, Why};
+
+/// The agent of one history, with the host that its database is on. Each call on it is handed that host,
+/// which since the agent was made or opened only its calls, and `tell`, have touched.
+#[derive(Drop)]
+pub struct Agent {
+    alloc: Global,
+    store: Store,
+    registry: Registry,
+    last_rows: LastRows,
+    /// The last moment, or 0.
+    last: u32,
+    /// How many beats there are.
+    count: u64,
+    /// Whether the history has copied beats or gaps.
+    copies: bool,
+    /// The first cause for which the agent must be opened again.
+    fault: Option<Why>,
+}
+
+impl Model for Agent {
+    ghost use Rattle.agent_core.specs.Agent.{AgentState};
+
+    ghost Value = { AgentState };
+
+    ghost view = { λ agent. record {
+      store = agent.store;
+      registry = agent.registry;
+      last_rows = agent.last_rows;
+      last = agent.last;
+      count = agent.count;
+      copies = agent.copies;
+      fault = agent.fault;
+    } };
+}
+
+/// The count after one more beat.
+fn raised(count: u64) -> u64
+    ensures { result ≡ raised count }
+{
+    count.saturating_add(1)
+}
+
+impl Agent {
+    ghost use Rattle.agent_core.specs.Agent.{id_of, AgentIsReady, IsAgentOf, IsNewAgent};
+
+    /// Makes the agent of a history without beats, and its database, where there is none.
+    ///
+    /// `Exists` exactly where there is a database, and then nothing has happened. Where there was none
+    /// whatever a stop left, then at every moment a stop leaves none, or the one without beats; at `Ok` the
+    /// latter.
+    pub fn create<H: Host>(
+        alloc: Global,
+        host: &mut H,
+        settings: &Settings,
+    ) -> Result<Agent, AgentFault>
+        requires { InLimits settings.now }
+        ensures { Creates H.honest (record { past = H.past host.old; disk_faults = H.disk_faults host.old; tell_faults = H.tell_faults host.old })
+            settings.now result (record { past = H.past host.new; disk_faults = H.disk_faults host.new; tell_faults = H.tell_faults host.new }) }
+    {
+        Agent::make(alloc, host, settings)
+    }
+
+    fn make<H: Host>(alloc: Global, host: &mut H, settings: &Settings) -> Result<Agent, AgentFault>
+        requires { InLimits settings.now }
+        ensures any_moment { H.honest → EveryDisk (λ disk. is_made disk ≡ false) (H.past host.old)
+            → Throughout (EveryDisk (StandsForNew settings.now)) (H.past host.old) (H.past host.new) }
+        ensures created { IfOk result (λ agent. H.honest → IsAgentOf (H.past host.new) agent settings.now []) }
+        ensures ready { IfOk result (AgentIsReady H.honest (H.past host.new)) }
+        ensures new { IfOk result (IsNewAgent settings.now) }
+        ensures exists { IsErrOf result AgentFault.Exists → H.honest → is_made (reads_as (H.past host.old)) ≡ true }
+        ensures none { OnOk result (H.honest → is_made (reads_as (H.past host.old)) ≡ false) }
+        ensures made { H.honest → is_made (reads_as (H.past host.old)) ≡ true
+            → (IsErrOf result AgentFault.Exists ⊎ IsErrOf result AgentFault.DiskFault) × (H.past host.new ≡ H.past host.old) }
+        ensures memory { IsErrOf result AgentFault.Memory → H.honest → H.past host.new ≡ H.past host.old }
+        ensures faults { IfErr result IsCreating }
+        ensures cause { HasCause (H.disk_faults host.old) (H.disk_faults host.new) (IsErrOf result AgentFault.DiskFault) }
+        ensures output { H.honest → told (H.past host.new) ≡ told (H.past host.old) }
+        ensures tells { H.tell_faults host.new ≡ H.tell_faults host.old }
+    {
+        match Store::create(alloc, host, settings) {
+            Ok(store) => Ok(Agent {
+                alloc,
+                store,
+                registry: Registry::new(alloc),
+                last_rows: LastRows::new(alloc),
+                last: 0,
+                count: 0,
+                copies: false,
+                fault: None,
+            }),
+            Err(StoreFault::DiskFault) => Err(AgentFault::DiskFault),
+            Err(StoreFault::Exists) => Err(AgentFault::Exists),
+            Err(StoreFault::Memory) => Err(AgentFault::Memory),
+            Err(StoreFault::NotADatabase) => Err(AgentFault::NotADatabase),
+            Err(StoreFault::Damaged(part)) => Err(AgentFault::Damaged(part)),
+            Err(StoreFault::Reopen(cause)) => Err(AgentFault::Reopen(cause)),
+            Err(StoreFault::MomentOrder) => Err(AgentFault::Memory),
+        }
+    }
+
+    /// Opens the database of an agent and goes through all that it holds.
+    ///
+    /// `NotADatabase` exactly where there is none, and `Damaged` only where what is there stands for no
+    /// history: with 4 where its journal holds no settings and beats, and with 5 where an entry in it is none or
+    /// does not go on from those before. At `Ok` the agent is of just the history that the disk stands for. The
+    /// disk is only read and synced.
+    pub fn open<H: Host>(alloc: Global, host: &mut H) -> Result<Agent, AgentFault>
+        ensures { Opens H.honest (record { past = H.past host.old; disk_faults = H.disk_faults host.old; tell_faults = H.tell_faults host.old })
+            result (record { past = H.past host.new; disk_faults = H.disk_faults host.new; tell_faults = H.tell_faults host.new }) }
+    {
+        Agent::load(alloc, host)
+    }
+
+    fn load<H: Host>(alloc: Global, host: &mut H) -> Result<Agent, AgentFault>
+        ensures opened { IfOk result (λ agent. H.honest → (set : ASettings) (h : List HistoryBeat) → StandsForHistory set h (reads_as (H.past host.old))
+            → IsAgentOf (H.past host.new) agent set h) }
+        ensures ready { IfOk result (AgentIsReady H.honest (H.past host.new)) }
+        ensures going { IfOk result (λ agent. agent.fault ≡ None) }
+        ensures any_moment { H.honest → Throughout (EveryDisk (IsDisk (H.past host.old))) (H.past host.old) (H.past host.new) }
+        ensures same { H.honest → (file : AFile) → reads_as (H.past host.new) file ≡ reads_as (H.past host.old) file }
+        ensures stands { H.honest → (set : ASettings) (h : List HistoryBeat) → StandsForHistory set h (reads_as (H.past host.old))
+            → IfErr result (λ fault. (fault ≡ AgentFault.DiskFault) ⊎ (fault ≡ AgentFault.Memory)) }
+        ensures none { IsErrOf result AgentFault.NotADatabase → H.honest → is_made (reads_as (H.past host.old)) ≡ false }
+        ensures some { OnOk result (H.honest → is_made (reads_as (H.past host.old)) ≡ true) }
+        ensures damaged { IsErrOf result (AgentFault.Damaged 4) → H.honest → IsDamaged (reads_as (H.past host.old)) }
+        ensures faults { IfErr result IsOpening }
+        ensures cause { HasCause (H.disk_faults host.old) (H.disk_faults host.new) (IsErrOf result AgentFault.DiskFault) }
+        ensures output { H.honest → told (H.past host.new) ≡ told (H.past host.old) }
+        ensures tells { H.tell_faults host.new ≡ H.tell_faults host.old }
+    {
+        match open_store(alloc, host) {
+            Ok(store) => Agent::replayed(alloc, store),
+            Err(fault) => Err(fault),
+        }
+    }
+
+    /// The agent of a store that was just opened, once all its beats are replayed.
+    fn replayed(alloc: Global, mut store: Store) -> Result<Agent, AgentFault>
+        requires going { store.fault ≡ None }
+        ensures replayed { IfOk result (HasReplayed store) }
+        ensures of { IfOk result (λ agent. (past : List Event) (set : ASettings) (h : List HistoryBeat) → IsOpenedFor past store set h
+            → IsAgentOf past agent set h) }
+        ensures stands { IfErr result (λ fault. (past : List Event) (set : ASettings) (h : List HistoryBeat) → IsOpenedFor past store set h
+            → fault ≡ AgentFault.Memory) }
+        ensures faults { IfErr result (λ fault. (fault ≡ AgentFault.Memory) ⊎ (fault ≡ AgentFault.Damaged 5)) }
+    {
+        let mut registry = Registry::new(alloc);
+        let mut last_rows = LastRows::new(alloc);
+        replay_all(alloc, &mut store, &mut registry, &mut last_rows)?;
+        Ok(Agent {
+            alloc,
+            last: store.last(),
+            count: store.count(),
+            store,
+            registry,
+            last_rows,
+            copies: false,
+            fault: None,
+        })
+    }
+
+    /// Takes the next line of a collector's text, and at a MOMENT stores the beat that it closes.
+    ///
+    /// `Refused` exactly where the line may not stand there or the history does not take its beat, with the
+    /// first reason, and then nothing of the agent has changed. The feed has taken only lines that were handed
+    /// to `Agent::line` or to `Feed::line` and were not refused. Where the beat of a MOMENT is refused the feed
+    /// has given it away. After `DiskFault` or `Memory` the agent must be opened again.
+    pub fn line<H: Host>(
+        &mut self,
+        host: &mut H,
+        feed: &mut Feed,
+        line: &Line,
+    ) -> Result<Said, AgentFault>
+        requires ready { AgentIsReady H.honest (H.past host.old) self.old }
+        requires fed { IsFed feed.old }
+        requires divisor { HaveDivisors (line.now ∷ []) }
+        ensures { Lines H.honest (record { past = H.past host.old; disk_faults = H.disk_faults host.old; tell_faults = H.tell_faults host.old }) self.old feed.old
+            line.now result (record { past = H.past host.new; disk_faults = H.disk_faults host.new; tell_faults = H.tell_faults host.new }) self.new feed.new }
+    {
+        if let Some(earlier) = self.fault {
+            return Err(AgentFault::Reopen(earlier));
+        }
+        match feed.line(&self.registry, self.last, self.copies, line) {
+            Ok(step) => self.take_step(host, step),
+            Err(fault) => match fault {
+                BlockFault::Memory => {
+                    self.fault = Some(Why::Memory);
+                    Err(AgentFault::Memory)
+                }
+                reason => Err(AgentFault::Refused(reason)),
+            },
+        }
+    }
+
+    /// Does what a line led to.
+    fn take_step<H: Host>(&mut self, host: &mut H, step: Step) -> Result<Said, AgentFault>
+        requires ready { AgentIsReady H.honest (H.past host.old) self.old }
+        requires going { self.old.fault ≡ None }
+        requires is_open { IsOpenStep step }
+        ensures { Takes H.honest (record { past = H.past host.old; disk_faults = H.disk_faults host.old; tell_faults = H.tell_faults host.old }) self.old
+            step result (record { past = H.past host.new; disk_faults = H.disk_faults host.new; tell_faults = H.tell_faults host.new }) self.new }
+    {
+        match step {
+            Step::Nothing => Ok(Said::Nothing),
+            Step::Query(text) => Ok(Said::Asked(text)),
+            Step::Disabled => Ok(Said::Disabled),
+            Step::Beat(beat, moment) => match self.beat(host, &beat, moment) {
+                Ok(reply) => Ok(Said::Stored(reply)),
+                Err(fault) => Err(fault),
+            },
+        }
+    }
+
+    /// Stores a beat of a collector at this moment.
+    ///
+    /// `Refused` exactly where the history does not take it, with the first reason, and then nothing has
+    /// changed. After `DiskFault` or `Memory` the agent must be opened again.
+    pub fn beat<H: Host>(
+        &mut self,
+        host: &mut H,
+        beat: &OpenBeat,
+        moment: u32,
+    ) -> Result<Reply, AgentFault>
+        requires ready { AgentIsReady H.honest (H.past host.old) self.old }
+        requires is_open { IsOpenBeat beat.now }
+        ensures { Beats H.honest (record { past = H.past host.old; disk_faults = H.disk_faults host.old; tell_faults = H.tell_faults host.old }) self.old
+            beat.now moment result (record { past = H.past host.new; disk_faults = H.disk_faults host.new; tell_faults = H.tell_faults host.new }) self.new }
+    {
+        self.store_beat(host, beat, moment)
+    }
+
+    fn store_beat<H: Host>(
+        &mut self,
+        host: &mut H,
+        beat: &OpenBeat,
+        moment: u32,
+    ) -> Result<Reply, AgentFault>
+        requires ready { AgentIsReady H.honest (H.past host.old) self.old }
+        requires is_open { IsOpenBeat beat.now }
+        ensures any_moment { H.honest → (set : ASettings) (h : List HistoryBeat) → IsAgentOf (H.past host.old) self.old set h
+            → Throughout (EveryDisk (StandsForOneOf set h (beat_refusal self.old.registry self.old.copies self.old.last moment beat.now) (collected moment beat.now ∷ h))) (H.past host.old) (H.past host.new) }
+        ensures done { OnOk result (H.honest → (set : ASettings) (h : List HistoryBeat) → IsAgentOf (H.past host.old) self.old set h
+            → IsAgentOf (H.past host.new) self.new set (collected moment beat.now ∷ h)) }
+        ensures number { IfOk result (λ reply. reply.count ≡ self.new.count) }
+        ensures counts { OnOk result (self.new.count ≡ raised self.old.count) }
+        ensures last { OnOk result (self.new.last ≡ moment) }
+        ensures refused { self.old.fault ≡ None → RefusedBy (beat_refusal self.old.registry self.old.copies self.old.last moment beat.now) result }
+        ensures unchanged { IfErr result (λ fault. LeavesAll fault → (self.new ≡ self.old) × (host.new ≡ host.old)) }
+        ensures fault { self.new.fault ≡ fault_after self.old.fault result }
+        ensures reopens { Reopens self.old.fault result }
+        ensures stays { OnErr result ((self.new.count ≡ self.old.count) × (self.new.last ≡ self.old.last)) }
+        ensures id { id_of self.new ≡ id_of self.old }
+        ensures ready { AgentIsReady H.honest (H.past host.new) self.new }
+        ensures cause { HasCause (H.disk_faults host.old) (H.disk_faults host.new) (IsErrOf result AgentFault.DiskFault) }
+        ensures output { H.honest → told (H.past host.new) ≡ told (H.past host.old) }
+        ensures tells { H.tell_faults host.new ≡ H.tell_faults host.old }
+    {
+        if let Some(cause) = self.fault {
+            return Err(AgentFault::Reopen(cause));
+        }
+        if let Some(reason) = refusal(&self.registry, self.copies, self.last, moment, beat) {
+            return Err(AgentFault::Refused(reason));
+        }
+        match add(
+            self.alloc,
+            &mut self.store,
+            &mut self.registry,
+            &mut self.last_rows,
+            host,
+            beat,
+            moment,
+        ) {
+            Ok(()) => {
+                self.last = moment;
+                self.count = raised(self.count);
+                Ok(Reply { count: self.count })
+            }
+            Err(fault) => {
+                self.fault = fault.cause();
+                Err(fault)
+            }
+        }
+    }
+
+    /// How many beats there are: at most 2^64 - 1.
+    pub fn count(&self) -> u64
+        ensures { result ≡ self.now.count }
+    {
+        self.count
+    }
+
+    /// The last moment, or 0.
+    pub fn last(&self) -> u32
+        ensures { result ≡ self.now.last }
+    {
+        self.last
+    }
+
+    /// The number of the history.
+    pub fn id(&self) -> u64
+        ensures { result ≡ id_of self.now }
+    {
+        self.store.settings().id
+    }
+
+    /// The charts and dimensions, by number.
+    pub fn registry(&self) -> &Registry
+        ensures { result.now ≡ self.now.registry }
+    {
+        &self.registry
+    }
+}

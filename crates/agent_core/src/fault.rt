@@ -1,0 +1,49 @@
+use history::BlockFault;
+use store_core::{StoreFault, Why};
+use thiserror::Error;
+
+/// Why a call on an agent did not do what it was asked to do.
+#[derive(Clone, Copy, Debug, PartialEq, Eq, Error)]
+pub enum AgentFault {
+    /// The history does not take this line or beat.
+    #[error("{0}")]
+    Refused(BlockFault),
+    /// A call on the disk failed.
+    #[error("the disk failed")]
+    DiskFault,
+    /// There is no database on the disk.
+    #[error("there is no database")]
+    NotADatabase,
+    /// What is on the disk is no database: the part of its form with this number does not hold.
+    #[error("the database is damaged in part {0}")]
+    Damaged(u32),
+    /// An earlier call failed so, and the database must be opened again.
+    #[error("the database must be opened again: {0}")]
+    Reopen(Why),
+    /// There is a database on the disk already.
+    #[error("there is a database already")]
+    Exists,
+    /// There was no memory.
+    #[error("out of memory")]
+    Memory,
+}
+
+impl AgentFault {
+    ghost use Rattle.std.specs.Prelude.{◌≡◌};
+    ghost use Rattle.agent_core.specs.Faults.{cause_of};
+
+    /// Why the agent is of no more use after this fault, if it is not.
+    pub(crate) fn cause(self) -> Option<Why>
+        ensures { result ≡ cause_of self }
+    {
+        match self {
+            AgentFault::DiskFault => Some(Why::Disk),
+            AgentFault::Memory => Some(Why::Memory),
+            AgentFault::Refused(_)
+            | AgentFault::NotADatabase
+            | AgentFault::Damaged(_)
+            | AgentFault::Reopen(_)
+            | AgentFault::Exists => None,
+        }
+    }
+}

@@ -1,0 +1,213 @@
+//! What a store keeps of a beat, and how it is added to a history.
+
+ghost use Rattle.std.specs.Prelude.{◌≡◌, ◌≤◌, ◌^◌, ◌∷◌, ◌⊎◌, ℕ, List, Some, None, false, length, All, IfOk, IfErr, OnOk, IsErrOf};
+ghost use Rattle.host_model.specs.Past.{told};
+ghost use Rattle.host_model.specs.Disks.{EveryDisk};
+ghost use Rattle.host_model.specs.Cause.{HasCause};
+ghost use Rattle.host_model.specs.Moments.{Throughout};
+ghost use Rattle.history.specs.History.{Beat as HistoryBeat, collected};
+ghost use Rattle.history.specs.Registry.{same_chart, same_dimension, with_definitions};
+ghost use Rattle.beat_points.specs.LastRows.{AreLastOf};
+ghost use Rattle.beat_points.specs.Points.{IsNext};
+ghost use Rattle.beat_points.specs.Regular.{AreApart, IsRegular};
+ghost use Rattle.beat_entries.specs.Defined.{IsDefinedIn};
+ghost use Rattle.beat_entries.specs.Entry.{entry_of};
+ghost use Rattle.entry_codec.specs.declared.entry.Entry.TheVariants as entry;
+ghost use Rattle.entry_codec.specs.declared.entry.Settings.{Settings as ASettings};
+ghost use Rattle.entry_codec.specs.Entries.{HasSpelling};
+ghost use Rattle.store_core.specs.declared.beat.Beat.{Beat as StoreBeat};
+ghost use Rattle.store_core.specs.Beats.{beat_bytes, InForm};
+ghost use Rattle.store_core.specs.Records.{last_after};
+ghost use Rattle.store_core.specs.Stands.{StandsAround};
+ghost use Rattle.store_core.specs.Store.{IsReady, IsReplayed, IsStoreOf};
+ghost use Rattle.agent_core.specs.Agent.{Holds};
+ghost use Rattle.agent_core.specs.Faults.{IsSpending};
+ghost use Rattle.agent_core.specs.Kept.{kept_of, note_of, Follows, StandsForHistory};
+ghost use Rattle.agent_core.specs.Rules.{lacks_chart, lacks_dimension, too_many_dimensions, IsOpenBeat};
+
+use crate::fault::AgentFault;
+use crate::points::stored_points;
+use beat_entries::entry_of;
+use beat_points::LastRows;
+use chart_registry::Registry;
+use entry_codec::{Entry, write_entry};
+use history::OpenBeat;
+use host_model::Host;
+use std::alloc::{AllocError, Global};
+use store_core::{Beat, ByteList, Store, StoreFault};
+
+/// The entry of a beat, as bytes.
+fn note_of(
+    alloc: Global,
+    registry: &Registry,
+    beat: &OpenBeat,
+    moment: u32,
+) -> Result<ByteList, AllocError>
+    requires regular { IsRegular registry.now beat.now }
+    requires defined { IsDefinedIn registry.now beat.now }
+    ensures note { IfOk result (λ note. note ≡ note_of registry.now moment beat.now) }
+    ensures spelt { OnOk result (HasSpelling (entry.Collected (entry_of registry.now moment beat.now))) }
+{
+    let entry = Entry::Collected(entry_of(alloc, registry, moment, beat)?);
+    match write_entry(alloc, &entry) {
+        Ok(note) => Ok(note),
+        Err(_) => Err(AllocError),
+    }
+}
+
+/// What a store keeps of a beat, once the registry has its definitions.
+fn kept_of(
+    alloc: Global,
+    registry: &Registry,
+    last_rows: &LastRows,
+    beat: &OpenBeat,
+    moment: u32,
+) -> Result<Beat, AllocError>
+    requires regular { IsRegular registry.now beat.now }
+    requires defined { IsDefinedIn registry.now beat.now }
+    ensures kept { IfOk result (λ kept. (h : List HistoryBeat) → IsNext registry.now last_rows.now h moment beat.now → kept ≡ kept_of h moment beat.now) }
+    ensures spelt { OnOk result (HasSpelling (entry.Collected (entry_of registry.now moment beat.now))) }
+    ensures moment { IfOk result (λ kept. kept.moment ≡ Some moment) }
+{
+    let Ok(words) = last_rows.points(alloc, registry, beat, moment) else {
+        return Err(AllocError);
+    };
+    let points = stored_points(alloc, registry, words.as_slice())?;
+    let note = note_of(alloc, registry, beat, moment)?;
+    Ok(Beat {
+        moment: Some(moment),
+        points,
+        note,
+    })
+}
+
+/// The beat, if a record of a store can hold it. Each beat that an agent keeps is so.
+fn in_form(kept: Beat) -> Result<Beat, AllocError>
+    ensures same { IfOk result (λ beat. beat ≡ kept) }
+    ensures form { IfOk result InForm }
+    ensures size { IfOk result (λ beat. length (beat_bytes beat) ≤ 2 ^ 26) }
+{
+    if kept.is_in_form() && kept.fits_a_record() {
+        Ok(kept)
+    } else {
+        Err(AllocError)
+    }
+}
+
+/// What a store keeps of a beat, whose definitions the registry takes. After an `Err` it may have taken a
+/// part of them.
+fn keep(
+    alloc: Global,
+    registry: &mut Registry,
+    last_rows: &LastRows,
+    beat: &OpenBeat,
+    moment: u32,
+) -> Result<Beat, AllocError>
+    requires is_open { IsOpenBeat beat.now }
+    requires charts { AreApart same_chart registry.old.charts }
+    requires dimensions { AreApart same_dimension registry.old.dimensions }
+    requires has_charts { lacks_chart registry.old beat.now ≡ false }
+    requires has_dimensions { lacks_dimension registry.old beat.now ≡ false }
+    requires few { too_many_dimensions registry.old beat.now ≡ false }
+    ensures applied { OnOk result (registry.new ≡ with_definitions registry.old beat.now.charts beat.now.dimensions) }
+    ensures kept { IfOk result (λ kept. (h : List HistoryBeat) → IsNext registry.new last_rows.now h moment beat.now → kept ≡ kept_of h moment beat.now) }
+    ensures spelt { OnOk result (HasSpelling (entry.Collected (entry_of registry.new moment beat.now))) }
+    ensures moment { IfOk result (λ kept. kept.moment ≡ Some moment) }
+    ensures form { IfOk result InForm }
+    ensures size { IfOk result (λ kept. length (beat_bytes kept) ≤ 2 ^ 26) }
+    ensures regular { OnOk result (IsRegular registry.new beat.now) }
+{
+    match registry.apply(beat) {
+        Ok(()) => in_form(kept_of(alloc, registry, last_rows, beat, moment)?),
+        Err(_) => Err(AllocError),
+    }
+}
+
+/// Adds a beat to a store that is still of use.
+fn commit<H: Host>(store: &mut Store, host: &mut H, kept: &Beat) -> Result<(), AgentFault>
+    requires ready { IsReady H.honest (H.past host.old) store.old }
+    requires replayed { IsReplayed store.old }
+    requires going { store.old.fault ≡ None }
+    requires form { InForm kept.now }
+    requires size { length (beat_bytes kept.now) ≤ 2 ^ 26 }
+    ensures any_moment { H.honest → (set : ASettings) (beats : List StoreBeat) → IsStoreOf (H.past host.old) store.old set beats
+        → Throughout (EveryDisk (StandsAround set beats kept.now)) (H.past host.old) (H.past host.new) }
+    ensures stored { OnOk result (H.honest → (set : ASettings) (beats : List StoreBeat) → IsStoreOf (H.past host.old) store.old set beats
+        → IsStoreOf (H.past host.new) store.new set (kept.now ∷ beats)) }
+    ensures ready { IsReady H.honest (H.past host.new) store.new }
+    ensures replayed { IsReplayed store.new }
+    ensures going { OnOk result (store.new.fault ≡ None) }
+    ensures last { OnOk result (store.new.last ≡ last_after store.old.last kept.now.moment) }
+    ensures settings { store.new.settings ≡ store.old.settings }
+    ensures faults { IfErr result IsSpending }
+    ensures output { H.honest → told (H.past host.new) ≡ told (H.past host.old) }
+    ensures cause { HasCause (H.disk_faults host.old) (H.disk_faults host.new) (IsErrOf result AgentFault.DiskFault) }
+    ensures tells { H.tell_faults host.new ≡ H.tell_faults host.old }
+{
+    match store.commit(host, kept) {
+        Ok(()) => Ok(()),
+        Err(StoreFault::DiskFault) => Err(AgentFault::DiskFault),
+        Err(_) => Err(AgentFault::Memory),
+    }
+}
+
+/// Takes the rows of a beat that was stored.
+fn take_rows(
+    last_rows: &mut LastRows,
+    registry: &Registry,
+    beat: &OpenBeat,
+    moment: u32,
+) -> Result<(), AgentFault>
+    requires { IsRegular registry.now beat.now }
+    ensures taken { OnOk result ((h : List HistoryBeat) → IsNext registry.now last_rows.old h moment beat.now
+        → AreLastOf last_rows.new (collected moment beat.now ∷ h)) }
+    ensures memory { IfErr result (λ fault. fault ≡ AgentFault.Memory) }
+{
+    match last_rows.apply(registry, beat, moment) {
+        Ok(()) => Ok(()),
+        Err(_) => Err(AgentFault::Memory),
+    }
+}
+
+/// Adds a beat that may follow the history to the parts of an agent. At every moment a stop leaves the
+/// history with the beat or without it. After an `Err` the parts are of no more use.
+pub(crate) fn add<H: Host>(
+    alloc: Global,
+    store: &mut Store,
+    registry: &mut Registry,
+    last_rows: &mut LastRows,
+    host: &mut H,
+    beat: &OpenBeat,
+    moment: u32,
+) -> Result<(), AgentFault>
+    requires ready { IsReady H.honest (H.past host.old) store.old }
+    requires replayed { IsReplayed store.old }
+    requires going { store.old.fault ≡ None }
+    requires is_open { IsOpenBeat beat.now }
+    requires charts { AreApart same_chart registry.old.charts }
+    requires dimensions { AreApart same_dimension registry.old.dimensions }
+    requires has_charts { lacks_chart registry.old beat.now ≡ false }
+    requires has_dimensions { lacks_dimension registry.old beat.now ≡ false }
+    requires few { too_many_dimensions registry.old beat.now ≡ false }
+    ensures any_moment { H.honest → (set : ASettings) (h : List HistoryBeat) → Holds (H.past host.old) store.old registry.old last_rows.old set h → Follows h moment beat.now
+        → Throughout (EveryDisk (λ disk. StandsForHistory set h disk ⊎ StandsForHistory set (collected moment beat.now ∷ h) disk)) (H.past host.old) (H.past host.new) }
+    ensures done { OnOk result (H.honest → (set : ASettings) (h : List HistoryBeat) → Holds (H.past host.old) store.old registry.old last_rows.old set h → Follows h moment beat.now
+        → Holds (H.past host.new) store.new registry.new last_rows.new set (collected moment beat.now ∷ h)) }
+    ensures ready { IsReady H.honest (H.past host.new) store.new }
+    ensures replayed { IsReplayed store.new }
+    ensures going { OnOk result (store.new.fault ≡ None) }
+    ensures last { OnOk result (store.new.last ≡ moment) }
+    ensures charts { OnOk result (AreApart same_chart registry.new.charts) }
+    ensures dimensions { OnOk result (AreApart same_dimension registry.new.dimensions) }
+    ensures settings { store.new.settings ≡ store.old.settings }
+    ensures faults { IfErr result IsSpending }
+    ensures output { H.honest → told (H.past host.new) ≡ told (H.past host.old) }
+    ensures cause { HasCause (H.disk_faults host.old) (H.disk_faults host.new) (IsErrOf result AgentFault.DiskFault) }
+    ensures tells { H.tell_faults host.new ≡ H.tell_faults host.old }
+{
+    let Ok(kept) = keep(alloc, registry, last_rows, beat, moment) else {
+        return Err(AgentFault::Memory);
+    };
+    commit(store, host, &kept)?;
+    take_rows(last_rows, registry, beat, moment)
+}

@@ -1,0 +1,35 @@
+//! The agent of one history: the beats of a collector go in, and the database on the disk stands for just the
+//! beats that were stored.
+//!
+//! `beat` refuses a beat exactly where its history does, for the first reason, and then nothing has changed.
+//! Else it stores the beat: at every moment a stop leaves the history, or the history with the beat, and a
+//! beat that was answered with `Ok` is never lost again. `line` takes a line of a text and stores the beat that
+//! it closes. `create` makes the agent of a history without beats: at every moment a stop leaves no database, or
+//! that of this history. `open` gives the agent of just the history that the disk stands for. After a failure of
+//! the disk, or where memory was refused, each call answers that the agent must be opened again, with the first
+//! cause, and the count, the last moment and the id answer as before. What a call promises is one record of
+//! facts (`Beats`, `Lines`, `Creates`, `Opens`). It is proved from these records alone that an agent stays sound
+//! by its history.
+//!
+//! It stands on the store of `store_core`, which keeps of each beat its moment, its points by `beat_points`
+//! and its entry by `beat_entries`, on the feed of `collect_block` and on the numbers of `chart_registry`. It
+//! names no file and no byte of a journal. Nothing is said here of copies, configurations and gaps: no call
+//! stores them, and a database that holds one is answered as damaged.
+#![tactic(auto)]
+
+mod agent;
+mod fault;
+mod keeping;
+mod law;
+mod lookup;
+mod points;
+mod refusal;
+mod replaying;
+mod reply;
+
+pub use agent::Agent;
+pub use entry_codec::{Settings, TierSettings};
+pub use fault::AgentFault;
+pub use law::any_text;
+pub use reply::{Reply, Said, write_reply};
+pub use store_core::{Why, is_in_limits};
