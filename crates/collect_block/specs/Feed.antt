@@ -48,3 +48,8 @@ Becomes line old new = (every : ℕ) (past : List Line) → IsFeedOf old every p
 abbrev pub RefusedBy : Option BlockFault → BlockFault → Type 0
 RefusedBy reason Memory = reason ≡ None
 RefusedBy reason fault = reason ≡ Some fault
+
+-- a line that closes no beat
+abbrev pub ClosesNone : Line → Type 0
+ClosesNone (line.Moment moment) = ⊥
+ClosesNone line = Unit {0}

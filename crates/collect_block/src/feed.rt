@@ -1,11 +1,11 @@
-ghost use Rattle.std.specs.Prelude.{◌≡◌, ◌<◌, ◌-◌, ◌^◌, ℕ, ℤ, Bool, Option, min, [], ◌∷◌, List, Some, None, true, false, MatchResult, IfOk, OnOk, OnErr};
+ghost use Rattle.std.specs.Prelude.{◌≡◌, ◌<◌, ◌-◌, ◌^◌, ℕ, ℤ, Bool, Option, min, [], ◌∷◌, List, Some, None, true, false, MatchResult, IfOk, OnOk, OnErr, IsErrOf};
 ghost use Rattle.history.specs.Looking.{with_grid};
 ghost use Rattle.history.specs.Refusal.{refusal, is_unfinished};
 ghost use Rattle.history.specs.Registry.{Registry as Definitions};
 ghost use Rattle.history.specs.declared.fault.BlockFault.TheVariants.{Unfinished};
 ghost use Rattle.history.specs.declared.line.Line.{Line as ALine};
 ghost use Rattle.history.specs.declared.line.Line.TheVariants as line;
-ghost use Rattle.collect_block.specs.Feed.{IsFeedOf, Becomes, RefusedBy, step_of, skips};
+ghost use Rattle.collect_block.specs.Feed.{IsFeedOf, Becomes, ClosesNone, RefusedBy, step_of, skips};
 
 use crate::beat_tables::BeatTables;
 use crate::block::{Block, set_value};
@@ -45,7 +45,7 @@ impl Feed {
 
     /// Takes the next line of the text. `registry`, `last` and `copies` are of the history so far: its
     /// charts and dimensions, its last moment, and whether it has copied beats or gaps. After an `Err`
-    /// all is as before.
+    /// all is as before. Memory is never short at a MOMENT.
     pub fn line(
         &mut self,
         registry: &Registry,
@@ -55,6 +55,7 @@ impl Feed {
     ) -> Result<Step, BlockFault>
         ensures refused { (every : ℕ) (past : List ALine) → IsFeedOf self.old every past →
             let reason = refusal registry.now every past copies last line.now in MatchResult result (λ _. reason ≡ None) (RefusedBy reason) }
+        ensures short { (every : ℕ) (past : List ALine) → IsFeedOf self.old every past → IsErrOf result BlockFault.Memory → ClosesNone line.now }
         ensures gives { IfOk result (λ step. (every : ℕ) (past : List ALine) → IsFeedOf self.old every past → step ≡ step_of every past line.now) }
         ensures taken { OnOk result (Becomes line.now self.old self.new) }
         ensures err { OnErr result (self.new ≡ self.old) }
@@ -208,6 +209,7 @@ impl Feed {
         ensures gives { IfOk result (λ step. (every : ℕ) (past : List ALine) → IsFeedOf self.old every past → step ≡ step_of every past line.now) }
         ensures taken { OnOk result (Becomes line.now self.old self.new) }
         ensures err { OnErr result (self.new ≡ self.old) }
+        ensures short { OnErr result (ClosesNone line.now) }
     {
         match line {
             Line::Moment(moment) => return Ok(self.close(*moment)),
