@@ -1,8 +1,10 @@
-use Rattle.std.proofs.Common.{◌≡◌, ℕ, List, Some, None, Err, subst}
+use Rattle.std.proofs.Common.{◌≡◌, ℕ, List, Some, None, Result, Err, ap, subst}
+use Rattle.history.specs.declared.fault.BlockFault.{BlockFault}
 use Rattle.history.specs.declared.line.Line.{Line}
 use Rattle.history.specs.declared.line.Line.TheVariants.{Moment}
 use Rattle.history.specs.Refusal.{refusal}
-use Rattle.collect_block.specs.Feed.{IsFeedOf, RefusedBy}
+use Rattle.collect_block.specs.declared.step.Step.{Step}
+use Rattle.collect_block.specs.Feed.{ClosesNone, IsFeedOf, RefusedBy}
 use Rattle.agent_core.specs.declared.fault.AgentFault.TheVariants.{Memory}
 use Rattle.agent_core.specs.Agent.{AgentState}
 use Rattle.agent_core.specs.Calls.{Lines, Seen}
@@ -25,6 +27,9 @@ returns-in-Ok g c =
     line-taken g.H.Host.honest host host' agent c.take_step.new.self feed c.line.new.self line c.in-Ok.step c.take_step.result c.requires.fed c.requires.divisor
     free c.in-Ok.ensures.gives c.in-Ok.ensures.taken c.take_step.ensures
 
+abbrev failing : BlockFault → Result Step BlockFault
+failing fault = Err fault
+
 pub returns-in-Memory : goal.returns-in-Memory
 returns-in-Memory g c =
     let host : Seen = record { past = g.H.Host.past c.args.host.now; disk_faults = g.H.Host.disk_faults c.args.host.now; tell_faults = g.H.Host.tell_faults c.args.host.now } in
@@ -41,7 +46,8 @@ returns-in-Memory g c =
     } in
     let free : (every : ℕ) (past : List Line) → IsFeedOf feed every past → refusal inside.registry every past inside.copies inside.last line ≡ None
     = λ every past is_feed. subst (RefusedBy (refusal inside.registry every past inside.copies inside.last line)) c.in-Memory.is (c.in-Err.ensures.refused every past is_feed) in
-    let quiet : (moment : ℕ) → line ≡ Moment moment → ⊥ = ? in
+    let fed = c.requires.fed in
+    let quiet : (moment : ℕ) → line ≡ Moment moment → ⊥ = λ moment is. subst ClosesNone is (c.in-Err.ensures.short fed.every fed.past fed.feed_of (ap failing c.in-Memory.is)) in
     subst (λ (a : AgentState). Lines g.H.Host.honest host a feed line (Err Memory) host (short_of inside) c.line.new.self) c.self.view_is
     (line-short g.H.Host.honest host inside feed c.line.new.self line c.requires.fed c.in-Err.ensures.err c.in_default.is free quiet)
 
