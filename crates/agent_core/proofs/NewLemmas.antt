@@ -1,5 +1,5 @@
 -- An agent that was just made.
-use Rattle.std.proofs.Common.{◌≡◌, ℕ, ◌⊎◌, inl, inr, false, List, [], Option, None, refl, sym, ap, ◌∙◌, subst}
+use Rattle.std.proofs.Common.{◌≡◌, ℕ, inl, inr, false, List, [], Option, None, refl, sym, subst}
 use Rattle.host_model.specs.declared.file.File.{File}
 use Rattle.host_model.specs.Past.{Event}
 use Rattle.host_model.specs.Disks.{EveryDisk}
@@ -10,9 +10,9 @@ use Rattle.history.specs.Registry.{empty, Registry, same_chart, same_dimension}
 use Rattle.beat_points.specs.LastRows.{AreLastOf}
 use Rattle.beat_points.specs.Regular.{AreApart}
 use Rattle.entry_codec.specs.declared.entry.Settings.{Settings}
-use Rattle.store_core.specs.Stands.{is_made, StandsIfMade}
+use Rattle.store_core.specs.Stands.{StandsIfMade}
 use Rattle.store_core.specs.Store.{IsNew, IsReady, IsStoreOf, StoreState}
-use Rattle.agent_core.specs.Agent.{AgentState, Fits, IsAgentOf, IsNewAgent}
+use Rattle.agent_core.specs.Agent.{AgentState, Fits, IsAgentOf}
 use Rattle.agent_core.specs.Kept.{StandsForNew}
 
 pub new_climbs : (set : Settings) (old new : List Event) → Throughout (EveryDisk (StandsIfMade set)) old new → Throughout (EveryDisk (StandsForNew set)) old new

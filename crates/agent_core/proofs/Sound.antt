@@ -2,7 +2,6 @@
 use Rattle.std.proofs.Common.{◌≡◌, ℕ, ◌⊎◌, inl, inr, List, [], ◌∷◌, Option, Some, None, Result, Ok, Err, refl, sym, ap, ◌∙◌, subst}
 use Rattle.std.proofs.lemmas.Option.{none-some}
 use Rattle.host_model.specs.declared.file.File.{File}
-use Rattle.host_model.specs.Past.{Event, IsDisk}
 use Rattle.host_model.specs.Disks.{EveryDisk}
 use Rattle.host_model.proofs.MomentLemmas.{at_end}
 use Rattle.history.specs.declared.beat.OpenBeat.{OpenBeat}

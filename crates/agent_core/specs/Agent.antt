@@ -1,6 +1,5 @@
 -- What contracts see of an agent, and of what history an agent is.
-use Rattle.std.specs.Prelude.{◌≡◌, ◌⊎◌, ℕ, Bool, List, [], ◌∷◌, length, Option, Some, None, is_some}
-use Rattle.host_model.specs.declared.file.File.{File}
+use Rattle.std.specs.Prelude.{◌≡◌, ◌⊎◌, ℕ, Bool, List, ◌∷◌, length, Option, Some, None, is_some}
 use Rattle.host_model.specs.Past.{Event}
 use Rattle.host_model.specs.Disks.{EveryDisk}
 use Rattle.algorithms.specs.declared.last.Last.{Last}

@@ -1,5 +1,5 @@
 -- What each call of an agent promises.
-use Rattle.std.specs.Prelude.{◌≡◌, ◌⊎◌, ℕ, ◌≤◌, false, true, List, [], ◌∷◌, Option, Some, None, Result, Err, IfOk, IfErr, IsErrOf, OnOk, OnErr}
+use Rattle.std.specs.Prelude.{◌≡◌, ◌⊎◌, ℕ, false, true, List, [], ◌∷◌, None, Result, IfOk, IfErr, IsErrOf, OnOk, OnErr}
 use Rattle.host_model.specs.declared.file.File.{File}
 use Rattle.host_model.specs.Past.{Event, told, IsDisk}
 use Rattle.host_model.specs.Disks.{EveryDisk, reads_as}
@@ -92,6 +92,7 @@ pub record Opens (honest : Type 0) (host : Seen) (result : Result AgentState Age
   pub none : IsErrOf result NotADatabase → honest → is_made (reads_as host.past) ≡ false
   pub some : OnOk result (honest → is_made (reads_as host.past) ≡ true)
   pub damaged : IsErrOf result (Damaged 4) → honest → IsDamaged (reads_as host.past)
+  pub made : (part : ℕ) → IsErrOf result (Damaged part) → honest → is_made (reads_as host.past) ≡ true
   pub faults : IfErr result IsOpening
   -- the disk fails only where the host counted a failure, and nothing is told
   pub cause : HasCause host.disk_faults host'.disk_faults (IsErrOf result DiskFault)

@@ -157,6 +157,7 @@ impl Agent {
         ensures none { IsErrOf result AgentFault.NotADatabase → H.honest → is_made (reads_as (H.past host.old)) ≡ false }
         ensures some { OnOk result (H.honest → is_made (reads_as (H.past host.old)) ≡ true) }
         ensures damaged { IsErrOf result (AgentFault.Damaged 4) → H.honest → IsDamaged (reads_as (H.past host.old)) }
+        ensures made { (part : ℕ) → IsErrOf result (AgentFault.Damaged part) → H.honest → is_made (reads_as (H.past host.old)) ≡ true }
         ensures faults { IfErr result IsOpening }
         ensures cause { HasCause (H.disk_faults host.old) (H.disk_faults host.new) (IsErrOf result AgentFault.DiskFault) }
         ensures output { H.honest → told (H.past host.new) ≡ told (H.past host.old) }

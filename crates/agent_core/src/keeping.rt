@@ -5,7 +5,7 @@ ghost use Rattle.host_model.specs.Past.{told};
 ghost use Rattle.host_model.specs.Disks.{EveryDisk};
 ghost use Rattle.host_model.specs.Cause.{HasCause};
 ghost use Rattle.host_model.specs.Moments.{Throughout};
-ghost use Rattle.history.specs.History.{Beat as HistoryBeat, collected};
+ghost use Rattle.history.specs.History.{Beat as HistoryBeat, collected, registry_of};
 ghost use Rattle.history.specs.Registry.{same_chart, same_dimension, with_definitions};
 ghost use Rattle.beat_points.specs.LastRows.{AreLastOf};
 ghost use Rattle.beat_points.specs.Points.{IsNext};
@@ -151,15 +151,15 @@ fn commit<H: Host>(store: &mut Store, host: &mut H, kept: &Beat) -> Result<(), A
     }
 }
 
-/// Takes the rows of a beat that was stored.
-fn take_rows(
+/// Takes the rows of a beat as the last ones.
+pub(crate) fn take_rows(
     last_rows: &mut LastRows,
     registry: &Registry,
     beat: &OpenBeat,
     moment: u32,
 ) -> Result<(), AgentFault>
     requires { IsRegular registry.now beat.now }
-    ensures taken { OnOk result ((h : List HistoryBeat) → IsNext registry.now last_rows.old h moment beat.now
+    ensures taken { OnOk result ((h : List HistoryBeat) → AreLastOf last_rows.old h → registry.now ≡ registry_of (collected moment beat.now ∷ h)
         → AreLastOf last_rows.new (collected moment beat.now ∷ h)) }
     ensures memory { IfErr result (λ fault. fault ≡ AgentFault.Memory) }
 {

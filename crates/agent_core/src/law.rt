@@ -11,11 +11,11 @@ ghost use Rattle.agent_core.specs.Rules.{beat_refusal, line_refusal, IsWithin};
 /// this update_every: the beat that a MOMENT closes is not refused once more, so that a line is refused just
 /// where it is refused for where it stands, and the history keeps within its limits. It does nothing.
 pub fn any_text()
-    ensures closed { (every : ℕ) (h : List Beat) (past : List Line) (moment : ℕ) → 0 < every → IsWithin (registry_of h)
+    ensures closed { (every : ℕ) (h : List Beat) (past : List Line) (moment : ℕ) → IsWithin (registry_of h)
         → AreAccepted every h (Moment moment ∷ past)
         → let now = history_at every h past in beat_refusal (registry_of now) (is_some (child now)) (last now) moment (open_beat every past) ≡ None }
-    ensures line { (every : ℕ) (h : List Beat) (past : List Line) (line : Line) → 0 < every → IsWithin (registry_of h) → AreAccepted every h past
+    ensures line { (every : ℕ) (h : List Beat) (past : List Line) (line : Line) → IsWithin (registry_of h) → AreAccepted every h past
         → let now = history_at every h past in line_refusal (registry_of now) (is_some (child now)) (last now) every past line ≡ refusal_at every h past line }
-    ensures within { (every : ℕ) (h : List Beat) (past : List Line) → 0 < every → IsWithin (registry_of h) → AreAccepted every h past
+    ensures within { (every : ℕ) (h : List Beat) (past : List Line) → IsWithin (registry_of h) → AreAccepted every h past
         → IsWithin (registry_of (history_at every h past)) }
 {}

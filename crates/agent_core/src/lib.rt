@@ -33,3 +33,6 @@ pub use fault::AgentFault;
 pub use law::any_text;
 pub use reply::{Reply, Said, write_reply};
 pub use store_core::{Why, is_in_limits};
+
+#[cfg(test)]
+mod tests;

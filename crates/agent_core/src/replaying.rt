@@ -1,6 +1,6 @@
 //! The parts of an agent from what a store kept.
 
-ghost use Rattle.std.specs.Prelude.{◌≡◌, ◌⊎◌, ◌<◌, ◌∷◌, List, Some, None, Ok, true, false, length, IfOk, IfErr, IsErrOf, OnOk};
+ghost use Rattle.std.specs.Prelude.{◌≡◌, ◌⊎◌, ◌<◌, ◌∷◌, ℕ, List, Some, None, Ok, true, false, length, IfOk, IfErr, IsErrOf, OnOk};
 ghost use Rattle.host_model.specs.declared.file.File.{File as AFile};
 ghost use Rattle.host_model.specs.Past.{told, Event, IsDisk};
 ghost use Rattle.host_model.specs.Disks.{EveryDisk, reads_as};
@@ -22,6 +22,7 @@ ghost use Rattle.agent_core.specs.Kept.{AreBeatsOf, IsBeatOf};
 ghost use Rattle.agent_core.specs.Replay.{fault_of, ArePartsOf, IsReplaying};
 
 use crate::fault::AgentFault;
+use crate::keeping::take_rows;
 use beat_entries::{EntryRefusal, restore};
 use beat_points::LastRows;
 use chart_registry::Registry;
@@ -57,6 +58,7 @@ pub(crate) fn open_store<H: Host>(alloc: Global, host: &mut H) -> Result<Store, 
     ensures none { IsErrOf result AgentFault.NotADatabase → H.honest → is_made (reads_as (H.past host.old)) ≡ false }
     ensures some { OnOk result (H.honest → is_made (reads_as (H.past host.old)) ≡ true) }
     ensures damaged { IsErrOf result (AgentFault.Damaged 4) → H.honest → IsDamaged (reads_as (H.past host.old)) }
+    ensures made { (part : ℕ) → IsErrOf result (AgentFault.Damaged part) → H.honest → is_made (reads_as (H.past host.old)) ≡ true }
     ensures faults { IfErr result IsOpening }
     ensures cause { HasCause (H.disk_faults host.old) (H.disk_faults host.new) (IsErrOf result AgentFault.DiskFault) }
     ensures output { H.honest → told (H.past host.new) ≡ told (H.past host.old) }
@@ -107,24 +109,6 @@ fn beat_of(
     }
 }
 
-/// Takes the rows of a beat as the last ones.
-fn note_rows(
-    registry: &Registry,
-    last_rows: &mut LastRows,
-    beat: &OpenBeat,
-    moment: u32,
-) -> Result<(), AgentFault>
-    requires regular { IsRegular registry.now beat.now }
-    ensures ok { OnOk result ((h : List HistoryBeat) → AreLastOf last_rows.old h → registry.now ≡ registry_of (collected moment beat.now ∷ h)
-        → AreLastOf last_rows.new (collected moment beat.now ∷ h)) }
-    ensures memory { IfErr result (λ fault. fault ≡ AgentFault.Memory) }
-{
-    match last_rows.apply(registry, beat, moment) {
-        Ok(()) => Ok(()),
-        Err(_) => Err(AgentFault::Memory),
-    }
-}
-
 /// Takes a kept beat: its definitions, and its rows as the last ones.
 fn replay_beat(
     alloc: Global,
@@ -146,7 +130,7 @@ fn replay_beat(
 {
     let entry = entry_in(alloc, kept)?;
     let beat = beat_of(alloc, registry, &entry)?;
-    note_rows(registry, last_rows, &beat, entry.moment)
+    take_rows(last_rows, registry, &beat, entry.moment)
 }
 
 /// Gives the next beat that a store has to replay.

@@ -50,7 +50,7 @@ returns-clause-done g c =
     let spelt = spelt-after past store registry lasts set h holds c.args.moment beat follows c.keep.new.registry applied c.in-Ok.ensures.spelt in
     holds-more past store registry lasts set h holds c.args.moment beat follows kept is_kept spelt (g.H.Host.past c.commit.new.host) c.commit.new.store c.keep.new.registry c.take_rows.new.last_rows
     (c.in_ok-commit.ensures.stored true_host set holds.beats holds.store_of) applied
-    (taken h (next-after past store registry lasts set h holds c.args.moment beat follows c.keep.new.registry applied)))
+    (let next = next-after past store registry lasts set h holds c.args.moment beat follows c.keep.new.registry applied in taken h next.lasts_are next.registry_is))
 
 pub returns-clause-last : goal.returns-clause-last
 returns-clause-last g c =

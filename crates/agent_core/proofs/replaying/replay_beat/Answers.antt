@@ -25,19 +25,19 @@ returns-in_err-beat-clause-stands c =
 
 pub returns-clause-taken : goal.returns-clause-taken
 returns-clause-taken c =
-    on_ok_weaker c.note_rows.result (λ taken g beat of parts.
-    replayed-parts g beat c.args.kept.now c.args.registry.now c.beat_of.new.registry c.args.last_rows.now c.note_rows.new.last_rows c.in_ok-beat.beat c.in_ok-entry.entry
+    on_ok_weaker c.take_rows.result (λ taken g beat of parts.
+    replayed-parts g beat c.args.kept.now c.args.registry.now c.beat_of.new.registry c.args.last_rows.now c.take_rows.new.last_rows c.in_ok-beat.beat c.in_ok-entry.entry
     of parts c.in_ok-entry.ensures.read c.in_ok-beat.ensures.definitions c.in_ok-beat.ensures.beat taken)
-    c.note_rows.ensures.ok
+    c.take_rows.ensures.taken
 
 pub returns-clause-charts : goal.returns-clause-charts
 returns-clause-charts c =
-    always (AreApart same_chart c.beat_of.new.registry.charts) c.note_rows.result
+    always (AreApart same_chart c.beat_of.new.registry.charts) c.take_rows.result
     (subst (λ (r : Registry). AreApart same_chart r.charts) (sym c.in_ok-beat.ensures.definitions)
     (apart-put_all same_chart chart-itself chart-alike c.args.registry.now.charts c.in_ok-beat.beat.charts c.requires.charts))
 
 pub returns-clause-dimensions : goal.returns-clause-dimensions
 returns-clause-dimensions c =
-    always (AreApart same_dimension c.beat_of.new.registry.dimensions) c.note_rows.result
+    always (AreApart same_dimension c.beat_of.new.registry.dimensions) c.take_rows.result
     (subst (λ (r : Registry). AreApart same_dimension r.dimensions) (sym c.in_ok-beat.ensures.definitions)
     (apart-put_all same_dimension dimension-itself dimension-alike c.args.registry.now.dimensions c.in_ok-beat.beat.dimensions c.requires.dimensions))
