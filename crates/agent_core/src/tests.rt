@@ -228,15 +228,58 @@ fn store_three<H: Host>(alloc: Global, host: &mut H) -> (bool, u64) {
     (true, 3)
 }
 
+/// Stores those of four beats that are not among the first `count`.
+fn store_missing<H: Host>(
+    alloc: Global,
+    taking: &mut Taking,
+    host: &mut H,
+    count: u64,
+) -> Result<(), AgentFault>
+    requires ready { AgentIsReady H.honest (H.past host.old) taking.old.agent }
+    requires fed { IsFed taking.old.feed }
+{
+    store_unless(alloc, taking, host, count >= 1, 1)?;
+    store_unless(alloc, taking, host, count >= 2, 2)?;
+    store_unless(alloc, taking, host, count >= 3, 3)?;
+    store_unless(alloc, taking, host, count >= 4, 4)
+}
+
 /// Opens the database, stores those of four beats that it lacks, and says how many it had.
 fn store_rest<H: Host>(alloc: Global, host: &mut H) -> Result<u64, AgentFault> {
     let mut taking = open(alloc, host)?;
     let count = taking.agent.count();
-    store_unless(alloc, &mut taking, host, count >= 1, 1)?;
-    store_unless(alloc, &mut taking, host, count >= 2, 2)?;
-    store_unless(alloc, &mut taking, host, count >= 3, 3)?;
-    store_unless(alloc, &mut taking, host, count >= 4, 4)?;
-    Ok(count)
+    match store_missing(alloc, &mut taking, host, count) {
+        Ok(()) => Ok(count),
+        Err(fault) => Err(fault),
+    }
+}
+
+/// What an agent tells of itself.
+#[derive(Clone, Copy, Debug, PartialEq, Eq)]
+struct Seen {
+    id: u64,
+    count: u64,
+    last: u32,
+    charts: u32,
+    dimensions: u32,
+}
+
+fn view_of(taking: &Taking) -> Seen {
+    Seen {
+        id: taking.agent.id(),
+        count: taking.agent.count(),
+        last: taking.agent.last(),
+        charts: taking.agent.registry().charts(),
+        dimensions: taking.agent.registry().dimensions(),
+    }
+}
+
+/// What the agent that is opened tells of itself.
+fn opened<H: Host>(alloc: Global, host: &mut H) -> Result<Seen, AgentFault> {
+    match open(alloc, host) {
+        Ok(taking) => Ok(view_of(&taking)),
+        Err(fault) => Err(fault),
+    }
 }
 
 fn host_of(alloc: Global, fails: &[u64]) -> Result<MemoryHost, Fail> {
@@ -266,8 +309,8 @@ struct Found {
     /// Whether the database had been made, and how many beats had been stored.
     made: bool,
     stored: u64,
-    /// How many beats the database had, if there was one.
-    count: Option<u64>,
+    /// How many beats the database had, or why it was not opened.
+    count: Result<u64, AgentFault>,
     /// The journal once the missing beats were stored.
     journal: Vec<u8>,
 }
@@ -276,17 +319,27 @@ fn found_after(alloc: Global, fails: u64, keep: Keep) -> Result<Found, Fail> {
     let mut host = host_of(alloc, &[fails])?;
     let (made, stored) = store_three(alloc, &mut host);
     let mut host = host.stop(keep)?;
-    let count = match store_rest(alloc, &mut host) {
-        Err(AgentFault::NotADatabase) => None,
-        Err(fault) => return Err(Fail::from(fault)),
-        Ok(count) => Some(count),
-    };
+    let count = store_rest(alloc, &mut host);
+    let journal = journal(alloc, &mut host)?;
     Ok(Found {
         made,
         stored,
         count,
-        journal: journal(alloc, &mut host)?,
+        journal,
     })
+}
+
+impl Found {
+    /// No beat that was stored is missing, and at most one is there that was not told of. The database goes on as
+    /// that of a host that never failed.
+    fn is_sound(&self, whole: &[u8]) -> bool {
+        match self.count {
+            Ok(count) => {
+                count >= self.stored && count - self.stored <= 1 && self.journal.as_slice() == whole
+            }
+            Err(fault) => fault == AgentFault::NotADatabase && !self.made,
+        }
+    }
 }
 
 #[test]
@@ -296,18 +349,17 @@ fn each_call_refused_in_turn_and_a_stop(rt: HostRuntime) -> Result<(), Fail> {
     for keep in [Keep::All, Keep::None, Keep::Fill(255)] {
         for fails in 0..60 {
             let found = found_after(alloc, fails, keep)?;
-            match found.count {
-                None => assert!(rt; !found.made, "call {fails}"),
-                Some(count) => {
-                    let lost = count < found.stored || count > found.stored + 1;
-                    assert!(rt; !lost, "call {fails}");
-                    assert!(rt; found.journal == whole, "call {fails}");
-                }
-            }
+            assert!(rt; found.is_sound(&whole), "call {fails}");
         }
-        // So many calls are never made.
-        assert_eq!(rt; found_after(alloc, 59, keep)?.stored, 3);
     }
+    Ok(())
+}
+
+#[test]
+fn so_many_calls_are_not_made(rt: HostRuntime) -> Result<(), Fail> {
+    let alloc = rt.alloc();
+    assert_eq!(rt; found_after(alloc, 59, Keep::None)?.stored, 3);
+    assert_eq!(rt; found_after(alloc, 20, Keep::None)?.stored, 1);
     Ok(())
 }
 
@@ -334,24 +386,50 @@ fn store_first<H: Host>(
     take(taking, host, Ok(Line::Moment(60)))
 }
 
+/// Makes a database and stores the text's beat.
+fn make_first<H: Host>(alloc: Global, host: &mut H) -> Result<Seen, AgentFault> {
+    let mut taking = make(alloc, host)?;
+    match store_first(alloc, &mut taking, host) {
+        Ok(Said::Stored(_)) => Ok(view_of(&taking)),
+        Ok(_) => Err(AgentFault::Memory),
+        Err(fault) => Err(fault),
+    }
+}
+
+/// Opens the database and stores the text's beat.
+fn open_first<H: Host>(alloc: Global, host: &mut H) -> Result<Said, AgentFault> {
+    match open(alloc, host) {
+        Ok(mut taking) => store_first(alloc, &mut taking, host),
+        Err(fault) => Err(fault),
+    }
+}
+
 #[test]
 fn a_first_beat_takes_the_journal_to_219_bytes(rt: HostRuntime) -> Result<(), Fail> {
     let alloc = rt.alloc();
     let mut host = host_of(alloc, &[])?;
-    let mut taking = make(alloc, &mut host)?;
-    assert_eq!(rt; host.len(File::JournalA)?, 68);
-    let said = store_first(alloc, &mut taking, &mut host)?;
+    let one = Seen {
+        id: 7,
+        count: 1,
+        last: 60,
+        charts: 1,
+        dimensions: 1,
+    };
+    assert_eq!(rt; make_first(alloc, &mut host)?, one);
     assert_eq!(rt; host.len(File::JournalA)?, 219);
-    assert!(rt; matches!(said, Said::Stored(Reply { count: 1 })));
-    assert_eq!(rt;
-        write_reply(alloc, Reply { count: 1 })?.as_str(),
-        "STORED 1\n"
-    );
-    assert_eq!(rt; taking.agent.count(), 1);
-    assert_eq!(rt; taking.agent.last(), 60);
-    assert_eq!(rt; taking.agent.id(), 7);
-    assert_eq!(rt; taking.agent.registry().charts(), 1);
-    assert_eq!(rt; taking.agent.registry().dimensions(), 1);
+    assert_eq!(rt; opened(alloc, &mut host)?, one);
+    Ok(())
+}
+
+#[test]
+fn a_new_database_has_68_bytes(rt: HostRuntime) -> Result<(), Fail> {
+    let alloc = rt.alloc();
+    let mut host = host_of(alloc, &[])?;
+    assert_eq!(rt; opened(alloc, &mut host), Err(AgentFault::NotADatabase));
+    assert!(rt; make(alloc, &mut host).is_ok());
+    assert_eq!(rt; host.len(File::JournalA)?, 68);
+    assert_eq!(rt; make_first(alloc, &mut host), Err(AgentFault::Exists));
+    assert_eq!(rt; opened(alloc, &mut host)?.id, 7);
     Ok(())
 }
 
@@ -359,20 +437,19 @@ fn a_first_beat_takes_the_journal_to_219_bytes(rt: HostRuntime) -> Result<(), Fa
 fn a_text_run_twice_is_refused_by_its_moment(rt: HostRuntime) -> Result<(), Fail> {
     let alloc = rt.alloc();
     let mut host = host_of(alloc, &[])?;
-    let mut taking = make(alloc, &mut host)?;
-    store_first(alloc, &mut taking, &mut host)?;
-    let mut again = open(alloc, &mut host)?;
-    assert_eq!(rt; again.agent.count(), 1);
-    assert_eq!(rt; again.agent.last(), 60);
+    make_first(alloc, &mut host)?;
     let order = AgentFault::Refused(BlockFault::MomentOrder(60));
-    assert_eq!(rt;
-        store_first(alloc, &mut again, &mut host).err(),
-        Some(order)
-    );
+    assert_eq!(rt; open_first(alloc, &mut host).err(), Some(order));
     assert_eq!(rt; host.len(File::JournalA)?, 219);
-    let mut host = host.stop(Keep::None)?;
-    assert_eq!(rt; open(alloc, &mut host)?.agent.count(), 1);
     Ok(())
+}
+
+/// What is answered where the text is taken twice, the second time after a fault.
+fn twice<H: Host>(alloc: Global, host: &mut H) -> Result<[Option<AgentFault>; 2], AgentFault> {
+    let mut taking = make(alloc, host)?;
+    let first = store_first(alloc, &mut taking, host).err();
+    let again = store_first(alloc, &mut taking, host).err();
+    Ok([first, again])
 }
 
 #[test]
@@ -380,43 +457,49 @@ fn after_a_fault_it_must_be_opened_again(rt: HostRuntime) -> Result<(), Fail> {
     let alloc = rt.alloc();
     // The second sync of the first beat.
     let mut host = host_of(alloc, &[18])?;
-    let mut taking = make(alloc, &mut host)?;
-    let fault = store_first(alloc, &mut taking, &mut host).err();
-    assert_eq!(rt; fault, Some(AgentFault::DiskFault));
     let reopen = AgentFault::Reopen(Why::Disk);
-    let again = store_first(alloc, &mut taking, &mut host).err();
-    assert_eq!(rt; again, Some(reopen));
-    assert_eq!(rt; taking.agent.count(), 0);
-    assert_eq!(rt; taking.agent.last(), 0);
+    let answers = [Some(AgentFault::DiskFault), Some(reopen)];
+    assert_eq!(rt; twice(alloc, &mut host)?, answers);
     let mut host = host.stop(Keep::All)?;
-    assert_eq!(rt; open(alloc, &mut host)?.agent.count(), 1);
+    assert_eq!(rt; opened(alloc, &mut host)?.count, 1);
+    Ok(())
+}
+
+/// What a question and the end of a text are answered with.
+fn asked<H: Host>(alloc: Global, host: &mut H) -> Result<String, AgentFault> {
+    let mut taking = make(alloc, host)?;
+    let question = Text::from_str(alloc, "a b").map(Line::Query);
+    let first = take(&mut taking, host, question);
+    let last = take(&mut taking, host, Ok(Line::Disable));
+    format!(in alloc; "{first:?} {last:?}").map_err(|_| AgentFault::Memory)
+}
+
+#[test]
+fn says_what_is_asked_and_that_a_text_is_over(rt: HostRuntime) -> Result<(), Fail> {
+    let mut host = host_of(rt.alloc(), &[])?;
+    let text = asked(rt.alloc(), &mut host)?;
+    assert_eq!(rt;
+        text.as_str(),
+        "Ok(Asked(Text { string: \"a b\" })) Ok(Disabled)"
+    );
     Ok(())
 }
 
 #[test]
-fn opens_and_makes_what_is_there(rt: HostRuntime) -> Result<(), Fail> {
+fn writes_the_reply_of_a_stored_beat(rt: HostRuntime) -> Result<(), Fail> {
+    let text = write_reply(rt.alloc(), Reply { count: 12 })?;
+    assert_eq!(rt; text.as_str(), "STORED 12\n");
+    Ok(())
+}
+
+#[test]
+fn a_journal_that_is_none_is_damage(rt: HostRuntime) -> Result<(), Fail> {
     let alloc = rt.alloc();
     let mut host = host_of(alloc, &[])?;
-    assert_eq!(rt;
-        open(alloc, &mut host).err(),
-        Some(AgentFault::NotADatabase)
-    );
-    make(alloc, &mut host)?;
-    assert_eq!(rt; make(alloc, &mut host).err(), Some(AgentFault::Exists));
-    assert_eq!(rt; open(alloc, &mut host)?.agent.id(), 7);
-    let mut taking = open(alloc, &mut host)?;
-    let asked = take(
-        &mut taking,
-        &mut host,
-        Ok(Line::Query(Text::from_str(alloc, "a b")?)),
-    )?;
-    assert!(rt; matches!(asked, Said::Asked(text) if text.as_str() == "a b"));
-    let over = take(&mut taking, &mut host, Ok(Line::Disable))?;
-    assert!(rt; matches!(over, Said::Disabled));
+    make_first(alloc, &mut host)?;
     // A byte of the first record's length.
     host.write_at(File::JournalA, 17, b"\xff")?;
-    let damaged = open(alloc, &mut host).err();
-    assert_eq!(rt; damaged, Some(AgentFault::Damaged(4)));
+    assert_eq!(rt; opened(alloc, &mut host), Err(AgentFault::Damaged(4)));
     Ok(())
 }
 
@@ -435,24 +518,26 @@ fn note(alloc: Global, host: &mut MemoryHost, bytes: &[u8]) -> Result<(), Fail> 
     Ok(())
 }
 
+/// What opening answers where the one beat has this note.
+fn noted(alloc: Global, bytes: &[u8]) -> Result<Option<AgentFault>, Fail> {
+    let mut host = host_of(alloc, &[])?;
+    note(alloc, &mut host, bytes)?;
+    Ok(opened(alloc, &mut host).err())
+}
+
 #[test]
 fn a_note_that_is_no_entry_is_damage(rt: HostRuntime) -> Result<(), Fail> {
     let alloc = rt.alloc();
     // The entry of a beat at 60 that says nothing.
-    let empty = b"\x01\x3c\0\0\0\0\0\0\0\0\0\0\0\0\0\0\0".as_slice();
-    let mut host = host_of(alloc, &[])?;
-    note(alloc, &mut host, empty)?;
-    assert_eq!(rt; open(alloc, &mut host)?.agent.count(), 1);
+    let empty = b"\x01\x3c\0\0\0\0\0\0\0\0\0\0\0\0\0\0\0";
+    assert_eq!(rt; noted(alloc, empty)?, None);
     // The same at 61, with a byte behind it, and with a row of a chart that is not there.
-    for bytes in [
-        b"\x01\x3d\0\0\0\0\0\0\0\0\0\0\0\0\0\0\0".as_slice(),
-        b"\x01\x3c\0\0\0\0\0\0\0\0\0\0\0\0\0\0\0\0".as_slice(),
-        b"\x01\x3c\0\0\0\0\0\0\0\0\0\0\0\x01\0\0\0\0\0\0\0\0\0\0\0".as_slice(),
-    ] {
-        let mut host = host_of(alloc, &[])?;
-        note(alloc, &mut host, bytes)?;
-        let damaged = open(alloc, &mut host).err();
-        assert_eq!(rt; damaged, Some(AgentFault::Damaged(5)));
-    }
+    let damaged = Some(AgentFault::Damaged(5));
+    let later = b"\x01\x3d\0\0\0\0\0\0\0\0\0\0\0\0\0\0\0";
+    assert_eq!(rt; noted(alloc, later)?, damaged);
+    let longer = b"\x01\x3c\0\0\0\0\0\0\0\0\0\0\0\0\0\0\0\0";
+    assert_eq!(rt; noted(alloc, longer)?, damaged);
+    let row = b"\x01\x3c\0\0\0\0\0\0\0\0\0\0\0\x01\0\0\0\0\0\0\0\0\0\0\0";
+    assert_eq!(rt; noted(alloc, row)?, damaged);
     Ok(())
 }
