@@ -141,7 +141,29 @@ fn collect<H: Host>(
     take(taking, host, Ok(Line::Moment(moment)))
 }
 
-/// Beat `number`, at 59 seconds more: the first defines the chart and the third defines it again, with another title.
+/// What beat `number` defines: the first the chart and its dimensions, the third the chart with another title.
+fn define_for<H: Host>(
+    alloc: Global,
+    taking: &mut Taking,
+    host: &mut H,
+    number: u32,
+) -> Result<(), AgentFault>
+    requires ready { AgentIsReady H.honest (H.past host.old) taking.old.agent }
+    requires fed { IsFed taking.old.feed }
+    ensures ready { AgentIsReady H.honest (H.past host.new) taking.new.agent }
+    ensures fed { IsFed taking.new.feed }
+{
+    match number {
+        1 => define(alloc, taking, host, "One"),
+        3 => match take(taking, host, chart_line(alloc, "Two")) {
+            Ok(_) => Ok(()),
+            Err(fault) => Err(fault),
+        },
+        _ => Ok(()),
+    }
+}
+
+/// Beat `number`, at 59 seconds more.
 fn store<H: Host>(
     alloc: Global,
     taking: &mut Taking,
@@ -153,12 +175,7 @@ fn store<H: Host>(
     ensures ready { AgentIsReady H.honest (H.past host.new) taking.new.agent }
     ensures fed { IsFed taking.new.feed }
 {
-    if number == 1 {
-        define(alloc, taking, host, "One")?;
-    }
-    if number == 3 {
-        take(taking, host, chart_line(alloc, "Two"))?;
-    }
+    define_for(alloc, taking, host, number)?;
     collect(alloc, taking, host, number.saturating_add(59))
 }
 
@@ -497,8 +514,8 @@ fn a_journal_that_is_none_is_damage(rt: HostRuntime) -> Result<(), Fail> {
     let alloc = rt.alloc();
     let mut host = host_of(alloc, &[])?;
     make_first(alloc, &mut host)?;
-    // A byte of the first record's length.
-    host.write_at(File::JournalA, 17, b"\xff")?;
+    // The journal's first byte.
+    host.write_at(File::JournalA, 0, b"\xff")?;
     assert_eq!(rt; opened(alloc, &mut host), Err(AgentFault::Damaged(4)));
     Ok(())
 }
