@@ -1,160 +1,291 @@
--- The run as a whole, from its steps.
-use Rattle.std.proofs.Common.{◌≡◌, ℕ, ◌-◌, ◌≤◌, Bool, false, List, [], ◌++◌, Option, Some, None, ◌⊎◌, inl, inr, refl, ap, sym, subst, ◌∙◌, append_assoc, append-nil, length-append, arith}
+-- A run that tells the points of a text, as a whole.
+use Rattle.std.proofs.Common.{◌≡◌, ℕ, ◌-◌, ◌<◌, ◌≤◌, Bool, true, false, nat_lt, List, [], ◌∷◌, ◌++◌, length, take, Option, Some, None, IfSome, ◌⊎◌, inl, inr, refl, ap, sym, subst, ◌∙◌, append_assoc, append-nil, string_bytes, arith, if◌then◌else◌}
+use Rattle.std.proofs.lemmas.List.Elements.{All-pop}
 use Rattle.host_model.specs.Cause.{Rose}
 use Rattle.host_model.specs.Past.{Event, told}
-use Rattle.host_model.specs.Source.{Takes}
+use Rattle.host_model.specs.Source.{Takes as TakesBytes}
 use Rattle.host_model.specs.declared.status.Status.{Status}
 use Rattle.host_model.specs.declared.status.Status.TheVariants.{Ok as Done, Refused, Limit, ReadFault, TellFault, InputLimit, Memory}
+use Rattle.line_stream.specs.Chain.{Acts, acts_of, Chain, begins, goes_on, pauses}
+use Rattle.line_stream.specs.Run.{Ended, at_line, at_pause, at_long_line, at_end, at_fault, at_limit, at_want, TookAll}
+use Rattle.plugin_text.specs.Lines.{fits, lines, parts, rest, HasNoLongLine}
+use Rattle.plugin_text.proofs.LongLemmas.{IsLongAfter-append}
+use Rattle.plugin_text.proofs.PartsLemmas.{parts_first, parts_whole, parts-append}
 use Rattle.point_lines.specs.declared.refusal.Refusal.{Refusal}
-use Rattle.agent_app.specs.declared.conversion.Conversion.{Conversion}
-use Rattle.agent_app.specs.Conversion.{HasConverted}
-use Rattle.agent_app.specs.Convert.{converted, all_told, output_of, input_limit, HasStatusCause, IsUnasked, Converts, EndsAsText, status_of}
-use Rattle.agent_app.specs.Reading.{Reading, Ending}
-use Rattle.agent_app.specs.Telling.{StepsOn, Stops, Converting}
-use Rattle.agent_app.proofs.TellingLemmas.{rose-later, still_open, status-limit, option_map-same, both-none}
+use Rattle.point_lines.specs.Judged.{refusal_number}
+use Rattle.agent_app.specs.declared.converting.Converting.{Converting}
+use Rattle.agent_app.specs.Convert.{all_told, converted, ending_status, input_limit, is_limit, output_of, point_rules, status_of, status_within, tells_all, Converts, EndsAsText, HasStatusCause, IsUnasked, TellsOutput}
+use Rattle.agent_app.specs.Converting.{Ends, EndsAs, EndsIn, HasConverted, HasRun, IsFinal, Overflows, Pauses, Takes, TellsLast}
+use Rattle.agent_app.specs.Reading.{Ending, Ends as IsOver, GoesOn, RefusedAt, Reading, reading}
+use Rattle.agent_app.proofs.ConvertingLemmas.{both-none, later-unasked, no_memory, rose-later, rose-sooner}
+use Rattle.agent_app.proofs.HasReadLemmas.{ending_within, line-onward, read-open, take-append_past, within-ended, within-limit}
 
--- bytes taken one after another were taken together
-Takes-append : (left middle right : Option (List ℕ)) (first second : List ℕ) → Takes left first middle → Takes middle second right → Takes left (first ++ second) right
-Takes-append left middle None first second takes then_takes = takes ∙ rw then_takes refl
-Takes-append left middle (Some rest) first second takes then_takes =
-    takes ∙ rw (then_takes, append_assoc first second rest) refl
+-- ---- why a run ended
+
+-- a refusal is why a run ends with its status
+refusal-cause : (limit : Bool) (line : ℕ) (why : Refusal) (ended : Bool) (text : List ℕ) (source_rose tell_rose : Type 0) → is_limit why ≡ limit
+    → HasStatusCause (if limit then Limit line (refusal_number why) else Refused line (refusal_number why)) ended (RefusedAt line why) text source_rose tell_rose
+refusal-cause true line why ended text source_rose tell_rose is = (why, refl, rw is refl)
+refusal-cause false line why ended text source_rose tell_rose is = (why, refl, rw is refl)
+
+-- an ending is why a run ends with its status
+final-cause : (ending : Ending Refusal) (ended : Bool) (text : List ℕ) (source_rose tell_rose : Type 0) → IsFinal ending → HasStatusCause (ending_status ending) ended ending text source_rose tell_rose
+final-cause GoesOn ended text source_rose tell_rose final = absurd final
+final-cause IsOver ended text source_rose tell_rose final = refl
+final-cause (RefusedAt line why) ended text source_rose tell_rose final = refusal-cause (is_limit why) line why ended text source_rose tell_rose refl
+
+ended-cause : (status : Status) (ending : Ending Refusal) (ended : Bool) (text : List ℕ) (source_rose tell_rose : Type 0) → EndsAs status ending tell_rose → HasStatusCause status ended ending text source_rose tell_rose
+ended-cause status ending ended text source_rose tell_rose (inl (final, is)) = rw is (final-cause ending ended text source_rose tell_rose final)
+ended-cause status ending ended text source_rose tell_rose (inr (inl (is, rose))) = rw is rose
+ended-cause status ending ended text source_rose tell_rose (inr (inr is)) = rw is tt
+
+ended-status : (status : Status) (ending : Ending Refusal) (tell_rose : Type 0) → EndsAs status ending tell_rose → (tell_rose → ⊥) → (status ≡ ending_status ending) ⊎ (status ≡ Memory)
+ended-status status ending tell_rose (inl (final, is)) tell = inl is
+ended-status status ending tell_rose (inr (inl (is, rose))) tell = absurd (tell rose)
+ended-status status ending tell_rose (inr (inr is)) tell = inr is
+
+-- why a run ended does not hang on when a telling failed
+later-cause : (status : Status) (ended : Bool) (ending : Ending Refusal) (text : List ℕ) (source_rose tell_rose tell_rose' : Type 0) → (tell_rose → tell_rose')
+    → HasStatusCause status ended ending text source_rose tell_rose → HasStatusCause status ended ending text source_rose tell_rose'
+later-cause Done ended ending text source_rose tell_rose tell_rose' tell cause = cause
+later-cause (Refused line number) ended ending text source_rose tell_rose tell_rose' tell cause = cause
+later-cause (Limit line number) ended ending text source_rose tell_rose tell_rose' tell cause = cause
+later-cause ReadFault ended ending text source_rose tell_rose tell_rose' tell cause = cause
+later-cause TellFault ended ending text source_rose tell_rose tell_rose' tell cause = tell cause
+later-cause InputLimit ended ending text source_rose tell_rose tell_rose' tell cause = cause
+later-cause Memory ended ending text source_rose tell_rose tell_rose' tell cause = tt
+later-cause _ ended ending text source_rose tell_rose tell_rose' tell cause = absurd cause
+
+-- ---- the last that is told
+
+module _ (result status : Status) (honest : Type 0) (waiting : List ℕ) (left left' : Option (List ℕ)) (past past' past'' : List Event) (sf sf' tf tf' tf'' : ℕ)
+    (run : HasRun status honest waiting left left' past past' sf sf' tf tf') (last : TellsLast result status honest waiting past' past'' tf' tf'') where
+  told-output : (all : Bool) → tells_all status ≡ all → honest → TellsOutput result (output_of run.ended run.taken) past past''
+  told-output true all is_honest =
+      let before = run.leaves.tells is_honest in
+      let after = last.tells all is_honest in
+      record {
+        sent = before.sent ++ after.sent;
+        unsent = after.unsent;
+        whole = before.whole ∙ ap (λ (bytes : List ℕ). before.sent ++ bytes) (before.all all ∙ after.whole) ∙ sym (append_assoc before.sent after.sent after.unsent);
+        tells = after.tells ∙ ap (λ (bytes : List ℕ). bytes ++ after.sent) before.tells ∙ append_assoc (told past) before.sent after.sent;
+        all = after.all;
+      }
+  told-output false all is_honest =
+      let before = run.leaves.tells is_honest in
+      record {
+        sent = before.sent;
+        unsent = before.unsent;
+        whole = before.whole;
+        tells = ap told (last.failed all).1.0 ∙ before.tells;
+        all = λ whole. let same = (last.failed all).0 in cc;
+      }
+
+  told-silent : (all : Bool) → tells_all status ≡ all → output_of run.ended run.taken ≡ [] → IsUnasked past past'' tf tf''
+  told-silent true all none = later-unasked past past' past'' tf tf' tf'' (run.leaves.silent none) (last.silent (run.leaves.waits none all))
+  told-silent false all none = later-unasked past past' past'' tf tf' tf'' (run.leaves.silent none) (last.failed all).1
+
+  told-cause : (result ≡ status) ⊎ ((result ≡ TellFault) × Rose tf' tf'') → HasStatusCause result run.ended (converted run.ended run.taken).ending run.taken (Rose sf sf') (Rose tf tf'')
+  told-cause (inl is) =
+      rw is (later-cause status run.ended (converted run.ended run.taken).ending run.taken (Rose sf sf') (Rose tf tf') (Rose tf tf'') (λ rose. rose-sooner tf tf' tf'' rose last.count) run.cause)
+  told-cause (inr (is, rose)) = rw is (rose-later tf tf' tf'' run.leaves.count last.count rose)
+
+  pub Converts-told : sf ≤ sf' → Converts result honest left left' past past'' sf sf' tf tf''
+  Converts-told source = record {
+    taken = run.taken;
+    ended = run.ended;
+    takes = run.takes;
+    within = run.within;
+    at_end = run.at_end;
+    output = told-output (tells_all status) refl;
+    silent = told-silent (tells_all status) refl;
+    cause = told-cause last.cause;
+    source_count = source;
+    tell_count = omega (arith, run.leaves.count, last.count);
+  }
+
+  told-status : (expected : Status) → (result ≡ status) ⊎ ((result ≡ TellFault) × Rose tf' tf'') → (status ≡ expected) ⊎ (status ≡ Memory) → (Rose tf tf'' → ⊥) → (result ≡ expected) ⊎ (result ≡ Memory)
+  told-status expected (inl is) (inl same) tell = inl (is ∙ same)
+  told-status expected (inl is) (inr none) tell = inr (is ∙ none)
+  told-status expected (inr (is, rose)) whole tell = absurd (tell (rose-later tf tf' tf'' run.leaves.count last.count rose))
 
 -- what a source that tells has left, it had behind what was taken
-Takes-some : (text taken : List ℕ) (left : Option (List ℕ)) → Takes (Some text) taken left → (more : List ℕ) × (left ≡ Some more) × (text ≡ taken ++ more)
+Takes-some : (text taken : List ℕ) (left : Option (List ℕ)) → TakesBytes (Some text) taken left → (more : List ℕ) × (left ≡ Some more) × (text ≡ taken ++ more)
 Takes-some text taken None takes = cc
 Takes-some text taken (Some more) takes = (more, refl, cc)
 
--- a run that begins
-pub Converting-start : (conversion : Conversion) (honest : Type 0) (left : Option (List ℕ)) (past : List Event) (source_faults tell_faults : ℕ) → HasConverted conversion [] []
-    → Converting conversion honest input_limit left left past past source_faults source_faults tell_faults tell_faults
-Converting-start conversion honest left past source_faults tell_faults has = record {
-  taken = [];
-  made = [];
-  has = has;
-  takes = sym (option_map-same left);
-  spent = refl;
-  tells = λ is_honest. sym (append-nil (told past));
-  silent = λ none. (refl, refl);
-  source_count = omega arith;
-  tell_count = omega arith;
-}
+pub EndsAsText-told : (result status : Status) (honest : Type 0) (waiting : List ℕ) (left left' : Option (List ℕ)) (past past' past'' : List Event) (sf sf' tf tf' tf'' : ℕ)
+    (run : HasRun status honest waiting left left' past past' sf sf' tf tf') (last : TellsLast result status honest waiting past' past'' tf' tf'') → EndsAsText result left sf sf' tf tf''
+EndsAsText-told result status honest waiting None left' past past' past'' sf sf' tf tf' tf'' run last = tt
+EndsAsText-told result status honest waiting (Some text) left' past past' past'' sf sf' tf tf' tf'' run last = λ no_source no_tell.
+    let found = Takes-some text run.taken left' run.takes in
+    subst (λ (all : List ℕ). (result ≡ status_of all) ⊎ (result ≡ Memory)) (sym found.2)
+    (told-status result status honest waiting (Some text) left' past past' past'' sf sf' tf tf' tf'' run last (status_of (run.taken ++ found.0)) last.cause
+    (run.whole found.0 found.1 no_source (λ rose. no_tell (rose-sooner tf tf' tf'' rose last.count))) no_tell)
 
--- a host that was not asked, and then not asked again
-later-unasked : (past past' past'' : List Event) (tf tf' tf'' : ℕ) → IsUnasked past past' tf tf' → IsUnasked past' past'' tf' tf'' → IsUnasked past past'' tf tf''
-later-unasked past past' past'' tf tf' tf'' before after = (after.0 ∙ before.0, after.1 ∙ before.1)
+-- ---- the status of the whole text
 
--- a run that goes on by a step
-pub Converting-step : (old new : Conversion) (honest : Type 0) (budget size : ℕ) (left middle right : Option (List ℕ)) (past past' past'' : List Event) (sf sf' sf'' tf tf' tf'' : ℕ)
-    → (before : Converting old honest budget left middle past past' sf sf' tf tf') → StepsOn new honest size before.taken before.made middle right past' past'' (IsUnasked past' past'' tf' tf'') → size ≤ budget → sf' ≤ sf'' → tf' ≤ tf''
-    → Converting new honest (budget - size) left right past past'' sf sf'' tf tf''
-Converting-step old new honest budget size left middle right past past' past'' sf sf' sf'' tf tf' tf'' before step fits source tell = record {
-  taken = before.taken ++ step.bytes;
-  made = before.made ++ step.goes_on.more;
-  has = step.goes_on.has;
-  takes = Takes-append left middle right before.taken step.bytes before.takes step.takes;
-  spent = omega (arith, length-append before.taken step.bytes, before.spent, step.size_is);
-  tells = λ is_honest. step.goes_on.tells is_honest ∙ ap (λ (bytes : List ℕ). bytes ++ step.goes_on.more) (before.tells is_honest) ∙ append_assoc (told past) before.made step.goes_on.more;
-  silent = λ none. let each = both-none before.made step.goes_on.more none in later-unasked past past' past'' tf tf' tf'' (before.silent each.0) (step.goes_on.silent each.1);
-  source_count = omega (arith, before.source_count);
-  tell_count = omega (arith, before.tell_count);
-}
+status-stopped : (limit : ℕ) (status : Status) (honest : Type 0) (waiting text : List ℕ) (past past' : List Event) (tf tf' : ℕ)
+    → ((ended : Bool) (behind : List ℕ) → EndsIn status honest waiting (converted ended (text ++ behind)) past past' tf tf') → length text ≤ limit → (more : List ℕ) → (Rose tf tf' → ⊥)
+    → (status ≡ status_within limit (text ++ more)) ⊎ (status ≡ Memory)
+status-stopped limit status honest waiting text past past' tf tf' stops within more tell =
+    let ended = nat_lt (length (text ++ more)) limit in
+    let bytes = take (limit - length text) more in
+    let P : List ℕ → Type 0 = λ taken. (status ≡ ending_status (converted ended taken).ending) ⊎ (status ≡ Memory) in
+    subst P (sym (take-append_past limit text more within)) (ended-status status (converted ended (text ++ bytes)).ending (Rose tf tf') (stops ended bytes).cause tell)
 
--- why a run ended does not hang on when the count of failures rose
-later-cause : (status : Status) (ended : Bool) (ending : Ending Refusal) (text : List ℕ) (source_rose tell_rose source_rose' tell_rose' : Type 0) → (source_rose → source_rose') → (tell_rose → tell_rose')
-    → HasStatusCause status ended ending text source_rose tell_rose → HasStatusCause status ended ending text source_rose' tell_rose'
-later-cause Done ended ending text source_rose tell_rose source_rose' tell_rose' source tell cause = cause
-later-cause (Refused line number) ended ending text source_rose tell_rose source_rose' tell_rose' source tell cause = cause
-later-cause (Limit line number) ended ending text source_rose tell_rose source_rose' tell_rose' source tell cause = cause
-later-cause ReadFault ended ending text source_rose tell_rose source_rose' tell_rose' source tell cause = (cause.0, cause.1, source cause.2)
-later-cause TellFault ended ending text source_rose tell_rose source_rose' tell_rose' source tell cause = tell cause
-later-cause InputLimit ended ending text source_rose tell_rose source_rose' tell_rose' source tell cause = cause
-later-cause Memory ended ending text source_rose tell_rose source_rose' tell_rose' source tell cause = tt
-later-cause _ ended ending text source_rose tell_rose source_rose' tell_rose' source tell cause = absurd cause
+status-ended : (limit : ℕ) (text : List ℕ) → length text < limit → status_within limit text ≡ ending_status (converted true text).ending
+unfolding ending_within
+status-ended limit text within = ap ending_status (within-ended point_rules limit text (converted true text) refl within)
 
--- a run that stops at a step
-pub Converts-stop : (old : Conversion) (honest : Type 0) (status : Status) (budget : ℕ) (left middle right : Option (List ℕ)) (past past' past'' : List Event) (sf sf' sf'' tf tf' tf'' : ℕ)
-    → (before : Converting old honest budget left middle past past' sf sf' tf tf') → Stops status honest before.taken before.made middle right past' past'' (Rose sf' sf'') (Rose tf' tf'') (IsUnasked past' past'' tf' tf'') → sf' ≤ sf'' → tf' ≤ tf''
-    → Converts status honest left right past past'' sf sf'' tf tf''
-Converts-stop old honest status budget left middle right past past' past'' sf sf' sf'' tf tf' tf'' before step source tell = record {
-  taken = before.taken ++ step.bytes;
-  ended = step.ended;
-  takes = Takes-append left middle right before.taken step.bytes before.takes step.takes;
-  within = step.within;
-  at_end = step.at_end;
-  output = λ is_honest. let tells = step.stops.tells is_honest in record {
-    sent = before.made ++ tells.sent;
-    unsent = tells.unsent;
-    whole = step.stops.output ∙ ap (λ (bytes : List ℕ). before.made ++ bytes) tells.whole ∙ sym (append_assoc before.made tells.sent tells.unsent);
-    tells = tells.tells ∙ ap (λ (bytes : List ℕ). bytes ++ tells.sent) (before.tells is_honest) ∙ append_assoc (told past) before.made tells.sent;
-    all = tells.all;
-  };
-  silent = λ none.
-      let each = both-none before.made step.stops.waiting (sym step.stops.output ∙ none) in
-      later-unasked past past' past'' tf tf' tf'' (before.silent each.0) (step.stops.silent each.1);
-  cause = later-cause status step.ended (converted step.ended (before.taken ++ step.bytes)).ending (before.taken ++ step.bytes) (Rose sf' sf'') (Rose tf' tf'') (Rose sf sf'') (Rose tf tf'')
-      (rose-later sf sf' sf'' before.source_count source) (rose-later tf tf' tf'' before.tell_count tell) step.stops.cause;
-  source_count = omega (arith, before.source_count);
-  tell_count = omega (arith, before.tell_count);
-}
+status-limit : (limit : ℕ) (text said more : List ℕ) → converted false text ≡ record { told = said; ending = GoesOn } → length text ≡ limit → status_within limit (text ++ more) ≡ InputLimit
+unfolding ending_within
+status-limit limit text said more whole full = ap ending_status (within-limit point_rules limit text said more whole full)
 
-pub EndsAsText-stop : (old : Conversion) (honest : Type 0) (status : Status) (budget : ℕ) (left middle right : Option (List ℕ)) (past past' past'' : List Event) (sf sf' sf'' tf tf' tf'' : ℕ)
-    → (before : Converting old honest budget left middle past past' sf sf' tf tf') → Stops status honest before.taken before.made middle right past' past'' (Rose sf' sf'') (Rose tf' tf'') (IsUnasked past' past'' tf' tf'') → sf' ≤ sf'' → tf' ≤ tf''
-    → EndsAsText status left sf sf'' tf tf''
-EndsAsText-stop old honest status budget None middle right past past' past'' sf sf' sf'' tf tf' tf'' before step source tell = tt
-EndsAsText-stop old honest status budget (Some text) middle right past past' past'' sf sf' sf'' tf tf' tf'' before step source tell = λ no_source no_tell.
-    let found = Takes-some text (before.taken ++ step.bytes) right (Takes-append (Some text) middle right before.taken step.bytes before.takes step.takes) in
-    subst (λ (all : List ℕ). (status ≡ status_of all) ⊎ (status ≡ Memory)) (sym found.2)
-    (step.stops.whole found.0 found.1 (λ rose. no_source (rose-later sf sf' sf'' before.source_count source rose)) (λ rose. no_tell (rose-later tf tf' tf'' before.tell_count tell rose)))
+-- nothing is left behind the end
+nothing_left : (left : Option (List ℕ)) (more : List ℕ) → IfSome left (λ bytes. bytes ≡ []) → left ≡ Some more → more ≡ []
+nothing_left None more none is = cc
+nothing_left (Some bytes) more none is = cc
 
--- a run that has taken all that it may
-pub Converts-limit : (conversion : Conversion) (honest : Type 0) (left right : Option (List ℕ)) (past past' : List Event) (sf sf' tf tf' budget : ℕ)
-    → Converting conversion honest budget left right past past' sf sf' tf tf' → budget ≡ 0
-    → Converts InputLimit honest left right past past' sf sf' tf tf'
-Converts-limit conversion honest left right past past' sf sf' tf tf' budget before none =
-    let whole = still_open conversion before.taken before.made before.has in
-    record {
-      taken = before.taken;
-      ended = false;
-      takes = before.takes;
-      within = omega (arith, before.spent);
-      at_end = λ ended. cc;
-      output = λ is_honest. record {
-        sent = before.made;
-        unsent = [];
-        whole = ap all_told whole;
-        tells = before.tells is_honest;
-        all = λ all. refl;
-      };
-      silent = λ none. before.silent (both-none before.made [] (sym (ap all_told whole) ∙ none)).0;
-      cause = (refl, ap (λ (reading : Reading Refusal). reading.ending) whole, omega (arith, before.spent));
-      source_count = before.source_count;
-      tell_count = before.tell_count;
-    }
+-- why a run ended whose text may go on
+open-cause : (status : Status) (text : List ℕ) (ending : Ending Refusal) (tell_rose : Type 0) (sf sf' : ℕ) → ending ≡ GoesOn → ((status ≡ ReadFault) × Rose sf sf') ⊎ ((status ≡ InputLimit) × (length text ≡ input_limit))
+    → HasStatusCause status false ending text (Rose sf sf') tell_rose
+open-cause status text ending tell_rose sf sf' still (inl (is, rose)) = rw is (refl, still, rose)
+open-cause status text ending tell_rose sf sf' still (inr (is, full)) = rw is (refl, still, full)
 
-pub EndsAsText-limit : (conversion : Conversion) (honest : Type 0) (left right : Option (List ℕ)) (past past' : List Event) (sf sf' tf tf' budget : ℕ)
-    → Converting conversion honest budget left right past past' sf sf' tf tf' → budget ≡ 0
-    → EndsAsText InputLimit left sf sf' tf tf'
-EndsAsText-limit conversion honest None right past past' sf sf' tf tf' budget before none = tt
-EndsAsText-limit conversion honest (Some text) right past past' sf sf' tf tf' budget before none = λ no_source no_tell.
-    let found = Takes-some text before.taken right before.takes in
-    subst (λ (all : List ℕ). (InputLimit ≡ status_of all) ⊎ (InputLimit ≡ Memory)) (sym found.2)
-    (inl (sym (status-limit input_limit before.taken before.made found.0 (still_open conversion before.taken before.made before.has) (omega (arith, before.spent)))))
+open-status : (status : Status) (text said more : List ℕ) (sf sf' : ℕ) → converted false text ≡ record { told = said; ending = GoesOn } → ((status ≡ ReadFault) × Rose sf sf') ⊎ ((status ≡ InputLimit) × (length text ≡ input_limit))
+    → (Rose sf sf' → ⊥) → (status ≡ status_of (text ++ more)) ⊎ (status ≡ Memory)
+open-status status text said more sf sf' whole (inl (is, rose)) source = absurd (source rose)
+open-status status text said more sf sf' whole (inr (is, full)) source = inl (is ∙ sym (status-limit input_limit text said more whole full))
 
--- a run for which there was no memory
-pub Converts-memory : (honest : Type 0) (left : Option (List ℕ)) (past : List Event) (source_faults tell_faults : ℕ) → Converts Memory honest left left past past source_faults source_faults tell_faults tell_faults
-Converts-memory honest left past source_faults tell_faults = record {
-  taken = [];
-  ended = false;
-  takes = sym (option_map-same left);
-  within = omega arith;
-  at_end = λ ended. cc;
-  output = λ is_honest. record { sent = []; unsent = output_of false []; whole = refl; tells = sym (append-nil (told past)); all = λ all. cc };
-  silent = λ none. (refl, refl);
-  cause = tt;
-  source_count = omega arith;
-  tell_count = omega arith;
-}
+-- ---- the run over the lines
 
-pub EndsAsText-memory : (left : Option (List ℕ)) (sf sf' tf tf' : ℕ) → EndsAsText Memory left sf sf' tf tf'
-EndsAsText-memory None sf sf' tf tf' = tt
-EndsAsText-memory (Some text) sf sf' tf tf' = λ no_source no_tell. inr refl
+-- what follows the last line feed is not too long
+rest-fits : (text : List ℕ) → HasNoLongLine text → fits (rest text) ≡ true
+rest-fits text short = (All-pop (λ (part : List ℕ). fits part ≡ true) (parts text) (lines text) (Some (rest text)) (parts_whole text) short).1
+
+-- something follows the lines
+some_next : (left : List (List ℕ)) (first : List ℕ) (others : List (List ℕ)) → (next : List ℕ) × (more : List (List ℕ)) × (left ++ first ∷ others ≡ next ∷ more)
+some_next [] first others = (first, others, refl)
+some_next (next ∷ left) first others = (next, left ++ first ∷ others, refl)
+
+-- the parts of a text that goes on after these lines
+parts-onward : (text : List ℕ) (front left : List (List ℕ)) (behind : List ℕ) → lines text ≡ front ++ left → (next : List ℕ) × (more : List (List ℕ)) × (parts (text ++ behind) ≡ front ++ next ∷ more)
+parts-onward text front left behind whole =
+    let ahead = parts_first (rest text ++ behind) in
+    let some = some_next left ahead.0 ahead.1 in (
+      some.0,
+      some.1,
+      parts-append text behind ∙ ap (λ (l : List (List ℕ)). l ++ parts (rest text ++ behind)) whole ∙ ap (λ (l : List (List ℕ)). (front ++ left) ++ l) ahead.2
+          ∙ append_assoc front left (ahead.0 ∷ ahead.1) ∙ ap (λ (l : List (List ℕ)). front ++ l) some.2,
+    )
+
+module _ {H : Type 0} (honest : Type 0) (past_of : H → List Event) (faults_of : H → ℕ) where
+  -- what each call does
+  abbrev pub converting_acts : Acts Converting H
+  converting_acts = acts_of (λ old host number line result new host'. Takes honest number line result old new (past_of host) (past_of host') (faults_of host) (faults_of host'))
+      (λ old host result new host'. Pauses honest result old new (past_of host) (past_of host') (faults_of host) (faults_of host'))
+      (λ old host lines rest status new host'. Ends honest lines rest status old new (past_of host) (past_of host') (faults_of host) (faults_of host'))
+      (λ old host number status new host'. Overflows honest number status old new (past_of host) (past_of host') (faults_of host) (faults_of host'))
+
+  module _ (start : Converting) (begin : H) (fresh : HasConverted start honest [] (past_of begin) (past_of begin) (faults_of begin) (faults_of begin)) where
+    -- all lines of a chain were taken
+    chain-converted : (front : List (List ℕ)) (converting : Converting) (host : H) → Chain converting_acts start begin front converting host
+        → HasConverted converting honest front (past_of begin) (past_of host) (faults_of begin) (faults_of host)
+    chain-converted front converting host begins = fresh
+    chain-converted front converting host (goes_on before line old new host' host'' chain takes) =
+        takes (past_of begin) (faults_of begin) before (chain-converted before old host' chain) refl
+    chain-converted front converting host (pauses before old new host' host'' chain takes) =
+        takes (past_of begin) (faults_of begin) before (chain-converted before old host' chain)
+
+    module _ (status : Status) (converting : Converting) (host : H) (left left' : Option (List ℕ)) (sf sf' : ℕ) (text : List ℕ) (took_bytes : TakesBytes left text left') (within : length text ≤ input_limit) where
+      -- the run ended in the text, however that goes on
+      run-stopped : ((ended : Bool) (behind : List ℕ) → EndsIn status honest (string_bytes converting.out) (converted ended (text ++ behind)) (past_of begin) (past_of host) (faults_of begin) (faults_of host))
+          → HasRun status honest (string_bytes converting.out) left left' (past_of begin) (past_of host) sf sf' (faults_of begin) (faults_of host)
+      run-stopped stops =
+          let here = subst (λ (bytes : List ℕ). EndsIn status honest (string_bytes converting.out) (converted false bytes) (past_of begin) (past_of host) (faults_of begin) (faults_of host)) (append-nil text) (stops false []) in
+          record {
+            taken = text;
+            ended = false;
+            takes = took_bytes;
+            within = within;
+            at_end = λ ended. cc;
+            leaves = here.leaves;
+            cause = ended-cause status (converted false text).ending false text (Rose sf sf') (Rose (faults_of begin) (faults_of host)) here.cause;
+            whole = λ more left_is source tell.
+                status-stopped input_limit status honest (string_bytes converting.out) text (past_of begin) (past_of host) (faults_of begin) (faults_of host) stops within more tell;
+          }
+
+      -- the parts of the text, however that goes on, are such that the run ended
+      run-stopped_at : ((ended : Bool) (behind : List ℕ) → (all : List (List ℕ)) × (parts (text ++ behind) ≡ all)
+          × EndsIn status honest (string_bytes converting.out) (reading point_rules ended [] all) (past_of begin) (past_of host) (faults_of begin) (faults_of host))
+          → HasRun status honest (string_bytes converting.out) left left' (past_of begin) (past_of host) sf sf' (faults_of begin) (faults_of host)
+      run-stopped_at stops = run-stopped (λ ended behind.
+          let stop = stops ended behind in
+          subst (λ (all : List (List ℕ)). EndsIn status honest (string_bytes converting.out) (reading point_rules ended [] all) (past_of begin) (past_of host) (faults_of begin) (faults_of host)) (sym stop.1) stop.2)
+
+      -- all lines were taken, and the text may go on
+      run-open : TookAll converting_acts start begin text converting host → ((status ≡ ReadFault) × Rose sf sf') ⊎ ((status ≡ InputLimit) × (length text ≡ input_limit))
+          → HasRun status honest (string_bytes converting.out) left left' (past_of begin) (past_of host) sf sf' (faults_of begin) (faults_of host)
+      run-open took why =
+          let has = chain-converted (lines text) converting host took.chain in
+          let whole = read-open point_rules (lines text) has.said (has.sent ++ string_bytes converting.out) has.read text refl (rest-fits text took.short) in
+          let output : output_of false text ≡ has.sent ++ string_bytes converting.out = ap all_told whole ∙ append-nil (has.sent ++ string_bytes converting.out) in
+          record {
+            taken = text;
+            ended = false;
+            takes = took_bytes;
+            within = within;
+            at_end = λ ended. cc;
+            leaves = record {
+              tells = λ is_honest. record { sent = has.sent; unsent = string_bytes converting.out; whole = output; tells = has.told.tells is_honest; all = λ all. refl };
+              silent = λ none. has.told.silent (both-none has.sent (string_bytes converting.out) (sym output ∙ none)).0;
+              waits = λ none all. (both-none has.sent (string_bytes converting.out) (sym output ∙ none)).1;
+              count = has.told.count;
+            };
+            cause = open-cause status text (converted false text).ending (Rose (faults_of begin) (faults_of host)) sf sf' (ap (λ (r : Reading Refusal). r.ending) whole) why;
+            whole = λ more left_is source tell. open-status status text (has.sent ++ string_bytes converting.out) more sf sf' whole why source;
+          }
+
+      -- the text has ended
+      run-ended : (old : Converting) (host' : H) → length text < input_limit → IfSome left' (λ bytes. bytes ≡ []) → TookAll converting_acts start begin text old host'
+          → Ends honest (length (lines text)) (rest text) status old converting (past_of host') (past_of host) (faults_of host') (faults_of host)
+          → HasRun status honest (string_bytes converting.out) left left' (past_of begin) (past_of host) sf sf' (faults_of begin) (faults_of host)
+      run-ended old host' short nothing took ends =
+          let has = chain-converted (lines text) old host' took.chain in
+          let here = subst (λ (all : List (List ℕ)). EndsIn status honest (string_bytes converting.out) (reading point_rules true [] all) (past_of begin) (past_of host) (faults_of begin) (faults_of host)) (sym (parts_whole text))
+          (ends (past_of begin) (faults_of begin) (lines text) has refl) in
+          record {
+            taken = text;
+            ended = true;
+            takes = took_bytes;
+            within = within;
+            at_end = λ ended. (short, nothing);
+            leaves = here.leaves;
+            cause = ended-cause status (converted true text).ending true text (Rose sf sf') (Rose (faults_of begin) (faults_of host)) here.cause;
+            whole = λ more left_is source tell.
+                let none = nothing_left left' more nothing left_is in
+                let same : status_of (text ++ more) ≡ ending_status (converted true text).ending =
+                ap status_of (ap (λ (bytes : List ℕ). text ++ bytes) none ∙ append-nil text) ∙ status-ended input_limit text short in
+                subst (λ (expected : Status). (status ≡ expected) ⊎ (status ≡ Memory)) (sym same)
+                (ended-status status (converted true text).ending (Rose (faults_of begin) (faults_of host)) here.cause tell);
+          }
+
+      pub run-by : Ended converting_acts status start begin text converting host left' (Rose sf sf')
+          → HasRun status honest (string_bytes converting.out) left left' (past_of begin) (past_of host) sf sf' (faults_of begin) (faults_of host)
+      run-by (at_line front line next more old host' whole short fit chain takes) = run-stopped_at (λ ended behind.
+          let on = line-onward text front line next more whole behind in
+          (front ++ line ∷ on.next ∷ on.more, on.whole, takes (past_of begin) (faults_of begin) front (chain-converted front old host' chain) refl ended on.next on.more))
+      run-by (at_pause old host' took takes) = run-stopped_at (λ ended behind.
+          let on = parts-onward text (lines text) [] behind (sym (append-nil (lines text))) in
+          (lines text ++ on.0 ∷ on.1, on.2, takes (past_of begin) (faults_of begin) (lines text) (chain-converted (lines text) old host' took.chain) ended on.0 on.1))
+      run-by (at_long_line front long more old host' whole short over chain takes) = run-stopped_at (λ ended behind.
+          let on = IsLongAfter-append text behind front (record { long = long; more = more; whole = whole; short = short; too_long = over }) in
+          (front ++ on.long ∷ on.more, on.whole, takes (past_of begin) (faults_of begin) front (chain-converted front old host' chain) refl ended on.long on.more on.too_long))
+      run-by (at_end old host' short nothing took ends) = run-ended old host' short nothing took ends
+      run-by (at_fault is rose took) = run-open took (inl (is, rose))
+      run-by (at_limit is full took) = run-open took (inr (is, full))
+      run-by (at_want front is took) = run-stopped_at (λ ended behind.
+          let on = parts-onward text front took.begins.left behind took.begins.whole in
+          let has = chain-converted front converting host took.chain in
+          (front ++ on.0 ∷ on.1, on.2, no_memory converting honest front (past_of begin) (past_of host) (faults_of begin) (faults_of host) has status (string_bytes converting.out) ended on.0 on.1 is))

@@ -1,4 +1,12 @@
-mod ConversionLemmas
+mod AckLemmas
 mod ConvertLemmas
-mod ReadingLemmas
-mod TellingLemmas
+mod ConvertingLemmas
+mod ExtendsLemmas
+mod HasReadLemmas
+mod NewLemmas
+mod NumberLemmas
+mod OpeningLemmas
+mod RunLemmas
+mod RunningLemmas
+mod StopsLemmas
+mod TakeLemmas

@@ -1,9 +1,68 @@
-use Rattle.std.specs.Prelude.{ℕ, List, [], ◌∷◌, Option, Some, None, codes, if◌then◌else◌}
+-- The words of a command line.
+use Rattle.std.specs.Prelude.{ℕ, ◌==◌, ◌^◌, Bool, false, not, ◌&&◌, nat_le, nat_lt, List, [], ◌∷◌, Option, Some, None, codes, if◌then◌else◌}
+use Rattle.std.specs.Option.{option_map, option_and_then}
 use Rattle.std.specs.Str.{bytes_eq}
+use Rattle.std.specs.Str.Parse.{digits_value}
+use Rattle.fixed_num.specs.UnitsText.{is_numeral}
+use Rattle.entry_codec.specs.declared.entry.Settings.{Settings}
+use Rattle.entry_codec.specs.declared.entry.TierSettings.{TierSettings}
 use Rattle.agent_app.specs.declared.command.Command.{Command}
-use Rattle.agent_app.specs.declared.command.Command.TheVariants.{Convert}
+use Rattle.agent_app.specs.declared.command.Command.TheVariants.{Convert, New, Run}
+
+-- ---- numbers
+
+-- a 0 stands in front of another character
+abbrev pub has_leading_zero : List ℕ → Bool
+has_leading_zero [] = false
+has_leading_zero (first ∷ []) = false
+has_leading_zero (first ∷ next ∷ more) = first == 48
+
+-- the number that decimal digits say, without a sign and without a 0 in front, where it is below 2^64
+abbrev pub number_of : List ℕ → Option ℕ
+number_of word =
+    if is_numeral word && not (has_leading_zero word) && nat_lt (digits_value 10 word) (2 ^ 64) then Some (digits_value 10 word) else None
+
+-- the number, where it is not 0 and at most so large
+abbrev pub up_to : ℕ → ℕ → Option ℕ
+up_to most n = if nat_le 1 n && nat_le n most then Some n else None
+
+-- ---- settings
+
+-- 1 to 262,144 items make a segment full, and 1 to 1,024 segments are kept
+abbrev pub tier_of : List ℕ → List ℕ → Option TierSettings
+tier_of items extents =
+    option_and_then (λ (i : ℕ). option_map (λ (e : ℕ). record { items = i; extents = e }) (option_and_then (up_to 1024) (number_of extents)))
+    (option_and_then (up_to 262144) (number_of items))
+
+-- what a database keeps where nothing is said of it
+abbrev pub default_settings : ℕ → Settings
+default_settings id = record {
+  id = id;
+  tier0 = record { items = 262144; extents = 256 };
+  tier1 = record { items = 65536; extents = 64 };
+  tier2 = record { items = 65536; extents = 16 };
+}
+
+-- settings of these parts, where all of them are there
+abbrev pub settings_with : Option ℕ → Option TierSettings → Option TierSettings → Option TierSettings → Option Settings
+settings_with (Some id) (Some tier0) (Some tier1) (Some tier2) = Some (record { id = id; tier0 = tier0; tier1 = tier1; tier2 = tier2 })
+settings_with id tier0 tier1 tier2 = None
+
+-- an id, and then nothing or the items and the segments of each tier
+abbrev pub settings_of : List (List ℕ) → Option Settings
+settings_of (id ∷ []) = option_map default_settings (number_of id)
+settings_of (id ∷ items0 ∷ extents0 ∷ items1 ∷ extents1 ∷ items2 ∷ extents2 ∷ []) =
+    settings_with (number_of id) (tier_of items0 extents0) (tier_of items1 extents1) (tier_of items2 extents2)
+settings_of words = None
+
+-- ---- commands
+
+-- the command of a single word
+abbrev pub alone : List ℕ → Option Command
+alone word = if bytes_eq word (codes "convert") then Some Convert else if bytes_eq word (codes "run") then Some Run else None
 
 -- the command that the words of a command line give, or none where they are in no form
 abbrev pub command_of : List (List ℕ) → Option Command
-command_of (word ∷ []) = if bytes_eq word (codes "convert") then Some Convert else None
-command_of _ = None
+command_of [] = None
+command_of (word ∷ []) = alone word
+command_of (word ∷ next ∷ more) = if bytes_eq word (codes "new") then option_map New (settings_of (next ∷ more)) else None

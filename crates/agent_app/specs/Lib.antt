@@ -1,5 +1,7 @@
 pub mod Command
-pub mod Conversion
 pub mod Convert
+pub mod Converting
+pub mod New
 pub mod Reading
-pub mod Telling
+pub mod Run
+pub mod Running

@@ -1,4 +1,4 @@
-use Rattle.std.specs.Prelude.{ℕ, ◌+◌, Bool, not, List, [], ◌∷◌, ◌++◌, length, Result, Ok, Err, if◌then◌else◌}
+use Rattle.std.specs.Prelude.{◌≡◌, ℕ, ◌+◌, Bool, not, List, [], ◌∷◌, ◌++◌, length, Result, Ok, Err, if◌then◌else◌}
 use Rattle.plugin_text.specs.Lines.{parts, fits}
 
 -- What the reading of a text is, whatever its lines mean: the rules say that. A line's meaning and its
@@ -66,3 +66,23 @@ reading rules ended past (line ∷ next ∷ more) =
 -- the reading of a text, which has ended or may go on
 abbrev pub reading_of : {Line Refusal : Type 0} → Rules Line Refusal → Bool → List ℕ → Reading Refusal
 reading_of rules ended text = reading rules ended [] (parts text)
+
+-- ---- the lines that are read
+
+abbrev pub line_read : {Line Refusal : Type 0} → Rules Line Refusal → List Line → Result Line Refusal → (Line → List Line) → List Line
+line_read rules past (Err refusal) onward = past
+line_read rules past (Ok line) onward = if rules.ends_text line then past else onward line
+
+-- of these parts of a text, after these lines, the lines that are read: those before one that is refused or
+-- ends the text
+abbrev pub lines_read : {Line Refusal : Type 0} → Rules Line Refusal → List Line → List (List ℕ) → List Line
+lines_read rules past [] = past
+lines_read rules past (rest ∷ []) = past
+lines_read rules past (line ∷ next ∷ more) =
+    if not (fits line) then past else line_read rules past (rules.judge past line) (λ said. lines_read rules (said ∷ past) (next ∷ more))
+
+-- these parts of a text were read: they say these lines, and tell so much, however the text goes on
+pub record HasRead {Line Refusal : Type 0} (rules : Rules Line Refusal) (front : List (List ℕ)) (past : List Line) (made : List ℕ) : Type 0 where
+  pub count : length past ≡ length front
+  pub onward : (ended : Bool) (next : List ℕ) (more : List (List ℕ)) → reading rules ended [] (front ++ next ∷ more) ≡ reads_on made (reading rules ended past (next ∷ more))
+  pub says : (next : List ℕ) (more : List (List ℕ)) → lines_read rules [] (front ++ next ∷ more) ≡ lines_read rules past (next ∷ more)

@@ -1,26 +1,34 @@
 //! The commands of the program, over an outside that may fail at any call.
 //!
 //! `agent_main` is the top call. Its contract says, for every input and whatever fails: what is told is
-//! the front of a stated function of the bytes that were taken, and all of it unless the output or
-//! memory failed; and why the run ended with the status that it answers. It stands on `plugin_text`
-//! for the lines of a stream, on `point_lines` for what the lines of a text tell, and on `host_model`
-//! for the outside.
+//! the front of a stated function of the bytes that were taken, and all of it unless the output, the disk or
+//! memory failed; what a stop may leave of the database at any moment; and why the run ended with the status
+//! that it answers. It stands on `line_stream` for the lines of a stream, on `point_lines` for what the lines
+//! of a text tell, on `agent_core` for the agent whose beats are stored, and on `host_model` for the outside.
 #![tactic(auto)]
 
 ghost use Rattle.std.specs.Prelude.{◌≡◌, ◌↔◌, None, Some};
 ghost use Rattle.agent_app.specs.Command.{command_of};
 ghost use Rattle.agent_app.specs.Convert.{Converts, EndsAsText};
+ghost use Rattle.agent_app.specs.New.{Makes};
+ghost use Rattle.agent_app.specs.Run.{RunsAll};
+ghost use Rattle.entry_codec.specs.declared.entry.Settings.{Settings as ASettings};
 
 use command::Command;
 use convert::convert;
 use fixed_num::WordsList;
 use host_model::{Host, Source, Status};
+use new::new;
+use run::run;
 use std::alloc::Global;
 
 mod command;
-mod conversion;
 mod convert;
-mod stop;
+mod converting;
+mod new;
+mod refusals;
+mod run;
+mod running;
 #[cfg(test)]
 mod tests;
 
@@ -33,6 +41,13 @@ mod tests;
 /// refusal, after the points of the beats before, and then the last moment where a moment is not above it;
 /// a text that asks for too many charts or dimensions tells `LIMIT` so. No more than 2^40 bytes are taken
 /// of the input. Want of memory may end a run at any place, with `Status::Memory`.
+///
+/// `new ID`, or `new ID P0 Q0 P1 Q1 P2 Q2`, makes a database on the host's disk: its id below 2^64, and for each
+/// tier how many items make a segment full and how many segments are kept. `Exists` where there is one.
+///
+/// `run` stores the beats of such a text behind those of the database, and tells `STORED` and a beat's number in
+/// the history as soon as the beat is stored: no stop loses it then. A refusal is told as by `convert`, and the
+/// beats before it stay. A QUERY line is refused with 90: nothing answers questions yet.
 pub fn agent_main<S: Source, H: Host>(
     alloc: Global,
     words: &WordsList,
@@ -50,9 +65,22 @@ pub fn agent_main<S: Source, H: Host>(
     // Where nothing outside fails, the status is that of the text, or there was no memory.
     ensures complete { command_of words.now ≡ Some Command.Convert →
         EndsAsText result (S.left source.old) (S.faults source.old) (S.faults source.new) (H.tell_faults host.old) (H.tell_faults host.new) }
+
+    // What a new database is, and what stops leave of it.
+    ensures makes { (settings : ASettings) → command_of words.now ≡ Some (Command.New settings) →
+        Makes H.honest settings result (record { past = H.past host.old; disk_faults = H.disk_faults host.old; tell_faults = H.tell_faults host.old })
+        (record { past = H.past host.new; disk_faults = H.disk_faults host.new; tell_faults = H.tell_faults host.new }) }
+
+    // What a run stores and tells, what stops leave, and why it ended.
+    ensures runs { command_of words.now ≡ Some Command.Run →
+        RunsAll H.honest result (S.left source.old) (S.left source.new) (S.faults source.old) (S.faults source.new)
+        (record { past = H.past host.old; disk_faults = H.disk_faults host.old; tell_faults = H.tell_faults host.old })
+        (record { past = H.past host.new; disk_faults = H.disk_faults host.new; tell_faults = H.tell_faults host.new }) }
 {
     match Command::read(words) {
         None => Status::Usage,
         Some(Command::Convert) => convert(alloc, source, host),
+        Some(Command::New(settings)) => new(alloc, &settings, host),
+        Some(Command::Run) => run(alloc, source, host),
     }
 }

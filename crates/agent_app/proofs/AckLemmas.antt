@@ -1,0 +1,145 @@
+-- Which stored beats the whole lines of a text acknowledge.
+use Rattle.std.proofs.Common.{◌≡◌, ℕ, zero, suc, ◌+◌, ◌/◌, ◌%◌, ◌<◌, ◌≤◌, ◌^◌, ⊎_elim, Bool, true, false, cond, nat_eq, nat_lt, List, [], ◌∷◌, ◌++◌, length, take, drop, All, codes, refl, sym, ap, subst, ◌∙◌, append_assoc, append-nil, arith, if◌then◌else◌}
+use Rattle.std.specs.Fmt.{decimal, digits, digits_onto, digit_glyph}
+use Rattle.std.specs.List.{slice_index, AllByRecursion}
+use Rattle.std.proofs.Math.ListN.{drop_of_length-le}
+use Rattle.std.proofs.Math.Seq.{drop-append_seam}
+use Rattle.std.proofs.lemmas.Bool.{cases_lt}
+use Rattle.std.proofs.lemmas.Bool.Decides.{nat_tests}
+use Rattle.std.proofs.lemmas.Fmt.{decimal_injective}
+use Rattle.std.proofs.lemmas.List.{append_cancel_left, drop-append-le, take_at, take-append-drop}
+use Rattle.std.proofs.lemmas.List.Elements.{All-append, All-from_recursion, All-take}
+use Rattle.std.proofs.lemmas.List.Splits.{slice_split_at}
+use Rattle.host_model.specs.Past.{Event, On, Told, told, IsText}
+use Rattle.plugin_text.specs.Lines.{is_line_feed, but_last, last_part, lines, parts, rest}
+use Rattle.plugin_text.proofs.PartsLemmas.{lines-append, rest-append}
+use Rattle.history.specs.declared.fault.BlockFault.TheVariants as fault
+use Rattle.point_lines.specs.declared.refusal.Refusal.{Refusal}
+use Rattle.point_lines.specs.declared.refusal.Refusal.TheVariants as refusal
+use Rattle.point_lines.specs.Judged.{refusal_number}
+use Rattle.agent_core.specs.Replies.{reply_text}
+use Rattle.agent_app.specs.Convert.{is_limit, refusal_line, refusal_tail}
+use Rattle.agent_app.specs.Run.{stored_line, IsAckedUpTo}
+
+-- ---- texts without a line feed
+abbrev IsFree : List ℕ → Type 0
+IsFree text = AllByRecursion (λ (byte : ℕ). is_line_feed byte ≡ false) text
+
+free-append : (xs ys : List ℕ) → IsFree xs → IsFree ys → IsFree (xs ++ ys)
+free-append [] ys first second = second
+free-append (x ∷ xs) ys first second = (first.0, free-append xs ys first.1 second)
+
+glyph-free : (digit : ℕ) → is_line_feed (digit_glyph false digit) ≡ false
+glyph-free digit = by (nat_lt digit 10)
+  where
+    by : (b : Bool) → is_line_feed (cond b (48 + digit) (87 + digit)) ≡ false
+    by true = grind (arith, nat_tests)
+    by false = grind (arith, nat_tests)
+
+onto-free : (k n : ℕ) (acc : List ℕ) → IsFree acc → IsFree (digits_onto k 10 false n acc)
+onto-free zero n acc free = free
+onto-free (suc k) n acc free =
+    let more : IsFree (digit_glyph false (n % 10) ∷ acc) = (glyph-free (n % 10), free) in
+    by (nat_eq (n / 10) 0) (digit_glyph false (n % 10) ∷ acc) (digits_onto k 10 false (n / 10) (digit_glyph false (n % 10) ∷ acc)) more (onto-free k (n / 10) (digit_glyph false (n % 10) ∷ acc) more)
+  where
+    by : (b : Bool) (xs ys : List ℕ) → IsFree xs → IsFree ys → IsFree (cond b xs ys)
+    by true xs ys here there = here
+    by false xs ys here there = there
+
+decimal-free : (n : ℕ) → IsFree (decimal n)
+unfolding digits
+decimal-free n = onto-free 64 n [] tt
+
+-- a text of one line
+one-line : (text : List ℕ) → IsFree text → parts (text ++ 10 ∷ []) ≡ text ∷ [] ∷ []
+one-line text free = slice_split_at is_line_feed text 10 [] (All-from_recursion (λ (byte : ℕ). is_line_feed byte ≡ false) text free) refl
+
+-- ---- acknowledged up to a number
+abbrev IsKnown : ℕ → List ℕ → Type 0
+IsKnown n said = (m : ℕ) → m < 2 ^ 64 → said ≡ stored_line m → m ≤ n
+
+pub acked-nothing : (n : ℕ) → IsAckedUpTo n []
+acked-nothing n = All-from_recursion (IsKnown n) [] tt
+
+acked-one : (n : ℕ) (text : List ℕ) → IsFree text → IsKnown n text → IsAckedUpTo n (text ++ 10 ∷ [])
+acked-one n text free known = subst (λ (ps : List (List ℕ)). All (IsKnown n) (but_last ps)) (sym (one-line text free)) (All-from_recursion (IsKnown n) (text ∷ []) (known, tt))
+
+pub acked-more : (n : ℕ) (made text : List ℕ) → rest made ≡ [] → IsAckedUpTo n made → IsAckedUpTo n text → IsAckedUpTo n (made ++ text)
+acked-more n made text closed first second =
+    let all : lines (made ++ text) ≡ lines made ++ lines text = lines-append made text ∙ ap (λ (r : List ℕ). lines made ++ lines (r ++ text)) closed in
+    subst (All (IsKnown n)) (sym all) (All-append (IsKnown n) (lines made) (lines text) first second)
+
+acked-front : (n : ℕ) (text more : List ℕ) → IsAckedUpTo n (text ++ more) → IsAckedUpTo n text
+acked-front n text more all =
+    let these = subst (All (IsKnown n)) (lines-append text more) all in
+    let later = lines (rest text ++ more) in
+    subst (All (IsKnown n)) (take_at (lines text) later (length (lines text)) refl) (All-take (IsKnown n) (length (lines text)) (lines text ++ later) these)
+
+pub acked-weaker : (m n : ℕ) (text : List ℕ) → m ≤ n → IsAckedUpTo m text → IsAckedUpTo n text
+acked-weaker m n text up all = λ k d within j small is. omega (arith, up, all k d within j small is)
+
+pub closed-more : (made text : List ℕ) → rest made ≡ [] → rest text ≡ [] → rest (made ++ text) ≡ []
+closed-more made text closed ends = rest-append made text ∙ ap (λ (r : List ℕ). rest (r ++ text)) closed ∙ ends
+
+-- a front of what was told since
+pub acked-since : (n : ℕ) (before made text more : List ℕ) → text ++ more ≡ before ++ made → IsAckedUpTo n made → IsAckedUpTo n (drop (length before) text)
+acked-since n before made text more whole acked =
+    ⊎_elim
+    (λ short. subst (IsAckedUpTo n) (sym (drop_of_length-le text (omega arith))) (acked-nothing n))
+    (λ long.
+    let since : made ≡ drop (length before) text ++ more = sym (drop-append_seam before made) ∙ ap (drop (length before)) (sym whole) ∙ drop-append-le (length before) text more long in
+    acked-front n (drop (length before) text) more (subst (IsAckedUpTo n) since acked))
+    (cases_lt (length text) (length before))
+
+-- what may have been told by then is a front of all that was told
+pub record IsFront (text all : List ℕ) : Type 0 where
+  pub more : List ℕ
+  pub whole : text ++ more ≡ all
+
+pub text-front : (past : List Event) (text : List ℕ) → IsText past text → IsFront text (told past)
+text-front [] text is = record { more = []; whole = append-nil text ∙ is }
+text-front (On file change ∷ past) text is = record { more = []; whole = append-nil text ∙ is }
+text-front (Told sent ∷ past) text is = record {
+  more = drop is.0 sent;
+  whole = ap (λ (t : List ℕ). t ++ drop is.0 sent) is.1 ∙ append_assoc (told past) (take is.0 sent) (drop is.0 sent) ∙ ap (λ (t : List ℕ). told past ++ t) (take-append-drop is.0 sent);
+}
+
+-- ---- what a run tells
+stored-free : IsFree (codes "STORED ")
+stored-free = (refl, (refl, (refl, (refl, (refl, (refl, (refl, tt)))))))
+
+pub acked-stored : (n count : ℕ) → count < 2 ^ 64 → count ≤ n → IsAckedUpTo n (reply_text (record { count = count }))
+acked-stored n count small up =
+    acked-one n (stored_line count) (free-append (codes "STORED ") (decimal count) stored-free (decimal-free count))
+    (λ m small' is. let same = decimal_injective count m small small' (append_cancel_left (codes "STORED ") (decimal count) (decimal m) is) in omega (arith, same, up))
+
+pub closed-stored : (count : ℕ) → rest (reply_text (record { count = count })) ≡ []
+closed-stored count = ap last_part (one-line (stored_line count) (free-append (codes "STORED ") (decimal count) stored-free (decimal-free count)))
+
+abbrev first_word : Bool → List ℕ
+first_word limit = if limit then codes "LIMIT " else codes "REFUSED "
+
+first-free : (limit : Bool) → IsFree (first_word limit)
+first-free true = (refl, (refl, (refl, (refl, (refl, (refl, tt))))))
+first-free false = (refl, (refl, (refl, (refl, (refl, (refl, (refl, (refl, tt))))))))
+
+tail-free : (why : Refusal) → IsFree (refusal_tail why)
+tail-free (refusal.Block (fault.MomentOrder last)) = free-append (codes " ") (decimal last) (refl, tt) (decimal-free last)
+tail-free why = tt
+
+no-stored : (limit : Bool) (more others : List ℕ) → first_word limit ++ more ≡ codes "STORED " ++ others → ⊥
+no-stored true more others same = let first : 76 ≡ 83 = ap (λ (l : List ℕ). slice_index l 0) same in omega (arith, first)
+no-stored false more others same = let first : 82 ≡ 83 = ap (λ (l : List ℕ). slice_index l 0) same in omega (arith, first)
+
+pub acked-refusal : (n line : ℕ) (why : Refusal) → IsAckedUpTo n (refusal_line line why)
+acked-refusal n line why =
+    let first = first_word (is_limit why) in
+    let numbers = decimal line ++ codes " " ++ decimal (refusal_number why) in
+    let text = first ++ decimal line ++ codes " " ++ decimal (refusal_number why) ++ refusal_tail why in
+    let free : IsFree text =
+    free-append (first ++ decimal line ++ codes " " ++ decimal (refusal_number why)) (refusal_tail why)
+    (free-append (first ++ decimal line ++ codes " ") (decimal (refusal_number why))
+    (free-append (first ++ decimal line) (codes " ") (free-append first (decimal line) (first-free (is_limit why)) (decimal-free line)) (refl, tt)) (decimal-free (refusal_number why)))
+    (tail-free why) in
+    let whole : text ≡ first ++ (decimal line ++ (codes " " ++ (decimal (refusal_number why) ++ refusal_tail why))) = simp append_assoc in
+    acked-one n text free (λ m small is. absurd (no-stored (is_limit why) (decimal line ++ (codes " " ++ (decimal (refusal_number why) ++ refusal_tail why))) (decimal m) (sym whole ∙ is)))

@@ -1,0 +1,62 @@
+-- How the history of a text's lines grows.
+use Rattle.std.proofs.Common.{◌≡◌, ℕ, ◌≤◌, Bool, true, false, not, List, [], ◌∷◌, ◌++◌, length, Result, Ok, Err, refl, sym, ap, subst, ◌∙◌, arith, if◌then◌else◌}
+use Rattle.history.specs.declared.line.Line.{Line}
+use Rattle.history.specs.declared.line.Line.TheVariants as line
+use Rattle.history.specs.History.{Beat, collected}
+use Rattle.history.specs.Looking.{beat}
+use Rattle.history.specs.Read.{history_at, is_disable}
+use Rattle.plugin_text.specs.Lines.{parts, fits}
+use Rattle.point_lines.specs.declared.refusal.Refusal.{Refusal}
+use Rattle.point_lines.specs.Judged.{every}
+use Rattle.agent_core.specs.Rules.{history_with}
+use Rattle.agent_app.specs.Reading.{HasRead, Rules, line_read, lines_read}
+use Rattle.agent_app.specs.Run.{Extends, no_more, one_more, history_with_text, run_rules}
+
+pub extends-further : (a b c : List Beat) → Extends a b → Extends b c → Extends a c
+extends-further a b c first no_more = first
+extends-further a b c first (one_more beat g before) = one_more beat g (extends-further a b g first before)
+
+pub extends-length : (a b : List Beat) → Extends a b → length a ≤ length b
+extends-length a b no_more = omega arith
+extends-length a b (one_more beat g before) = omega (arith, extends-length a g before)
+
+-- the history of one line more
+pub extends-line : (h0 : List Beat) (past : List Line) (said : Line) → Extends (history_at every h0 past) (history_at every h0 (said ∷ past))
+extends-line h0 past (line.Moment moment) = one_more (collected moment (beat every past)) (history_at every h0 past) no_more
+extends-line h0 past said = no_more
+
+pub extends-start : (h0 : List Beat) (past : List Line) → Extends h0 (history_at every h0 past)
+extends-start h0 [] = no_more
+extends-start h0 (said ∷ past) = extends-further h0 (history_at every h0 past) (history_at every h0 (said ∷ past)) (extends-start h0 past) (extends-line h0 past said)
+
+pub with-line : (h0 : List Beat) (past : List Line) (said : Line) → history_with (history_at every h0 past) every past said ≡ history_at every h0 (said ∷ past)
+with-line h0 past (line.Moment moment) = refl
+with-line h0 past said = refl
+
+module _ (h0 : List Beat) where
+  abbrev rules : Rules Line Refusal
+  rules = run_rules h0
+
+  -- the history of the lines that are read after these
+  extends-lines : (ps : List (List ℕ)) (past : List Line) → Extends (history_at every h0 past) (history_at every h0 (lines_read rules past ps))
+  extends-lines [] past = no_more
+  extends-lines (part ∷ []) past = no_more
+  extends-lines (part ∷ next ∷ more) past = by (fits part) (rules.judge past part) (λ said. extends-lines (next ∷ more) (said ∷ past))
+    where
+      goes : (said : Line) (ends : Bool) → Extends (history_at every h0 (said ∷ past)) (history_at every h0 (lines_read rules (said ∷ past) (next ∷ more)))
+          → Extends (history_at every h0 past) (history_at every h0 (if ends then past else lines_read rules (said ∷ past) (next ∷ more)))
+      goes said true later = no_more
+      goes said false later =
+          extends-further (history_at every h0 past) (history_at every h0 (said ∷ past)) (history_at every h0 (lines_read rules (said ∷ past) (next ∷ more))) (extends-line h0 past said) later
+
+      by : (short : Bool) (r : Result Line Refusal) → ((said : Line) → Extends (history_at every h0 (said ∷ past)) (history_at every h0 (lines_read rules (said ∷ past) (next ∷ more))))
+          → Extends (history_at every h0 past) (history_at every h0 (if not short then past else line_read rules past r (λ (said : Line). lines_read rules (said ∷ past) (next ∷ more))))
+      by false r later = no_more
+      by true (Err why) later = no_more
+      by true (Ok said) later = goes said (is_disable said) (later said)
+
+  -- the history of a text of which these lines are read
+  pub extends-text : (front : List (List ℕ)) (past : List Line) (made : List ℕ) → HasRead rules front past made → (text next : List ℕ) (more : List (List ℕ)) → parts text ≡ front ++ next ∷ more
+      → Extends (history_at every h0 past) (history_with_text h0 text)
+  extends-text front past made has text next more whole =
+      subst (λ (read : List Line). Extends (history_at every h0 past) (history_at every h0 read)) (sym (ap (lines_read rules []) whole ∙ has.says next more)) (extends-lines (next ∷ more) past)

@@ -1,0 +1,247 @@
+-- What `run` promises: where the database was opened, and where it was not.
+use Rattle.std.proofs.Common.{◌≡◌, ◌⊎◌, inl, inr, ℕ, ◌≤◌, false, List, [], ◌++◌, length, Option, Some, None, IfSome, Ok, Err, refl, sym, ap, subst, ◌∙◌, append-nil, arith, true≢false}
+use Rattle.host_model.specs.declared.file.File.{File}
+use Rattle.host_model.specs.Cause.{Rose}
+use Rattle.host_model.specs.declared.status.Status.{Status}
+use Rattle.host_model.specs.declared.status.Status.TheVariants as status
+use Rattle.host_model.specs.Disks.{EveryDisk, reads_as}
+use Rattle.host_model.specs.Moments.{Throughout, EveryStop}
+use Rattle.host_model.specs.Past.{Event, told, IsDisk, IsText}
+use Rattle.host_model.specs.Source.{Takes}
+use Rattle.host_model.proofs.DiskLemmas.{untold}
+use Rattle.history.specs.History.{Beat}
+use Rattle.collect_block.specs.Feed.{IsFeedOf}
+use Rattle.point_lines.specs.Judged.{every}
+use Rattle.entry_codec.specs.declared.entry.Settings.{Settings}
+use Rattle.line_stream.specs.Run.{Ran}
+use Rattle.store_core.specs.Stands.{is_made}
+use Rattle.agent_core.specs.declared.fault.AgentFault.{AgentFault}
+use Rattle.agent_core.specs.declared.fault.AgentFault.TheVariants as fault
+use Rattle.agent_core.specs.Agent.{AgentState, IsAgentOf}
+use Rattle.agent_core.specs.Calls.{Opens, Seen}
+use Rattle.agent_core.specs.Kept.{StandsForHistory}
+use Rattle.agent_app.specs.declared.running.Running.{Running}
+use Rattle.agent_app.specs.Run.{is_whole, Keeps, no_more, run_output, run_reading, run_rules, run_status, HasRunCause, Runs, RunsAll}
+use Rattle.agent_app.specs.Running.{opening_status, Counts, DiskRose, IsRunning, TellRose}
+use Rattle.agent_app.proofs.AckLemmas.{acked-nothing, acked-since, text-front}
+use Rattle.agent_core.proofs.Within.{within-of}
+use Rattle.agent_app.proofs.HasReadLemmas.{read-start}
+use Rattle.agent_app.proofs.RunLemmas.{EndsFor, cause-wider, rose-sooner, run-counts, run-for, run-over, run_acts}
+
+-- at each moment of the opening a stop leaves the history
+opening-stops : (set : Settings) (h0 : List Beat) (old new : List Event) → EveryDisk (StandsForHistory set h0) old → told new ≡ told old → Throughout (EveryDisk (IsDisk old)) old new → Throughout (EveryStop (Keeps set h0 h0 (told old))) old new
+opening-stops set h0 old new stands silent moments = untold silent shows moments
+  where
+    shows : (disk : File → List ℕ) (text : List ℕ) → IsDisk old disk → IsText old text → Keeps set h0 h0 (told old) disk text
+    shows disk text images by_then =
+        let front = text-front old text by_then in
+        record {
+          stored = h0;
+          since = no_more;
+          within = no_more;
+          stands = stands disk images;
+          acked = acked-since (length h0) (told old) [] text front.more (front.whole ∙ sym (append-nil (told old))) (acked-nothing (length h0));
+        }
+
+some-each : (o : Option (List ℕ)) (P : List ℕ → Type 0) → ((x : List ℕ) → o ≡ Some x → P x) → IfSome o P
+some-each None P shows = tt
+some-each (Some x) P shows = shows x refl
+
+-- of all that the source had, what it has left
+complete-by : (left left' : Option (List ℕ)) (text : List ℕ) (P : List ℕ → Type 0) → Takes left text left' → ((more : List ℕ) → left' ≡ Some more → P (text ++ more)) → IfSome left P
+complete-by left None text P takes shows = subst (λ (o : Option (List ℕ)). IfSome o P) (sym takes) tt
+complete-by left (Some more) text P takes shows = subst (λ (o : Option (List ℕ)). IfSome o P) (sym takes) (shows more refl)
+
+takes-none : (left : Option (List ℕ)) → Takes left [] left
+takes-none None = refl
+takes-none (Some bytes) = refl
+
+-- ---- the database was not opened
+module _ (honest : Type 0) (host host' : Seen) (first : honest → IsDisk host.past (reads_as host.past)) where
+  -- by which fault it was not
+  by-fault : (P : AgentFault → Type 0) (why : AgentFault) → (why ≡ fault.DiskFault) ⊎ (why ≡ fault.Memory) → P fault.DiskFault → P fault.Memory → P why
+  by-fault P why (inl is) disk memory = subst P (sym is) disk
+  by-fault P why (inr is) disk memory = subst P (sym is) memory
+
+  unopened-runs : (why : AgentFault) → Opens honest host (Err why) host' → (left : Option (List ℕ)) (source_rose : Type 0) → honest → (set : Settings) (h0 : List Beat) → EveryDisk (StandsForHistory set h0) host.past
+      → Runs (opening_status why) set h0 left left host.past host'.past source_rose (TellRose host host') (DiskRose host host')
+  unopened-runs why opens left source_rose h set h0 stands =
+      let which = opens.stands h set h0 (stands (reads_as host.past) (first h)) in
+      let short : is_whole (opening_status why) ≡ false = by-fault (λ (f : AgentFault). is_whole (opening_status f) ≡ false) why which refl refl in
+      record {
+        taken = [];
+        ended = false;
+        takes = takes-none left;
+        within = omega arith;
+        at_end = λ e. absurd (true≢false (sym e));
+        stops = opening-stops set h0 host.past host'.past stands (opens.output h) (opens.any_moment h);
+        ends = λ all. absurd (true≢false (sym all ∙ short));
+        output = record { sent = []; unsent = run_output h0 false []; whole = refl; tells = opens.output h ∙ sym (append-nil (told host.past)); all = λ all. absurd (true≢false (sym all ∙ short)) };
+        cause =
+            by-fault (λ (f : AgentFault). why ≡ f → HasRunCause (opening_status f) false (run_reading h0 false []).ending [] source_rose (TellRose host host') (DiskRose host host')) why which
+            (λ is. opens.cause.failed (ap (λ (f : AgentFault). Err f) is)) (λ is. tt) refl;
+      }
+
+  unopened-whole : (why : AgentFault) → Opens honest host (Err why) host' → honest → (set : Settings) (h0 : List Beat) → EveryDisk (StandsForHistory set h0) host.past → (text : List ℕ) → (DiskRose host host' → ⊥)
+      → (opening_status why ≡ run_status h0 text) ⊎ (opening_status why ≡ status.Memory)
+  unopened-whole why opens h set h0 stands text none =
+      let which = opens.stands h set h0 (stands (reads_as host.past) (first h)) in
+      by-fault (λ (f : AgentFault). why ≡ f → (opening_status f ≡ run_status h0 text) ⊎ (opening_status f ≡ status.Memory)) why which
+      (λ is. absurd (none (opens.cause.failed (ap (λ (f : AgentFault). Err f) is)))) (λ is. inr refl) refl
+
+  unopened-none : (why : AgentFault) → Opens honest host (Err why) host' → opening_status why ≡ status.NotADatabase → honest → is_made (reads_as host.past) ≡ false
+  unopened-none fault.NotADatabase opens is h = opens.none refl h
+  unopened-none fault.DiskFault opens is h = absurd (apart is)
+    where
+      apart : status.DiskFault ≡ status.NotADatabase → ⊥
+      apart e = cc
+  unopened-none (fault.Damaged part) opens is h = absurd (apart is)
+    where
+      apart : status.Damaged part ≡ status.NotADatabase → ⊥
+      apart e = cc
+  unopened-none other opens is h = absurd (apart is)
+    where
+      apart : status.Memory ≡ status.NotADatabase → ⊥
+      apart e = cc
+
+  unopened-unmade : (why : AgentFault) → Opens honest host (Err why) host' → honest → is_made (reads_as host.past) ≡ false
+      → (opening_status why ≡ status.NotADatabase) ⊎ (opening_status why ≡ status.DiskFault) ⊎ (opening_status why ≡ status.Memory)
+  unopened-unmade fault.NotADatabase opens h unmade = inl refl
+  unopened-unmade fault.DiskFault opens h unmade = inr (inl refl)
+  unopened-unmade (fault.Damaged part) opens h unmade = absurd (true≢false (sym (opens.made part refl h) ∙ unmade))
+  unopened-unmade other opens h unmade = inr (inr refl)
+
+  unopened-damaged : (why : AgentFault) → Opens honest host (Err why) host' → (part : ℕ) → opening_status why ≡ status.Damaged part → honest → (set : Settings) (g : List Beat) → StandsForHistory set g (reads_as host.past) → ⊥
+  unopened-damaged why opens part is h set g stands =
+      by-fault (λ (f : AgentFault). opening_status f ≡ status.Damaged part → ⊥) why (opens.stands h set g stands) disk memory is
+    where
+      disk : status.DiskFault ≡ status.Damaged part → ⊥
+      disk e = cc
+
+      memory : status.Memory ≡ status.Damaged part → ⊥
+      memory e = cc
+
+  -- the source was not asked, and nothing was told
+  unread : (why : AgentFault) → opening_status why ≡ status.ReadFault → ⊥
+  unread fault.NotADatabase e = cc
+  unread fault.DiskFault e = cc
+  unread (fault.Damaged part) e = cc
+  unread other e = apart e
+    where
+      apart : status.Memory ≡ status.ReadFault → ⊥
+      apart e = cc
+
+  unused : (why : AgentFault) → opening_status why ≡ status.Usage → ⊥
+  unused fault.NotADatabase e = cc
+  unused fault.DiskFault e = cc
+  unused (fault.Damaged part) e = cc
+  unused other e = apart e
+    where
+      apart : status.Memory ≡ status.Usage → ⊥
+      apart e = cc
+
+  untold-yet : (why : AgentFault) → opening_status why ≡ status.TellFault → ⊥
+  untold-yet fault.NotADatabase e = cc
+  untold-yet fault.DiskFault e = cc
+  untold-yet (fault.Damaged part) e = cc
+  untold-yet other e = apart e
+    where
+      apart : status.Memory ≡ status.TellFault → ⊥
+      apart e = cc
+
+  disk-failed : (why : AgentFault) → Opens honest host (Err why) host' → opening_status why ≡ status.DiskFault → DiskRose host host'
+  disk-failed fault.DiskFault opens is = opens.cause.failed refl
+  disk-failed fault.NotADatabase opens is = absurd (apart is)
+    where
+      apart : status.NotADatabase ≡ status.DiskFault → ⊥
+      apart e = cc
+  disk-failed (fault.Damaged part) opens is = absurd (apart is)
+    where
+      apart : status.Damaged part ≡ status.DiskFault → ⊥
+      apart e = cc
+  disk-failed other opens is = absurd (apart is)
+    where
+      apart : status.Memory ≡ status.DiskFault → ⊥
+      apart e = cc
+
+  pub unopened : (why : AgentFault) → Opens honest host (Err why) host' → (left : Option (List ℕ)) (faults : ℕ) → RunsAll honest (opening_status why) left left faults faults host host'
+  unopened why opens left faults = record {
+    runs = λ h set h0 stands. unopened-runs why opens left (Rose faults faults) h set h0 stands;
+    complete = λ h set h0 stands. some-each left _ (λ text is none_read none_told none_disk. unopened-whole why opens h set h0 stands text none_disk);
+    none = λ is h. unopened-none why opens is h;
+    unmade = λ h unmade. unopened-unmade why opens h unmade;
+    damaged = λ part is h set g stands. unopened-damaged why opens part is h set g stands;
+    used = λ is. unused why is;
+    read_cause = record { later = omega arith; failed = λ is. absurd (unread why is) };
+    tell_cause = record { later = omega (arith, opens.tells); failed = λ is. absurd (untold-yet why is) };
+    disk_cause = record { later = opens.cause.later; failed = λ is. disk-failed why opens is };
+  }
+
+-- ---- the database was opened
+module _ {H : Type 0} (honest : Type 0) (seen : H → Seen) (host : Seen) (agent : AgentState) (middle : H) (opens : Opens honest host (Ok agent) (seen middle)) (first : honest → IsDisk host.past (reads_as host.past))
+    (running : Running) (agent-is : running.agent ≡ agent) (feed-is : IsFeedOf running.feed every []) where
+  begins-so : honest → (set : Settings) (h0 : List Beat) → EveryDisk (StandsForHistory set h0) host.past → IsRunning (seen middle).past running set h0 [] host.past
+  begins-so h set h0 stands =
+      let here = stands (reads_as host.past) (first h) in
+      record {
+        read = [];
+        made = [];
+        has = read-start (run_rules h0);
+        at = record {
+          within = within-of h0 here.beats here.are;
+          accepted = tt;
+          agent = subst (λ (a : AgentState). IsAgentOf (seen middle).past a set h0) (sym agent-is) (opens.opened h set h0 here);
+          feed = feed-is;
+          tells = opens.output h ∙ sym (append-nil (told host.past));
+          closed = refl;
+          acked = acked-nothing (length h0);
+          stops = opening-stops set h0 host.past (seen middle).past stands (opens.output h) (opens.any_moment h);
+        };
+      }
+
+  module _ (s : Status) (running' : Running) (host' : H) (left left' : Option (List ℕ)) (faults faults' : ℕ) (up : faults ≤ faults')
+      (ran : Ran (run_acts honest seen) s running middle running' host' left left' (Rose faults faults')) where
+    counts : Counts (seen middle) (seen host')
+    counts = run-counts honest seen s running middle ran.text running' host' left' (Rose faults faults') ran.ended
+
+    all-counts : Counts host (seen host')
+    all-counts = record { tells = omega (arith, opens.tells, counts.tells); disk = omega (arith, opens.cause.later, counts.disk) }
+
+    tells-sooner : TellRose (seen middle) (seen host') → TellRose host (seen host')
+    tells-sooner = rose-sooner host.tell_faults (seen middle).tell_faults (seen host').tell_faults (omega (arith, opens.tells)) counts.tells
+
+    disk-sooner : DiskRose (seen middle) (seen host') → DiskRose host (seen host')
+    disk-sooner = rose-sooner host.disk_faults (seen middle).disk_faults (seen host').disk_faults opens.cause.later counts.disk
+
+    for-all : EndsFor s (Rose faults faults') (TellRose (seen middle) (seen host')) (DiskRose (seen middle) (seen host'))
+    for-all = run-for honest seen s running middle ran.text running' host' left' (Rose faults faults') ran.ended
+
+    pub opened : RunsAll honest s left left' faults faults' host (seen host')
+    opened = record {
+      runs = λ h set h0 stands.
+          let over = run-over honest seen h set h0 host.past s middle ran.text left' (Rose faults faults') ran.within running (begins-so h set h0 stands) running' host' ran.ended in
+          record {
+            taken = ran.text;
+            ended = over.ended;
+            takes = ran.takes;
+            within = ran.within;
+            at_end = over.at_end;
+            stops = over.stops.stops;
+            ends = over.stops.ends;
+            output = over.stops.output;
+            cause =
+                cause-wider s over.ended (run_reading h0 over.ended ran.text).ending ran.text (Rose faults faults') (TellRose (seen middle) (seen host')) (DiskRose (seen middle) (seen host'))
+                (Rose faults faults') (TellRose host (seen host')) (DiskRose host (seen host')) (λ rose. rose) tells-sooner disk-sooner over.stops.cause;
+          };
+      complete = λ h set h0 stands.
+          let over = run-over honest seen h set h0 host.past s middle ran.text left' (Rose faults faults') ran.within running (begins-so h set h0 stands) running' host' ran.ended in
+          complete-by left left' ran.text (λ text. (Rose faults faults' → ⊥) → (TellRose host (seen host') → ⊥) → (DiskRose host (seen host') → ⊥) → (s ≡ run_status h0 text) ⊎ (s ≡ status.Memory)) ran.takes
+          (λ more is none_read none_told none_disk. over.whole more is none_read (λ rose. none_told (tells-sooner rose)) (λ rose. none_disk (disk-sooner rose)));
+      none = λ is h. absurd (for-all.made is);
+      unmade = λ h unmade. absurd (true≢false (sym (opens.some h) ∙ unmade));
+      damaged = λ part is h set g stands. for-all.sound part is;
+      used = λ is. for-all.used is;
+      read_cause = record { later = up; failed = for-all.read };
+      tell_cause = record { later = all-counts.tells; failed = λ is. tells-sooner (for-all.tell is) };
+      disk_cause = record { later = all-counts.disk; failed = λ is. disk-sooner (for-all.disk is) };
+    }

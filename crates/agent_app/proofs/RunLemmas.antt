@@ -1,0 +1,367 @@
+-- A whole run, from its first line to its end.
+use Rattle.std.proofs.Common.{◌≡◌, ◌⊎◌, inl, inr, ⊎_elim, ℕ, ◌-◌, ◌^◌, ◌<◌, ◌≤◌, Bool, true, false, nat_lt, List, [], ◌∷◌, ◌++◌, length, take, Option, Some, IfSome, Result, Ok, Err, refl, sym, ap, subst, ◌∙◌, append_assoc, append-nil, length-append, arith, true≢false}
+use Rattle.std.proofs.lemmas.List.{take_all, take-append-le}
+use Rattle.std.proofs.lemmas.Bool.{cases_lt}
+use Rattle.std.proofs.lemmas.Bool.Decides.{nat_tests}
+use Rattle.std.proofs.lemmas.List.Elements.{recursion_from_All}
+use Rattle.std.specs.List.{AllByRecursion, AllPass}
+use Rattle.host_model.specs.Cause.{Rose}
+use Rattle.host_model.specs.declared.status.Status.{Status}
+use Rattle.host_model.specs.declared.status.Status.TheVariants as status
+use Rattle.host_model.specs.Past.{Event}
+use Rattle.history.specs.History.{Beat}
+use Rattle.history.specs.Read.{history_at}
+use Rattle.plugin_text.specs.Lines.{fits, lines, parts, rest, BeginsWithLines, HasNoLongLine}
+use Rattle.plugin_text.proofs.LongLemmas.{IsLongAfter-append}
+use Rattle.plugin_text.proofs.PartsLemmas.{parts_whole}
+use Rattle.point_lines.specs.declared.refusal.Refusal.{Refusal}
+use Rattle.point_lines.specs.Judged.{every}
+use Rattle.entry_codec.specs.declared.entry.Settings.{Settings}
+use Rattle.line_stream.specs.Chain.{Acts, acts_of, Chain, begins, goes_on, pauses}
+use Rattle.line_stream.specs.Run.{Ended, at_line, at_pause, at_long_line, at_end, at_fault, at_limit, at_want}
+use Rattle.agent_core.specs.Calls.{Seen}
+use Rattle.agent_app.specs.declared.running.Running.{Running}
+use Rattle.agent_app.specs.Convert.{all_told, ending_status, input_limit}
+use Rattle.agent_app.specs.Reading.{Ending, GoesOn, Reading}
+use Rattle.agent_app.specs.Run.{run_reading, run_rules, run_status, HasRunCause}
+use Rattle.agent_app.specs.Running.{Counts, DiskRose, EndsRun, IsCausedBy, IsRunning, Overflows, Pauses, StopsIn, TakesLine, TellRose}
+use Rattle.agent_app.proofs.ExtendsLemmas.{extends-text}
+use Rattle.agent_app.proofs.HasReadLemmas.{line-onward, read-open, says-all, take-append_past}
+use Rattle.agent_app.proofs.StopsLemmas.{output-behind, want-stop, whole-stop}
+
+-- ---- failures
+pub rose-sooner : (a b c : ℕ) → a ≤ b → b ≤ c → Rose b c → Rose a c
+rose-sooner a b c first second (inl less) = inl (omega arith)
+rose-sooner a b c first second (inr full) = ⊎_elim (λ less. inl (omega arith)) (λ more. inr (omega arith)) (cases_lt a (2 ^ 64 - 1))
+
+pub cause-wider : (s : Status) (ended : Bool) (ending : Ending Refusal) (taken : List ℕ) (a b c a' b' c' : Type 0) → (a → a') → (b → b') → (c → c') → HasRunCause s ended ending taken a b c → HasRunCause s ended ending taken a' b' c'
+cause-wider status.ReadFault ended ending taken a b c a' b' c' f g h has = (has.0, has.1, f has.2)
+cause-wider status.TellFault ended ending taken a b c a' b' c' f g h has = g has
+cause-wider status.DiskFault ended ending taken a b c a' b' c' f g h has = h has
+cause-wider s ended ending taken a b c a' b' c' f g h has = has
+
+stops-wider : (s : Status) (set : Settings) (h0 : List Beat) (ended : Bool) (text : List ℕ) (start new : List Event) (a b c a' b' c' : Type 0) → (a → a') → (b → b') → (c → c')
+    → StopsIn s set h0 ended text start new a b c → StopsIn s set h0 ended text start new a' b' c'
+stops-wider s set h0 ended text start new a b c a' b' c' f g h stop = record {
+  stops = stop.stops;
+  ends = stop.ends;
+  output = stop.output;
+  cause = cause-wider s ended (run_reading h0 ended text).ending text a b c a' b' c' f g h stop.cause;
+}
+
+-- where nothing outside failed, the status is that of how the reading ends, or there was no memory
+status-told : (s : Status) (ended : Bool) (ending : Ending Refusal) (taken : List ℕ) (a b c : Type 0) → (a → ⊥) → (b → ⊥) → (c → ⊥) → HasRunCause s ended ending taken a b c → (s ≡ ending_status ending) ⊎ (s ≡ status.Memory)
+status-told status.Ok ended ending taken a b c f g h has = inl (ap ending_status (sym has))
+status-told (status.Refused line number) ended ending taken a b c f g h has = inl (has.2 ∙ ap ending_status (sym has.1))
+status-told (status.Limit line number) ended ending taken a b c f g h has = inl (has.2 ∙ ap ending_status (sym has.1))
+status-told status.ReadFault ended ending taken a b c f g h has = absurd (f has.2)
+status-told status.TellFault ended ending taken a b c f g h has = absurd (g has)
+status-told status.DiskFault ended ending taken a b c f g h has = absurd (h has)
+status-told status.InputLimit ended ending taken a b c f g h has = inl (ap ending_status (sym has.1))
+status-told status.Memory ended ending taken a b c f g h has = inr refl
+status-told s ended ending taken a b c f g h has = absurd has
+
+-- ---- the status of a text
+module _ (h0 : List Beat) where
+  -- of one that goes on behind what was taken
+  status-onward : (limit : ℕ) (text more : List ℕ) → length text ≤ limit
+      → ending_status (run_reading h0 (nat_lt (length (text ++ more)) limit) (text ++ take (limit - length text) more)).ending ≡ ending_status (run_reading h0 (nat_lt (length (text ++ more)) limit) (take limit (text ++ more))).ending
+  status-onward limit text more within = ap (λ (t : List ℕ). ending_status (run_reading h0 (nat_lt (length (text ++ more)) limit) t).ending) (sym (take-append_past limit text more within))
+
+  -- of one that ended
+  status-ended : (limit : ℕ) (text : List ℕ) → length text < limit → ending_status (run_reading h0 true text).ending ≡ ending_status (run_reading h0 (nat_lt (length text) limit) (take limit text)).ending
+  status-ended limit text within =
+      let ended : nat_lt (length text) limit ≡ true = grind (arith, nat_tests) in
+      let all : take limit text ≡ text = take_all limit text (omega arith) in
+      λ i. ending_status (run_reading h0 (sym ended i) (sym all i)).ending
+
+  -- of one that fills the limit
+  status-full : (limit : ℕ) (text more : List ℕ) → length text ≡ limit
+      → ending_status (run_reading h0 false text).ending ≡ ending_status (run_reading h0 (nat_lt (length (text ++ more)) limit) (take limit (text ++ more))).ending
+  status-full limit text more full =
+      let longer : limit ≤ length (text ++ more) = omega (arith, length-append text more) in
+      let open_end : nat_lt (length (text ++ more)) limit ≡ false = grind (arith, nat_tests) in
+      let all : take limit (text ++ more) ≡ text = take-append-le limit text more (omega arith) ∙ take_all limit text (omega arith) in
+      λ i. ending_status (run_reading h0 (sym open_end i) (sym all i)).ending
+
+rest-fits : (text : List ℕ) → HasNoLongLine text → fits (rest text) ≡ true
+rest-fits text short =
+    last-passes (lines text) (rest text) (recursion_from_All (λ (part : List ℕ). fits part ≡ true) (lines text ++ rest text ∷ []) (subst (AllPass fits) (parts_whole text) short))
+  where
+    last-passes : (front : List (List ℕ)) (last : List ℕ) → AllByRecursion (λ (part : List ℕ). fits part ≡ true) (front ++ last ∷ []) → fits last ≡ true
+    last-passes [] last all = all.0
+    last-passes (part ∷ front) last all = last-passes front last all.1
+
+-- some part follows the lines that a text begins with
+pub record Followed (text : List ℕ) (front : List (List ℕ)) : Type 0 where
+  pub next : List ℕ
+  pub more : List (List ℕ)
+  pub whole : parts text ≡ front ++ next ∷ more
+
+front-followed : (text : List ℕ) (front : List (List ℕ)) → BeginsWithLines text front → Followed text front
+front-followed text front begins_with = by begins_with.left begins_with.whole
+  where
+    by : (left : List (List ℕ)) → lines text ≡ front ++ left → Followed text front
+    by [] is = record { next = rest text; more = []; whole = parts_whole text ∙ ap (λ (l : List (List ℕ)). l ++ rest text ∷ []) (is ∙ append-nil front) }
+    by (next ∷ left) is = record { next = next; more = left ++ rest text ∷ []; whole = parts_whole text ∙ ap (λ (l : List (List ℕ)). l ++ rest text ∷ []) is ∙ append_assoc front (next ∷ left) (rest text ∷ []) }
+
+not-ok : (s : Status) (r : Result (Unit {0}) Status) → r ≡ Err s → r ≡ Ok tt → ⊥
+not-ok s r is e = cc
+
+-- why a run ended as it did, whatever history it is of
+pub record EndsFor (s : Status) (source_rose tell_rose disk_rose : Type 0) : Type 0 where
+  pub read : s ≡ status.ReadFault → source_rose
+  pub tell : s ≡ status.TellFault → tell_rose
+  pub disk : s ≡ status.DiskFault → disk_rose
+  pub made : s ≡ status.NotADatabase → ⊥
+  pub sound : (part : ℕ) → s ≡ status.Damaged part → ⊥
+  pub used : s ≡ status.Usage → ⊥
+
+caused-for : (s : Status) (source_rose tell_rose disk_rose : Type 0) → IsCausedBy s tell_rose disk_rose → EndsFor s source_rose tell_rose disk_rose
+caused-for s source_rose tell_rose disk_rose caused =
+    let by : (t : Status) → s ≡ t → IsCausedBy t tell_rose disk_rose = λ t is. subst (λ (a : Status). IsCausedBy a tell_rose disk_rose) is caused in
+    record {
+      read = λ is. absurd (by status.ReadFault is);
+      tell = λ is. by status.TellFault is;
+      disk = λ is. by status.DiskFault is;
+      made = λ is. by status.NotADatabase is;
+      sound = λ part is. by (status.Damaged part) is;
+      used = λ is. by status.Usage is;
+    }
+
+read-for : (s : Status) (source_rose tell_rose disk_rose : Type 0) → s ≡ status.ReadFault → source_rose → EndsFor s source_rose tell_rose disk_rose
+read-for s source_rose tell_rose disk_rose is rose = record {
+  read = λ _. rose;
+  tell = λ e. absurd (told (sym is ∙ e));
+  disk = λ e. absurd (stored (sym is ∙ e));
+  made = λ e. none (sym is ∙ e);
+  sound = λ part e. broken part (sym is ∙ e);
+  used = λ e. unused (sym is ∙ e);
+}
+  where
+    unused : status.ReadFault ≡ status.Usage → ⊥
+    unused e = cc
+
+    told : status.ReadFault ≡ status.TellFault → ⊥
+    told e = cc
+
+    stored : status.ReadFault ≡ status.DiskFault → ⊥
+    stored e = cc
+
+    none : status.ReadFault ≡ status.NotADatabase → ⊥
+    none e = cc
+
+    broken : (part : ℕ) → status.ReadFault ≡ status.Damaged part → ⊥
+    broken part e = cc
+
+limit-for : (s : Status) (source_rose tell_rose disk_rose : Type 0) → s ≡ status.InputLimit → EndsFor s source_rose tell_rose disk_rose
+limit-for s source_rose tell_rose disk_rose is = record {
+  read = λ e. absurd (read_here (sym is ∙ e));
+  tell = λ e. absurd (told (sym is ∙ e));
+  disk = λ e. absurd (stored (sym is ∙ e));
+  made = λ e. none (sym is ∙ e);
+  sound = λ part e. broken part (sym is ∙ e);
+  used = λ e. unused (sym is ∙ e);
+}
+  where
+    unused : status.InputLimit ≡ status.Usage → ⊥
+    unused e = cc
+
+    read_here : status.InputLimit ≡ status.ReadFault → ⊥
+    read_here e = cc
+
+    told : status.InputLimit ≡ status.TellFault → ⊥
+    told e = cc
+
+    stored : status.InputLimit ≡ status.DiskFault → ⊥
+    stored e = cc
+
+    none : status.InputLimit ≡ status.NotADatabase → ⊥
+    none e = cc
+
+    broken : (part : ℕ) → status.InputLimit ≡ status.Damaged part → ⊥
+    broken part e = cc
+
+-- ---- a run
+module _ {H : Type 0} (honest : Type 0) (seen : H → Seen) where
+  abbrev pub run_acts : Acts Running H
+  run_acts = acts_of
+      (λ running host number bytes result running' host'. TakesLine honest running (seen host) number bytes result running' (seen host'))
+      Pauses
+      (λ running host count left s running' host'. EndsRun honest running (seen host) count left s (seen host'))
+      (λ running host number s running' host'. Overflows honest running (seen host) number s (seen host'))
+
+  same-counts : (host : Seen) → Counts host host
+  same-counts host = record { tells = omega arith; disk = omega arith }
+
+  both-counts : (a b c : Seen) → Counts a b → Counts b c → Counts a c
+  both-counts a b c first second = record { tells = omega (arith, first.tells, second.tells); disk = omega (arith, first.disk, second.disk) }
+
+  pub chain-counts : (running : Running) (host : H) (front : List (List ℕ)) (running' : Running) (host' : H) → Chain run_acts running host front running' host' → Counts (seen host) (seen host')
+  chain-counts running host front running' host' begins = same-counts (seen host)
+  chain-counts running host front running' host' (goes_on lines line between running'' middle host'' before step) =
+      both-counts (seen host) (seen middle) (seen host') (chain-counts running host lines between middle before) step.counts
+  chain-counts running host front running' host' (pauses lines between running'' middle host'' before step) =
+      subst (λ (m : H). Counts (seen host) (seen m)) (sym step.2) (chain-counts running host lines between middle before)
+
+  module _ (h : honest) (set : Settings) (h0 : List Beat) (start : List Event) where
+    pub chain-runs : (running : Running) (host : H) → IsRunning (seen host).past running set h0 [] start → (front : List (List ℕ)) (running' : Running) (host' : H) → Chain run_acts running host front running' host'
+        → IsRunning (seen host').past running' set h0 front start
+    chain-runs running host first front running' host' begins = first
+    chain-runs running host first front running' host' (goes_on lines line between running'' middle host'' before step) =
+        step.run h set h0 lines start (chain-runs running host first lines between middle before) refl
+    chain-runs running host first front running' host' (pauses lines between running'' middle host'' before step) =
+        subst (λ (m : H). IsRunning (seen m).past running'' set h0 lines start) (sym step.2)
+        (subst (λ (r : Running). IsRunning (seen middle).past r set h0 lines start) (sym step.1) (chain-runs running host first lines between middle before))
+
+    -- how a run over this text ended, and that its status is that of the text where nothing outside fails
+    pub record Over (s : Status) (text : List ℕ) (left : Option (List ℕ)) (new : List Event) (source_rose tell_rose disk_rose : Type 0) : Type 0 where
+      pub ended : Bool
+      pub at_end : ended ≡ true → (length text < input_limit) × IfSome left (λ bytes. bytes ≡ [])
+      pub stops : StopsIn s set h0 ended text start new source_rose tell_rose disk_rose
+      pub whole : (more : List ℕ) → left ≡ Some more → (source_rose → ⊥) → (tell_rose → ⊥) → (disk_rose → ⊥) → (s ≡ run_status h0 (text ++ more)) ⊎ (s ≡ status.Memory)
+
+    not-ended : {A : Type 0} → false ≡ true → A
+    not-ended e = absurd (true≢false (sym e))
+
+    told-as : (s : Status) (a b : Status) → a ≡ b → ((s ≡ a) ⊎ (s ≡ status.Memory)) → (s ≡ b) ⊎ (s ≡ status.Memory)
+    told-as s a b same (inl is) = inl (is ∙ same)
+    told-as s a b same (inr want) = inr want
+
+    module _ (s : Status) (host : H) (text : List ℕ) (left : Option (List ℕ)) (source_rose : Type 0) (within : length text ≤ input_limit) where
+      -- a step from a middle host ended the run
+      module _ (middle host'' : H) (first : Counts (seen host) (seen middle)) (second : Counts (seen middle) (seen host'')) where
+        tells-sooner : TellRose (seen middle) (seen host'') → TellRose (seen host) (seen host'')
+        tells-sooner = rose-sooner (seen host).tell_faults (seen middle).tell_faults (seen host'').tell_faults first.tells second.tells
+
+        disk-sooner : DiskRose (seen middle) (seen host'') → DiskRose (seen host) (seen host'')
+        disk-sooner = rose-sooner (seen host).disk_faults (seen middle).disk_faults (seen host'').disk_faults first.disk second.disk
+
+        over-by : (ended : Bool) (t : List ℕ) → StopsIn s set h0 ended t start (seen host'').past ⊥ (TellRose (seen middle) (seen host'')) (DiskRose (seen middle) (seen host''))
+            → StopsIn s set h0 ended t start (seen host'').past source_rose (TellRose (seen host) (seen host'')) (DiskRose (seen host) (seen host''))
+        over-by ended t =
+            stops-wider s set h0 ended t start (seen host'').past ⊥ (TellRose (seen middle) (seen host'')) (DiskRose (seen middle) (seen host'')) source_rose (TellRose (seen host) (seen host'')) (DiskRose (seen host) (seen host''))
+            (λ no. absurd no) tells-sooner disk-sooner
+
+        -- however the text goes on
+        over-onward : ((ended : Bool) (more : List ℕ) → StopsIn s set h0 ended (text ++ more) start (seen host'').past ⊥ (TellRose (seen middle) (seen host'')) (DiskRose (seen middle) (seen host'')))
+            → Over s text left (seen host'').past source_rose (TellRose (seen host) (seen host'')) (DiskRose (seen host) (seen host''))
+        over-onward stops = record {
+          ended = false;
+          at_end = λ e. not-ended e;
+          stops = subst (λ (t : List ℕ). StopsIn s set h0 false t start (seen host'').past source_rose (TellRose (seen host) (seen host'')) (DiskRose (seen host) (seen host''))) (append-nil text)
+              (over-by false (text ++ []) (stops false []));
+          whole = λ more is none_read none_told none_disk.
+              let ended = nat_lt (length (text ++ more)) input_limit in
+              let taken = text ++ take (input_limit - length text) more in
+              told-as s (ending_status (run_reading h0 ended taken).ending) (run_status h0 (text ++ more)) (status-onward h0 input_limit text more within)
+              (status-told s ended (run_reading h0 ended taken).ending taken source_rose (TellRose (seen host) (seen host'')) (DiskRose (seen host) (seen host'')) none_read none_told none_disk
+              (over-by ended taken (stops ended (take (input_limit - length text) more))).cause);
+        }
+
+      -- the run stopped where all lines were taken
+      over-open : (running'' : Running) (host'' : H) → IsRunning (seen host'').past running'' set h0 (lines text) start → HasNoLongLine text
+          → ((ending : Ending Refusal) → ending ≡ GoesOn → HasRunCause s false ending text source_rose (TellRose (seen host) (seen host'')) (DiskRose (seen host) (seen host'')))
+          → ((more : List ℕ) → left ≡ Some more → (source_rose → ⊥) → (s ≡ run_status h0 (text ++ more)) ⊎ (s ≡ status.Memory))
+          → Over s text left (seen host'').past source_rose (TellRose (seen host) (seen host'')) (DiskRose (seen host) (seen host''))
+      over-open running'' host'' going short cause whole =
+          let reads = read-open (run_rules h0) (lines text) going.read going.made going.has text refl (rest-fits text short) in
+          record {
+            ended = false;
+            at_end = λ e. not-ended e;
+            stops = whole-stop (seen host'').past running'' set h0 start going.read going.made going.at false text source_rose (TellRose (seen host) (seen host'')) (DiskRose (seen host) (seen host'')) s
+                (ap all_told reads ∙ append-nil going.made) (ap (history_at every h0) (says-all (run_rules h0) (lines text) going.read going.made going.has text refl))
+                (cause (run_reading h0 false text).ending (ap (λ (r : Reading Refusal). r.ending) reads));
+            whole = λ more is none_read none_told none_disk. whole more is none_read;
+          }
+
+      module _ (running : Running) (first : IsRunning (seen host).past running set h0 [] start) where
+        pub run-over : (running'' : Running) (host'' : H) → Ended run_acts s running host text running'' host'' left source_rose
+            → Over s text left (seen host'').past source_rose (TellRose (seen host) (seen host'')) (DiskRose (seen host) (seen host''))
+        run-over running'' host'' (at_line front line next more running' middle whole short_front short chain step) =
+            let going = chain-runs running host first front running' middle chain in
+            over-onward middle host'' (chain-counts running host front running' middle chain) step.counts
+            (λ ended behind. let on = line-onward text front line next more whole behind in step.run h set h0 front start going refl ended (text ++ behind) on.next on.more on.whole)
+        run-over running'' host'' (at_pause running' middle took step) = absurd (not-ok s (Err s) refl step.0)
+        run-over running'' host'' (at_long_line front long more running' middle whole short over chain step) =
+            let going = chain-runs running host first front running' middle chain in
+            over-onward middle host'' (chain-counts running host front running' middle chain) step.counts
+            (λ ended behind.
+            let on = IsLongAfter-append text behind front (record { long = long; more = more; whole = whole; short = short; too_long = over }) in
+            step.run h set h0 front start going refl ended (text ++ behind) on.long on.more on.whole on.too_long)
+        run-over running'' host'' (at_end running' middle below nothing took step) =
+            let going = chain-runs running host first (lines text) running' middle took.chain in
+            let stop = over-by middle host'' (chain-counts running host (lines text) running' middle took.chain) step.counts true text (step.run h set h0 text start going refl refl) in
+            record {
+              ended = true;
+              at_end = λ _. (below, nothing);
+              stops = stop;
+              whole = λ more is none_read none_told none_disk.
+                  let no_more : more ≡ [] = subst (λ (l : Option (List ℕ)). IfSome l (λ bytes. bytes ≡ [])) is nothing in
+                  let same : run_status h0 text ≡ run_status h0 (text ++ more) = ap (run_status h0) (sym (ap (λ (t : List ℕ). text ++ t) no_more ∙ append-nil text)) in
+                  told-as s (ending_status (run_reading h0 true text).ending) (run_status h0 (text ++ more)) (status-ended h0 input_limit text below ∙ same)
+                  (status-told s true (run_reading h0 true text).ending text source_rose (TellRose (seen host) (seen host'')) (DiskRose (seen host) (seen host'')) none_read none_told none_disk stop.cause);
+            }
+        run-over running'' host'' (at_fault is rose took) =
+            over-open running'' host'' (chain-runs running host first (lines text) running'' host'' took.chain) took.short
+            (λ ending goes. subst (λ (a : Status). HasRunCause a false ending text source_rose (TellRose (seen host) (seen host'')) (DiskRose (seen host) (seen host''))) (sym is) (refl, goes, rose))
+            (λ more there none. absurd (none rose))
+        run-over running'' host'' (at_limit is full took) =
+            let going = chain-runs running host first (lines text) running'' host'' took.chain in
+            let reads = read-open (run_rules h0) (lines text) going.read going.made going.has text refl (rest-fits text took.short) in
+            over-open running'' host'' going took.short
+            (λ ending goes. subst (λ (a : Status). HasRunCause a false ending text source_rose (TellRose (seen host) (seen host'')) (DiskRose (seen host) (seen host''))) (sym is) (refl, goes, full))
+            (λ more there none. inl (is ∙ ap (λ (r : Reading Refusal). ending_status r.ending) (sym reads) ∙ status-full h0 input_limit text more full))
+        run-over running'' host'' (at_want front is took) =
+            let going = chain-runs running host first front running'' host'' took.chain in
+            let follows = front-followed text front took.begins in
+            record {
+              ended = false;
+              at_end = λ e. not-ended e;
+              stops = subst (λ (a : Status). StopsIn a set h0 false text start (seen host'').past source_rose (TellRose (seen host) (seen host'')) (DiskRose (seen host) (seen host''))) (sym is)
+                  (want-stop (seen host'').past running'' set h0 start going.read going.made going.at false text source_rose (TellRose (seen host) (seen host'')) (DiskRose (seen host) (seen host''))
+                  (extends-text h0 front going.read going.made going.has text follows.next follows.more follows.whole)
+                  (output-behind h0 front going.read going.made going.has false text follows.next follows.more follows.whole));
+              whole = λ more there none_read none_told none_disk. inr is;
+            }
+
+  -- ---- whatever history it is of
+  pub run-counts : (s : Status) (running : Running) (host : H) (text : List ℕ) (running'' : Running) (host'' : H) (left : Option (List ℕ)) (source_rose : Type 0) → Ended run_acts s running host text running'' host'' left source_rose
+      → Counts (seen host) (seen host'')
+  run-counts s running host text running'' host'' left source_rose (at_line front line next more running' middle whole short_front short chain step) =
+      both-counts (seen host) (seen middle) (seen host'') (chain-counts running host front running' middle chain) step.counts
+  run-counts s running host text running'' host'' left source_rose (at_pause running' middle took step) = absurd (not-ok s (Err s) refl step.0)
+  run-counts s running host text running'' host'' left source_rose (at_long_line front long more running' middle whole short over chain step) =
+      both-counts (seen host) (seen middle) (seen host'') (chain-counts running host front running' middle chain) step.counts
+  run-counts s running host text running'' host'' left source_rose (at_end running' middle below nothing took step) =
+      both-counts (seen host) (seen middle) (seen host'') (chain-counts running host (lines text) running' middle took.chain) step.counts
+  run-counts s running host text running'' host'' left source_rose (at_fault is rose took) = chain-counts running host (lines text) running'' host'' took.chain
+  run-counts s running host text running'' host'' left source_rose (at_limit is full took) = chain-counts running host (lines text) running'' host'' took.chain
+  run-counts s running host text running'' host'' left source_rose (at_want front is took) = chain-counts running host front running'' host'' took.chain
+
+  sooner-for : (s : Status) (source_rose : Type 0) (host middle host'' : H) → Counts (seen host) (seen middle) → Counts (seen middle) (seen host'') → IsCausedBy s (TellRose (seen middle) (seen host'')) (DiskRose (seen middle) (seen host''))
+      → EndsFor s source_rose (TellRose (seen host) (seen host'')) (DiskRose (seen host) (seen host''))
+  sooner-for s source_rose host middle host'' first second caused =
+      let own = caused-for s source_rose (TellRose (seen middle) (seen host'')) (DiskRose (seen middle) (seen host'')) caused in
+      record {
+        read = own.read;
+        tell = λ is. rose-sooner (seen host).tell_faults (seen middle).tell_faults (seen host'').tell_faults first.tells second.tells (own.tell is);
+        disk = λ is. rose-sooner (seen host).disk_faults (seen middle).disk_faults (seen host'').disk_faults first.disk second.disk (own.disk is);
+        made = own.made;
+        sound = own.sound;
+        used = own.used;
+      }
+
+  pub run-for : (s : Status) (running : Running) (host : H) (text : List ℕ) (running'' : Running) (host'' : H) (left : Option (List ℕ)) (source_rose : Type 0) → Ended run_acts s running host text running'' host'' left source_rose
+      → EndsFor s source_rose (TellRose (seen host) (seen host'')) (DiskRose (seen host) (seen host''))
+  run-for s running host text running'' host'' left source_rose (at_line front line next more running' middle whole short_front short chain step) =
+      sooner-for s source_rose host middle host'' (chain-counts running host front running' middle chain) step.counts step.cause
+  run-for s running host text running'' host'' left source_rose (at_pause running' middle took step) = absurd (not-ok s (Err s) refl step.0)
+  run-for s running host text running'' host'' left source_rose (at_long_line front long more running' middle whole short over chain step) =
+      sooner-for s source_rose host middle host'' (chain-counts running host front running' middle chain) step.counts step.cause
+  run-for s running host text running'' host'' left source_rose (at_end running' middle below nothing took step) =
+      sooner-for s source_rose host middle host'' (chain-counts running host (lines text) running' middle took.chain) step.counts step.cause
+  run-for s running host text running'' host'' left source_rose (at_fault is rose took) = read-for s source_rose (TellRose (seen host) (seen host'')) (DiskRose (seen host) (seen host'')) is rose
+  run-for s running host text running'' host'' left source_rose (at_limit is full took) = limit-for s source_rose (TellRose (seen host) (seen host'')) (DiskRose (seen host) (seen host'')) is
+  run-for s running host text running'' host'' left source_rose (at_want front is took) =
+      caused-for s source_rose (TellRose (seen host) (seen host'')) (DiskRose (seen host) (seen host'')) (subst (λ (a : Status). IsCausedBy a (TellRose (seen host) (seen host'')) (DiskRose (seen host) (seen host''))) (sym is) tt)

@@ -1,0 +1,146 @@
+-- How a run under way goes on: with a line of its text, and with a text that is told.
+use Rattle.std.proofs.Common.{◌≡◌, inl, inr, ℕ, List, [], ◌∷◌, ◌++◌, length, take, drop, Option, None, sym, ap, subst, ◌∙◌, append_assoc, append-nil}
+use Rattle.std.proofs.lemmas.List.{take-append-drop}
+use Rattle.host_model.specs.declared.file.File.{File}
+use Rattle.host_model.specs.Disks.{EveryDisk}
+use Rattle.host_model.specs.Moments.{Throughout, EveryStop}
+use Rattle.host_model.specs.Past.{Event, Told, told, IsText, MayAdd}
+use Rattle.host_model.proofs.CallLemmas.{may_have_moved, moved}
+use Rattle.host_model.proofs.DiskLemmas.{untold}
+use Rattle.host_model.proofs.MomentLemmas.{joined, weakened}
+use Rattle.history.specs.declared.fault.BlockFault.{BlockFault}
+use Rattle.history.specs.declared.line.Line.{Line}
+use Rattle.history.specs.History.{Beat}
+use Rattle.history.specs.Read.{history_at, refusal_at}
+use Rattle.plugin_text.specs.Lines.{rest}
+use Rattle.point_lines.specs.Judged.{every}
+use Rattle.collect_block.specs.Feed.{IsFeedOf}
+use Rattle.entry_codec.specs.declared.entry.Settings.{Settings}
+use Rattle.store_core.proofs.StoreLemmas.{every_image_of, store_told}
+use Rattle.agent_core.specs.Agent.{AgentState, IsAgentOf}
+use Rattle.agent_core.specs.Kept.{StandsForHistory, StandsForOneOf}
+use Rattle.agent_core.specs.Rules.{history_with}
+use Rattle.agent_app.specs.declared.running.Running.{Running}
+use Rattle.agent_app.specs.Run.{Extends, no_more, Keeps, IsAckedUpTo}
+use Rattle.agent_app.specs.Running.{RunsAt}
+use Rattle.agent_app.proofs.AckLemmas.{acked-more, acked-since, acked-weaker, closed-more, text-front}
+use Rattle.agent_app.proofs.ExtendsLemmas.{extends-further, extends-length, extends-line, extends-start, with-line}
+
+-- ---- an agent
+pub stands-all : (past : List Event) (agent : AgentState) (set : Settings) (h : List Beat) → IsAgentOf past agent set h → EveryDisk (StandsForHistory set h) past
+stands-all past agent set h is_of disk images =
+    record { beats = is_of.holds.beats; are = is_of.holds.are; stands = every_image_of past agent.store set is_of.holds.beats is_of.holds.store_of disk images }
+
+agent-told : (sent : List ℕ) (past : List Event) (agent : AgentState) (set : Settings) (h : List Beat) → IsAgentOf past agent set h → IsAgentOf (Told sent ∷ past) agent set h
+agent-told sent past agent set h is_of = record {
+  holds = record {
+    beats = is_of.holds.beats;
+    are = is_of.holds.are;
+    store_of = store_told sent past agent.store set is_of.holds.beats [] is_of.holds.store_of;
+    registry_is = is_of.holds.registry_is;
+    last_rows_are = is_of.holds.last_rows_are;
+  };
+  last_is = is_of.last_is;
+  count = is_of.count;
+  copies = is_of.copies;
+  going = is_of.going;
+}
+
+-- ---- what a stop leaves
+pub keeps-more : (set : Settings) (h0 h whole : List Beat) (before : List ℕ) → Extends h whole → (start new : List Event) → Throughout (EveryStop (Keeps set h0 h before)) start new → Throughout (EveryStop (Keeps set h0 whole before)) start new
+keeps-more set h0 h whole before more start new stops =
+    weakened (λ past held disk text images by_then.
+    let kept = held disk text images by_then in
+    record { stored = kept.stored; since = kept.since; within = extends-further kept.stored h whole kept.within more; stands = kept.stands; acked = kept.acked }) stops
+
+module _ (past : List Event) (running : Running) (set : Settings) (h0 : List Beat) (start : List Event) (read : List Line) (made : List ℕ) (at : RunsAt past running set h0 start read made) where
+  abbrev now : List Beat
+  now = history_at every h0 read
+
+  -- what was told by then acknowledges no more than is stored
+  acked-by : (text : List ℕ) → IsText past text → IsAckedUpTo (length now) (drop (length (told start)) text)
+  acked-by text by_then =
+      let front = text-front past text by_then in
+      acked-since (length now) (told start) made text front.more (front.whole ∙ at.tells) at.acked
+
+  -- moments at which nothing is told, and the disk holds this history, or the one with the beat of a line
+  pub line-stops : (said : Line) (reason : Option BlockFault) (new : List Event) (whole : List Beat) → Extends now whole → (reason ≡ None → Extends (history_at every h0 (said ∷ read)) whole)
+      → Throughout (EveryDisk (StandsForOneOf set now reason (history_with now every read said))) past new → told new ≡ told past → Throughout (EveryStop (Keeps set h0 whole (told start))) start new
+  line-stops said reason new whole here there moments silent =
+      let after = history_at every h0 (said ∷ read) in
+      let one = extends-line h0 read said in
+      let shows : (disk : File → List ℕ) (text : List ℕ) → StandsForOneOf set now reason (history_with now every read said) disk → IsText past text → Keeps set h0 whole (told start) disk text
+      = λ disk text stands by_then. elim stands [
+        | inl same ↦ record { stored = now; since = extends-start h0 read; within = here; stands = same; acked = acked-by text by_then }
+        | inr more ↦ record {
+          stored = after;
+          since = extends-start h0 (said ∷ read);
+          within = there more.0;
+          stands = subst (λ (h : List Beat). StandsForHistory set h disk) (with-line h0 read said) more.1;
+          acked = acked-weaker (length now) (length after) (drop (length (told start)) text) (extends-length now after one) (acked-by text by_then);
+        }
+      ] in
+      joined (keeps-more set h0 now whole (told start) here start past at.stops) (untold silent shows moments)
+
+  -- a line was taken
+  pub line-taken : (said : Line) (new : List Event) (running' : Running) (reason : Option BlockFault) → refusal_at every h0 read said ≡ None
+      → IsAgentOf new running'.agent set (history_with now every read said) → IsFeedOf running'.feed every (said ∷ read)
+      → Throughout (EveryDisk (StandsForOneOf set now reason (history_with now every read said))) past new → told new ≡ told past → RunsAt new running' set h0 start (said ∷ read) made
+  line-taken said new running' reason free agent feed moments silent =
+      let after = history_at every h0 (said ∷ read) in
+      let one = extends-line h0 read said in
+      record {
+        within = at.within;
+        accepted = (free, at.accepted);
+        agent = subst (IsAgentOf new running'.agent set) (with-line h0 read said) agent;
+        feed = feed;
+        tells = silent ∙ at.tells;
+        closed = at.closed;
+        acked = acked-weaker (length now) (length after) made (extends-length now after one) at.acked;
+        stops = line-stops said reason new after one (λ _. no_more) moments silent;
+      }
+
+  module _ (text : List ℕ) (acked : IsAckedUpTo (length now) text) where
+    -- a front of the text was told
+    front-stop : (sent left : List ℕ) → sent ++ left ≡ text → EveryStop (Keeps set h0 now (told start)) (Told sent ∷ past)
+    front-stop sent left whole disk said images by_then =
+        let front : said ++ (drop by_then.0 sent ++ left) ≡ told start ++ (made ++ text) =
+        ap (λ (t : List ℕ). t ++ (drop by_then.0 sent ++ left)) by_then.1 ∙ append_assoc (told past) (take by_then.0 sent) (drop by_then.0 sent ++ left)
+        ∙ ap (λ (t : List ℕ). told past ++ t) (sym (append_assoc (take by_then.0 sent) (drop by_then.0 sent) left) ∙ ap (λ (t : List ℕ). t ++ left) (take-append-drop by_then.0 sent) ∙ whole)
+        ∙ ap (λ (t : List ℕ). t ++ text) at.tells ∙ append_assoc (told start) made text in
+        record {
+          stored = now;
+          since = extends-start h0 read;
+          within = no_more;
+          stands = stands-all past running.agent set now at.agent disk images;
+          acked = acked-since (length now) (told start) (made ++ text) said (drop by_then.0 sent ++ left) front (acked-more (length now) made text at.closed at.acked acked);
+        }
+
+    here-stop : EveryStop (Keeps set h0 now (told start)) past
+    here-stop disk said images by_then = record {
+      stored = now;
+      since = extends-start h0 read;
+      within = no_more;
+      stands = stands-all past running.agent set now at.agent disk images;
+      acked = acked-by said by_then;
+    }
+
+    pub told-stops : (new : List Event) → new ≡ Told text ∷ past → Throughout (EveryStop (Keeps set h0 now (told start))) start new
+    told-stops new is = joined at.stops (moved (EveryStop (Keeps set h0 now (told start))) (Told text) past new is here-stop (front-stop text [] (append-nil text)))
+
+    pub torn-stops : (new : List Event) → MayAdd (λ (n : ℕ). Told (take n text)) past new → Throughout (EveryStop (Keeps set h0 now (told start))) start new
+    torn-stops new may =
+        joined at.stops (may_have_moved (EveryStop (Keeps set h0 now (told start))) (λ (n : ℕ). Told (take n text)) past new may here-stop (λ n. front-stop (take n text) (drop n text) (take-append-drop n text)))
+
+    -- the text was told, whole lines of it
+    pub text-told : (new : List Event) → new ≡ Told text ∷ past → rest text ≡ [] → RunsAt new running set h0 start read (made ++ text)
+    text-told new is closed = record {
+      within = at.within;
+      accepted = at.accepted;
+      agent = subst (λ (p : List Event). IsAgentOf p running.agent set now) (sym is) (agent-told text past running.agent set now at.agent);
+      feed = at.feed;
+      tells = ap told is ∙ ap (λ (t : List ℕ). t ++ text) at.tells ∙ append_assoc (told start) made text;
+      closed = closed-more made text at.closed closed;
+      acked = acked-more (length now) made text at.closed at.acked acked;
+      stops = told-stops new is;
+    }

@@ -1,0 +1,425 @@
+-- What each step of a run does.
+use Rattle.std.proofs.Common.{◌≡◌, inl, inr, ℕ, ◌+◌, ◌≤◌, Bool, true, false, List, [], ◌∷◌, ◌++◌, length, Option, Some, None, Result, Ok, Err, IfOk, IfErr, OnOk, refl, sym, ap, subst, ◌∙◌, append_assoc, append-nil, arith, true≢false, if◌then◌else◌}
+use Rattle.std.specs.Option.{option_map_or}
+use Rattle.host_model.specs.Cause.{Rose}
+use Rattle.host_model.specs.declared.status.Status.{Status}
+use Rattle.host_model.specs.declared.status.Status.TheVariants.{Ok as Done, Refused, Limit, Memory}
+use Rattle.host_model.specs.Disks.{EveryDisk}
+use Rattle.host_model.specs.Moments.{Throughout}
+use Rattle.host_model.specs.Past.{Event, Told, told}
+use Rattle.history.specs.declared.fault.BlockFault.{BlockFault}
+use Rattle.history.specs.declared.fault.BlockFault.TheVariants.{Unfinished}
+use Rattle.history.specs.declared.line.Line.{Line}
+use Rattle.history.specs.declared.line.Line.TheVariants as line
+use Rattle.history.specs.History.{Beat}
+use Rattle.history.specs.Read.{history_at, is_disable, refusal_at}
+use Rattle.history.specs.Refusal.{is_unfinished}
+use Rattle.plugin_text.specs.declared.fault.LineFault.{LineFault}
+use Rattle.plugin_text.specs.declared.fault.LineFault.TheVariants as line_fault
+use Rattle.plugin_text.specs.Answer.{IsFaultFor}
+use Rattle.plugin_text.specs.Line.{line as line_of}
+use Rattle.plugin_text.specs.Lines.{fits, lines, parts, rest}
+use Rattle.point_lines.specs.declared.refusal.Refusal.{Refusal}
+use Rattle.point_lines.specs.declared.refusal.Refusal.TheVariants as refusal
+use Rattle.point_lines.specs.Judged.{every, refusal_number}
+use Rattle.point_lines.specs.Steps.{HasDivisor}
+use Rattle.beat_points.specs.Text.{HaveDivisors}
+use Rattle.collect_block.specs.declared.feed.Feed.{Feed}
+use Rattle.collect_block.specs.Feed.{Becomes, IsFeedOf}
+use Rattle.entry_codec.specs.declared.entry.Settings.{Settings}
+use Rattle.agent_core.specs.declared.fault.AgentFault.{AgentFault}
+use Rattle.agent_core.specs.declared.fault.AgentFault.TheVariants as agent_fault
+use Rattle.agent_core.specs.declared.reply.Reply.{Reply}
+use Rattle.agent_core.specs.declared.reply.Said.{Said}
+use Rattle.agent_core.specs.declared.reply.Said.TheVariants.{Nothing, Stored, Asked, Disabled}
+use Rattle.agent_core.specs.Agent.{AgentState, IsAgentOf}
+use Rattle.agent_core.specs.Calls.{Lines, Seen}
+use Rattle.agent_core.specs.Faults.{LeavesAll, RefusedBy}
+use Rattle.agent_core.specs.Kept.{StandsForOneOf}
+use Rattle.agent_core.specs.Replies.{reply_text}
+use Rattle.agent_core.specs.Rules.{history_with, line_refusal}
+use Rattle.agent_core.specs.Said.{said_of}
+use Rattle.store_core.specs.Store.{counted}
+use Rattle.agent_app.specs.declared.running.Running.{Running}
+use Rattle.agent_app.specs.Convert.{all_told, is_limit}
+use Rattle.agent_app.specs.Reading.{Ending, HasRead, RefusedAt, Reading}
+use Rattle.agent_app.specs.Run.{Extends, history_with_text, is_whole, judged_after, run_output, run_reading, run_rules, stored_at, HasRunCause, IsAckedUpTo}
+use Rattle.agent_app.specs.Running.{is_query, Counts, DiskRose, EndsRun, IsCausedBy, IsCutShort, Overflows, RunsAt, TakesLine, TellRose, TellsRefusal}
+use Rattle.agent_app.proofs.AckLemmas.{acked-stored, closed-stored}
+use Rattle.agent_core.proofs.ClosedLemmas.{text-line}
+use Rattle.agent_app.proofs.ExtendsLemmas.{extends-text}
+use Rattle.agent_app.proofs.HasReadLemmas.{read-ended, read-long, read-next, read-over, read-refused, read-unfinished, says-all, says-long, says-over, says-refused}
+use Rattle.agent_app.proofs.RunningLemmas.{line-taken, text-told}
+use Rattle.agent_app.proofs.StopsLemmas.{Behind, cut-stop, line-stop, output-behind, refusal-stop, want-stop, whole-stop}
+
+-- ---- what failed
+cut-cause : (status : Status) (honest : Type 0) (text : List ℕ) (old new : List Event) (tell_rose disk_rose : Type 0) → IsCutShort status honest text old new tell_rose → IsCausedBy status tell_rose disk_rose
+cut-cause status honest text old new tell_rose disk_rose (inl (is, rose, torn)) = subst (λ (s : Status). IsCausedBy s tell_rose disk_rose) (sym is) rose
+cut-cause status honest text old new tell_rose disk_rose (inr (is, same)) = subst (λ (s : Status). IsCausedBy s tell_rose disk_rose) (sym is) tt
+
+refusal-caused : (status : Status) (honest : Type 0) (number : ℕ) (why : Refusal) (old new : List Event) (tell_rose disk_rose : Type 0) → TellsRefusal status honest number why old new tell_rose → IsCausedBy status tell_rose disk_rose
+refusal-caused status honest number why old new tell_rose disk_rose (inl (is, done)) = subst (λ (s : Status). IsCausedBy s tell_rose disk_rose) (sym is) (by (is_limit why))
+  where
+    by : (limit : Bool) → IsCausedBy (if limit then Limit number (refusal_number why) else Refused number (refusal_number why)) tell_rose disk_rose
+    by true = tt
+    by false = tt
+refusal-caused status honest number why old new tell_rose disk_rose (inr cut) = cut-cause status honest _ old new tell_rose disk_rose cut
+
+pub told-counts : (host host' : Seen) → host.tell_faults ≤ host'.tell_faults → host'.disk_faults ≡ host.disk_faults → Counts host host'
+told-counts host host' tells disk = record { tells = tells; disk = omega (arith, disk) }
+
+same-counts : (host : Seen) → Counts host host
+same-counts host = record { tells = omega arith; disk = omega arith }
+
+-- ---- how a line is judged
+judged-place : (h0 : List Beat) (read : List Line) (said : Line) → is_query said ≡ false → judged_after h0 read (Ok said) ≡ option_map_or (λ (fault : BlockFault). Err (refusal.Block fault)) (refusal_at every h0 read said) (Ok said)
+judged-place h0 read (line.Query text) answer = absurd (true≢false answer)
+judged-place h0 read said answer = refl
+
+module _ (h0 : List Beat) (read : List Line) (bytes : List ℕ) (said : Line) (is : line_of bytes ≡ Ok said) where
+  judged-free : is_query said ≡ false → refusal_at every h0 read said ≡ None → judged_after h0 read (line_of bytes) ≡ Ok said
+  judged-free answer free =
+      ap (judged_after h0 read) is ∙ judged-place h0 read said answer ∙ ap (λ (o : Option BlockFault). option_map_or (λ (fault : BlockFault). Err (refusal.Block fault)) o (Ok said)) free
+
+  judged-refused : (fault : BlockFault) → is_query said ≡ false → refusal_at every h0 read said ≡ Some fault → judged_after h0 read (line_of bytes) ≡ Err (refusal.Block fault)
+  judged-refused fault answer reason =
+      ap (judged_after h0 read) is ∙ judged-place h0 read said answer ∙ ap (λ (o : Option BlockFault). option_map_or (λ (fault : BlockFault). Err (refusal.Block fault)) o (Ok said)) reason
+
+pub no-query : (said : Line) → ((text : List ℕ) → said ≡ line.Query text → ⊥) → is_query said ≡ false
+no-query (line.Query text) not = absurd (not text refl)
+no-query said not = refl
+
+pub divisors : (said : Line) → HasDivisor said → HaveDivisors (said ∷ [])
+divisors (line.Dimension def) has = (has, tt)
+divisors said has = tt
+
+disable-same : (h0 : List Beat) (read : List Line) (said : Line) → is_disable said ≡ true → history_at every h0 (said ∷ read) ≡ history_at every h0 read
+disable-same h0 read line.Disable is = refl
+disable-same h0 read said is = absurd (true≢false (sym is))
+
+pub fault-is : (bytes : List ℕ) (fault : LineFault) → IsFaultFor (line_of bytes) fault → (fault ≡ line_fault.Memory → ⊥) → line_of bytes ≡ Err fault
+fault-is bytes line_fault.Memory told not = absurd (not refl)
+fault-is bytes fault told not = told
+
+-- ---- a line
+module _ (honest : Type 0) (running : Running) (host : Seen) (number : ℕ) (bytes : List ℕ) (short : fits bytes ≡ true) where
+  refused-line : (running' : Running) (status : Status) (host' : Seen) (why : Refusal)
+      → (honest → (set : Settings) (h0 : List Beat) (start : List Event) (read : List Line) (made : List ℕ) → RunsAt host.past running set h0 start read made → judged_after h0 read (line_of bytes) ≡ Err why)
+      → TellsRefusal status honest number why host.past host'.past (TellRose host host') → Counts host host' → TakesLine honest running host number bytes (Err status) running' host'
+  refused-line running' status host' why judged telling counts = record {
+    run = λ h set h0 front start going number_is ended text next more whole.
+        let judge = judged h set h0 start going.read going.made going.at in
+        refusal-stop host.past running set h0 start going.read going.made going.at ended text ⊥ (TellRose host host') (DiskRose host host') status honest number why host'.past h telling
+        (read-refused (run_rules h0) front going.read going.made going.has text bytes next more why ended whole short judge ∙ ap (λ (n : ℕ). record { told = going.made; ending = RefusedAt n why }) (sym number_is))
+        (ap (history_at every h0) (says-refused (run_rules h0) front going.read going.made going.has text bytes next more why whole short judge));
+    cause = refusal-caused status honest number why host.past host'.past (TellRose host host') (DiskRose host host') telling;
+    counts = counts;
+  }
+
+  -- there was no memory to read it
+  pub want-line : TakesLine honest running host number bytes (Err Memory) running host
+  want-line = record {
+    run = λ h set h0 front start going number_is ended text next more whole.
+        want-stop host.past running set h0 start going.read going.made going.at ended text ⊥ (TellRose host host) (DiskRose host host)
+        (extends-text h0 front going.read going.made going.has text bytes (next ∷ more) whole) (output-behind h0 front going.read going.made going.has ended text bytes (next ∷ more) whole);
+    cause = tt;
+    counts = same-counts host;
+  }
+
+  -- it says nothing
+  pub bad-line : (status : Status) (host' : Seen) (fault : LineFault) → line_of bytes ≡ Err fault → TellsRefusal status honest number (refusal.Line fault) host.past host'.past (TellRose host host') → Counts host host'
+      → TakesLine honest running host number bytes (Err status) running host'
+  bad-line status host' fault is telling counts =
+      refused-line running status host' (refusal.Line fault) (λ h set h0 start read made at. ap (judged_after h0 read) is) telling counts
+
+  -- it is a question
+  pub asked-line : (status : Status) (host' : Seen) (said : Line) (text : List ℕ) → line_of bytes ≡ Ok said → said ≡ line.Query text → TellsRefusal status honest number refusal.NotBuilt host.past host'.past (TellRose host host') → Counts host host'
+      → TakesLine honest running host number bytes (Err status) running host'
+  asked-line status host' said text is query telling counts =
+      refused-line running status host' refusal.NotBuilt (λ h set h0 start read made at. ap (judged_after h0 read) (is ∙ ap (λ (l : Line). Ok l) query)) telling counts
+
+  -- ---- a line that says this was handed to the agent
+  module _ (said : Line) (is : line_of bytes ≡ Ok said) (answer : is_query said ≡ false) (result : Result Said AgentFault) (middle : Seen) (agent : AgentState) (feed : Feed)
+      (lined : Lines honest host running.agent running.feed said result middle agent feed) where
+    abbrev now : Running
+    now = record running { agent = agent; feed = feed }
+
+    abbrev reason : List Line → Option BlockFault
+    reason read = line_refusal running.agent.registry running.agent.copies running.agent.last every read said
+
+    lined-counts : Counts host middle
+    lined-counts = record { tells = omega (arith, lined.tells); disk = lined.cause.later }
+
+    module _ (h : honest) (set : Settings) (h0 : List Beat) (start : List Event) (read : List Line) (made : List ℕ) (at : RunsAt host.past running set h0 start read made) where
+      reason-is : reason read ≡ refusal_at every h0 read said
+      reason-is = (λ i. line_refusal (at.agent.holds.registry_is i) (at.agent.copies i) (at.agent.last_is i) every read said) ∙ text-line every h0 at.within read said at.accepted
+
+      refused-by : RefusedBy (reason read) result
+      refused-by = lined.refused at.agent.going every read at.feed
+
+      moments : Throughout (EveryDisk (StandsForOneOf set (history_at every h0 read) (reason read) (history_with (history_at every h0 read) every read said))) host.past middle.past
+      moments = lined.any_moment h set (history_at every h0 read) every read at.agent at.feed
+
+      module _ (reply : Said) (ok : result ≡ Ok reply) where
+        free : refusal_at every h0 read said ≡ None
+        free = sym reason-is ∙ subst (λ (r : Result Said AgentFault). RefusedBy (reason read) r) ok refused-by
+
+        judged : judged_after h0 read (line_of bytes) ≡ Ok said
+        judged = judged-free h0 read bytes said is answer free
+
+        taken : RunsAt middle.past now set h0 start (said ∷ read) made
+        taken =
+            line-taken host.past running set h0 start read made at said middle.past now (reason read) free
+            (subst (λ (r : Result Said AgentFault). OnOk r (honest → (set : Settings) (h : List Beat) (every : ℕ) (past : List Line) → IsAgentOf host.past running.agent set h → IsFeedOf running.feed every past
+            → IsAgentOf middle.past agent set (history_with h every past said))) ok lined.done h set (history_at every h0 read) every read at.agent at.feed)
+            (subst (λ (r : Result Said AgentFault). OnOk r (Becomes said running.feed feed)) ok lined.takes every read at.feed) moments (lined.output h)
+
+        reply-is : reply ≡ said_of agent.count said
+        reply-is = subst (λ (r : Result Said AgentFault). IfOk r (λ (s : Said). s ≡ said_of agent.count said)) ok lined.said
+
+      -- the history with the line's beat is within that of the text, if nothing stands against the line
+      module _ (front : List (List ℕ)) (has : HasRead (run_rules h0) front read made) (text next : List ℕ) (more : List (List ℕ)) (whole : parts text ≡ front ++ bytes ∷ next ∷ more) where
+        with-next : parts text ≡ (front ++ bytes ∷ []) ++ next ∷ more
+        with-next = whole ∙ sym (append_assoc front (bytes ∷ []) (next ∷ more))
+
+        reaches : reason read ≡ None → Extends (history_at every h0 (said ∷ read)) (history_with_text h0 text)
+        reaches none = by (is_disable said) refl
+          where
+            by : (ends : Bool) → is_disable said ≡ ends → Extends (history_at every h0 (said ∷ read)) (history_with_text h0 text)
+            by true ends = subst (λ (g : List Beat). Extends g (history_with_text h0 text)) (sym (disable-same h0 read said ends)) (extends-text h0 front read made has text bytes (next ∷ more) whole)
+            by false ends =
+                let judge = judged-free h0 read bytes said is answer (sym reason-is ∙ none) in
+                extends-text h0 (front ++ bytes ∷ []) (said ∷ read) (made ++ stored_at h0 read said) (read-next (run_rules h0) front read made has bytes said short judge ends) text next more with-next
+
+    -- the disk failed, or there was no memory
+    pub torn-line : (status : Status) → is_whole status ≡ false → IsCausedBy status (TellRose host middle) (DiskRose host middle)
+        → ((ended : Bool) (ending : Ending Refusal) (text : List ℕ) → HasRunCause status ended ending text ⊥ (TellRose host middle) (DiskRose host middle))
+        → TakesLine honest running host number bytes (Err status) now middle
+    torn-line status part caused cause = record {
+      run = λ h set h0 front start going number_is ended text next more whole.
+          let read = going.read in
+          let made = going.made in
+          line-stop host.past running set h0 start read made going.at ended text ⊥ (TellRose host middle) (DiskRose host middle) status said (reason read) middle.past part
+          (cause ended (run_reading h0 ended text).ending text) (moments h set h0 start read made going.at) (lined.output h)
+          (extends-text h0 front read made going.has text bytes (next ∷ more) whole) (reaches h set h0 start read made going.at front going.has text next more whole)
+          (output-behind h0 front read made going.has ended text bytes (next ∷ more) whole);
+      cause = caused;
+      counts = lined-counts;
+    }
+
+    -- it was taken, and nothing is told of it
+    pub quiet-line : (reply : Said) → result ≡ Ok reply → ((h0 : List Beat) (read : List Line) → (is_disable said ≡ false) × (stored_at h0 read said ≡ [])) → TakesLine honest running host number bytes (Ok tt) now middle
+    quiet-line reply ok quiet = record {
+      run = λ h set h0 front start going number_is.
+          let read = going.read in
+          let made = going.made in
+          let silent = quiet h0 read in
+          record {
+            read = said ∷ read;
+            made = made ++ stored_at h0 read said;
+            has = read-next (run_rules h0) front read made going.has bytes said short (judged h set h0 start read made going.at reply ok) silent.0;
+            at = subst (λ (t : List ℕ). RunsAt middle.past now set h0 start (said ∷ read) t) (sym (ap (λ (l : List ℕ). made ++ l) silent.1 ∙ append-nil made)) (taken h set h0 start read made going.at reply ok);
+          };
+      cause = tt;
+      counts = lined-counts;
+    }
+
+    -- it ends the text
+    pub last-line : (reply : Said) → result ≡ Ok reply → is_disable said ≡ true → TakesLine honest running host number bytes (Err Done) now middle
+    last-line reply ok ends = record {
+      run = λ h set h0 front start going number_is ended text next more whole.
+          let read = going.read in
+          let made = going.made in
+          let judge = judged h set h0 start read made going.at reply ok in
+          let reads = read-over (run_rules h0) front read made going.has text bytes next more said ended whole short judge ends in
+          whole-stop middle.past now set h0 start (said ∷ read) made (taken h set h0 start read made going.at reply ok) ended text ⊥ (TellRose host middle) (DiskRose host middle) Done
+          (ap all_told reads ∙ append-nil (made ++ []) ∙ append-nil made)
+          (ap (history_at every h0) (says-over (run_rules h0) front read made going.has text bytes next more said whole short judge ends) ∙ sym (disable-same h0 read said ends))
+          (ap (λ (r : Reading Refusal). r.ending) reads);
+      cause = tt;
+      counts = lined-counts;
+    }
+
+    -- it is refused
+    pub block-line : (fault : BlockFault) → result ≡ Err (agent_fault.Refused fault) → (status : Status) (host' : Seen)
+        → TellsRefusal status honest number (refusal.Block fault) middle.past host'.past (Rose middle.tell_faults host'.tell_faults) → Counts middle host' → TakesLine honest running host number bytes (Err status) now host'
+    block-line fault err status host' telling counts =
+        let same : middle ≡ host = (subst (λ (r : Result Said AgentFault). IfErr r (λ (f : AgentFault). LeavesAll f → (agent ≡ running.agent) × (middle ≡ host))) err lined.unchanged tt).1 in
+        refused-line now status host' (refusal.Block fault)
+        (λ h set h0 start read made at. judged-refused h0 read bytes said is fault answer
+        (sym (reason-is h set h0 start read made at) ∙ subst (λ (r : Result Said AgentFault). RefusedBy (reason read) r) err (refused-by h set h0 start read made at)))
+        (subst (λ (s : Seen). TellsRefusal status honest number (refusal.Block fault) s.past host'.past (Rose s.tell_faults host'.tell_faults)) same telling)
+        (subst (λ (s : Seen). Counts s host') same counts)
+
+    -- its beat is stored, and that is told
+    module _ (moment : ℕ) (said-is : said ≡ line.Moment moment) (reply : Reply) (ok : result ≡ Ok (Stored reply)) (reply-count : reply ≡ record { count = agent.count }) where
+      abbrev next : List ℕ
+      next = reply_text reply
+
+      module _ (h0 : List Beat) (read : List Line) where
+        abbrev after : List Beat
+        after = history_at every h0 (said ∷ read)
+
+        one-more : length after ≡ length (history_at every h0 read) + 1
+        one-more = ap (λ (l : Line). length (history_at every h0 (l ∷ read))) said-is ∙ omega arith
+
+        goes-on : is_disable said ≡ false
+        goes-on = ap is_disable said-is
+
+        module _ (count-is : agent.count ≡ counted (length after)) where
+          text-is : next ≡ stored_at h0 read said
+          text-is = ap reply_text reply-count ∙ ap (λ (n : ℕ). reply_text (record { count = n })) (count-is ∙ ap counted one-more) ∙ sym (ap (stored_at h0 read) said-is)
+
+          next-acked : IsAckedUpTo (length after) next
+          next-acked = subst (λ (t : List ℕ). IsAckedUpTo (length after) t) (sym (ap reply_text reply-count)) (acked-stored (length after) agent.count (omega (arith, count-is)) (omega (arith, count-is)))
+
+      next-closed : rest next ≡ []
+      next-closed = ap (λ (r : Reply). rest (reply_text r)) reply-count ∙ closed-stored agent.count
+
+      stored-ok : (host' : Seen) → (honest → host'.past ≡ Told next ∷ middle.past) → Counts middle host' → TakesLine honest running host number bytes (Ok tt) now host'
+      stored-ok host' telling counts = record {
+        run = λ h set h0 front start going number_is.
+            let read = going.read in
+            let made = going.made in
+            let at = taken h set h0 start read made going.at (Stored reply) ok in
+            record {
+              read = said ∷ read;
+              made = made ++ stored_at h0 read said;
+              has = read-next (run_rules h0) front read made going.has bytes said short (judged h set h0 start read made going.at (Stored reply) ok) (goes-on h0 read);
+              at = subst (λ (t : List ℕ). RunsAt host'.past now set h0 start (said ∷ read) (made ++ t)) (text-is h0 read at.agent.count)
+                  (text-told middle.past now set h0 start (said ∷ read) made at next (next-acked h0 read at.agent.count) host'.past (telling h) next-closed);
+            };
+        cause = tt;
+        counts = record { tells = omega (arith, lined.tells, counts.tells); disk = omega (arith, lined.cause.later, counts.disk) };
+      }
+
+      stored-err : (status : Status) (host' : Seen) → IsCutShort status honest next middle.past host'.past (Rose middle.tell_faults host'.tell_faults) → Counts middle host' → TakesLine honest running host number bytes (Err status) now host'
+      stored-err status host' cut counts =
+          let cut' : IsCutShort status honest next middle.past host'.past (TellRose host host') = subst (λ (n : ℕ). IsCutShort status honest next middle.past host'.past (Rose n host'.tell_faults)) lined.tells cut in
+          record {
+            run = λ h set h0 front start going number_is ended text after_next more whole.
+                let read = going.read in
+                let made = going.made in
+                let at = taken h set h0 start read made going.at (Stored reply) ok in
+                let has = read-next (run_rules h0) front read made going.has bytes said short (judged h set h0 start read made going.at (Stored reply) ok) (goes-on h0 read) in
+                let whole' = with-next h set h0 start read made going.at front going.has text after_next more whole in
+                let behind = output-behind h0 (front ++ bytes ∷ []) (said ∷ read) (made ++ stored_at h0 read said) has ended text after_next more whole' in
+                cut-stop middle.past now set h0 start (said ∷ read) made at ended text ⊥ (TellRose host host') (DiskRose host host') status honest next host'.past h cut' (next-acked h0 read at.agent.count)
+                (extends-text h0 (front ++ bytes ∷ []) (said ∷ read) (made ++ stored_at h0 read said) has text after_next more whole')
+                (subst (λ (t : List ℕ). Behind (made ++ t) (run_output h0 ended text)) (sym (text-is h0 read at.agent.count)) behind);
+            cause = cut-cause status honest next middle.past host'.past (TellRose host host') (DiskRose host host') cut';
+            counts = record { tells = omega (arith, lined.tells, counts.tells); disk = omega (arith, lined.cause.later, counts.disk) };
+          }
+
+      pub stored-line : (answered : Result (Unit {0}) Status) (host' : Seen) → OnOk answered (honest → host'.past ≡ Told next ∷ middle.past)
+          → IfErr answered (λ (status : Status). IsCutShort status honest next middle.past host'.past (Rose middle.tell_faults host'.tell_faults)) → Counts middle host' → TakesLine honest running host number bytes answered now host'
+      stored-line (Ok tt) host' done torn counts = stored-ok host' done counts
+      stored-line (Err status) host' done torn counts = stored-err status host' torn counts
+
+-- ---- what the agent said of a line
+pub nothing-said : (count : ℕ) (said : Line) → Nothing ≡ said_of count said → (h0 : List Beat) (read : List Line) → (is_disable said ≡ false) × (stored_at h0 read said ≡ [])
+nothing-said count (line.Moment moment) same h0 read = absurd (apart same)
+  where
+    apart : Nothing ≡ Stored (record { count = count }) → ⊥
+    apart e = cc
+nothing-said count line.Disable same h0 read = absurd (apart same)
+  where
+    apart : Nothing ≡ Disabled → ⊥
+    apart e = cc
+nothing-said count said same h0 read = (refl, refl)
+
+pub asked-said : (count : ℕ) (said : Line) (text : List ℕ) → Asked text ≡ said_of count said → is_query said ≡ true
+asked-said count (line.Query more) text same = refl
+asked-said count (line.Moment moment) text same = absurd (apart same)
+  where
+    apart : Asked text ≡ Stored (record { count = count }) → ⊥
+    apart e = cc
+asked-said count line.Disable text same = absurd (apart same)
+  where
+    apart : Asked text ≡ Disabled → ⊥
+    apart e = cc
+asked-said count said text same = absurd (apart same)
+  where
+    apart : Asked text ≡ Nothing → ⊥
+    apart e = cc
+
+pub disabled-said : (count : ℕ) (said : Line) → Disabled ≡ said_of count said → is_disable said ≡ true
+disabled-said count line.Disable same = refl
+disabled-said count (line.Query text) same = absurd (apart same)
+  where
+    apart : Disabled ≡ Asked text → ⊥
+    apart e = cc
+disabled-said count (line.Moment moment) same = absurd (apart same)
+  where
+    apart : Disabled ≡ Stored (record { count = count }) → ⊥
+    apart e = cc
+disabled-said count said same = absurd (apart same)
+  where
+    apart : Disabled ≡ Nothing → ⊥
+    apart e = cc
+
+-- the beat of a MOMENT
+pub record SaidStored (count : ℕ) (said : Line) (reply : Reply) : Type 0 where
+  pub moment : ℕ
+  pub is : said ≡ line.Moment moment
+  pub reply_is : reply ≡ record { count = count }
+
+stored-count : (reply other : Reply) → Stored reply ≡ Stored other → reply ≡ other
+stored-count reply other same = cc
+
+pub stored-said : (count : ℕ) (said : Line) (reply : Reply) → Stored reply ≡ said_of count said → SaidStored count said reply
+stored-said count (line.Moment moment) reply same = record { moment = moment; is = refl; reply_is = stored-count reply (record { count = count }) same }
+stored-said count (line.Query text) reply same = absurd (apart same)
+  where
+    apart : Stored reply ≡ Asked text → ⊥
+    apart e = cc
+stored-said count line.Disable reply same = absurd (apart same)
+  where
+    apart : Stored reply ≡ Disabled → ⊥
+    apart e = cc
+stored-said count said reply same = absurd (apart same)
+  where
+    apart : Stored reply ≡ Nothing → ⊥
+    apart e = cc
+
+-- ---- the end of the text
+module _ (honest : Type 0) (running : Running) (host : Seen) where
+  pub long-line : (number : ℕ) (status : Status) (host' : Seen) → TellsRefusal status honest number (refusal.Line line_fault.LineTooLong) host.past host'.past (TellRose host host') → Counts host host'
+      → Overflows honest running host number status host'
+  long-line number status host' telling counts = record {
+    run = λ h set h0 front start going number_is ended text long more whole over.
+        refusal-stop host.past running set h0 start going.read going.made going.at ended text ⊥ (TellRose host host') (DiskRose host host') status honest number (refusal.Line line_fault.LineTooLong) host'.past h telling
+        (read-long (run_rules h0) front going.read going.made going.has text long more ended whole over ∙ ap (λ (n : ℕ). record { told = going.made; ending = RefusedAt n (refusal.Line line_fault.LineTooLong) }) (sym number_is))
+        (ap (history_at every h0) (says-long (run_rules h0) front going.read going.made going.has text long more whole over));
+    cause = refusal-caused status honest number (refusal.Line line_fault.LineTooLong) host.past host'.past (TellRose host host') (DiskRose host host') telling;
+    counts = counts;
+  }
+
+  module _ (count : ℕ) (left : List ℕ) (short : fits left ≡ true) where
+    pub end-reached : ((every : ℕ) (past : List Line) → IsFeedOf running.feed every past → is_unfinished every past left ≡ false) → EndsRun honest running host count left Done host
+    end-reached finished = record {
+      run = λ h set h0 text start going count_is left_is.
+          let fit : fits (rest text) ≡ true = subst (λ (t : List ℕ). fits t ≡ true) left_is short in
+          let all : is_unfinished every going.read (rest text) ≡ false = subst (λ (t : List ℕ). is_unfinished every going.read t ≡ false) left_is (finished every going.read going.at.feed) in
+          let reads = read-ended (run_rules h0) (lines text) going.read going.made going.has text refl fit all in
+          whole-stop host.past running set h0 start going.read going.made going.at true text ⊥ (TellRose host host) (DiskRose host host) Done
+          (ap all_told reads ∙ append-nil (going.made ++ []) ∙ append-nil going.made) (ap (history_at every h0) (says-all (run_rules h0) (lines text) going.read going.made going.has text refl))
+          (ap (λ (r : Reading Refusal). r.ending) reads);
+      cause = tt;
+      counts = same-counts host;
+    }
+
+    pub end-refused : (fault : BlockFault) → ((every : ℕ) (past : List Line) → IsFeedOf running.feed every past → (is_unfinished every past left ≡ true) × (fault ≡ Unfinished)) → (status : Status) (host' : Seen)
+        → TellsRefusal status honest count (refusal.Block fault) host.past host'.past (TellRose host host') → Counts host host' → EndsRun honest running host count left status host'
+    end-refused fault unfinished status host' telling counts = record {
+      run = λ h set h0 text start going count_is left_is.
+          let fit : fits (rest text) ≡ true = subst (λ (t : List ℕ). fits t ≡ true) left_is short in
+          let why = unfinished every going.read going.at.feed in
+          let open_end : is_unfinished every going.read (rest text) ≡ true = subst (λ (t : List ℕ). is_unfinished every going.read t ≡ true) left_is why.0 in
+          refusal-stop host.past running set h0 start going.read going.made going.at true text ⊥ (TellRose host host') (DiskRose host host') status honest count (refusal.Block fault) host'.past h telling
+          (read-unfinished (run_rules h0) (lines text) going.read going.made going.has text refl fit open_end
+          ∙ (λ i. record { told = going.made; ending = RefusedAt (sym count_is i) (refusal.Block (sym why.1 i)) }))
+          (ap (history_at every h0) (says-all (run_rules h0) (lines text) going.read going.made going.has text refl));
+      cause = refusal-caused status honest count (refusal.Block fault) host.past host'.past (TellRose host host') (DiskRose host host') telling;
+      counts = counts;
+    }

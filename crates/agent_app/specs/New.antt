@@ -1,0 +1,31 @@
+-- What `new` promises.
+use Rattle.std.specs.Prelude.{◌≡◌, true, false, [], ◌⊎◌}
+use Rattle.host_model.specs.declared.status.Status.{Status}
+use Rattle.host_model.specs.declared.status.Status.TheVariants.{Ok as Done, DiskFault, Exists, Memory}
+use Rattle.host_model.specs.Cause.{HasCause}
+use Rattle.host_model.specs.Disks.{EveryDisk, reads_as}
+use Rattle.host_model.specs.Moments.{Throughout}
+use Rattle.host_model.specs.Past.{told}
+use Rattle.entry_codec.specs.declared.entry.Settings.{Settings}
+use Rattle.store_core.specs.Stands.{is_made}
+use Rattle.agent_core.specs.Calls.{Seen}
+use Rattle.agent_core.specs.Kept.{StandsForHistory, StandsForNew}
+
+abbrev pub IsNewStatus : Status → Type 0
+IsNewStatus status = (status ≡ Done) ⊎ (status ≡ Exists) ⊎ (status ≡ DiskFault) ⊎ (status ≡ Memory)
+
+-- `new` with these settings ended with this status, and left the host so
+pub record Makes (honest : Type 0) (set : Settings) (status : Status) (host host' : Seen) : Type 0 where
+  -- where there was no database whatever a stop left, at every moment a stop leaves none, or the new one
+  pub any_moment : honest → EveryDisk (λ disk. is_made disk ≡ false) host.past → Throughout (EveryDisk (StandsForNew set)) host.past host'.past
+  -- at Ok it leaves the new one, and there was none
+  pub created : status ≡ Done → honest → EveryDisk (StandsForHistory set []) host'.past
+  pub none : status ≡ Done → honest → is_made (reads_as host.past) ≡ false
+  -- exactly where there is a database it is refused, or the disk failed, and nothing has happened
+  pub exists : status ≡ Exists → honest → is_made (reads_as host.past) ≡ true
+  pub made : honest → is_made (reads_as host.past) ≡ true → ((status ≡ Exists) ⊎ (status ≡ DiskFault)) × (host'.past ≡ host.past)
+  pub statuses : IsNewStatus status
+  -- the disk fails only where the host counted a failure, and nothing is told
+  pub disk_cause : HasCause host.disk_faults host'.disk_faults (status ≡ DiskFault)
+  pub output : honest → told host'.past ≡ told host.past
+  pub tells : host'.tell_faults ≡ host.tell_faults

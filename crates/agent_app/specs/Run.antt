@@ -1,0 +1,154 @@
+-- A run that stores the beats of a text behind those of a history.
+use Rattle.std.specs.Prelude.{◌≡◌, ◌≢◌, ℕ, ◌+◌, ◌^◌, ◌<◌, ◌≤◌, Bool, true, false, nat_lt, List, [], ◌∷◌, ◌++◌, length, drop, take, All, ◌⊎◌, Option, IfSome, Result, Ok, Err, codes, decimal}
+use Rattle.std.specs.Option.{option_map_or}
+use Rattle.host_model.specs.declared.file.File.{File}
+use Rattle.host_model.specs.declared.status.Status.{Status}
+use Rattle.host_model.specs.declared.status.Status.TheVariants.{TellFault, DiskFault, ReadFault, NotADatabase, Damaged, Usage, Memory}
+use Rattle.host_model.specs.Cause.{HasCause, Rose}
+use Rattle.host_model.specs.Disks.{EveryDisk, reads_as}
+use Rattle.host_model.specs.Moments.{Throughout, EveryStop}
+use Rattle.host_model.specs.Past.{Event, told}
+use Rattle.host_model.specs.Source.{Takes}
+use Rattle.history.specs.declared.fault.BlockFault.{BlockFault}
+use Rattle.history.specs.declared.fault.BlockFault.TheVariants.{Unfinished}
+use Rattle.history.specs.declared.line.Line.{Line}
+use Rattle.history.specs.declared.line.Line.TheVariants.{Moment, Query}
+use Rattle.history.specs.History.{Beat}
+use Rattle.history.specs.Read.{history_at, is_disable, refusal_at}
+use Rattle.history.specs.Refusal.{is_unfinished}
+use Rattle.plugin_text.specs.declared.fault.LineFault.{LineFault}
+use Rattle.plugin_text.specs.declared.fault.LineFault.TheVariants.{LineTooLong}
+use Rattle.plugin_text.specs.Line.{line}
+use Rattle.plugin_text.specs.Lines.{lines, parts}
+use Rattle.point_lines.specs.declared.refusal.Refusal.{Refusal}
+use Rattle.point_lines.specs.declared.refusal.Refusal.TheVariants as refusal
+use Rattle.point_lines.specs.Judged.{every}
+use Rattle.entry_codec.specs.declared.entry.Settings.{Settings}
+use Rattle.store_core.specs.Stands.{is_made}
+use Rattle.store_core.specs.Store.{counted}
+use Rattle.agent_core.specs.Calls.{Seen}
+use Rattle.agent_core.specs.Kept.{StandsForHistory}
+use Rattle.agent_core.specs.Replies.{reply_text}
+use Rattle.agent_app.specs.Convert.{all_told, ending_status, input_limit, HasStatusCause}
+use Rattle.agent_app.specs.Reading.{Ending, Reading, Rules, lines_read, reading_of}
+
+-- ---- what a text says behind a history
+
+-- a line that says this may stand after these lines, or why not: questions are not answered yet
+abbrev pub judged_after : List Beat → List Line → Result Line LineFault → Result Line Refusal
+judged_after h0 past (Err fault) = Err (refusal.Line fault)
+judged_after h0 past (Ok (Query text)) = Err refusal.NotBuilt
+judged_after h0 past (Ok said) = option_map_or (λ (fault : BlockFault). Err (refusal.Block fault)) (refusal_at every h0 past said) (Ok said)
+
+-- what is told of a line: of a MOMENT that its beat is stored, with its number in the history
+abbrev pub stored_at : List Beat → List Line → Line → List ℕ
+stored_at h0 past (Moment moment) = reply_text (record { count = counted (length (history_at every h0 past) + 1) })
+stored_at h0 past said = []
+
+-- the rules of a text whose beats are stored behind this history
+abbrev pub run_rules : List Beat → Rules Line Refusal
+run_rules h0 = record {
+  judge = λ past bytes. judged_after h0 past (line bytes);
+  tell = stored_at h0;
+  ends_text = is_disable;
+  tell_end = λ past. [];
+  is_unfinished = is_unfinished every;
+  too_long = refusal.Line LineTooLong;
+  unfinished = refusal.Block Unfinished;
+}
+
+abbrev pub run_reading : List Beat → Bool → List ℕ → Reading Refusal
+run_reading h0 ended text = reading_of (run_rules h0) ended text
+
+-- the history with the beats of the text's accepted lines
+abbrev pub history_with_text : List Beat → List ℕ → List Beat
+history_with_text h0 text = history_at every h0 (lines_read (run_rules h0) [] (parts text))
+
+-- all that is told of a text: its stored beats, and then its refusal
+abbrev pub run_output : List Beat → Bool → List ℕ → List ℕ
+run_output h0 ended text = all_told (run_reading h0 ended text)
+
+-- the status of a run over the text, when nothing fails: that of the first refusal in the bytes that it takes, or
+-- else of the end, where that has come
+abbrev pub run_status : List Beat → List ℕ → Status
+run_status h0 text = ending_status (run_reading h0 (nat_lt (length text) input_limit) (take input_limit text)).ending
+
+-- ---- what stops leave
+
+-- a history goes on from another
+pub data Extends (h : List Beat) : List Beat → Type 0 where
+  no_more : Extends h h
+  one_more : (beat : Beat) (g : List Beat) → Extends h g → Extends h (beat ∷ g)
+
+-- the line that tells of a stored beat, without its line feed
+abbrev pub stored_line : ℕ → List ℕ
+stored_line n = codes "STORED " ++ decimal n
+
+-- no whole line of what was told acknowledges a beat behind the first n; a number that is told is below 2^64
+abbrev pub IsAckedUpTo : ℕ → List ℕ → Type 0
+IsAckedUpTo n text = All (λ (said : List ℕ). (m : ℕ) → m < 2 ^ 64 → said ≡ stored_line m → m ≤ n) (lines text)
+
+-- The disk holds this history with a front of the new beats, and every beat that was acknowledged since. `before` is
+-- what had been told before.
+pub record Keeps (set : Settings) (h0 whole : List Beat) (before : List ℕ) (disk : File → List ℕ) (text : List ℕ) : Type 0 where
+  pub stored : List Beat
+  pub since : Extends h0 stored
+  pub within : Extends stored whole
+  pub stands : StandsForHistory set stored disk
+  pub acked : IsAckedUpTo (length stored) (drop (length before) text)
+
+-- ---- what a run promises
+
+-- at all other statuses all beats were stored and the whole output was told
+abbrev pub is_whole : Status → Bool
+is_whole TellFault = false
+is_whole DiskFault = false
+is_whole Memory = false
+is_whole status = true
+
+-- what was told since is a front of the output, and all of it where the status says so
+pub record TellsRun (status : Status) (output : List ℕ) (old new : List Event) : Type 0 where
+  pub sent : List ℕ
+  pub unsent : List ℕ
+  pub whole : output ≡ sent ++ unsent
+  pub tells : told new ≡ told old ++ sent
+  pub all : is_whole status ≡ true → unsent ≡ []
+
+-- why the run ended as it did
+abbrev pub HasRunCause : Status → Bool → Ending Refusal → List ℕ → (source_rose tell_rose disk_rose : Type 0) → Type 0
+HasRunCause DiskFault ended ending taken source_rose tell_rose disk_rose = disk_rose
+HasRunCause status ended ending taken source_rose tell_rose disk_rose = HasStatusCause status ended ending taken source_rose tell_rose
+
+-- a run on a database of these settings and this history took these bytes of the source
+pub record Runs (status : Status) (set : Settings) (h0 : List Beat) (left left' : Option (List ℕ)) (old new : List Event) (source_rose tell_rose disk_rose : Type 0) : Type 0 where
+  pub taken : List ℕ
+  -- whether the source said that the input had ended
+  pub ended : Bool
+  pub takes : Takes left taken left'
+  pub within : length taken ≤ input_limit
+  pub at_end : ended ≡ true → (length taken < input_limit) × IfSome left' (λ bytes. bytes ≡ [])
+  -- at every moment a stop leaves the history with a front of the beats, and with every beat that was acknowledged
+  pub stops : Throughout (EveryStop (Keeps set h0 (history_with_text h0 taken) (told old))) old new
+  -- at the end all of them, unless the output, the disk or memory failed
+  pub ends : is_whole status ≡ true → EveryDisk (StandsForHistory set (history_with_text h0 taken)) new
+  pub output : TellsRun status (run_output h0 ended taken) old new
+  pub cause : HasRunCause status ended (run_reading h0 ended taken).ending taken source_rose tell_rose disk_rose
+
+-- `run` ended with this status, and left the source and the host so
+pub record RunsAll (honest : Type 0) (status : Status) (left left' : Option (List ℕ)) (source_faults source_faults' : ℕ) (host host' : Seen) : Type 0 where
+  pub runs : honest → (set : Settings) (h0 : List Beat) → EveryDisk (StandsForHistory set h0) host.past
+      → Runs status set h0 left left' host.past host'.past (Rose source_faults source_faults') (Rose host.tell_faults host'.tell_faults) (Rose host.disk_faults host'.disk_faults)
+  -- where no call on the outside fails, the status is that of the text, or there was no memory
+  pub complete : honest → (set : Settings) (h0 : List Beat) → EveryDisk (StandsForHistory set h0) host.past
+      → IfSome left (λ text. (Rose source_faults source_faults' → ⊥) → (Rose host.tell_faults host'.tell_faults → ⊥) → (Rose host.disk_faults host'.disk_faults → ⊥)
+      → (status ≡ run_status h0 text) ⊎ (status ≡ Memory))
+  -- where there is no database that is the status, unless the disk or memory failed
+  pub none : status ≡ NotADatabase → honest → is_made (reads_as host.past) ≡ false
+  pub unmade : honest → is_made (reads_as host.past) ≡ false → (status ≡ NotADatabase) ⊎ (status ≡ DiskFault) ⊎ (status ≡ Memory)
+  -- and a database that stands for a history is never damaged
+  pub damaged : (part : ℕ) → status ≡ Damaged part → honest → (set : Settings) (h : List Beat) → StandsForHistory set h (reads_as host.past) → ⊥
+  pub used : status ≢ Usage
+  -- each part of the outside fails only where it counted a failure
+  pub read_cause : HasCause source_faults source_faults' (status ≡ ReadFault)
+  pub tell_cause : HasCause host.tell_faults host'.tell_faults (status ≡ TellFault)
+  pub disk_cause : HasCause host.disk_faults host'.disk_faults (status ≡ DiskFault)

@@ -1,0 +1,136 @@
+-- A run under way: of which front of its text it is, and what its steps promise.
+use Rattle.std.specs.Prelude.{◌≡◌, ℕ, ◌+◌, ◌≤◌, Bool, true, false, List, [], ◌∷◌, ◌++◌, length, take, ◌⊎◌, Result, Ok, MatchResult, IfErr}
+use Rattle.host_model.specs.declared.status.Status.{Status}
+use Rattle.host_model.specs.declared.status.Status.TheVariants.{Ok as Done, Refused, Limit, TellFault, DiskFault, NotADatabase, Damaged, Memory}
+use Rattle.host_model.specs.Cause.{Rose}
+use Rattle.host_model.specs.Disks.{EveryDisk}
+use Rattle.host_model.specs.Moments.{Throughout, EveryStop}
+use Rattle.host_model.specs.Past.{Event, Told, told, MayAdd}
+use Rattle.history.specs.declared.line.Line.{Line}
+use Rattle.history.specs.declared.line.Line.TheVariants.{Query}
+use Rattle.history.specs.History.{Beat, registry_of}
+use Rattle.history.specs.Read.{history_at}
+use Rattle.plugin_text.specs.Lines.{lines, parts, rest, fits}
+use Rattle.point_lines.specs.declared.refusal.Refusal.{Refusal}
+use Rattle.point_lines.specs.Judged.{every}
+use Rattle.beat_points.specs.Text.{AreAccepted}
+use Rattle.collect_block.specs.Feed.{IsFeedOf}
+use Rattle.entry_codec.specs.declared.entry.Settings.{Settings}
+use Rattle.agent_core.specs.declared.fault.AgentFault.{AgentFault}
+use Rattle.agent_core.specs.declared.fault.AgentFault.TheVariants as agent_fault
+use Rattle.agent_core.specs.Agent.{IsAgentOf, AgentIsReady}
+use Rattle.agent_core.specs.Calls.{Seen}
+use Rattle.agent_core.specs.Fed.{IsFed}
+use Rattle.agent_core.specs.Kept.{StandsForHistory}
+use Rattle.agent_core.specs.Rules.{IsWithin}
+use Rattle.agent_app.specs.declared.running.Running.{Running}
+use Rattle.agent_app.specs.Convert.{refusal_line, refusal_status}
+use Rattle.agent_app.specs.Reading.{HasRead}
+use Rattle.agent_app.specs.Run.{history_with_text, is_whole, run_output, run_reading, run_rules, HasRunCause, IsAckedUpTo, Keeps, TellsRun}
+
+-- ---- a run under way
+
+-- After these lines the run's agent and feed are of just these, `made` was told since the start, a whole line
+-- for each stored beat, and a stop at any moment since left what it may leave.
+pub record RunsAt (past : List Event) (running : Running) (set : Settings) (h0 : List Beat) (start : List Event) (read : List Line) (made : List ℕ) : Type 0 where
+  pub within : IsWithin (registry_of h0)
+  pub accepted : AreAccepted every h0 read
+  pub agent : IsAgentOf past running.agent set (history_at every h0 read)
+  pub feed : IsFeedOf running.feed every read
+  pub tells : told past ≡ told start ++ made
+  pub closed : rest made ≡ []
+  pub acked : IsAckedUpTo (length (history_at every h0 read)) made
+  pub stops : Throughout (EveryStop (Keeps set h0 (history_at every h0 read) (told start))) start past
+
+-- the run has taken these lines of its text, and goes on
+pub record IsRunning (past : List Event) (running : Running) (set : Settings) (h0 : List Beat) (front : List (List ℕ)) (start : List Event) : Type 0 where
+  pub read : List Line
+  pub made : List ℕ
+  pub has : HasRead (run_rules h0) front read made
+  pub at : RunsAt past running set h0 start read made
+
+-- the run over this text ended so
+pub record StopsIn (status : Status) (set : Settings) (h0 : List Beat) (ended : Bool) (text : List ℕ) (start new : List Event) (source_rose tell_rose disk_rose : Type 0) : Type 0 where
+  pub stops : Throughout (EveryStop (Keeps set h0 (history_with_text h0 text) (told start))) start new
+  pub ends : is_whole status ≡ true → EveryDisk (StandsForHistory set (history_with_text h0 text)) new
+  pub output : TellsRun status (run_output h0 ended text) start new
+  pub cause : HasRunCause status ended (run_reading h0 ended text).ending text source_rose tell_rose disk_rose
+
+-- ---- what is told
+
+-- the telling of a text failed, or there was no memory to make it
+abbrev pub IsCutShort : Status → (honest : Type 0) → (text : List ℕ) → (old new : List Event) → (tell_rose : Type 0) → Type 0
+IsCutShort status honest text old new tell_rose =
+    ((status ≡ TellFault) × tell_rose × (honest → MayAdd (λ (n : ℕ). Told (take n text)) old new)) ⊎ ((status ≡ Memory) × (new ≡ old))
+
+-- a refusal was told, and that is how the run ends, or that was cut short
+abbrev pub TellsRefusal : Status → (honest : Type 0) → ℕ → Refusal → (old new : List Event) → (tell_rose : Type 0) → Type 0
+TellsRefusal status honest line why old new tell_rose =
+    ((status ≡ refusal_status line why) × (honest → new ≡ Told (refusal_line line why) ∷ old)) ⊎ IsCutShort status honest (refusal_line line why) old new tell_rose
+
+-- ---- the steps of a run
+
+-- a line is a question
+abbrev pub is_query : Line → Bool
+is_query (Query text) = true
+is_query line = false
+
+-- the statuses of a run that its taker ends, and what fails at them
+abbrev pub IsCausedBy : Status → (tell_rose disk_rose : Type 0) → Type 0
+IsCausedBy Done tell_rose disk_rose = Unit {0}
+IsCausedBy (Refused line number) tell_rose disk_rose = Unit {0}
+IsCausedBy (Limit line number) tell_rose disk_rose = Unit {0}
+IsCausedBy TellFault tell_rose disk_rose = tell_rose
+IsCausedBy DiskFault tell_rose disk_rose = disk_rose
+IsCausedBy Memory tell_rose disk_rose = Unit {0}
+IsCausedBy status tell_rose disk_rose = ⊥
+
+abbrev pub TellRose : Seen → Seen → Type 0
+TellRose host host' = Rose host.tell_faults host'.tell_faults
+
+abbrev pub DiskRose : Seen → Seen → Type 0
+DiskRose host host' = Rose host.disk_faults host'.disk_faults
+
+-- no count of failures fell
+pub record Counts (host host' : Seen) : Type 0 where
+  pub tells : host.tell_faults ≤ host'.tell_faults
+  pub disk : host.disk_faults ≤ host'.disk_faults
+
+-- what each call of the taker requires
+pub record IsFit (honest : Type 0) (running : Running) (host : Seen) : Type 0 where
+  pub agent : AgentIsReady honest host.past running.agent
+  pub feed : IsFed running.feed
+
+-- the line was taken, or the run ends at it
+pub record TakesLine (honest : Type 0) (running : Running) (host : Seen) (number : ℕ) (bytes : List ℕ) (result : Result (Unit {0}) Status) (running' : Running) (host' : Seen) : Type 0 where
+  pub run : honest → (set : Settings) (h0 : List Beat) (front : List (List ℕ)) (start : List Event) → IsRunning host.past running set h0 front start → number ≡ length front + 1
+      → MatchResult result (λ _. IsRunning host'.past running' set h0 (front ++ bytes ∷ []) start)
+      (λ status. (ended : Bool) (text next : List ℕ) (more : List (List ℕ)) → parts text ≡ front ++ bytes ∷ next ∷ more → StopsIn status set h0 ended text start host'.past ⊥ (TellRose host host') (DiskRose host host'))
+  pub cause : IfErr result (λ status. IsCausedBy status (TellRose host host') (DiskRose host host'))
+  pub counts : Counts host host'
+
+-- nothing is done where the lines of a piece are over
+abbrev pub Pauses : {T H : Type 0} → T → H → Result (Unit {0}) Status → T → H → Type 0
+Pauses running host result running' host' = (result ≡ Ok tt) × (running' ≡ running) × (host' ≡ host)
+
+-- the text has ended
+pub record EndsRun (honest : Type 0) (running : Running) (host : Seen) (count : ℕ) (left : List ℕ) (status : Status) (host' : Seen) : Type 0 where
+  pub run : honest → (set : Settings) (h0 : List Beat) (text : List ℕ) (start : List Event) → IsRunning host.past running set h0 (lines text) start → count ≡ length (lines text) → left ≡ rest text
+      → StopsIn status set h0 true text start host'.past ⊥ (TellRose host host') (DiskRose host host')
+  pub cause : IsCausedBy status (TellRose host host') (DiskRose host host')
+  pub counts : Counts host host'
+
+-- a line is too long
+pub record Overflows (honest : Type 0) (running : Running) (host : Seen) (number : ℕ) (status : Status) (host' : Seen) : Type 0 where
+  pub run : honest → (set : Settings) (h0 : List Beat) (front : List (List ℕ)) (start : List Event) → IsRunning host.past running set h0 front start → number ≡ length front + 1
+      → (ended : Bool) (text long : List ℕ) (more : List (List ℕ)) → parts text ≡ front ++ long ∷ more → fits long ≡ false
+      → StopsIn status set h0 ended text start host'.past ⊥ (TellRose host host') (DiskRose host host')
+  pub cause : IsCausedBy status (TellRose host host') (DiskRose host host')
+  pub counts : Counts host host'
+
+-- the status of a run whose database was not opened
+abbrev pub opening_status : AgentFault → Status
+opening_status agent_fault.DiskFault = DiskFault
+opening_status agent_fault.NotADatabase = NotADatabase
+opening_status (agent_fault.Damaged part) = Damaged part
+opening_status fault = Memory

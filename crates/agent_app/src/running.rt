@@ -1,0 +1,181 @@
+//! A text whose beats are stored, line by line.
+ghost use Rattle.std.specs.Prelude.{◌≡◌, ◌≤◌, ◌∷◌, ℕ, List, [], take, false, true, IsErr, IfErr, OnOk, OnErr};
+ghost use Rattle.host_model.specs.Cause.{HasCause, Rose};
+ghost use Rattle.host_model.specs.Past.{Told, MayAdd};
+ghost use Rattle.plugin_text.specs.Answer.{IsFaultFor};
+ghost use Rattle.plugin_text.specs.Line.{line as line_of};
+ghost use Rattle.plugin_text.specs.Lines.{fits};
+ghost use Rattle.beat_points.specs.Text.{HaveDivisors};
+ghost use Rattle.collect_block.specs.Feed.{IsFeedOf};
+ghost use Rattle.agent_core.specs.Fed.{IsFed};
+ghost use Rattle.agent_core.specs.Replies.{reply_text};
+ghost use Rattle.agent_app.specs.Running.{is_query, IsCutShort, IsFit, TellsRefusal, TakesLine, Pauses, EndsRun, Overflows};
+
+use crate::refusals::{push_refusal, refusal_status};
+use agent_core::{Agent, AgentFault, Reply, Said, write_reply};
+use collect_block::Feed;
+use history::Line;
+use host_model::{Failed, Host, Status};
+use line_stream::Taker;
+use plugin_text::{LineFault, read_line};
+use point_lines::Refusal;
+use std::alloc::Global;
+
+/// The update_every of the charts whose line leaves it open, in seconds.
+const EVERY: u32 = 1;
+
+/// What is kept of a text whose beats are stored: the agent that has them, and the open beat.
+#[derive(Drop)]
+pub(crate) struct Running {
+    pub(crate) alloc: Global,
+    pub(crate) agent: Agent,
+    pub(crate) feed: Feed,
+}
+
+/// Tells a text whole, as one event of the host.
+fn tell_text<H: Host>(host: &mut H, text: &str) -> Result<(), Failed>
+    ensures done { OnOk result (H.honest → H.past host.new ≡ Told text.now ∷ H.past host.old) }
+    ensures torn { OnErr result (H.honest → MayAdd (λ n. Told (take n text.now)) (H.past host.old) (H.past host.new)) }
+    ensures cause { HasCause (H.tell_faults host.old) (H.tell_faults host.new) (IsErr result) }
+    ensures disk { H.disk_faults host.new ≡ H.disk_faults host.old }
+{
+    host.tell(text.as_bytes())
+}
+
+/// Tells a refusal, which ends the run.
+fn tell_refusal<H: Host>(alloc: Global, host: &mut H, line: u64, refusal: Refusal) -> Status
+    ensures tells { TellsRefusal result H.honest line refusal (H.past host.old) (H.past host.new) (Rose (H.tell_faults host.old) (H.tell_faults host.new)) }
+    ensures count { H.tell_faults host.old ≤ H.tell_faults host.new }
+    ensures disk { H.disk_faults host.new ≡ H.disk_faults host.old }
+{
+    let mut out = String::new(alloc);
+    if push_refusal(&mut out, line, refusal).is_err() {
+        return Status::Memory;
+    }
+    match tell_text(host, out.as_str()) {
+        Ok(()) => refusal_status(line, refusal),
+        Err(_) => Status::TellFault,
+    }
+}
+
+/// Tells that a beat is stored.
+fn tell_stored<H: Host>(alloc: Global, host: &mut H, reply: Reply) -> Result<(), Status>
+    ensures done { OnOk result (H.honest → H.past host.new ≡ Told (reply_text reply) ∷ H.past host.old) }
+    ensures torn { IfErr result (λ status. IsCutShort status H.honest (reply_text reply) (H.past host.old) (H.past host.new) (Rose (H.tell_faults host.old) (H.tell_faults host.new))) }
+    ensures count { H.tell_faults host.old ≤ H.tell_faults host.new }
+    ensures disk { H.disk_faults host.new ≡ H.disk_faults host.old }
+{
+    let Ok(text) = write_reply(alloc, reply) else {
+        return Err(Status::Memory);
+    };
+    match tell_text(host, text.as_str()) {
+        Ok(()) => Ok(()),
+        Err(_) => Err(Status::TellFault),
+    }
+}
+
+impl Running {
+    pub(crate) fn new(alloc: Global, agent: Agent) -> Running
+        ensures agent { result.agent ≡ agent }
+        ensures feed { IsFeedOf result.feed 1 [] }
+        ensures fed { IsFed result.feed }
+    {
+        Running {
+            alloc,
+            agent,
+            feed: Feed::new(alloc, EVERY),
+        }
+    }
+
+    /// Refuses a line that says nothing, for this reason, and says how the run ends.
+    fn refuse<H: Host>(&self, host: &mut H, number: u64, fault: LineFault) -> Status
+        ensures takes { (bytes : List ℕ) → IsFaultFor (line_of bytes) fault → fits bytes ≡ true
+            → TakesLine H.honest self.now (record { past = H.past host.old; disk_faults = H.disk_faults host.old; tell_faults = H.tell_faults host.old }) number bytes
+            (Err result) self.now (record { past = H.past host.new; disk_faults = H.disk_faults host.new; tell_faults = H.tell_faults host.new }) }
+    {
+        match fault {
+            LineFault::Memory => Status::Memory,
+            _ => tell_refusal(self.alloc, host, number, Refusal::Line(fault)),
+        }
+    }
+
+    /// Takes a line that says this. `Err` is how the run ends.
+    fn take_said<H: Host>(&mut self, host: &mut H, number: u64, said: &Line) -> Result<(), Status>
+        requires ready { IsFit H.honest self.old (record { past = H.past host.old; disk_faults = H.disk_faults host.old; tell_faults = H.tell_faults host.old }) }
+        requires divisor { HaveDivisors (said.now ∷ []) }
+        ensures takes { (bytes : List ℕ) → line_of bytes ≡ Ok said.now → fits bytes ≡ true
+            → TakesLine H.honest self.old (record { past = H.past host.old; disk_faults = H.disk_faults host.old; tell_faults = H.tell_faults host.old }) number bytes
+            result self.new (record { past = H.past host.new; disk_faults = H.disk_faults host.new; tell_faults = H.tell_faults host.new }) }
+        ensures ready { OnOk result (IsFit H.honest self.new (record { past = H.past host.new; disk_faults = H.disk_faults host.new; tell_faults = H.tell_faults host.new })) }
+    {
+        match said {
+            Line::Query(_) => Err(tell_refusal(self.alloc, host, number, Refusal::NotBuilt)),
+            _ => self.take(host, number, said),
+        }
+    }
+
+    /// Takes a line that says this and is no question. `Err` is how the run ends.
+    fn take<H: Host>(&mut self, host: &mut H, number: u64, said: &Line) -> Result<(), Status>
+        requires ready { IsFit H.honest self.old (record { past = H.past host.old; disk_faults = H.disk_faults host.old; tell_faults = H.tell_faults host.old }) }
+        requires divisor { HaveDivisors (said.now ∷ []) }
+        requires answer { is_query said.now ≡ false }
+        ensures takes { (bytes : List ℕ) → line_of bytes ≡ Ok said.now → fits bytes ≡ true
+            → TakesLine H.honest self.old (record { past = H.past host.old; disk_faults = H.disk_faults host.old; tell_faults = H.tell_faults host.old }) number bytes
+            result self.new (record { past = H.past host.new; disk_faults = H.disk_faults host.new; tell_faults = H.tell_faults host.new }) }
+        ensures ready { OnOk result (IsFit H.honest self.new (record { past = H.past host.new; disk_faults = H.disk_faults host.new; tell_faults = H.tell_faults host.new })) }
+    {
+        match self.agent.line(host, &mut self.feed, said) {
+            Ok(Said::Nothing) => Ok(()),
+            // No question comes here.
+            Ok(Said::Asked(_)) => Ok(()),
+            Ok(Said::Stored(reply)) => tell_stored(self.alloc, host, reply),
+            Ok(Said::Disabled) => Err(Status::Ok),
+            Err(AgentFault::Refused(fault)) => {
+                Err(tell_refusal(self.alloc, host, number, Refusal::Block(fault)))
+            }
+            Err(AgentFault::DiskFault) => Err(Status::DiskFault),
+            Err(_) => Err(Status::Memory),
+        }
+    }
+}
+
+impl<H: Host> Taker<H> for Running {
+    ghost ready = { λ running host number. IsFit H.honest running (record { past = H.past host; disk_faults = H.disk_faults host; tell_faults = H.tell_faults host }) };
+
+    ghost takes = { λ running host number bytes result running' host'.
+        TakesLine H.honest running (record { past = H.past host; disk_faults = H.disk_faults host; tell_faults = H.tell_faults host }) number bytes
+        result running' (record { past = H.past host'; disk_faults = H.disk_faults host'; tell_faults = H.tell_faults host' }) };
+
+    ghost pauses = { Pauses };
+
+    ghost ends = { λ running host count left status running' host'.
+        EndsRun H.honest running (record { past = H.past host; disk_faults = H.disk_faults host; tell_faults = H.tell_faults host }) count left
+        status (record { past = H.past host'; disk_faults = H.disk_faults host'; tell_faults = H.tell_faults host' }) };
+
+    ghost overflows = { λ running host number status running' host'.
+        Overflows H.honest running (record { past = H.past host; disk_faults = H.disk_faults host; tell_faults = H.tell_faults host }) number
+        status (record { past = H.past host'; disk_faults = H.disk_faults host'; tell_faults = H.tell_faults host' }) };
+
+    fn take_line(&mut self, host: &mut H, number: u64, line: &[u8]) -> Result<(), Status> {
+        match read_line(self.alloc, line) {
+            Ok(said) => self.take_said(host, number, &said),
+            Err(fault) => Err(self.refuse(host, number, fault)),
+        }
+    }
+
+    fn pause(&mut self, _host: &mut H) -> Result<(), Status> {
+        Ok(())
+    }
+
+    fn end(&mut self, host: &mut H, lines: u64, rest: &[u8]) -> Status {
+        match self.feed.end(rest) {
+            Ok(()) => Status::Ok,
+            Err(fault) => tell_refusal(self.alloc, host, lines, Refusal::Block(fault)),
+        }
+    }
+
+    fn overflow(&mut self, host: &mut H, number: u64) -> Status {
+        let refusal = Refusal::Line(LineFault::LineTooLong);
+        tell_refusal(self.alloc, host, number, refusal)
+    }
+}
