@@ -8,6 +8,8 @@ mod faults;
 #[cfg(test)]
 mod run;
 #[cfg(test)]
+mod stored;
+#[cfg(test)]
 mod texts;
 #[cfg(test)]
 mod usage;

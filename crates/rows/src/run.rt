@@ -54,19 +54,41 @@ fn calls(alloc: Global, numbers: &[u64]) -> Result<CallList, Fail> {
     Ok(CallList::from_vec(numbers.to_vec(alloc)?))
 }
 
-/// Runs the top call, and looks at what it left.
-pub fn run(alloc: Global, words: &[&str], outside: Outside) -> Result<Ending, Fail> {
+/// A host of which these calls fail.
+pub fn host_of(alloc: Global, fails: &[u64]) -> Result<MemoryHost, Fail> {
+    Ok(MemoryHost::new(alloc, calls(alloc, fails)?)?)
+}
+
+/// What was told past the first `count` bytes.
+fn told_since(host: &MemoryHost, count: usize) -> &[u8] {
+    host.told().get(count..).unwrap_or(&[])
+}
+
+/// Runs the top call over a host that may have been through others, and looks at what it left. The told is that of
+/// this call alone.
+pub fn run_over(
+    alloc: Global,
+    host: &mut MemoryHost,
+    words: &[&str],
+    input: &[u8],
+    pull_fails: &[u64],
+) -> Result<Ending, Fail> {
+    let before = host.told().len();
     let words = words_list(alloc, words)?;
-    let pull_fails = calls(alloc, outside.pull_fails)?;
-    let tell_fails = calls(alloc, outside.tell_fails)?;
-    let mut source = MemorySource::new(alloc, outside.input, pull_fails)?;
-    let mut host = MemoryHost::new(alloc, tell_fails)?;
-    let status = agent_main(alloc, &words, &mut source, &mut host);
-    let mut left = vec![in alloc; 0; outside.input.len()]?;
+    let pull_fails = calls(alloc, pull_fails)?;
+    let mut source = MemorySource::new(alloc, input, pull_fails)?;
+    let status = agent_main(alloc, &words, &mut source, host);
+    let mut left = vec![in alloc; 0; input.len()]?;
     let count = source.pull(&mut left).unwrap_or(0);
     Ok(Ending {
         status,
-        told: String::from_utf8(host.told().to_vec(alloc)?)?,
-        has_taken: count < outside.input.len(),
+        told: String::from_utf8(told_since(host, before).to_vec(alloc)?)?,
+        has_taken: count < input.len(),
     })
+}
+
+/// Runs the top call over a new host, and looks at what it left.
+pub fn run(alloc: Global, words: &[&str], outside: Outside) -> Result<Ending, Fail> {
+    let mut host = host_of(alloc, outside.tell_fails)?;
+    run_over(alloc, &mut host, words, outside.input, outside.pull_fails)
 }
