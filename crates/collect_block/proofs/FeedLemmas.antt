@@ -6,10 +6,9 @@ use Rattle.history.specs.declared.dimension.DimDef.{DimDef}
 use Rattle.history.specs.declared.fault.BlockFault.TheVariants.{OpenBlock, NoChart}
 use Rattle.history.specs.declared.line.Line.{Line}
 use Rattle.history.specs.declared.line.Line.TheVariants as line
-use Rattle.history.specs.Looking.{open_block, last_chart, beat}
+use Rattle.history.specs.Looking.{open_block, beat}
 use Rattle.history.specs.Refusal.{refusal, dimension_refusal}
 use Rattle.history.specs.Registry.{Registry}
-use Rattle.collect_block.specs.declared.block.Block.{Block}
 use Rattle.collect_block.specs.declared.feed.Feed.{Feed}
 use Rattle.collect_block.specs.BeatTables.{beat_of}
 use Rattle.collect_block.specs.Feed.{IsFeedOf, block_of}

@@ -1,5 +1,5 @@
 -- What a step of a feed says of the lines before it.
-use Rattle.std.proofs.Common.{◌≡◌, ◌<◌, ◌≤◌, ℕ, ◌+◌, Bool, true, List, [], ◌∷◌, length, drop, get_or, All, Option, Some, None, ap, refl, sym, subst, ◌∙◌, arith}
+use Rattle.std.proofs.Common.{◌≡◌, ◌<◌, ◌≤◌, ℕ, ◌+◌, Bool, true, List, [], ◌∷◌, length, drop, get_or, All, Some, None, ap, refl, sym, subst, ◌∙◌, arith}
 use Rattle.std.proofs.lemmas.List.{drop_more, drop_all}
 use Rattle.history.specs.declared.beat.OpenBeat.{OpenBeat}
 use Rattle.history.specs.declared.beat.OpenDim.{OpenDim}
@@ -13,7 +13,7 @@ use Rattle.history.specs.Refusal.{has_chart}
 use Rattle.history.specs.Registry.{Registry}
 use Rattle.chart_registry.specs.Defining.{nothing_open}
 use Rattle.collect_block.specs.declared.step.Step.{Step}
-use Rattle.collect_block.specs.declared.step.Step.TheVariants.{Nothing, Beat, Query, Disabled}
+use Rattle.collect_block.specs.declared.step.Step.TheVariants.{Beat}
 use Rattle.collect_block.specs.declared.text.Reader.{Reader}
 use Rattle.collect_block.specs.declared.text.End.{End}
 use Rattle.collect_block.specs.Text.{Holds, IsReaderOf, HasRead, Stepped, Took, TookEach, TookFront, end_of}

@@ -10,6 +10,10 @@ ghost use Rattle.collect_block.specs.BeatTables.{beat_of, chart_full, all_full};
 
 use crate::chart_table::ChartTable;
 use crate::dimension_table::DimensionTable;
+use crate::known::{
+    is_known_dimension, is_off, known_dimensions_of, known_update_every, new_charts,
+    new_dimensions, new_dimensions_of,
+};
 use crate::row_table::RowTable;
 use chart_registry::{MOST_CHARTS, MOST_DIMENSIONS, MOST_DIMENSIONS_OF_CHART, Registry};
 use history::{BlockFault, ChartDef, OpenBeat, OpenDim, OpenRow};
@@ -160,91 +164,4 @@ impl BeatTables {
             moment,
         ))
     }
-}
-
-// Whether a moment is no multiple of this update_every.
-fn is_off(update_every: Option<u32>, moment: u32) -> bool
-    ensures { result ≡ option_map_or (λ every. nat_lt 0 every && not (moment % every == 0)) update_every false }
-{
-    match update_every {
-        Some(update_every) => update_every > 0 && moment % update_every != 0,
-        None => false,
-    }
-}
-
-fn known_update_every(registry: &Registry, id: &str) -> Option<u32>
-    ensures { result ≡ option_map (λ def. def.update_every) (find (is_chart id.now) registry.now.charts) }
-{
-    match registry.chart_of(id) {
-        Some(number) => Some(registry.chart(number).update_every),
-        None => None,
-    }
-}
-
-fn is_known_dimension(registry: &Registry, chart: &str, id: &str) -> bool
-    ensures { result ≡ list_any (is_dimension chart.now id.now) registry.now.dimensions }
-{
-    match registry.chart_of(chart) {
-        Some(number) => registry.series_of(number, id).is_some(),
-        None => false,
-    }
-}
-
-// How many dimensions of this chart the registry has.
-fn known_dimensions_of(registry: &Registry, chart: &str) -> u32
-    ensures value { result ≡ count_by (is_of chart.now) registry.now.dimensions }
-    ensures few { result ≤ MOST_DIMENSIONS_OF_CHART }
-{
-    match registry.chart_of(chart) {
-        Some(number) => registry.dimensions_of(number),
-        None => 0,
-    }
-}
-
-fn is_new_chart(registry: &Registry, def: &ChartDef) -> bool
-    ensures { result ≡ is_new_chart registry.now def.now }
-{
-    registry.chart_of(def.id.as_str()).is_none()
-}
-
-// How many of these charts the registry does not have.
-fn new_charts(registry: &Registry, charts: &[ChartDef]) -> usize
-    ensures { result ≡ count_by (is_new_chart registry.now) charts.now }
-{
-    charts
-        .iter()
-        .filter(|def| is_new_chart(registry, def))
-        .count()
-}
-
-fn is_new_dimension(registry: &Registry, dimension: &OpenDim) -> bool
-    ensures { result ≡ is_new_dimension registry.now dimension.now }
-{
-    !is_known_dimension(
-        registry,
-        dimension.chart.as_str(),
-        dimension.def.id.as_str(),
-    )
-}
-
-// How many of these dimensions the registry does not have.
-fn new_dimensions(registry: &Registry, dimensions: &[OpenDim]) -> usize
-    ensures { result ≡ count_by (is_new_dimension registry.now) dimensions.now }
-{
-    dimensions
-        .iter()
-        .filter(|dimension| is_new_dimension(registry, dimension))
-        .count()
-}
-
-// The same, of one chart.
-fn new_dimensions_of(registry: &Registry, dimensions: &[OpenDim], chart: &str) -> usize
-    ensures { result ≡ count_by (λ dimension. is_of chart.now dimension && is_new_dimension registry.now dimension) dimensions.now }
-{
-    dimensions
-        .iter()
-        .filter(|dimension| {
-            chart == dimension.chart.as_str() && is_new_dimension(registry, dimension)
-        })
-        .count()
 }

@@ -12,7 +12,7 @@ use std::marker::Model;
 
 /// The charts that an open beat defines, each once, which a hash of their ids finds.
 #[derive(Drop)]
-pub(crate) struct ChartTable {
+pub struct ChartTable {
     alloc: Global,
     defs: Vec<ChartDef>,
     places: IndexMap<String, usize>,
@@ -32,7 +32,8 @@ impl Model for ChartTable {
 }
 
 impl ChartTable {
-    pub(crate) fn new(alloc: Global) -> ChartTable
+    /// The table without definitions.
+    pub fn new(alloc: Global) -> ChartTable
         ensures { result ≡ [] }
     {
         ChartTable {
@@ -42,14 +43,15 @@ impl ChartTable {
         }
     }
 
-    pub(crate) fn as_slice(&self) -> &[ChartDef]
+    /// The definitions, in the order in which each was first made.
+    pub fn as_slice(&self) -> &[ChartDef]
         ensures { result.now ≡ self.now }
     {
         self.defs.as_slice()
     }
 
-    // The update_every of the chart with this id.
-    pub(crate) fn update_every_of(&self, id: &str) -> Option<u32>
+    /// The update_every of the chart with this id, in seconds.
+    pub fn update_every_of(&self, id: &str) -> Option<u32>
         ensures { result ≡ option_map (λ def. def.update_every) (find (is_chart id.now) self.now) }
     {
         match self.places.get(id) {
@@ -58,16 +60,16 @@ impl ChartTable {
         }
     }
 
-    // Keeps a definition, in the place of an earlier one of the same chart. After an `Err` all is as before.
-    pub(crate) fn define(&mut self, def: ChartDef) -> Result<(), AllocError>
+    /// Keeps a definition, in the place of an earlier one of the same chart. After an `Err` all is as before.
+    pub fn define(&mut self, def: ChartDef) -> Result<(), AllocError>
         ensures ok { OnOk result (self.new ≡ put same_chart self.old def) }
         ensures err { OnErr result (self.new ≡ self.old) }
     {
         define(&mut self.defs, &mut self.places, def)
     }
 
-    // Takes all definitions out.
-    pub(crate) fn take(&mut self) -> ChartDefList
+    /// Takes all definitions out.
+    pub fn take(&mut self) -> ChartDefList
         ensures taken { result ≡ self.old }
         ensures left { self.new ≡ [] }
     {

@@ -13,7 +13,7 @@ use std::marker::Model;
 /// The dimensions that an open beat defines, each once, which hashes of their chart's id and their own
 /// find.
 #[derive(Drop)]
-pub(crate) struct DimensionTable {
+pub struct DimensionTable {
     alloc: Global,
     defs: Vec<OpenDim>,
     tables: IndexMap<String, IndexMap<String, usize>>,
@@ -33,7 +33,8 @@ impl Model for DimensionTable {
 }
 
 impl DimensionTable {
-    pub(crate) fn new(alloc: Global) -> DimensionTable
+    /// The table without definitions.
+    pub fn new(alloc: Global) -> DimensionTable
         ensures { result ≡ [] }
     {
         DimensionTable {
@@ -43,21 +44,22 @@ impl DimensionTable {
         }
     }
 
-    pub(crate) fn as_slice(&self) -> &[OpenDim]
+    /// The definitions, in the order in which each was first made.
+    pub fn as_slice(&self) -> &[OpenDim]
         ensures { result.now ≡ self.now }
     {
         self.defs.as_slice()
     }
 
-    // Whether the chart has a dimension with this id.
-    pub(crate) fn has(&self, chart: &str, id: &str) -> bool
+    /// Whether the chart has a dimension with this id.
+    pub fn has(&self, chart: &str, id: &str) -> bool
         ensures { result ≡ list_any (is_dimension chart.now id.now) self.now }
     {
         place_of(&self.tables, chart, id).is_some()
     }
 
-    // How many dimensions of this chart there are.
-    pub(crate) fn count_of(&self, chart: &str) -> usize
+    /// How many dimensions of this chart there are.
+    pub fn count_of(&self, chart: &str) -> usize
         ensures value { result ≡ count_by (is_of chart.now) self.now }
         ensures within { result ≤ length self.now }
     {
@@ -67,17 +69,17 @@ impl DimensionTable {
         }
     }
 
-    // Keeps a definition, in the place of an earlier one of the same dimension. After an `Err` all is as
-    // before.
-    pub(crate) fn define(&mut self, dimension: OpenDim) -> Result<(), AllocError>
+    /// Keeps a definition, in the place of an earlier one of the same dimension. After an `Err` all is as
+    /// before.
+    pub fn define(&mut self, dimension: OpenDim) -> Result<(), AllocError>
         ensures ok { OnOk result (self.new ≡ put same_dimension self.old dimension) }
         ensures err { OnErr result (self.new ≡ self.old) }
     {
         define(self.alloc, &mut self.defs, &mut self.tables, dimension)
     }
 
-    // Takes all definitions out.
-    pub(crate) fn take(&mut self) -> OpenDimList
+    /// Takes all definitions out.
+    pub fn take(&mut self) -> OpenDimList
         ensures taken { result ≡ self.old }
         ensures left { self.new ≡ [] }
     {

@@ -1,4 +1,4 @@
-use Rattle.std.proofs.Common.{◌≡◌, sym, ◌∙◌, position}
+use Rattle.std.proofs.Common.{sym, ◌∙◌, position}
 use Rattle.history.specs.Looking.{is_value, same_value}
 use Rattle.chart_registry.proofs.Places.{put-present, put-absent}
 use Rattle.collect_block.proofs.block.put_value.Goals as goal

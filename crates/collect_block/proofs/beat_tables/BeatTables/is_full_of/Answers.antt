@@ -1,8 +1,6 @@
-use Rattle.std.proofs.Common.{rules, arith, ◌≡◌, ◌≤◌, ◌&&◌, count_by}
-use Rattle.history.specs.declared.beat.OpenDim.{OpenDim}
+use Rattle.std.proofs.Common.{arith}
 use Rattle.history.specs.Refusal.{is_new_dimension}
 use Rattle.history.specs.Registry.{is_of}
-use Rattle.collect_block.specs.BeatTables.{chart_full}
 use Rattle.collect_block.proofs.Lists.{count_fewer}
 use Rattle.collect_block.proofs.beat_tables.BeatTables.is_full_of.Goals as goal
 

@@ -1,6 +1,5 @@
-use Rattle.std.proofs.Common.{rules, ◌≡◌, ℕ, List, Some, sym, ap, ◌∙◌}
+use Rattle.std.proofs.Common.{rules, ℕ, List, sym, ap, ◌∙◌}
 use Rattle.history.specs.Refusal.{dimension_refusal}
-use Rattle.history.specs.declared.line.Line.TheVariants as line
 use Rattle.collect_block.specs.BeatTables.{beat_of}
 use Rattle.collect_block.proofs.FeedLemmas.{dimension-refused}
 use Rattle.collect_block.proofs.feed.Feed.dimension_refusal.Goals as goal

@@ -1,4 +1,4 @@
-use Rattle.std.proofs.Common.{◌≡◌, ℕ, List, sym, ap, ◌∙◌}
+use Rattle.std.proofs.Common.{ℕ, List, sym, ap, ◌∙◌}
 use Rattle.history.specs.Refusal.{refusal}
 use Rattle.history.specs.declared.line.Line.TheVariants as line
 use Rattle.collect_block.proofs.feed.Feed.refusal.Goals as goal

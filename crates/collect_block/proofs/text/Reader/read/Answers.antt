@@ -1,6 +1,6 @@
-use Rattle.std.proofs.Common.{◌≡◌, Option, Some, None, sym, ap, subst, ◌∙◌}
+use Rattle.std.proofs.Common.{Option, sym, subst}
 use Rattle.collect_block.specs.declared.text.End.{End}
-use Rattle.collect_block.specs.Text.{TookAll, end_of}
+use Rattle.collect_block.specs.Text.{TookAll}
 use Rattle.collect_block.proofs.TextLemmas.{has_read-front, has_read-each}
 use Rattle.collect_block.proofs.text.Reader.read.Goals as goal
 

@@ -1,4 +1,4 @@
-use Rattle.std.proofs.Common.{rules, arith, ◌≡◌, ◌+◌, ℕ, List, Option, Some, None, sym, ap, subst, ◌∙◌}
+use Rattle.std.proofs.Common.{◌+◌, Option, sym, ap, subst, ◌∙◌}
 use Rattle.collect_block.specs.declared.text.End.{End}
 use Rattle.collect_block.specs.Text.{Took}
 use Rattle.collect_block.proofs.TextLemmas.{took-more, took-front, took-each}
