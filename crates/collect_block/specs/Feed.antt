@@ -4,6 +4,7 @@ use Rattle.history.specs.declared.fault.BlockFault.{BlockFault}
 use Rattle.history.specs.declared.fault.BlockFault.TheVariants.{Memory}
 use Rattle.history.specs.declared.line.Line.{Line}
 use Rattle.history.specs.declared.line.Line.TheVariants as line
+use Rattle.history.specs.Registry.{Registry}
 use Rattle.history.specs.Looking.{open_block, last_chart, values, beat}
 use Rattle.collect_block.specs.declared.block.Block.{Block}
 use Rattle.collect_block.specs.declared.feed.Feed.{Feed}
@@ -41,6 +42,23 @@ pub record IsFeedOf (feed : Feed) (every : ℕ) (past : List Line) : Type 0 wher
 -- the feed has taken one line more
 abbrev pub Becomes : Line → Feed → Feed → Type 0
 Becomes line old new = (every : ℕ) (past : List Line) → IsFeedOf old every past → IsFeedOf new every (line ∷ past)
+
+-- The feed counts at least the definitions of its open beat that this registry does not have: the charts, the
+-- dimensions, and those of each chart. It does for a registry that has all that those had which it was handed.
+pub record CountsFor (feed : Feed) (registry : Registry) : Type 0 where
+  pub some : Unit {0}
+
+-- the same, where a line defines a chart or a dimension
+abbrev pub CountsAt : Line → Feed → Registry → Type 0
+CountsAt (line.Chart def) feed registry = CountsFor feed registry
+CountsAt (line.Dimension def) feed registry = CountsFor feed registry
+CountsAt line feed registry = Unit {0}
+
+-- the feed counts on once it has taken a line: where that closes the beat nothing is left to count, whatever
+-- registry there will be
+abbrev pub CountsPast : Line → Feed → Registry → Type 0
+CountsPast (line.Moment moment) feed registry = (later : Registry) → CountsFor feed later
+CountsPast line feed registry = CountsFor feed registry
 
 -- A line is refused with this fault for this reason. Memory is short only where nothing else stands
 -- against the line.

@@ -5,7 +5,7 @@ ghost use Rattle.history.specs.Registry.{Registry as Definitions};
 ghost use Rattle.history.specs.declared.fault.BlockFault.TheVariants.{Unfinished};
 ghost use Rattle.history.specs.declared.line.Line.{Line as ALine};
 ghost use Rattle.history.specs.declared.line.Line.TheVariants as line;
-ghost use Rattle.collect_block.specs.Feed.{IsFeedOf, Becomes, ClosesNone, RefusedBy, step_of, skips};
+ghost use Rattle.collect_block.specs.Feed.{IsFeedOf, Becomes, ClosesNone, CountsAt, CountsFor, CountsPast, RefusedBy, step_of, skips};
 
 use crate::beat_tables::BeatTables;
 use crate::block::{Block, set_value};
@@ -31,7 +31,8 @@ impl Feed {
     /// leaves it open, 1 to 86,400 seconds.
     pub fn new(alloc: Global, every: u32) -> Feed
         requires { 0 < every }
-        ensures { IsFeedOf result every [] }
+        ensures feed { IsFeedOf result every [] }
+        ensures counts { (registry : Definitions) → CountsFor result registry }
     {
         Feed {
             alloc,
@@ -53,11 +54,12 @@ impl Feed {
         copies: bool,
         line: &Line,
     ) -> Result<Step, BlockFault>
-        ensures refused { (every : ℕ) (past : List ALine) → IsFeedOf self.old every past →
+        ensures refused { (every : ℕ) (past : List ALine) → IsFeedOf self.old every past → CountsAt line.now self.old registry.now →
             let reason = refusal registry.now every past copies last line.now in MatchResult result (λ _. reason ≡ None) (RefusedBy reason) }
         ensures short { (every : ℕ) (past : List ALine) → IsFeedOf self.old every past → IsErrOf result BlockFault.Memory → ClosesNone line.now }
         ensures gives { IfOk result (λ step. (every : ℕ) (past : List ALine) → IsFeedOf self.old every past → step ≡ step_of every past line.now) }
         ensures taken { OnOk result (Becomes line.now self.old self.new) }
+        ensures counts { OnOk result (CountsFor self.old registry.now → CountsPast line.now self.new registry.now) }
         ensures err { OnErr result (self.new ≡ self.old) }
     {
         match self.refusal(registry, last, copies, line) {
