@@ -1,4 +1,6 @@
+pub mod CountLemmas
 pub mod FeedLemmas
+pub mod GrownLemmas
 pub mod Lists
 pub mod OpenLemmas
 pub mod TablesLemmas

@@ -10,7 +10,7 @@ use Rattle.collect_block.specs.declared.block.Block.{Block}
 use Rattle.collect_block.specs.declared.feed.Feed.{Feed}
 use Rattle.collect_block.specs.declared.step.Step.{Step}
 use Rattle.collect_block.specs.declared.step.Step.TheVariants.{Nothing, Beat, Query, Disabled}
-use Rattle.collect_block.specs.BeatTables.{beat_of}
+use Rattle.collect_block.specs.BeatTables.{beat_of, CountsNew}
 
 -- how many of these lines say nothing
 abbrev pub skips : List Line → ℕ
@@ -46,7 +46,7 @@ Becomes line old new = (every : ℕ) (past : List Line) → IsFeedOf old every p
 -- The feed counts at least the definitions of its open beat that this registry does not have: the charts, the
 -- dimensions, and those of each chart. It does for a registry that has all that those had which it was handed.
 pub record CountsFor (feed : Feed) (registry : Registry) : Type 0 where
-  pub some : Unit {0}
+  pub beat : CountsNew feed.beat registry
 
 -- the same, where a line defines a chart or a dimension
 abbrev pub CountsAt : Line → Feed → Registry → Type 0

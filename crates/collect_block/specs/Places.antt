@@ -1,4 +1,4 @@
-use Rattle.std.specs.Prelude.{◌≡◌, ℕ, ◌+◌, List, [], false, Option, Some, if◌then◌else◌, length, is_some, count_by, position, string_bytes}
+use Rattle.std.specs.Prelude.{◌≡◌, ℕ, ◌+◌, List, [], false, Option, Some, if◌then◌else◌, length, is_some, count_by, position, unwrap_or, string_bytes}
 use Rattle.std.specs.declared.alloc.Global.{Global}
 use Rattle.std.specs.declared.string.String.{String}
 use Rattle.std.specs.List.{list_any}
@@ -14,6 +14,14 @@ use Rattle.indexmap.specs.IndexMap.{IndexMap}
 -- what a table has for a text
 abbrev pub place_in : {V : Type 0} → List (String Global × V) → List ℕ → Option V
 place_in table text = lookup (λ key. bytes_eq text (string_bytes key)) table
+
+-- how many a table counts of a chart
+abbrev pub count_in : List (String Global × ℕ) → List ℕ → ℕ
+count_in counts chart = unwrap_or (place_in counts chart) 0
+
+-- the same with this count of this chart
+abbrev pub with_count : List (String Global × ℕ) → List ℕ → ℕ → List ℕ → ℕ
+with_count counts chart count other = if bytes_eq chart other then count else count_in counts other
 
 -- a table with one text more
 pub record AddsPlace {V : Type 0} (old : List (String Global × V)) (text : List ℕ) (place : V) (new : List (String Global × V)) : Type 0 where

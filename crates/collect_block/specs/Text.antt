@@ -10,7 +10,7 @@ use Rattle.collect_block.specs.declared.text.Item.{Item}
 use Rattle.collect_block.specs.declared.text.Item.TheVariants.{Closed, Asked}
 use Rattle.collect_block.specs.declared.text.Reader.{Reader}
 use Rattle.collect_block.specs.declared.step.Step.{Step}
-use Rattle.collect_block.specs.Feed.{IsFeedOf, step_of}
+use Rattle.collect_block.specs.Feed.{CountsFor, CountsPast, IsFeedOf, step_of}
 
 -- a history with this registry, last moment and kind
 pub record IsAt (h : List Beat) (registry : Registry) (moment : ℕ) (copies : Bool) : Type 0 where
@@ -36,11 +36,13 @@ pub record Holds (reader : Reader) (registry : Registry) (every : ℕ) (h : List
 -- a reader, with this registry, has taken these lines of a text that follows a history
 pub record IsReaderOf (reader : Reader) (registry : Registry) (every : ℕ) (h : List Beat) (past : List Line) : Type 0 where
   pub feed : IsFeedOf reader.feed every past
+  pub counts : CountsFor reader.feed registry
   pub holds : Holds reader registry every h past
 
 -- a reader of these lines, whose feed has taken one more that may stand there and leads to this step
 pub record Stepped (reader : Reader) (registry : Registry) (every : ℕ) (h : List Beat) (past : List Line) (line : Line) (step : Step) : Type 0 where
   pub feed : IsFeedOf reader.feed every (line ∷ past)
+  pub counts : CountsPast line reader.feed registry
   pub accepted_line : refusal_at every h past line ≡ None
   pub step_is : step ≡ step_of every past line
   pub holds : Holds reader registry every h past

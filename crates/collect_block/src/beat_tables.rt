@@ -1,14 +1,16 @@
-ghost use Rattle.std.specs.Prelude.{◌≡◌, ◌≤◌, ◌%◌, ◌==◌, ◌&&◌, false, not, nat_lt, length, count_by, find};
+ghost use Rattle.std.specs.Prelude.{◌≡◌, ◌≤◌, ◌%◌, ◌==◌, ◌&&◌, false, not, nat_lt, length, count_by, find, OnOk, OnErr};
 ghost use Rattle.std.specs.List.{list_any};
 ghost use Rattle.std.specs.Option.{option_map, option_map_or};
 ghost use Rattle.chart_registry.specs.Defining.{nothing_open};
 ghost use Rattle.history.specs.Refusal.{chart_now, has_chart, has_dimension, is_new_chart, is_new_dimension, charts_full, chart_refusal, dimension_refusal, is_off_grid, is_empty};
-ghost use Rattle.history.specs.Registry.{is_chart, is_of, is_dimension};
+ghost use Rattle.history.specs.Put.{put};
+ghost use Rattle.history.specs.Registry.{Registry as Definitions, is_chart, is_of, is_dimension, same_chart, same_dimension};
 ghost use Rattle.history.specs.declared.chart.ChartDef.{ChartDef as ChartDefinition};
 ghost use Rattle.history.specs.declared.dimension.DimDef.{DimDef as DimDefinition};
-ghost use Rattle.collect_block.specs.BeatTables.{beat_of, chart_full, all_full};
+ghost use Rattle.collect_block.specs.BeatTables.{beat_of, chart_full, all_full, CountsNew};
 
 use crate::chart_table::ChartTable;
+use crate::count_table::{CountTable, raised};
 use crate::dimension_table::DimensionTable;
 use crate::known::{
     is_known_dimension, is_off, known_dimensions_of, known_update_every, new_charts,
@@ -17,24 +19,32 @@ use crate::known::{
 use crate::row_table::RowTable;
 use chart_registry::{MOST_CHARTS, MOST_DIMENSIONS, MOST_DIMENSIONS_OF_CHART, Registry};
 use history::{BlockFault, ChartDef, OpenBeat, OpenDim, OpenRow};
-use std::alloc::Global;
+use std::alloc::{AllocError, Global};
 
-/// The open beat of a text.
+/// The open beat of a text. It counts those of its definitions that the registry did not have: of the
+/// charts, of the dimensions, and of the dimensions of each chart.
 #[derive(Drop)]
 pub(crate) struct BeatTables {
     pub(crate) charts: ChartTable,
     pub(crate) dimensions: DimensionTable,
     pub(crate) rows: RowTable,
+    counted_charts: usize,
+    counted_dimensions: usize,
+    counted_of: CountTable,
 }
 
 impl BeatTables {
     pub(crate) fn new(alloc: Global) -> BeatTables
-        ensures { beat_of result ≡ nothing_open }
+        ensures beat { beat_of result ≡ nothing_open }
+        ensures counts { (registry : Definitions) → CountsNew result registry }
     {
         BeatTables {
             charts: ChartTable::new(alloc),
             dimensions: DimensionTable::new(alloc),
             rows: RowTable::new(alloc),
+            counted_charts: 0,
+            counted_dimensions: 0,
+            counted_of: CountTable::new(alloc),
         }
     }
 
@@ -51,7 +61,11 @@ impl BeatTables {
     pub(crate) fn close(&mut self) -> OpenBeat
         ensures closed { result ≡ beat_of self.old }
         ensures left { beat_of self.new ≡ nothing_open }
+        ensures counts { (registry : Definitions) → CountsNew self.new registry }
     {
+        self.counted_charts = 0;
+        self.counted_dimensions = 0;
+        self.counted_of.clear();
         OpenBeat {
             charts: self.charts.take(),
             dimensions: self.dimensions.take(),
@@ -81,27 +95,65 @@ impl BeatTables {
         is_known_dimension(registry, chart, id) || self.dimensions.has(chart, id)
     }
 
+    /// Keeps a chart's definition, in the place of an earlier one of the same chart, and counts the chart
+    /// where neither the registry nor the beat has it. After an `Err` all is as before.
+    pub(crate) fn define_chart(
+        &mut self,
+        registry: &Registry,
+        def: ChartDef,
+    ) -> Result<(), AllocError>
+        ensures beat { OnOk result (beat_of self.new ≡ record (beat_of self.old) { charts = put same_chart self.old.charts def }) }
+        ensures counts { OnOk result (CountsNew self.old registry.now → CountsNew self.new registry.now) }
+        ensures err { OnErr result (self.new ≡ self.old) }
+    {
+        let is_new = !self.has_chart(registry, def.id.as_str());
+        self.charts.define(def)?;
+        if is_new {
+            self.counted_charts = raised(self.counted_charts, self.charts.as_slice().len());
+        }
+        Ok(())
+    }
+
+    /// Keeps a dimension's definition, in the place of an earlier one of the same dimension, and counts the
+    /// dimension where neither the registry nor the beat has it. After an `Err` all is as before.
+    pub(crate) fn define_dimension(
+        &mut self,
+        registry: &Registry,
+        dimension: OpenDim,
+    ) -> Result<(), AllocError>
+        ensures beat { OnOk result (beat_of self.new ≡ record (beat_of self.old) { dimensions = put same_dimension self.old.dimensions dimension }) }
+        ensures counts { OnOk result (CountsNew self.old registry.now → CountsNew self.new registry.now) }
+        ensures err { OnErr result (self.new ≡ self.old) }
+    {
+        let chart = dimension.chart.as_str();
+        if self.has_dimension(registry, chart, dimension.def.id.as_str()) {
+            return self.dimensions.define(dimension);
+        }
+        self.counted_of.define(&mut self.dimensions, dimension)?;
+        self.counted_dimensions = raised(self.counted_dimensions, self.dimensions.as_slice().len());
+        Ok(())
+    }
+
     /// Whether there is no room for one more chart. The charts of the beat are gone through only where
-    /// they may be too many if all of them are new.
+    /// those that are counted leave no room.
     fn is_full_of_charts(&self, registry: &Registry) -> bool
-        ensures { result ≡ charts_full registry.now (beat_of self.now) }
+        ensures { CountsNew self.now registry.now → result ≡ charts_full registry.now (beat_of self.now) }
     {
         let known = registry.charts() as usize;
         let most = MOST_CHARTS as usize;
-        let defined = self.charts.as_slice();
-        if defined.len() < most - known {
+        if self.counted_charts < most - known {
             return false;
         }
-        new_charts(registry, defined) >= most - known
+        new_charts(registry, self.charts.as_slice()) >= most - known
     }
 
     /// Whether there is no room for one more dimension of this chart.
     fn is_full_of(&self, registry: &Registry, chart: &str) -> bool
-        ensures { result ≡ chart_full registry.now (beat_of self.now) chart.now }
+        ensures { CountsNew self.now registry.now → result ≡ chart_full registry.now (beat_of self.now) chart.now }
     {
         let known = known_dimensions_of(registry, chart) as usize;
         let most = MOST_DIMENSIONS_OF_CHART as usize;
-        if self.dimensions.count_of(chart) < most - known {
+        if self.counted_of.count_of(chart) < most - known {
             return false;
         }
         new_dimensions_of(registry, self.dimensions.as_slice(), chart) >= most - known
@@ -109,15 +161,14 @@ impl BeatTables {
 
     /// Whether there is no room for one more dimension of any chart.
     fn is_full_of_dimensions(&self, registry: &Registry) -> bool
-        ensures { result ≡ all_full registry.now (beat_of self.now) }
+        ensures { CountsNew self.now registry.now → result ≡ all_full registry.now (beat_of self.now) }
     {
         let known = registry.dimensions() as usize;
         let most = MOST_DIMENSIONS as usize;
-        let defined = self.dimensions.as_slice();
-        if defined.len() < most - known {
+        if self.counted_dimensions < most - known {
             return false;
         }
-        new_dimensions(registry, defined) >= most - known
+        new_dimensions(registry, self.dimensions.as_slice()) >= most - known
     }
 
     /// Why a chart may not be defined with this update_every.
@@ -127,7 +178,7 @@ impl BeatTables {
         id: &str,
         update_every: u32,
     ) -> Option<BlockFault>
-        ensures { (def : ChartDefinition) → def.id ≡ id.now → def.update_every ≡ update_every → result ≡ chart_refusal registry.now (beat_of self.now) def }
+        ensures { CountsNew self.now registry.now → (def : ChartDefinition) → def.id ≡ id.now → def.update_every ≡ update_every → result ≡ chart_refusal registry.now (beat_of self.now) def }
     {
         match self.update_every_of(registry, id) {
             Some(old) if old == update_every => None,
@@ -144,7 +195,7 @@ impl BeatTables {
         chart: &str,
         id: &str,
     ) -> Option<BlockFault>
-        ensures { (def : DimDefinition) → def.id ≡ id.now → result ≡ dimension_refusal registry.now (beat_of self.now) chart.now def }
+        ensures { CountsNew self.now registry.now → (def : DimDefinition) → def.id ≡ id.now → result ≡ dimension_refusal registry.now (beat_of self.now) chart.now def }
     {
         if self.has_dimension(registry, chart, id) {
             return None;

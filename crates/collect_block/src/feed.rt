@@ -15,7 +15,8 @@ use fixed_num::{ListOf, Text};
 use history::{BlockFault, ChartDef, DimDef, Line, OpenDim, OpenRow};
 use std::alloc::{AllocError, Global};
 
-/// What is kept of the lines of a text: its open beat and block, and the chart of its last CHART line.
+/// What is kept of the lines of a text: its open beat and block, and the chart of its last CHART line. The
+/// open beat counts those of its definitions that the registry did not have.
 #[derive(Drop)]
 pub struct Feed {
     pub(crate) alloc: Global,
@@ -47,6 +48,11 @@ impl Feed {
     /// Takes the next line of the text. `registry`, `last` and `copies` are of the history so far: its
     /// charts and dimensions, its last moment, and whether it has copied beats or gaps. After an `Err`
     /// all is as before. Memory is never short at a MOMENT.
+    ///
+    /// The feed counts the definitions of its open beat that the registry did not have when they were made.
+    /// Whether there is room for a chart or a dimension is told rightly where `registry` has all charts and
+    /// dimensions of those that the feed was handed since its beat was opened; else a definition may be
+    /// taken for which there is none.
     pub fn line(
         &mut self,
         registry: &Registry,
@@ -64,7 +70,7 @@ impl Feed {
     {
         match self.refusal(registry, last, copies, line) {
             Some(fault) => Err(fault),
-            None => match self.take(line) {
+            None => match self.take(registry, line) {
                 Ok(step) => Ok(step),
                 Err(_) => Err(BlockFault::Memory),
             },
@@ -101,7 +107,7 @@ impl Feed {
         copies: bool,
         line: &Line,
     ) -> Option<BlockFault>
-        ensures { (every : ℕ) (past : List ALine) → IsFeedOf self.now every past → result ≡ refusal registry.now every past copies last line.now }
+        ensures { (every : ℕ) (past : List ALine) → IsFeedOf self.now every past → CountsAt line.now self.now registry.now → result ≡ refusal registry.now every past copies last line.now }
     {
         match line {
             Line::Chart(def) => self.chart_refusal(registry, def),
@@ -115,7 +121,7 @@ impl Feed {
     }
 
     fn chart_refusal(&self, registry: &Registry, def: &ChartDef) -> Option<BlockFault>
-        ensures { (every : ℕ) (past : List ALine) (copies : Bool) (last : ℕ) → IsFeedOf self.now every past → result ≡ refusal registry.now every past copies last (line.Chart def.now) }
+        ensures { (every : ℕ) (past : List ALine) (copies : Bool) (last : ℕ) → IsFeedOf self.now every past → CountsFor self.now registry.now → result ≡ refusal registry.now every past copies last (line.Chart def.now) }
     {
         if self.block.is_some() {
             return Some(BlockFault::OpenBlock);
@@ -137,7 +143,7 @@ impl Feed {
     }
 
     fn dimension_refusal(&self, registry: &Registry, def: &DimDef) -> Option<BlockFault>
-        ensures { (every : ℕ) (past : List ALine) (copies : Bool) (last : ℕ) → IsFeedOf self.now every past → result ≡ refusal registry.now every past copies last (line.Dimension def.now) }
+        ensures { (every : ℕ) (past : List ALine) (copies : Bool) (last : ℕ) → IsFeedOf self.now every past → CountsFor self.now registry.now → result ≡ refusal registry.now every past copies last (line.Dimension def.now) }
     {
         if self.block.is_some() {
             return Some(BlockFault::OpenBlock);
@@ -207,9 +213,10 @@ impl Feed {
 
     // ---- what a line leaves, where it may stand here
 
-    fn take(&mut self, line: &Line) -> Result<Step, AllocError>
+    fn take(&mut self, registry: &Registry, line: &Line) -> Result<Step, AllocError>
         ensures gives { IfOk result (λ step. (every : ℕ) (past : List ALine) → IsFeedOf self.old every past → step ≡ step_of every past line.now) }
         ensures taken { OnOk result (Becomes line.now self.old self.new) }
+        ensures counts { OnOk result (CountsFor self.old registry.now → CountsPast line.now self.new registry.now) }
         ensures err { OnErr result (self.new ≡ self.old) }
         ensures short { OnErr result (ClosesNone line.now) }
     {
@@ -217,8 +224,8 @@ impl Feed {
             Line::Moment(moment) => return Ok(self.close(*moment)),
             Line::Query(text) => return Ok(Step::Query(text.clone()?)),
             Line::Disable => return Ok(Step::Disabled),
-            Line::Chart(def) => self.define_chart(def)?,
-            Line::Dimension(def) => self.define_dimension(def)?,
+            Line::Chart(def) => self.define_chart(registry, def)?,
+            Line::Dimension(def) => self.define_dimension(registry, def)?,
             Line::Begin(chart) => self.begin(chart)?,
             Line::Set {
                 id,
@@ -235,24 +242,27 @@ impl Feed {
     fn close(&mut self, moment: u32) -> Step
         ensures gives { (every : ℕ) (past : List ALine) → IsFeedOf self.old every past → result ≡ step_of every past (line.Moment moment) }
         ensures taken { Becomes (line.Moment moment) self.old self.new }
+        ensures counts { (registry : Definitions) → CountsFor self.new registry }
     {
         Step::Beat(self.beat.close(), moment)
     }
 
-    fn define_chart(&mut self, def: &ChartDef) -> Result<(), AllocError>
+    fn define_chart(&mut self, registry: &Registry, def: &ChartDef) -> Result<(), AllocError>
         ensures taken { OnOk result (Becomes (line.Chart def.now) self.old self.new) }
+        ensures counts { OnOk result (CountsFor self.old registry.now → CountsFor self.new registry.now) }
         ensures err { OnErr result (self.new ≡ self.old) }
     {
         let id = def.id.clone()?;
         let mut kept = def.clone()?;
         kept.update_every = self.grid_of(def);
-        self.beat.charts.define(kept)?;
+        self.beat.define_chart(registry, kept)?;
         self.chart = Some(id);
         Ok(())
     }
 
-    fn define_dimension(&mut self, def: &DimDef) -> Result<(), AllocError>
+    fn define_dimension(&mut self, registry: &Registry, def: &DimDef) -> Result<(), AllocError>
         ensures taken { OnOk result (Becomes (line.Dimension def.now) self.old self.new) }
+        ensures counts { OnOk result (CountsFor self.old registry.now → CountsFor self.new registry.now) }
         ensures err { OnErr result (self.new ≡ self.old) }
     {
         let Some(chart) = &self.chart else {
@@ -262,11 +272,12 @@ impl Feed {
             chart: chart.clone()?,
             def: def.clone()?,
         };
-        self.beat.dimensions.define(dimension)
+        self.beat.define_dimension(registry, dimension)
     }
 
     fn begin(&mut self, chart: &Text) -> Result<(), AllocError>
         ensures taken { OnOk result (Becomes (line.Begin chart.now) self.old self.new) }
+        ensures counts { OnOk result ((registry : Definitions) → CountsFor self.old registry → CountsFor self.new registry) }
         ensures err { OnErr result (self.new ≡ self.old) }
     {
         let chart = chart.clone()?;
@@ -279,6 +290,7 @@ impl Feed {
 
     fn set(&mut self, id: &Text, value: Option<i64>, anomalous: bool) -> Result<(), AllocError>
         ensures taken { OnOk result (Becomes (line.Set id.now value anomalous) self.old self.new) }
+        ensures counts { OnOk result ((registry : Definitions) → CountsFor self.old registry → CountsFor self.new registry) }
         ensures err { OnErr result (self.new ≡ self.old) }
     {
         let Some(Block { chart, values }) = self.block.take() else {
@@ -295,6 +307,7 @@ impl Feed {
 
     fn end_block(&mut self) -> Result<(), AllocError>
         ensures taken { OnOk result (Becomes line.End self.old self.new) }
+        ensures counts { OnOk result ((registry : Definitions) → CountsFor self.old registry → CountsFor self.new registry) }
         ensures err { OnErr result (self.new ≡ self.old) }
     {
         let Some(block) = self.block.take() else {

@@ -5,14 +5,22 @@
 //! order, and what the beat of a MOMENT holds are proved to be what the definitions of `history` say by
 //! looking back over the lines. It keeps only the open beat, and finds charts, dimensions and rows there
 //! by a hash.
+//!
+//! As a chart or a dimension is defined, the feed counts whether the registry or the open beat had it. So a
+//! line but a MOMENT goes through the open beat only where the counts leave no room for one definition
+//! more, and then nearly always ends the text; a SET goes through the values of its own block. What was
+//! counted holds for a registry that has all charts and dimensions of those that the feed was handed since
+//! its beat was opened, as that of a history that only grows has (`any_later`).
 #![tactic(auto)]
 
 mod beat_tables;
 mod block;
 mod chart_table;
+mod count_table;
 mod dimension_table;
 mod feed;
 mod known;
+mod law;
 mod row_table;
 mod step;
 mod text;
@@ -25,6 +33,7 @@ pub use known::{
     is_known_dimension, is_new_chart, is_new_dimension, is_off, known_dimensions_of,
     known_update_every, new_charts, new_dimensions, new_dimensions_of,
 };
+pub use law::any_later;
 pub use step::Step;
 pub use text::{End, Item, ItemList, ReadText, read_text};
 

@@ -1,0 +1,103 @@
+ghost use Rattle.std.specs.Prelude.{◌≡◌, ◌+◌, ℕ, List, [], length, min, string_bytes, OnOk, OnErr};
+ghost use Rattle.history.specs.Put.{put};
+ghost use Rattle.history.specs.Registry.{same_dimension};
+ghost use Rattle.collect_block.specs.Places.{count_in, with_count};
+
+use crate::dimension_table::DimensionTable;
+use history::OpenDim;
+use indexmap::IndexMap;
+use std::alloc::{AllocError, Global};
+use std::marker::Model;
+
+/// How many dimensions are counted of each chart, which a hash of the charts' ids finds: none of a chart
+/// that is not there.
+#[derive(Drop)]
+pub(crate) struct CountTable {
+    counts: IndexMap<String, usize>,
+}
+
+impl Model for CountTable {
+    ghost use Rattle.std.specs.Prelude.{ℕ, List};
+    ghost use Rattle.std.specs.declared.alloc.Global.{Global};
+    ghost use Rattle.std.specs.declared.string.String.{String};
+
+    ghost Value = { List (String Global × ℕ) };
+
+    ghost view = { λ table. table.counts.entries };
+}
+
+impl CountTable {
+    /// The table that counts nothing.
+    pub(crate) fn new(alloc: Global) -> CountTable
+        ensures { result ≡ [] }
+    {
+        CountTable {
+            counts: IndexMap::new(alloc),
+        }
+    }
+
+    /// The count of a chart.
+    pub(crate) fn count_of(&self, chart: &str) -> usize
+        ensures { result ≡ count_in self.now chart.now }
+    {
+        count_of(&self.counts, chart)
+    }
+
+    /// Keeps a dimension's definition in a table, and counts it for its chart: at most as many as the
+    /// table has. After an `Err` all is as before.
+    pub(crate) fn define(
+        &mut self,
+        table: &mut DimensionTable,
+        dimension: OpenDim,
+    ) -> Result<(), AllocError>
+        ensures table { OnOk result (table.new ≡ put same_dimension table.old dimension) }
+        ensures counts { OnOk result ((chart : List ℕ) → count_in self.new chart ≡ with_count self.old dimension.chart (min (count_in self.old dimension.chart + 1) (length table.new)) chart) }
+        ensures table_kept { OnErr result (table.new ≡ table.old) }
+        ensures counts_kept { OnErr result (self.new ≡ self.old) }
+    {
+        define(&mut self.counts, table, dimension)
+    }
+
+    /// Counts nothing any more.
+    pub(crate) fn clear(&mut self)
+        ensures { self.new ≡ [] }
+    {
+        self.counts.clear();
+    }
+}
+
+/// One more than a count, but at most so many.
+pub(crate) fn raised(count: usize, most: usize) -> usize
+    ensures { result ≡ min (count + 1) most }
+{
+    if count < most { count + 1 } else { most }
+}
+
+// The count of a chart.
+fn count_of(counts: &IndexMap<String, usize>, chart: &str) -> usize
+    ensures { result ≡ count_in counts.now.entries chart.now }
+{
+    match counts.get(chart) {
+        Some(count) => *count,
+        None => 0,
+    }
+}
+
+// Keeps a dimension's definition in a table, and counts it for its chart.
+fn define(
+    counts: &mut IndexMap<String, usize>,
+    table: &mut DimensionTable,
+    dimension: OpenDim,
+) -> Result<(), AllocError>
+    ensures table { OnOk result (table.new ≡ put same_dimension table.old dimension) }
+    ensures counts { OnOk result ((chart : List ℕ) → count_in counts.new.entries chart ≡ with_count counts.old.entries dimension.chart (min (count_in counts.old.entries dimension.chart + 1) (length table.new)) chart) }
+    ensures table_kept { OnErr result (table.new ≡ table.old) }
+    ensures counts_kept { OnErr result (counts.new.entries ≡ counts.old.entries) }
+{
+    let chart = dimension.chart.clone()?.into_string();
+    counts.reserve(1)?;
+    table.define(dimension)?;
+    let count = raised(count_of(counts, chart.as_str()), table.as_slice().len());
+    counts.insert(chart, count).unwrap();
+    Ok(())
+}
