@@ -25,7 +25,7 @@ use Rattle.beat_points.specs.Text.{HaveDivisors}
 use Rattle.beat_points.proofs.ApartLemmas.{apart-filter, apart-push}
 use Rattle.collect_block.specs.declared.feed.Feed.{Feed}
 use Rattle.collect_block.specs.declared.step.Step.{Step}
-use Rattle.collect_block.specs.Feed.{step_of, Becomes, IsFeedOf}
+use Rattle.collect_block.specs.Feed.{step_of, Becomes, CountsAt, IsFeedOf}
 use Rattle.agent_core.specs.Fed.{OpenEachFirst, OpensFirst, IsFed}
 use Rattle.agent_core.specs.Rules.{IsOpenBeat}
 use Rattle.agent_core.specs.Steps.{IsOpenStep}
@@ -166,23 +166,23 @@ pub fed-step : (feed : Feed) (line : Line) (step : Step) (fed : IsFed feed) → 
 fed-step feed line step fed gives = subst IsOpenStep (sym (gives fed.every fed.past fed.feed_of)) (step-open feed fed line)
 
 -- ---- one line more
-opens-first : (registry : Registry) (every : ℕ) (past : List Line) (copies : Bool) (last : ℕ) (line : Line) → refusal registry every past copies last line ≡ None → OpensFirst every past line
-opens-first registry every past copies last (line.Begin chart) free =
-    let closed = passed (is_some (open_block past)) fault.OpenBlock _ free in
+opens-first : (feed : Feed) (registry : Registry) (every : ℕ) (past : List Line) (copies : Bool) (last : ℕ) (line : Line) → (CountsAt line feed registry → refusal registry every past copies last line ≡ None) → OpensFirst every past line
+opens-first feed registry every past copies last (line.Begin chart) free =
+    let closed = passed (is_some (open_block past)) fault.OpenBlock _ (free tt) in
     let there = passed (not (has_chart registry (beat every past) chart)) fault.NoChart _ closed.1 in
     (passed (has_row (beat every past) chart) fault.SecondBlock None there.1).0
-opens-first registry every past copies last line free = tt
+opens-first feed registry every past copies last line free = tt
 
 divisors-more : (line : Line) (past : List Line) → HaveDivisors (line ∷ []) → HaveDivisors past → HaveDivisors (line ∷ past)
 divisors-more (line.Dimension def) past one more = (one.0, more)
 divisors-more line past one more = more
 
 pub fed-more : (feed feed' : Feed) (line : Line) (registry : Registry) (copies : Bool) (last : ℕ) → IsFed feed → HaveDivisors (line ∷ []) → Becomes line feed feed'
-    → ((every : ℕ) (past : List Line) → IsFeedOf feed every past → refusal registry every past copies last line ≡ None) → IsFed feed'
+    → ((every : ℕ) (past : List Line) → IsFeedOf feed every past → CountsAt line feed registry → refusal registry every past copies last line ≡ None) → IsFed feed'
 fed-more feed feed' line registry copies last fed one becomes free = record {
   every = fed.every;
   past = line ∷ fed.past;
   feed_of = becomes fed.every fed.past fed.feed_of;
-  blocks = (opens-first registry fed.every fed.past copies last line (free fed.every fed.past fed.feed_of), fed.blocks);
+  blocks = (opens-first feed registry fed.every fed.past copies last line (free fed.every fed.past fed.feed_of), fed.blocks);
   divisors = divisors-more line fed.past one fed.divisors;
 }

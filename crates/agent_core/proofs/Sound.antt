@@ -11,7 +11,7 @@ use Rattle.history.specs.declared.line.Line.TheVariants.{Moment}
 use Rattle.history.specs.History.{Beat, collected}
 use Rattle.history.specs.Looking.{beat as open_beat}
 use Rattle.collect_block.specs.declared.feed.Feed.{Feed}
-use Rattle.collect_block.specs.Feed.{IsFeedOf}
+use Rattle.collect_block.specs.Feed.{CountsAt, IsFeedOf}
 use Rattle.entry_codec.specs.declared.entry.Settings.{Settings}
 use Rattle.store_core.specs.declared.fault.Why.{Why}
 use Rattle.store_core.specs.declared.fault.Why.TheVariants as why
@@ -134,13 +134,13 @@ module _ (honest : Type 0) (host : Seen) (agent : AgentState) (beat : OpenBeat) 
 
 -- ---- a line
 module _ (honest : Type 0) (host : Seen) (agent : AgentState) (feed : Feed) (line : Line) (host' : Seen) (agent' : AgentState) (feed' : Feed) (set : Settings) (h : List Beat) (every : ℕ) (past : List Line)
-    (true_host : honest) (is_feed : IsFeedOf feed every past) where
+    (true_host : honest) (is_feed : IsFeedOf feed every past) (at : CountsAt line feed agent.registry) where
   abbrev line_reason : Option BlockFault
   line_reason = line_refusal agent.registry agent.copies agent.last every past line
 
   line-failed : (fault : AgentFault) → Lines honest host agent feed line (Err fault) host' agent' feed' → Failed host agent line_reason fault host' agent'
   line-failed fault did = record {
-    refused = λ going. did.refused going every past is_feed;
+    refused = λ going. did.refused going every past is_feed at;
     unchanged = did.unchanged;
     spends = λ going. did.fault ∙ ap (λ (f : Option Why). fault_after f (unsaid fault)) going;
     reopens = did.reopens;

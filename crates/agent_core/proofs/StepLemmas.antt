@@ -1,5 +1,5 @@
 -- What an agent does with each step of a feed, and with a line that leads to no step.
-use Rattle.std.proofs.Common.{◌≡◌, ◌≢◌, ℕ, inl, inr, Bool, List, [], ◌∷◌, Option, Some, None, Result, Ok, Err, IfOk, OnOk, refl, sym, ap, ◌∙◌, subst, le_refl}
+use Rattle.std.proofs.Common.{◌≡◌, ◌≢◌, ◌⊎◌, ℕ, inl, inr, Bool, List, [], ◌∷◌, Option, Some, None, Result, Ok, Err, IfOk, OnOk, refl, sym, ap, ◌∙◌, subst, le_refl}
 use Rattle.std.specs.Option.{option_map_or}
 use Rattle.std.proofs.lemmas.Option.{none-some}
 use Rattle.host_model.specs.Disks.{EveryDisk}
@@ -16,7 +16,7 @@ use Rattle.beat_points.specs.Text.{HaveDivisors}
 use Rattle.collect_block.specs.declared.feed.Feed.{Feed}
 use Rattle.collect_block.specs.declared.step.Step.{Step}
 use Rattle.collect_block.specs.declared.step.Step.TheVariants as step
-use Rattle.collect_block.specs.Feed.{step_of, Becomes, IsFeedOf}
+use Rattle.collect_block.specs.Feed.{step_of, Becomes, CountsAt, CountsFor, CountsPast, IsFeedOf}
 use Rattle.collect_block.specs.Feed as block_feed
 use Rattle.entry_codec.specs.declared.entry.Settings.{Settings}
 use Rattle.store_core.specs.declared.fault.Why.{Why}
@@ -59,6 +59,7 @@ beat-stored honest host host' agent agent' beat moment reply going did = record 
   last = did.last;
   refused = did.refused going;
   beats = tt;
+  same = λ none. absurd (none tt);
   unchanged = tt;
   fault = did.fault ∙ ap (λ (f : Option Why). fault_after f (stored reply)) going ∙ sym (ap (λ (f : Option Why). fault_after f (answered (Stored reply))) going);
   reopens = did.reopens;
@@ -82,6 +83,7 @@ module _ (honest : Type 0) (host : Seen) (agent : AgentState) (going : agent.fau
     last = refl;
     refused = refl;
     beats = tt;
+    same = λ none. (refl, refl);
     unchanged = tt;
     fault = going ∙ sym (ap (λ (f : Option Why). fault_after f (answered (step_said agent.count step))) going);
     reopens = going;
@@ -126,31 +128,56 @@ moment-of : (every : ℕ) (past : List Line) (line : Line) → HasBeat (step_of 
 moment-of every past (Moment moment) has = (moment, refl)
 moment-of every past line has = absurd has
 
+-- a line that leads to no beat goes on to count for the same registry, and one that does for every registry
+counts-past : (feed : Feed) (registry registry' : Registry) (every : ℕ) (past : List Line) (line : Line) → ((HasBeat (step_of every past line) → ⊥) → registry' ≡ registry) → CountsPast line feed registry → CountsFor feed registry'
+counts-past feed registry registry' every past (Moment moment) same counts = counts registry'
+counts-past feed registry registry' every past line same counts = subst (CountsFor feed) (sym (same (λ has. has))) counts
+
+-- what is to count at a line, counts there, or the line leads to no beat
+counts-or-quiet : (feed : Feed) (registry : Registry) (every : ℕ) (past : List Line) (line : Line) → CountsAt line feed registry ⊎ (HasBeat (step_of every past line) → ⊥)
+counts-or-quiet feed registry every past (Moment moment) = inl tt
+counts-or-quiet feed registry every past line = inr (λ has. has)
+
 -- ---- a line that the feed took
 module _ (honest : Type 0) (host host' : Seen) (agent agent' : AgentState) (feed feed' : Feed) (line : Line) (step : Step) (result : Result Said AgentFault) (fed : IsFed feed) (divisor : HaveDivisors (line ∷ []))
-    (free : (every : ℕ) (past : List Line) → IsFeedOf feed every past → refusal agent.registry every past agent.copies agent.last line ≡ None)
-    (gives : (every : ℕ) (past : List Line) → IsFeedOf feed every past → step ≡ step_of every past line) (becomes : Becomes line feed feed') (took : Takes honest host agent step result host' agent') where
+    (free : (every : ℕ) (past : List Line) → IsFeedOf feed every past → CountsAt line feed agent.registry → refusal agent.registry every past agent.copies agent.last line ≡ None)
+    (gives : (every : ℕ) (past : List Line) → IsFeedOf feed every past → step ≡ step_of every past line) (becomes : Becomes line feed feed')
+    (counts : CountsFor feed agent.registry → CountsPast line feed' agent.registry) (took : Takes honest host agent step result host' agent') where
   abbrev because : Step → Option BlockFault
   because step = step_refusal agent.registry agent.copies agent.last step
 
   abbrev against : ℕ → List Line → Option BlockFault
   against every past = line_refusal agent.registry agent.copies agent.last every past line
 
-  reason : (every : ℕ) (past : List Line) → IsFeedOf feed every past → because step ≡ against every past
-  reason every past is_feed = ap because (gives every past is_feed) ∙ sym (reason-is agent.registry agent.copies agent.last every past line (free every past is_feed))
+  reason : (every : ℕ) (past : List Line) → IsFeedOf feed every past → CountsAt line feed agent.registry → because step ≡ against every past
+  reason every past is_feed at = ap because (gives every past is_feed) ∙ sym (reason-is agent.registry agent.copies agent.last every past line (free every past is_feed at))
 
   more : (h : List Beat) (every : ℕ) (past : List Line) → IsFeedOf feed every past → step_history h step ≡ history_with h every past line
   more h every past is_feed = ap (step_history h) (gives every past is_feed) ∙ sym (history-is h every past line)
 
-  moments : honest → (set : Settings) (h : List Beat) (every : ℕ) (past : List Line) → IsAgentOf host.past agent set h → IsFeedOf feed every past
-      → Throughout (EveryDisk (StandsForOneOf set h (against every past) (history_with h every past line))) host.past host'.past
-  moments true_host set h every past is_of is_feed =
-      subst (λ (r : Option BlockFault). Throughout (EveryDisk (StandsForOneOf set h r (history_with h every past line))) host.past host'.past) (reason every past is_feed)
-      (subst (λ (g : List Beat). Throughout (EveryDisk (StandsForOneOf set h (because step) g)) host.past host'.past) (more h every past is_feed)
-      (took.any_moment true_host set h is_of))
+  -- what a stop leaves of a history, by the reason against the line
+  abbrev Left : Settings → List Beat → ℕ → List Line → Option BlockFault → Seen → Type 0
+  Left set h every past r host' = Throughout (EveryDisk (StandsForOneOf set h r (history_with h every past line))) host.past host'.past
+
+  moments : honest → (set : Settings) (h : List Beat) (every : ℕ) (past : List Line) → IsAgentOf host.past agent set h → IsFeedOf feed every past → Left set h every past (against every past) host'
+  moments true_host set h every past is_of is_feed = by (counts-or-quiet feed agent.registry every past line)
+    where
+      by : CountsAt line feed agent.registry ⊎ (HasBeat (step_of every past line) → ⊥) → Left set h every past (against every past) host'
+      by (inl at) =
+          subst (λ (r : Option BlockFault). Left set h every past r host') (reason every past is_feed at)
+          (subst (λ (g : List Beat). Throughout (EveryDisk (StandsForOneOf set h (because step) g)) host.past host'.past) (more h every past is_feed)
+          (took.any_moment true_host set h is_of))
+      by (inr quiet) =
+          subst (Left set h every past (against every past)) (sym (took.same (λ has. quiet (subst HasBeat (gives every past is_feed) has))).1)
+          (begins (nothing_done host.past agent set h is_of (against every past) (history_with h every past line)))
 
   abbrev its : step ≡ step_of fed.every fed.past line
   its = gives fed.every fed.past fed.feed_of
+
+  counts-on : CountsFor feed agent.registry → CountsFor feed' agent'.registry
+  counts-on before =
+      counts-past feed' agent.registry agent'.registry fed.every fed.past line
+      (λ quiet. ap (λ (a : AgentState). a.registry) (took.same (λ has. quiet (subst HasBeat its has))).0) (counts before)
 
   pub line-taken : Lines honest host agent feed line result host' agent' feed'
   line-taken = record {
@@ -160,8 +187,9 @@ module _ (honest : Type 0) (host host' : Seen) (agent agent' : AgentState) (feed
     said = subst (λ (s : Said). IfOk result (λ said. said ≡ s)) (ap (step_said agent'.count) its ∙ sym (said-is agent'.count fed.every fed.past line)) took.said;
     counts = subst (λ (n : ℕ). OnOk result (agent'.count ≡ n)) (ap (step_count agent.count) its ∙ sym (count-is agent.count fed.every fed.past line)) took.counts;
     last = subst (λ (n : ℕ). OnOk result (agent'.last ≡ n)) (ap (step_last agent.last) its ∙ sym (last-is agent.last fed.every fed.past line)) took.last;
-    refused = λ going every past is_feed. subst (λ (r : Option BlockFault). RefusedBy r result) (reason every past is_feed) took.refused;
+    refused = λ going every past is_feed at. subst (λ (r : Option BlockFault). RefusedBy r result) (reason every past is_feed at) took.refused;
     takes = always (Becomes line feed feed') result becomes;
+    counts_on = always (CountsFor feed agent.registry → CountsFor feed' agent'.registry) result counts-on;
     leaves = on_err _ _ result took.beats (λ has. inr (moment-of fed.every fed.past line (subst HasBeat its has), becomes));
     fed = fed-more feed feed' line agent.registry agent.copies agent.last fed divisor becomes free;
     unchanged = took.unchanged;
@@ -200,6 +228,7 @@ module _ (honest : Type 0) (host : Seen) (agent : AgentState) (feed feed' : Feed
     last = tt;
     refused = λ going. absurd (none-some cause (sym going ∙ spent));
     takes = tt;
+    counts_on = tt;
     leaves = inl same;
     fed = subst IsFed (sym same) fed;
     unchanged = λ leaves. (refl, refl);
@@ -214,7 +243,7 @@ module _ (honest : Type 0) (host : Seen) (agent : AgentState) (feed feed' : Feed
   }
 
   pub line-refused : (fault : BlockFault) → agent.fault ≡ None → AgentIsReady honest host.past agent
-      → ((every : ℕ) (past : List Line) → IsFeedOf feed every past → refusal agent.registry every past agent.copies agent.last line ≡ Some fault)
+      → ((every : ℕ) (past : List Line) → IsFeedOf feed every past → CountsAt line feed agent.registry → refusal agent.registry every past agent.copies agent.last line ≡ Some fault)
       → Lines honest host agent feed line (failed (Refused fault)) host agent feed'
   line-refused fault going ready reason = record {
     any_moment = λ true_host set h every past is_of is_feed. never (line_refusal agent.registry agent.copies agent.last every past line) (history_with h every past line) set h is_of;
@@ -222,8 +251,9 @@ module _ (honest : Type 0) (host : Seen) (agent : AgentState) (feed feed' : Feed
     said = tt;
     counts = tt;
     last = tt;
-    refused = λ going every past is_feed. ap (λ (reason : Option BlockFault). option_map_or Some reason (closing_refusal agent.registry agent.copies agent.last every past line)) (reason every past is_feed);
+    refused = λ going every past is_feed at. ap (λ (reason : Option BlockFault). option_map_or Some reason (closing_refusal agent.registry agent.copies agent.last every past line)) (reason every past is_feed at);
     takes = tt;
+    counts_on = tt;
     leaves = inl same;
     fed = subst IsFed (sym same) fed;
     unchanged = λ leaves. (refl, refl);
@@ -245,7 +275,7 @@ module _ (honest : Type 0) (host : Seen) (agent : AgentState) (feed feed' : Feed
       by line quiet = refl
 
   pub line-short : agent.fault ≡ None
-      → ((every : ℕ) (past : List Line) → IsFeedOf feed every past → refusal agent.registry every past agent.copies agent.last line ≡ None)
+      → ((every : ℕ) (past : List Line) → IsFeedOf feed every past → CountsAt line feed agent.registry → refusal agent.registry every past agent.copies agent.last line ≡ None)
       → ((moment : ℕ) → line ≡ Moment moment → ⊥)
       → Lines honest host agent feed line (failed Memory) host (short_of agent) feed'
   line-short going free quiet = record {
@@ -254,9 +284,10 @@ module _ (honest : Type 0) (host : Seen) (agent : AgentState) (feed feed' : Feed
     said = tt;
     counts = tt;
     last = tt;
-    refused = λ going every past is_feed.
-        ap (λ (reason : Option BlockFault). option_map_or Some reason (closing_refusal agent.registry agent.copies agent.last every past line)) (free every past is_feed) ∙ closing-none every past quiet;
+    refused = λ going every past is_feed at.
+        ap (λ (reason : Option BlockFault). option_map_or Some reason (closing_refusal agent.registry agent.copies agent.last every past line)) (free every past is_feed at) ∙ closing-none every past quiet;
     takes = tt;
+    counts_on = tt;
     leaves = inl same;
     fed = subst IsFed (sym same) fed;
     unchanged = λ leaves. absurd leaves;

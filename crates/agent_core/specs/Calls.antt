@@ -10,7 +10,7 @@ use Rattle.history.specs.declared.line.Line.{Line}
 use Rattle.history.specs.declared.line.Line.TheVariants.{Moment}
 use Rattle.history.specs.History.{Beat, collected}
 use Rattle.collect_block.specs.declared.feed.Feed.{Feed}
-use Rattle.collect_block.specs.Feed.{IsFeedOf, Becomes}
+use Rattle.collect_block.specs.Feed.{IsFeedOf, Becomes, CountsAt, CountsFor}
 use Rattle.entry_codec.specs.declared.entry.Settings.{Settings}
 use Rattle.store_core.specs.Stands.{is_made, IsDamaged}
 use Rattle.store_core.specs.Store.{raised}
@@ -111,9 +111,12 @@ pub record Lines (honest : Type 0) (host : Seen) (agent : AgentState) (feed : Fe
   pub counts : OnOk result (agent'.count ≡ count_with agent.count line)
   pub last : OnOk result (agent'.last ≡ last_with agent.last line)
   -- it is refused exactly for the first reason against it
-  pub refused : agent.fault ≡ None → (every : ℕ) (past : List Line) → IsFeedOf feed every past → RefusedBy (line_refusal agent.registry agent.copies agent.last every past line) result
+  pub refused : agent.fault ≡ None → (every : ℕ) (past : List Line) → IsFeedOf feed every past → CountsAt line feed agent.registry
+      → RefusedBy (line_refusal agent.registry agent.copies agent.last every past line) result
   -- the feed takes the line; where the beat of a MOMENT was not stored, it may have given that away
   pub takes : OnOk result (Becomes line feed feed')
+  -- the feed counts on for the agent's registry
+  pub counts_on : OnOk result (CountsFor feed agent.registry → CountsFor feed' agent'.registry)
   pub leaves : OnErr result ((feed' ≡ feed) ⊎ (((moment : ℕ) × (line ≡ Moment moment)) × Becomes line feed feed'))
   pub fed : IsFed feed'
   -- a refusal, and Reopen, change nothing of the agent and the host

@@ -69,6 +69,8 @@ pub record Takes (honest : Type 0) (host : Seen) (agent : AgentState) (step : St
   pub refused : RefusedBy (step_refusal agent.registry agent.copies agent.last step) result
   -- only a beat is refused
   pub beats : OnErr result (HasBeat step)
+  -- without one nothing happens
+  pub same : (HasBeat step → ⊥) → (agent' ≡ agent) × (host' ≡ host)
   pub unchanged : IfErr result (λ fault. LeavesAll fault → (agent' ≡ agent) × (host' ≡ host))
   pub fault : agent'.fault ≡ fault_after agent.fault result
   pub reopens : Reopens agent.fault result

@@ -105,6 +105,7 @@ module _ (reader : Reader) (past : List Line) (closed : OpenBeat) (moment : ℕ)
           lines = stepped.lines;
           skips = stepped.skips;
           feed = stepped.feed;
+          counts = stepped.counts registry;
           definitions = registry-is;
           moment = refl;
           rows = subst (λ (closed : OpenBeat). AreLastOf rows (collected moment closed ∷ history_of past)) closed-is taken-rows;

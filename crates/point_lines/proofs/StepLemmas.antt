@@ -9,6 +9,7 @@ use Rattle.history.specs.declared.line.Line.TheVariants as line
 use Rattle.history.specs.History.{child, last, registry_of}
 use Rattle.history.specs.Read.{is_disable, refusal_at}
 use Rattle.history.specs.Refusal.{refusal as refusal_by}
+use Rattle.history.specs.Registry.{Registry}
 use Rattle.plugin_text.specs.Answer.{IsFaultFor}
 use Rattle.plugin_text.specs.declared.fault.LineFault.{LineFault}
 use Rattle.plugin_text.specs.declared.fault.LineFault.TheVariants as fault
@@ -18,7 +19,7 @@ use Rattle.beat_points.specs.Text.{AreAccepted, HaveDivisors}
 use Rattle.collect_block.specs.declared.feed.Feed.{Feed}
 use Rattle.collect_block.specs.declared.step.Step.{Step}
 use Rattle.collect_block.specs.declared.step.Step.TheVariants as step
-use Rattle.collect_block.specs.Feed.{IsFeedOf, RefusedBy, step_of}
+use Rattle.collect_block.specs.Feed.{CountsAt, CountsFor, CountsPast, IsFeedOf, RefusedBy, step_of}
 use Rattle.point_lines.specs.declared.reader.Reader.{Reader}
 use Rattle.point_lines.specs.declared.refusal.Refusal.{Refusal}
 use Rattle.point_lines.specs.declared.refusal.Refusal.TheVariants as refusal
@@ -65,6 +66,18 @@ divisors-more past line.Disable this rest = rest
 divisors-more past (line.Moment moment) this rest = rest
 divisors-more past (line.Query text) this rest = rest
 divisors-more past line.Skipped this rest = rest
+
+-- ---- what a feed counts
+-- a feed that counts does so at each line
+pub counts-at : (feed : Feed) (registry : Registry) (said : Line) → CountsFor feed registry → CountsAt said feed registry
+counts-at feed registry (line.Chart def) counts = counts
+counts-at feed registry (line.Dimension def) counts = counts
+counts-at feed registry said counts = tt
+
+-- and goes on for the same registry
+counts-on : (feed : Feed) (registry : Registry) (said : Line) → CountsPast said feed registry → CountsFor feed registry
+counts-on feed registry (line.Moment moment) counts = counts registry
+counts-on feed registry said counts = counts
 
 -- ---- why a line was not read
 child-none : (past : List Line) → child (history_of past) ≡ None
@@ -127,12 +140,13 @@ module _ (old : Reader) (past : List Line) (said : Line) (leads_to : Step) (feed
   abbrev counted : Reader
   counted = record old { lines = old.lines + 1; skipped = old.skipped + skips said; feed = feed }
 
-  pub count-steps : IsReaderOf old past → HasDivisor said → refusal_at every [] past said ≡ None → IsFeedOf feed every (said ∷ past) → leads_to ≡ step_of every past said
+  pub count-steps : IsReaderOf old past → HasDivisor said → refusal_at every [] past said ≡ None → IsFeedOf feed every (said ∷ past) → CountsPast said feed old.registry → leads_to ≡ step_of every past said
       → Stepped counted past said leads_to
-  count-steps has divisor none fed step_is = record {
+  count-steps has divisor none fed counts step_is = record {
     lines = omega (arith, has.lines);
     skips = ap (λ (n : ℕ). n + skips said) has.skips ∙ skipped-more said past;
     feed = fed;
+    counts = counts;
     definitions = has.definitions;
     moment = has.moment;
     rows = has.rows;
@@ -191,6 +205,7 @@ module _ (reader : Reader) (past : List Line) (said : Line) (leads_to : Step) (s
           lines = stepped.lines;
           skips = stepped.skips;
           feed = stepped.feed;
+          counts = counts-on reader.feed reader.registry said stepped.counts;
           definitions = stepped.definitions ∙ sym (ap registry_of q.stays);
           moment = stepped.moment ∙ sym (ap last q.stays);
           rows = subst (AreLastOf reader.last_rows) (sym q.stays) stepped.rows;
@@ -209,6 +224,7 @@ reads-disable reader past out stepped = (
     lines = stepped.lines;
     skips = stepped.skips;
     feed = stepped.feed;
+    counts = stepped.counts;
     definitions = stepped.definitions;
     moment = stepped.moment;
     rows = stepped.rows;

@@ -7,7 +7,7 @@ use Rattle.history.specs.Read.{is_disable}
 use Rattle.history.specs.Refusal.{is_unfinished}
 use Rattle.beat_points.specs.LastRows.{AreLastOf}
 use Rattle.beat_points.specs.Text.{AreAccepted, HaveDivisors}
-use Rattle.collect_block.specs.Feed.{IsFeedOf}
+use Rattle.collect_block.specs.Feed.{CountsFor, IsFeedOf}
 use Rattle.point_lines.specs.declared.reader.Reader.{Reader}
 use Rattle.point_lines.specs.declared.refusal.Refusal.{Refusal}
 use Rattle.point_lines.specs.declared.refusal.Refusal.TheVariants as refusal
@@ -21,6 +21,8 @@ pub record IsReaderOf (reader : Reader) (past : List Line) : Type 0 where
   pub lines : reader.lines ≡ length past
   pub skips : reader.skipped ≡ skipped past
   pub feed : IsFeedOf reader.feed every past
+  -- and counts on for the registry
+  pub counts : CountsFor reader.feed reader.registry
   pub definitions : reader.registry ≡ registry_of (history_of past)
   pub moment : reader.last ≡ last (history_of past)
   pub rows : AreLastOf reader.last_rows (history_of past)

@@ -10,7 +10,7 @@ use Rattle.plugin_text.specs.declared.fault.LineFault.{LineFault}
 use Rattle.plugin_text.specs.declared.fault.LineFault.TheVariants as line
 use Rattle.beat_points.specs.LastRows.{AreLastOf}
 use Rattle.beat_points.specs.Text.{AreAccepted, HaveDivisors}
-use Rattle.collect_block.specs.Feed.{IsFeedOf, step_of}
+use Rattle.collect_block.specs.Feed.{CountsPast, IsFeedOf, step_of}
 use Rattle.collect_block.specs.declared.step.Step.{Step}
 use Rattle.point_lines.specs.declared.reader.Reader.{Reader}
 use Rattle.point_lines.specs.declared.refusal.Refusal.TheVariants as refusal
@@ -46,6 +46,7 @@ pub record Stepped (reader : Reader) (past : List Line) (said : Line) (step : St
   pub lines : reader.lines ≡ length (said ∷ past)
   pub skips : reader.skipped ≡ skipped (said ∷ past)
   pub feed : IsFeedOf reader.feed every (said ∷ past)
+  pub counts : CountsPast said reader.feed reader.registry
   pub definitions : reader.registry ≡ registry_of (history_of past)
   pub moment : reader.last ≡ last (history_of past)
   pub rows : AreLastOf reader.last_rows (history_of past)

@@ -4,7 +4,7 @@ use Rattle.history.specs.declared.line.Line.{Line}
 use Rattle.history.specs.declared.line.Line.TheVariants.{Moment}
 use Rattle.history.specs.Refusal.{refusal}
 use Rattle.collect_block.specs.declared.step.Step.{Step}
-use Rattle.collect_block.specs.Feed.{ClosesNone, IsFeedOf, RefusedBy}
+use Rattle.collect_block.specs.Feed.{ClosesNone, CountsAt, CountsFor, CountsPast, IsFeedOf, RefusedBy}
 use Rattle.agent_core.specs.declared.fault.AgentFault.TheVariants.{Memory}
 use Rattle.agent_core.specs.Agent.{AgentState}
 use Rattle.agent_core.specs.Calls.{Lines, Seen}
@@ -22,10 +22,12 @@ returns-in-Ok g c =
     let agent = c.args.self.now in
     let feed = c.args.feed.now in
     let line = c.args.line.now in
-    let free : (every : ℕ) (past : List Line) → IsFeedOf feed every past → refusal agent.registry every past agent.copies agent.last line ≡ None
-    = λ every past is_feed. subst (λ (a : AgentState). refusal a.registry every past a.copies a.last line ≡ None) c.self.view_is (c.in-Ok.ensures.refused every past is_feed) in
+    let free : (every : ℕ) (past : List Line) → IsFeedOf feed every past → CountsAt line feed agent.registry → refusal agent.registry every past agent.copies agent.last line ≡ None
+    = subst (λ (a : AgentState). (every : ℕ) (past : List Line) → IsFeedOf feed every past → CountsAt line feed a.registry → refusal a.registry every past a.copies a.last line ≡ None) c.self.view_is c.in-Ok.ensures.refused in
+    let counts : CountsFor feed agent.registry → CountsPast line c.line.new.self agent.registry
+    = subst (λ (a : AgentState). CountsFor feed a.registry → CountsPast line c.line.new.self a.registry) c.self.view_is c.in-Ok.ensures.counts in
     line-taken g.H.Host.honest host host' agent c.take_step.new.self feed c.line.new.self line c.in-Ok.step c.take_step.result c.requires.fed c.requires.divisor
-    free c.in-Ok.ensures.gives c.in-Ok.ensures.taken c.take_step.ensures
+    free c.in-Ok.ensures.gives c.in-Ok.ensures.taken counts c.take_step.ensures
 
 abbrev failing : BlockFault → Result Step BlockFault
 failing fault = Err fault
@@ -44,8 +46,8 @@ returns-in-Memory g c =
       copies = c.self.inside.copies;
       fault = c.self.inside.fault;
     } in
-    let free : (every : ℕ) (past : List Line) → IsFeedOf feed every past → refusal inside.registry every past inside.copies inside.last line ≡ None
-    = λ every past is_feed. subst (RefusedBy (refusal inside.registry every past inside.copies inside.last line)) c.in-Memory.is (c.in-Err.ensures.refused every past is_feed) in
+    let free : (every : ℕ) (past : List Line) → IsFeedOf feed every past → CountsAt line feed inside.registry → refusal inside.registry every past inside.copies inside.last line ≡ None
+    = λ every past is_feed at. subst (RefusedBy (refusal inside.registry every past inside.copies inside.last line)) c.in-Memory.is (c.in-Err.ensures.refused every past is_feed at) in
     let fed = c.requires.fed in
     let quiet : (moment : ℕ) → line ≡ Moment moment → ⊥ = λ moment is. subst ClosesNone is (c.in-Err.ensures.short fed.every fed.past fed.feed_of (ap failing c.in-Memory.is)) in
     subst (λ (a : AgentState). Lines g.H.Host.honest host a feed line (Err Memory) host (short_of inside) c.line.new.self) c.self.view_is
@@ -58,8 +60,9 @@ returns-in_default-fault g c =
     let feed = c.args.feed.now in
     let line = c.args.line.now in
     let fault = c.in-Err.fault in
-    let against : (every : ℕ) (past : List Line) → IsFeedOf feed every past → refusal agent.registry every past agent.copies agent.last line ≡ Some fault
-    = λ every past is_feed. subst (λ (a : AgentState). refusal a.registry every past a.copies a.last line ≡ Some fault) c.self.view_is
-    (refused-reason (refusal c.self.inside.registry every past c.self.inside.copies c.self.inside.last line) fault (c.in-Err.ensures.refused every past is_feed) c.in_default-fault.not-Memory) in
+    let against : (every : ℕ) (past : List Line) → IsFeedOf feed every past → CountsAt line feed agent.registry → refusal agent.registry every past agent.copies agent.last line ≡ Some fault
+    = subst (λ (a : AgentState). (every : ℕ) (past : List Line) → IsFeedOf feed every past → CountsAt line feed a.registry → refusal a.registry every past a.copies a.last line ≡ Some fault) c.self.view_is
+    (λ every past is_feed at.
+    refused-reason (refusal c.self.inside.registry every past c.self.inside.copies c.self.inside.last line) fault (c.in-Err.ensures.refused every past is_feed at) c.in_default-fault.not-Memory) in
     let going : agent.fault ≡ None = subst (λ (a : AgentState). a.fault ≡ None) c.self.view_is c.in_default.is in
     line-refused g.H.Host.honest host agent feed c.line.new.self line c.requires.fed c.in-Err.ensures.err fault going c.requires.ready against

@@ -1,6 +1,6 @@
 use Rattle.std.proofs.Common.{◌∙◌, sym, string_bytes, arith}
 use Rattle.point_lines.specs.Judged.{every}
-use Rattle.point_lines.proofs.StepLemmas.{count-steps, reason-is, skipped-within, stops-block}
+use Rattle.point_lines.proofs.StepLemmas.{count-steps, counts-at, reason-is, skipped-within, stops-block}
 use Rattle.point_lines.proofs.reader.Reader.take.Goals as goal
 
 pub count-requires-clause-skips : goal.count-requires-clause-skips
@@ -13,20 +13,21 @@ pub take_step-requires : goal.take_step-requires
 take_step-requires c =
     let past = c.requires.room.0 in
     let has = c.requires.room.1 in
-    let reason = sym (reason-is c.args.self.now past has c.args.line.now) ∙ c.in-Ok.ensures.refused every past has.feed in (
+    let reason = sym (reason-is c.args.self.now past has c.args.line.now) ∙ c.in-Ok.ensures.refused every past has.feed (counts-at c.args.self.now.feed c.args.self.now.registry c.args.line.now has.counts) in (
       past,
       c.args.line.now,
       rw c.count.ensures (count-steps c.args.self.now past c.args.line.now c.in-Ok.step c.line.new.self has c.requires.divisor reason
-          (c.in-Ok.ensures.taken every past has.feed) (c.in-Ok.ensures.gives every past has.feed)),
+          (c.in-Ok.ensures.taken every past has.feed) (c.in-Ok.ensures.counts has.counts) (c.in-Ok.ensures.gives every past has.feed)),
     )
 
 pub returns-in-Ok : goal.returns-in-Ok
 returns-in-Ok c past has =
-    let reason = sym (reason-is c.args.self.now past has c.args.line.now) ∙ c.in-Ok.ensures.refused every past has.feed in
+    let reason = sym (reason-is c.args.self.now past has c.args.line.now) ∙ c.in-Ok.ensures.refused every past has.feed (counts-at c.args.self.now.feed c.args.self.now.registry c.args.line.now has.counts) in
     c.take_step.ensures c.args.line.now past (rw c.count.ensures (count-steps c.args.self.now past c.args.line.now c.in-Ok.step c.line.new.self has c.requires.divisor reason
-    (c.in-Ok.ensures.taken every past has.feed) (c.in-Ok.ensures.gives every past has.feed)))
+    (c.in-Ok.ensures.taken every past has.feed) (c.in-Ok.ensures.counts has.counts) (c.in-Ok.ensures.gives every past has.feed)))
 
 pub returns-in-Err : goal.returns-in-Err
 returns-in-Err c past has =
     rw c.block_stop.ensures
-    (stops-block past c.args.line.now _ c.in-Err.fault _ (reason-is c.args.self.now past has c.args.line.now) (c.in-Err.ensures.refused every past has.feed) (string_bytes c.args.out.now))
+    (stops-block past c.args.line.now _ c.in-Err.fault _ (reason-is c.args.self.now past has c.args.line.now)
+    (c.in-Err.ensures.refused every past has.feed (counts-at c.args.self.now.feed c.args.self.now.registry c.args.line.now has.counts)) (string_bytes c.args.out.now))
