@@ -6,6 +6,7 @@ pub mod HistoryLemmas
 pub mod KeptLemmas
 pub mod Lists
 pub mod NewLemmas
+pub mod NoteLemmas
 pub mod OpenFaults
 pub mod OpeningLemmas
 pub mod Outcomes

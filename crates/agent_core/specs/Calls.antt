@@ -22,6 +22,7 @@ use Rattle.agent_core.specs.Agent.{id_of, AgentIsReady, AgentState, IsAgentOf, I
 use Rattle.agent_core.specs.Faults.{fault_after, IsCreating, IsOpening, LeavesAll, RefusedBy, Reopens}
 use Rattle.agent_core.specs.Fed.{IsFed}
 use Rattle.agent_core.specs.Kept.{StandsForHistory, StandsForNew, StandsForOneOf}
+use Rattle.agent_core.specs.Notes.{HasNotes}
 use Rattle.agent_core.specs.Rules.{beat_refusal, count_with, history_with, last_with, line_refusal}
 use Rattle.agent_core.specs.Said.{said_of}
 
@@ -93,6 +94,10 @@ pub record Opens (honest : Type 0) (host : Seen) (result : Result AgentState Age
   pub some : OnOk result (honest → is_made (reads_as host.past) ≡ true)
   pub damaged : IsErrOf result (Damaged 4) → honest → IsDamaged (reads_as host.past)
   pub made : (part : ℕ) → IsErrOf result (Damaged part) → honest → is_made (reads_as host.past) ≡ true
+  -- what was opened goes on from note to note
+  pub notes : OnOk result (honest → HasNotes true (reads_as host.past))
+  -- where a note is no entry that goes on
+  pub damaged_notes : IsErrOf result (Damaged 5) → honest → HasNotes false (reads_as host.past)
   pub faults : IfErr result IsOpening
   -- the disk fails only where the host counted a failure, and nothing is told
   pub cause : HasCause host.disk_faults host'.disk_faults (IsErrOf result DiskFault)

@@ -3,6 +3,7 @@ pub mod Calls
 pub mod Faults
 pub mod Fed
 pub mod Kept
+pub mod Notes
 pub mod Replay
 pub mod Replies
 pub mod Rules

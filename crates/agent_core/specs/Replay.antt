@@ -1,5 +1,5 @@
 -- How an agent is opened: the beats of its store are replayed, the oldest first.
-use Rattle.std.specs.Prelude.{◌≡◌, List, [], ◌∷◌, Option, None}
+use Rattle.std.specs.Prelude.{◌≡◌, true, List, [], ◌∷◌, Option, None}
 use Rattle.host_model.specs.Past.{Event}
 use Rattle.algorithms.specs.declared.last.Last.{Last}
 use Rattle.history.specs.History.{Beat, registry_of}
@@ -10,11 +10,13 @@ use Rattle.entry_codec.specs.declared.entry.Settings.{Settings}
 use Rattle.store_core.specs.declared.beat.Beat.{Beat as StoreBeat}
 use Rattle.store_core.specs.declared.fault.StoreFault.{StoreFault}
 use Rattle.store_core.specs.declared.fault.StoreFault.TheVariants as store
+use Rattle.store_core.specs.Records.{with_all}
 use Rattle.store_core.specs.Store.{IsReplayed, IsStoreAt, OpensAt, StoreState}
 use Rattle.agent_core.specs.declared.fault.AgentFault.{AgentFault}
 use Rattle.agent_core.specs.declared.fault.AgentFault.TheVariants.{DiskFault, NotADatabase, Damaged, Memory}
 use Rattle.agent_core.specs.Agent.{AgentState}
 use Rattle.agent_core.specs.Kept.{AreBeatsOf, IsBeatOf}
+use Rattle.agent_core.specs.Notes.{beats_go_on, registry_left}
 
 -- why an agent is not opened where its store is not
 abbrev pub fault_of : StoreFault → AgentFault
@@ -50,6 +52,15 @@ pub record IsReplaying (past : List Event) (store : StoreState) (registry : Regi
   pub next : AreNextOf front more rest
   pub is_at : IsStoreAt past store set beats rest
   pub parts : ArePartsOf registry lasts front
+
+-- the store has replayed a front of these beats, whose notes go on, and the registry is what they leave
+pub record HasTaken (past : List Event) (store : StoreState) (registry : Registry) (set : Settings) (beats : List StoreBeat) : Type 0 where
+  pub applied : List StoreBeat
+  pub rest : List StoreBeat
+  pub whole : with_all applied rest ≡ beats
+  pub is_at : IsStoreAt past store set applied rest
+  pub go_on : beats_go_on applied ≡ true
+  pub registry_is : registry ≡ registry_left applied
 
 -- the store was opened, with the beats that it keeps for this history
 pub record IsOpenedFor (past : List Event) (store : StoreState) (set : Settings) (h : List Beat) : Type 0 where

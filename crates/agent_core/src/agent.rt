@@ -7,13 +7,15 @@ ghost use Rattle.host_model.specs.Moments.{Throughout};
 ghost use Rattle.history.specs.History.{Beat as HistoryBeat, collected};
 ghost use Rattle.beat_points.specs.Text.{HaveDivisors};
 ghost use Rattle.entry_codec.specs.declared.entry.Settings.{Settings as ASettings};
+ghost use Rattle.store_core.specs.declared.beat.Beat.{Beat as StoreBeat};
 ghost use Rattle.store_core.specs.FirstRecord.{InLimits};
 ghost use Rattle.store_core.specs.Stands.{is_made, IsDamaged};
-ghost use Rattle.store_core.specs.Store.{raised};
+ghost use Rattle.store_core.specs.Store.{raised, OpensAt};
 ghost use Rattle.agent_core.specs.Calls.{Beats, Creates, Lines, Opens};
 ghost use Rattle.agent_core.specs.Fed.{IsFed};
 ghost use Rattle.agent_core.specs.Faults.{fault_after, IsCreating, IsOpening, LeavesAll, RefusedBy, Reopens};
 ghost use Rattle.agent_core.specs.Kept.{StandsForHistory, StandsForNew, StandsForOneOf};
+ghost use Rattle.agent_core.specs.Notes.{beats_go_on, HasNotes};
 ghost use Rattle.agent_core.specs.Replay.{HasReplayed, IsOpenedFor};
 ghost use Rattle.agent_core.specs.Rules.{beat_refusal, IsOpenBeat};
 ghost use Rattle.agent_core.specs.Steps.{IsOpenStep, Takes};
@@ -158,6 +160,8 @@ impl Agent {
         ensures some { OnOk result (H.honest → is_made (reads_as (H.past host.old)) ≡ true) }
         ensures damaged { IsErrOf result (AgentFault.Damaged 4) → H.honest → IsDamaged (reads_as (H.past host.old)) }
         ensures made { (part : ℕ) → IsErrOf result (AgentFault.Damaged part) → H.honest → is_made (reads_as (H.past host.old)) ≡ true }
+        ensures notes { OnOk result (H.honest → HasNotes true (reads_as (H.past host.old))) }
+        ensures damaged_notes { IsErrOf result (AgentFault.Damaged 5) → H.honest → HasNotes false (reads_as (H.past host.old)) }
         ensures faults { IfErr result IsOpening }
         ensures cause { HasCause (H.disk_faults host.old) (H.disk_faults host.new) (IsErrOf result AgentFault.DiskFault) }
         ensures output { H.honest → told (H.past host.new) ≡ told (H.past host.old) }
@@ -177,6 +181,9 @@ impl Agent {
             → IsAgentOf past agent set h) }
         ensures stands { IfErr result (λ fault. (past : List Event) (set : ASettings) (h : List HistoryBeat) → IsOpenedFor past store set h
             → fault ≡ AgentFault.Memory) }
+        ensures notes { OnOk result ((past : List Event) (set : ASettings) (beats : List StoreBeat) → OpensAt past store set beats → beats_go_on beats ≡ true) }
+        ensures broken { IfErr result (λ fault. fault ≡ AgentFault.Damaged 5 → (past : List Event) (set : ASettings) (beats : List StoreBeat)
+            → OpensAt past store set beats → beats_go_on beats ≡ false) }
         ensures faults { IfErr result (λ fault. (fault ≡ AgentFault.Memory) ⊎ (fault ≡ AgentFault.Damaged 5)) }
     {
         let mut registry = Registry::new(alloc);

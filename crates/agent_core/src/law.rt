@@ -1,10 +1,13 @@
-ghost use Rattle.std.specs.Prelude.{◌≡◌, ◌<◌, ℕ, List, ◌∷◌, None, is_some};
+ghost use Rattle.std.specs.Prelude.{◌≡◌, ◌<◌, ℕ, Bool, true, false, List, ◌∷◌, None, is_some};
+ghost use Rattle.host_model.specs.declared.file.File.{File as AFile};
 ghost use Rattle.history.specs.declared.line.Line.{Line};
 ghost use Rattle.history.specs.declared.line.Line.TheVariants.{Moment};
 ghost use Rattle.history.specs.History.{Beat, child, last, registry_of};
 ghost use Rattle.history.specs.Looking.{beat as open_beat};
 ghost use Rattle.history.specs.Read.{history_at, refusal_at};
 ghost use Rattle.beat_points.specs.Text.{AreAccepted};
+ghost use Rattle.store_core.specs.Stands.{is_made, IsDamaged};
+ghost use Rattle.agent_core.specs.Notes.{HasNotes};
 ghost use Rattle.agent_core.specs.Rules.{beat_refusal, line_refusal, IsWithin};
 
 /// The laws of a text of accepted lines that follows a history, whose charts whose line leaves it open have
@@ -18,4 +21,13 @@ pub fn any_text()
         → let now = history_at every h past in line_refusal (registry_of now) (is_some (child now)) (last now) every past line ≡ refusal_at every h past line }
     ensures within { (every : ℕ) (h : List Beat) (past : List Line) → IsWithin (registry_of h) → AreAccepted every h past
         → IsWithin (registry_of (history_at every h past)) }
+{}
+
+/// The laws of the notes of a disk: where it holds a database of settings and beats, these are its only ones.
+/// So their notes do not both go on and not, and the database is not one of no settings and beats. It does
+/// nothing.
+pub fn any_notes()
+    ensures once { (disk : AFile → List ℕ) → HasNotes true disk → HasNotes false disk → ⊥ }
+    ensures records { (goes : Bool) (disk : AFile → List ℕ) → HasNotes goes disk → IsDamaged disk → ⊥ }
+    ensures made { (goes : Bool) (disk : AFile → List ℕ) → HasNotes goes disk → is_made disk ≡ true }
 {}

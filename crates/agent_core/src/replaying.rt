@@ -10,7 +10,7 @@ ghost use Rattle.history.specs.History.{Beat as HistoryBeat, collected, registry
 ghost use Rattle.history.specs.Registry.{same_chart, same_dimension, with_definitions};
 ghost use Rattle.beat_points.specs.LastRows.{AreLastOf};
 ghost use Rattle.beat_points.specs.Regular.{AreApart, IsRegular};
-ghost use Rattle.beat_entries.specs.Restoring.{goes_on, IsBeatOf as IsBeatOfEntry};
+ghost use Rattle.beat_entries.specs.Restoring.{goes_on, restored, IsBeatOf as IsBeatOfEntry};
 ghost use Rattle.entry_codec.specs.declared.entry.Collected.{Collected as ACollected};
 ghost use Rattle.entry_codec.specs.declared.entry.Settings.{Settings as ASettings};
 ghost use Rattle.entry_codec.specs.Entries.{is_collected_canonical, read_entry};
@@ -19,7 +19,8 @@ ghost use Rattle.store_core.specs.Stands.{is_made, IsDamaged, Stands};
 ghost use Rattle.store_core.specs.Store.{IsReady, IsReplayed, IsStoreAt, OpensAt, Replays, TakesFirst};
 ghost use Rattle.agent_core.specs.Faults.{IsOpening};
 ghost use Rattle.agent_core.specs.Kept.{AreBeatsOf, IsBeatOf};
-ghost use Rattle.agent_core.specs.Replay.{fault_of, ArePartsOf, IsReplaying};
+ghost use Rattle.agent_core.specs.Notes.{beats_go_on, takes_note, with_note};
+ghost use Rattle.agent_core.specs.Replay.{fault_of, ArePartsOf, HasTaken, IsReplaying};
 
 use crate::fault::AgentFault;
 use crate::keeping::take_rows;
@@ -59,6 +60,10 @@ pub(crate) fn open_store<H: Host>(alloc: Global, host: &mut H) -> Result<Store, 
     ensures some { OnOk result (H.honest → is_made (reads_as (H.past host.old)) ≡ true) }
     ensures damaged { IsErrOf result (AgentFault.Damaged 4) → H.honest → IsDamaged (reads_as (H.past host.old)) }
     ensures made { (part : ℕ) → IsErrOf result (AgentFault.Damaged part) → H.honest → is_made (reads_as (H.past host.old)) ≡ true }
+    ensures found { OnOk result (H.honest → (set : ASettings) × (beats : List StoreBeat) × Stands set beats (reads_as (H.past host.old))) }
+
+    // No note is read yet.
+    ensures notes { IsErrOf result (AgentFault.Damaged 5) → ⊥ }
     ensures faults { IfErr result IsOpening }
     ensures cause { HasCause (H.disk_faults host.old) (H.disk_faults host.new) (IsErrOf result AgentFault.DiskFault) }
     ensures output { H.honest → told (H.past host.new) ≡ told (H.past host.old) }
@@ -99,6 +104,8 @@ fn beat_of(
     ensures definitions { IfOk result (λ beat. registry.new ≡ with_definitions registry.old beat.charts beat.dimensions) }
     ensures beat { IfOk result (IsBeatOfEntry registry.new entry.now) }
     ensures regular { IfOk result (IsRegular registry.new) }
+    ensures restored { OnOk result (registry.new ≡ restored registry.old entry.now) }
+    ensures next { OnOk result (goes_on registry.old entry.now ≡ true) }
     ensures refused { IfErr result (λ fault. fault ≡ AgentFault.Damaged 5 → goes_on registry.old entry.now ≡ false) }
     ensures faults { IfErr result (λ fault. (fault ≡ AgentFault.Memory) ⊎ (fault ≡ AgentFault.Damaged 5)) }
 {
@@ -124,6 +131,11 @@ fn replay_beat(
     // Where the beat is kept for one that follows the history, only memory can be short.
     ensures stands { IfErr result (λ fault. (g : List HistoryBeat) (beats : List StoreBeat) (beat : HistoryBeat) → AreBeatsOf g beats → IsBeatOf g beat kept.now
         → ArePartsOf registry.old last_rows.old g → fault ≡ AgentFault.Memory) }
+
+    // Whatever beat it is: its note has an entry that goes on, or it is damaged.
+    ensures registry { OnOk result (registry.new ≡ with_note registry.old kept.now) }
+    ensures next { OnOk result (takes_note registry.old kept.now ≡ true) }
+    ensures broken { IfErr result (λ fault. fault ≡ AgentFault.Damaged 5 → takes_note registry.old kept.now ≡ false) }
     ensures charts { OnOk result (AreApart same_chart registry.new.charts) }
     ensures dimensions { OnOk result (AreApart same_dimension registry.new.dimensions) }
     ensures faults { IfErr result (λ fault. (fault ≡ AgentFault.Memory) ⊎ (fault ≡ AgentFault.Damaged 5)) }
@@ -168,6 +180,12 @@ fn replay_next(
     ensures stands { IfErr result (λ fault. (past : List Event) (set : ASettings) (h : List HistoryBeat)
         → IsReplaying past store.old registry.old last_rows.old set h → fault ≡ AgentFault.Memory) }
 
+    // Whatever beats the store keeps: their notes go on so far, and where one does not, it is damaged.
+    ensures notes { OnOk result ((past : List Event) (set : ASettings) (beats : List StoreBeat) → HasTaken past store.old registry.old set beats
+        → HasTaken past store.new registry.new set beats) }
+    ensures broken { IfErr result (λ fault. fault ≡ AgentFault.Damaged 5 → (past : List Event) (set : ASettings) (beats : List StoreBeat)
+        → HasTaken past store.old registry.old set beats → beats_go_on beats ≡ false) }
+
     // The beats that wait become fewer, until there are none.
     ensures smaller { IfOk result (λ went. went ≡ true → length store.new.waiting < length store.old.waiting) }
     ensures done { IfOk result (λ went. went ≡ false → IsReplayed store.new) }
@@ -202,6 +220,12 @@ pub(crate) fn replay_all(
     // Where the store is that of a history, only memory can be short.
     ensures stands { IfErr result (λ fault. (past : List Event) (set : ASettings) (h : List HistoryBeat)
         → IsReplaying past store.old registry.old last_rows.old set h → fault ≡ AgentFault.Memory) }
+
+    // Whatever beats the store keeps: their notes go on so far, and where one does not, it is damaged.
+    ensures notes { OnOk result ((past : List Event) (set : ASettings) (beats : List StoreBeat) → HasTaken past store.old registry.old set beats
+        → HasTaken past store.new registry.new set beats) }
+    ensures broken { IfErr result (λ fault. fault ≡ AgentFault.Damaged 5 → (past : List Event) (set : ASettings) (beats : List StoreBeat)
+        → HasTaken past store.old registry.old set beats → beats_go_on beats ≡ false) }
 
     // What holds of any store.
     ensures done { OnOk result (IsReplayed store.new) }

@@ -4,7 +4,8 @@ use Rattle.history.specs.History.{Beat}
 use Rattle.history.specs.Registry.{same_chart, same_dimension}
 use Rattle.beat_points.specs.Regular.{AreApart}
 use Rattle.entry_codec.specs.declared.entry.Settings.{Settings}
-use Rattle.agent_core.specs.Replay.{IsReplaying}
+use Rattle.store_core.specs.declared.beat.Beat.{Beat as StoreBeat}
+use Rattle.agent_core.specs.Replay.{HasTaken, IsReplaying}
 use Rattle.agent_core.proofs.replaying.replay_all.Given as goal
 
 abbrev pub decreases-loop : goal.decreases-loop
@@ -14,6 +15,7 @@ abbrev pub invariant-loop : goal.invariant-loop
 invariant-loop l = record {
   replaying : (past : List Event) (set : Settings) (h : List Beat) → IsReplaying past l.initial.store l.initial.registry l.initial.last_rows set h
       → IsReplaying past l.store l.registry l.last_rows set h;
+  notes : (past : List Event) (set : Settings) (beats : List StoreBeat) → HasTaken past l.initial.store l.initial.registry set beats → HasTaken past l.store l.registry set beats;
   going : l.store.fault ≡ None;
   journal : l.store.journal ≡ l.initial.store.journal;
   charts : AreApart same_chart l.registry.charts;

@@ -1,9 +1,11 @@
-use Rattle.std.proofs.Common.{sym, subst}
+use Rattle.std.proofs.Common.{◌≡◌, true, false, sym, subst}
 use Rattle.std.proofs.lemmas.Result.{err_from_is_err_and, on_ok_weaker}
 use Rattle.history.specs.Registry.{Registry, same_chart, same_dimension}
 use Rattle.beat_points.specs.Regular.{AreApart}
 use Rattle.beat_entries.proofs.DefinedLemmas.{chart-alike, chart-itself, dimension-alike, dimension-itself}
 use Rattle.beat_entries.proofs.PutLemmas.{apart-put_all}
+use Rattle.agent_core.specs.Notes.{takes_note, with_note}
+use Rattle.agent_core.proofs.NoteLemmas.{no-note, note-goes, note-left}
 use Rattle.agent_core.proofs.Outcomes.{always}
 use Rattle.agent_core.proofs.ReplayLemmas.{entry-goes, entry-there, only-memory, replayed-parts}
 use Rattle.agent_core.proofs.replaying.replay_beat.Goals as goal
@@ -41,3 +43,25 @@ returns-clause-dimensions c =
     always (AreApart same_dimension c.beat_of.new.registry.dimensions) c.take_rows.result
     (subst (λ (r : Registry). AreApart same_dimension r.dimensions) (sym c.in_ok-beat.ensures.definitions)
     (apart-put_all same_dimension dimension-itself dimension-alike c.args.registry.now.dimensions c.in_ok-beat.beat.dimensions c.requires.dimensions))
+
+-- ---- the note
+pub returns-in_err-entry-clause-broken : goal.returns-in_err-entry-clause-broken
+returns-in_err-entry-clause-broken c =
+    let error = err_from_is_err_and c.from_residual.result c.from_residual.ensures.1 in
+    rw (error.1, error.2) (λ damaged. no-note c.args.registry.now c.args.kept.now (c.in_err-entry.ensures.refused damaged))
+
+pub returns-in_err-beat-clause-broken : goal.returns-in_err-beat-clause-broken
+returns-in_err-beat-clause-broken c =
+    let error = err_from_is_err_and c.from_residual-in_err-beat.result c.from_residual-in_err-beat.ensures.1 in
+    rw (error.1, error.2) (λ damaged.
+    note-goes false c.args.registry.now c.args.kept.now c.in_ok-entry.entry c.in_ok-entry.ensures.read c.in_ok-entry.ensures.moment (c.in_err-beat.ensures.refused damaged))
+
+pub returns-clause-registry : goal.returns-clause-registry
+returns-clause-registry c =
+    always (c.beat_of.new.registry ≡ with_note c.args.registry.now c.args.kept.now) c.take_rows.result
+    (note-left c.args.registry.now c.beat_of.new.registry c.args.kept.now c.in_ok-entry.entry c.in_ok-entry.ensures.read c.in_ok-entry.ensures.moment c.in_ok-beat.ensures.restored)
+
+pub returns-clause-next : goal.returns-clause-next
+returns-clause-next c =
+    always (takes_note c.args.registry.now c.args.kept.now ≡ true) c.take_rows.result
+    (note-goes true c.args.registry.now c.args.kept.now c.in_ok-entry.entry c.in_ok-entry.ensures.read c.in_ok-entry.ensures.moment c.in_ok-beat.ensures.next)

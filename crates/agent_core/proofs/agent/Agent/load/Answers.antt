@@ -1,6 +1,7 @@
-use Rattle.std.proofs.Common.{inr}
-use Rattle.std.proofs.lemmas.Result.{IfOk-weaker}
+use Rattle.std.proofs.Common.{true, false, refl, inr}
+use Rattle.std.proofs.lemmas.Result.{IfErr-at_err, IfOk-weaker, on_ok_weaker}
 use Rattle.host_model.specs.Disks.{reads_as}
+use Rattle.agent_core.proofs.NoteLemmas.{noted}
 use Rattle.agent_core.proofs.OpenFaults.{err-weaker}
 use Rattle.agent_core.proofs.OpeningLemmas.{opened-for}
 use Rattle.agent_core.proofs.agent.Agent.load.Goals as goal
@@ -18,3 +19,16 @@ returns-in-Ok-clause-stands g c true_host set h stands =
     let past = g.H.Host.past c.open_store.new.host in
     err-weaker c.replayed.result _ _ (λ fault memory.
     inr (memory past set h (opened-for disk past c.in-Ok.store (c.in-Ok.ensures.opened true_host) set h stands))) c.replayed.ensures.stands
+
+pub returns-in-Ok-clause-notes : goal.returns-in-Ok-clause-notes
+returns-in-Ok-clause-notes g c =
+    let disk = reads_as (g.H.Host.past c.args.host.now) in
+    let past = g.H.Host.past c.open_store.new.host in
+    on_ok_weaker c.replayed.result (λ all true_host.
+    noted true disk past c.in-Ok.store (c.in-Ok.ensures.opened true_host) (c.in-Ok.ensures.found true_host) all) c.replayed.ensures.notes
+
+pub returns-in-Ok-clause-damaged_notes : goal.returns-in-Ok-clause-damaged_notes
+returns-in-Ok-clause-damaged_notes g c is true_host =
+    let disk = reads_as (g.H.Host.past c.args.host.now) in
+    let past = g.H.Host.past c.open_store.new.host in
+    noted false disk past c.in-Ok.store (c.in-Ok.ensures.opened true_host) (c.in-Ok.ensures.found true_host) (IfErr-at_err _ is c.replayed.ensures.broken refl)

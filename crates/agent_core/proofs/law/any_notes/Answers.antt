@@ -1,0 +1,12 @@
+use Rattle.store_core.proofs.StandLemmas.{stands_made}
+use Rattle.agent_core.proofs.NoteLemmas.{notes-once}
+use Rattle.agent_core.proofs.law.any_notes.Goals as goal
+
+pub returns-clause-once : goal.returns-clause-once
+returns-clause-once c = notes-once
+
+pub returns-clause-records : goal.returns-clause-records
+returns-clause-records c goes disk notes damaged = damaged.no_beats notes.settings notes.beats notes.stands
+
+pub returns-clause-made : goal.returns-clause-made
+returns-clause-made c goes disk notes = stands_made notes.settings notes.beats disk notes.stands
