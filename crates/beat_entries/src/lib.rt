@@ -20,3 +20,6 @@ mod rows;
 pub use entry::{entry_of, restore};
 pub use law::{any_alike, any_defined, any_next};
 pub use refusal::EntryRefusal;
+
+#[cfg(test)]
+mod tests;

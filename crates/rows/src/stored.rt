@@ -428,12 +428,12 @@ static REFUSED: [(&str, u32); 3] = [
     ("QUERY t.c\n", 90),
 ];
 
-/// The text of 300 beats, of which so many stand in front of a line.
+/// The text of 2,000 beats, of which so many stand in front of a line.
 fn long_text(alloc: Global, count: u64, line: &str) -> Result<String, AllocError> {
     let mut text = String::from_str(alloc, "CHART t.c n t u\nDIMENSION a\n")?;
     let mut number = count;
     let mut moment = 0u64;
-    for beat in 0..300u64 {
+    for beat in 0..2_000u64 {
         if beat == count {
             text.push_str(line)?;
         }
@@ -487,7 +487,7 @@ fn the_beats_before_a_refusal_are_stored(rt: HostRuntime) -> Result<(), Fail> {
     let mut number = 7u64;
     for row in &REFUSED {
         number = next_number(number);
-        let count = (number >> 33) % 300;
+        let count = (number >> 33) % 2_000;
         let line = count.saturating_mul(4).saturating_add(3);
         let seen = long_case(rt.alloc(), count, *row)?;
         assert_eq!(rt; seen, (Status::Refused(line, row.1), true), "{count} beats");
