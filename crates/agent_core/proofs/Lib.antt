@@ -3,6 +3,7 @@ pub mod DefinedLemmas
 pub mod FedLemmas
 pub mod FollowLemmas
 pub mod HistoryLemmas
+pub mod IndexLemmas
 pub mod KeptLemmas
 pub mod Lists
 pub mod NewLemmas

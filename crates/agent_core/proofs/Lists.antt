@@ -37,7 +37,7 @@ pub record IsSameness {A : Type 0} (same : A → A → Bool) : Type 0 where
   pub left : (x y z : A) → same x y ≡ true → same x z ≡ same y z
 
 module _ {A : Type 0} (same : A → A → Bool) (is : IsSameness same) where
-  apart-turned : (x y : A) → same x y ≡ false → same y x ≡ false
+  pub apart-turned : (x y : A) → same x y ≡ false → same y x ≡ false
   apart-turned x y e = by (same y x) refl
     where
       by : (b : Bool) → same y x ≡ b → b ≡ false

@@ -2,6 +2,7 @@ pub mod Agent
 pub mod Calls
 pub mod Faults
 pub mod Fed
+pub mod Index
 pub mod Kept
 pub mod Notes
 pub mod Replay

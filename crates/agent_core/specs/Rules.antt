@@ -76,19 +76,24 @@ too_many_dimensions registry beat =
     nat_lt 65536 (length registry.dimensions + count_by (is_new_dimension registry) beat.dimensions)
     || (list_any (fills_chart registry beat) beat.dimensions || list_any is_too_long beat.rows)
 
--- Why a beat may not follow a history with this registry and this last moment, if it may not: the first of
--- these reasons. `copies` says that the history has copied beats or gaps.
-unfoldable pub beat_refusal : Registry → Bool → ℕ → ℕ → OpenBeat → Option BlockFault
-beat_refusal registry copies last moment beat =
-    if copies then Some MixedRoles
-    else if nat_le moment last then Some (MomentOrder last)
-    else if lacks_chart registry beat then Some NoChart
+-- why what a beat defines and sets may not come to this registry, if it may not: the first of these reasons
+abbrev pub content_refusal : Registry → ℕ → OpenBeat → Option BlockFault
+content_refusal registry moment beat =
+    if lacks_chart registry beat then Some NoChart
     else if lacks_dimension registry beat then Some NoDimension
     else if changes_grid registry beat then Some GridChanged
     else if too_many_charts registry beat then Some TooManyCharts
     else if too_many_dimensions registry beat then Some TooManyDimensions
     else if is_off_grid registry beat moment then Some OffGrid
     else None
+
+-- Why a beat may not follow a history with this registry and this last moment, if it may not: the first of
+-- these reasons. `copies` says that the history has copied beats or gaps.
+unfoldable pub beat_refusal : Registry → Bool → ℕ → ℕ → OpenBeat → Option BlockFault
+beat_refusal registry copies last moment beat =
+    if copies then Some MixedRoles
+    else if nat_le moment last then Some (MomentOrder last)
+    else content_refusal registry moment beat
 
 -- why the beat that a MOMENT closes may not follow, by the lines before it, the latest first
 abbrev pub closing_refusal : Registry → Bool → ℕ → ℕ → List Line → Line → Option BlockFault

@@ -300,7 +300,15 @@ impl Agent {
         if let Some(cause) = self.fault {
             return Err(AgentFault::Reopen(cause));
         }
-        if let Some(reason) = refusal(&self.registry, self.copies, self.last, moment, beat) {
+        let reason = refusal(
+            self.alloc,
+            &self.registry,
+            self.copies,
+            self.last,
+            moment,
+            beat,
+        );
+        if let Some(reason) = reason {
             return Err(AgentFault::Refused(reason));
         }
         match add(

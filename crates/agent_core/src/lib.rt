@@ -18,10 +18,11 @@
 #![tactic(auto)]
 
 mod agent;
+mod beat_index;
+mod definitions;
 mod fault;
 mod keeping;
 mod law;
-mod lookup;
 mod points;
 mod refusal;
 mod replaying;

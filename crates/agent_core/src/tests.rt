@@ -1,12 +1,19 @@
-ghost use Rattle.std.specs.Prelude.{◌≡◌, ◌≢◌, ◌∷◌, [], pos, IfOk, OnOk};
+ghost use Rattle.std.specs.Prelude.{◌≡◌, ◌≢◌, ◌<◌, ◌∷◌, [], pos, All, IfOk, OnOk};
+ghost use Rattle.history.specs.Looking.{same_value};
+ghost use Rattle.history.specs.Registry.{same_chart, same_dimension};
+ghost use Rattle.beat_points.specs.Regular.{AreApart, same_row};
 ghost use Rattle.beat_points.specs.Text.{HaveDivisors};
 ghost use Rattle.agent_core.specs.Agent.{AgentIsReady};
 ghost use Rattle.agent_core.specs.Fed.{IsFed};
+ghost use Rattle.agent_core.specs.Rules.{IsOpenBeat};
 
 use super::*;
 use collect_block::Feed;
 use fixed_num::Text;
-use history::{Algorithm, BlockFault, ChartDef, ChartKind, DimDef, Line};
+use history::{
+    Algorithm, BlockFault, ChartDef, ChartDefList, ChartKind, DimDef, Line, OpenBeat, OpenDim,
+    OpenDimList, OpenRow, OpenRowList, OpenValue, OpenValueList,
+};
 use host_model::{CallList, File, Host, Keep, MemoryHost};
 use std::alloc::{AllocError, Global};
 use std::test::Fail;
@@ -31,10 +38,10 @@ struct Taking {
     feed: Feed,
 }
 
-fn chart_line(alloc: Global, title: &str) -> Result<Line, AllocError>
-    ensures { IfOk result (λ line. HaveDivisors (line ∷ [])) }
+fn chart(alloc: Global, title: &str) -> Result<ChartDef, AllocError>
+    ensures { IfOk result (λ def. def.update_every ≡ 1) }
 {
-    Ok(Line::Chart(ChartDef {
+    Ok(ChartDef {
         id: Text::from_str(alloc, "test.one")?,
         name: Text::from_str(alloc, "one")?,
         title: Text::from_str(alloc, title)?,
@@ -45,13 +52,14 @@ fn chart_line(alloc: Global, title: &str) -> Result<Line, AllocError>
         priority: 1_000,
         update_every: 1,
         store_first: false,
-    }))
+    })
 }
 
-fn dimension_line(alloc: Global, id: &str, algorithm: Algorithm) -> Result<Line, AllocError>
-    ensures { IfOk result (λ line. HaveDivisors (line ∷ [])) }
+fn dimension(alloc: Global, id: &str, algorithm: Algorithm) -> Result<DimDef, AllocError>
+    ensures id { IfOk result (λ def. def.id ≡ id.now) }
+    ensures divisor { IfOk result (λ def. def.divisor ≡ pos 1) }
 {
-    Ok(Line::Dimension(DimDef {
+    Ok(DimDef {
         id: Text::from_str(alloc, id)?,
         name: Text::from_str(alloc, id)?,
         algorithm,
@@ -59,7 +67,19 @@ fn dimension_line(alloc: Global, id: &str, algorithm: Algorithm) -> Result<Line,
         divisor: 1,
         hidden: false,
         noreset: false,
-    }))
+    })
+}
+
+fn chart_line(alloc: Global, title: &str) -> Result<Line, AllocError>
+    ensures { IfOk result (λ line. HaveDivisors (line ∷ [])) }
+{
+    Ok(Line::Chart(chart(alloc, title)?))
+}
+
+fn dimension_line(alloc: Global, id: &str, algorithm: Algorithm) -> Result<Line, AllocError>
+    ensures { IfOk result (λ line. HaveDivisors (line ∷ [])) }
+{
+    Ok(Line::Dimension(dimension(alloc, id, algorithm)?))
 }
 
 fn begin_line(alloc: Global) -> Result<Line, AllocError>
@@ -479,6 +499,104 @@ fn after_a_fault_it_must_be_opened_again(rt: HostRuntime) -> Result<(), Fail> {
     assert_eq!(rt; twice(alloc, &mut host)?, answers);
     let mut host = host.stop(Keep::All)?;
     assert_eq!(rt; opened(alloc, &mut host)?.count, 1);
+    Ok(())
+}
+
+fn open_dimension(alloc: Global, id: &str) -> Result<OpenDim, AllocError>
+    ensures id { IfOk result (λ dimension. dimension.def.id ≡ id.now) }
+    ensures divisor { IfOk result (λ dimension. dimension.def.divisor ≡ pos 1) }
+{
+    Ok(OpenDim {
+        chart: Text::from_str(alloc, "test.one")?,
+        def: dimension(alloc, id, Algorithm::Absolute)?,
+    })
+}
+
+fn one_chart(alloc: Global) -> Result<ChartDefList, AllocError>
+    ensures apart { IfOk result (AreApart same_chart) }
+    ensures grids { IfOk result (All (λ def. 0 < def.update_every)) }
+{
+    let mut charts = ChartDefList::new(alloc);
+    charts.push(chart(alloc, "One")?)?;
+    Ok(charts)
+}
+
+fn two_dimensions(alloc: Global) -> Result<OpenDimList, AllocError>
+    ensures apart { IfOk result (AreApart same_dimension) }
+    ensures divisors { IfOk result (All (λ dimension. dimension.def.divisor ≢ pos 0)) }
+{
+    let mut dimensions = OpenDimList::new(alloc);
+    dimensions.push(open_dimension(alloc, "a")?)?;
+    dimensions.push(open_dimension(alloc, "b")?)?;
+    Ok(dimensions)
+}
+
+fn one_value(alloc: Global, id: &str) -> Result<OpenValueList, AllocError>
+    ensures { IfOk result (AreApart same_value) }
+{
+    let mut values = OpenValueList::new(alloc);
+    values.push(OpenValue {
+        id: Text::from_str(alloc, id)?,
+        value: 42,
+        anomalous: false,
+    })?;
+    Ok(values)
+}
+
+fn one_row(alloc: Global, id: &str) -> Result<OpenRowList, AllocError>
+    ensures rows { IfOk result (AreApart same_row) }
+    ensures values { IfOk result (All (λ row. AreApart same_value row.values)) }
+{
+    let mut rows = OpenRowList::new(alloc);
+    rows.push(OpenRow {
+        chart: Text::from_str(alloc, "test.one")?,
+        values: one_value(alloc, id)?,
+    })?;
+    Ok(rows)
+}
+
+/// A beat that defines the chart and the dimensions a and b of it, and sets this one.
+fn beat_of(alloc: Global, id: &str) -> Result<OpenBeat, AllocError>
+    ensures { IfOk result IsOpenBeat }
+{
+    Ok(OpenBeat {
+        charts: one_chart(alloc)?,
+        dimensions: two_dimensions(alloc)?,
+        rows: one_row(alloc, id)?,
+    })
+}
+
+/// Hands in the beat that sets this dimension.
+fn hand_in<H: Host>(
+    alloc: Global,
+    agent: &mut Agent,
+    host: &mut H,
+    id: &str,
+    moment: u32,
+) -> Result<Reply, AgentFault>
+    requires { AgentIsReady H.honest (H.past host.old) agent.old }
+    ensures { AgentIsReady H.honest (H.past host.new) agent.new }
+{
+    match beat_of(alloc, id) {
+        Ok(beat) => agent.beat(host, &beat, moment),
+        Err(_) => Err(AgentFault::Memory),
+    }
+}
+
+/// What is answered to a beat that sets a dimension which it defines, and to one that sets another.
+fn two_beats<H: Host>(alloc: Global, host: &mut H) -> Result<[Option<AgentFault>; 2], AgentFault> {
+    let mut taking = make(alloc, host)?;
+    let first = hand_in(alloc, &mut taking.agent, host, "b", 60).err();
+    let other = hand_in(alloc, &mut taking.agent, host, "c", 61).err();
+    Ok([first, other])
+}
+
+#[test]
+fn a_beat_may_set_what_it_defines_and_nothing_else(rt: HostRuntime) -> Result<(), Fail> {
+    let mut host = host_of(rt.alloc(), &[])?;
+    let none = AgentFault::Refused(BlockFault::NoDimension);
+    assert_eq!(rt; two_beats(rt.alloc(), &mut host)?, [None, Some(none)]);
+    assert_eq!(rt; opened(rt.alloc(), &mut host)?.count, 1);
     Ok(())
 }
 

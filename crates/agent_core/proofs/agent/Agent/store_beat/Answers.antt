@@ -5,8 +5,8 @@ use Rattle.agent_core.proofs.HistoryLemmas.{passes}
 use Rattle.agent_core.proofs.KeptLemmas.{beat_moments, nothing_done}
 use Rattle.agent_core.proofs.agent.Agent.store_beat.Goals as goal
 
-pub returns-in-Some-refusal-clause-any_moment : goal.returns-in-Some-refusal-clause-any_moment
-returns-in-Some-refusal-clause-any_moment g c true_host set h is_of = begins (nothing_done (g.H.Host.past c.args.host.now) c.args.self.now set h is_of _ _)
+pub returns-in-Some-reason-clause-any_moment : goal.returns-in-Some-reason-clause-any_moment
+returns-in-Some-reason-clause-any_moment g c true_host set h is_of = begins (nothing_done (g.H.Host.past c.args.host.now) c.args.self.now set h is_of _ _)
 
 pub add-requires-clause-has_charts : goal.add-requires-clause-has_charts
 add-requires-clause-has_charts g c =
