@@ -7,17 +7,18 @@ use Rattle.host_model.specs.Source.{Takes as TakesBytes}
 use Rattle.host_model.specs.declared.status.Status.{Status}
 use Rattle.host_model.specs.declared.status.Status.TheVariants.{Ok as Done, Refused, Limit, ReadFault, TellFault, InputLimit, Memory}
 use Rattle.line_stream.specs.Chain.{Acts, acts_of, Chain, begins, goes_on, pauses}
-use Rattle.line_stream.specs.Run.{Ended, at_line, at_pause, at_long_line, at_end, at_fault, at_limit, at_want, TookAll}
+use Rattle.line_stream.specs.Run.{input_limit, Ended, at_line, at_pause, at_long_line, at_end, at_fault, at_limit, at_want, TookAll}
+use Rattle.line_stream.proofs.RunLemmas.{rose-later}
 use Rattle.plugin_text.specs.Lines.{fits, lines, parts, rest, HasNoLongLine}
 use Rattle.plugin_text.proofs.LongLemmas.{IsLongAfter-append}
 use Rattle.plugin_text.proofs.PartsLemmas.{parts_first, parts_whole, parts-append}
 use Rattle.point_lines.specs.declared.refusal.Refusal.{Refusal}
 use Rattle.point_lines.specs.Judged.{refusal_number}
 use Rattle.agent_app.specs.declared.converting.Converting.{Converting}
-use Rattle.agent_app.specs.Convert.{all_told, converted, ending_status, input_limit, is_limit, output_of, point_rules, status_of, status_within, tells_all, Converts, EndsAsText, HasStatusCause, IsUnasked, TellsOutput}
+use Rattle.agent_app.specs.Convert.{all_told, converted, ending_status, is_limit, output_of, point_rules, status_of, status_within, tells_all, Converts, EndsAsText, HasStatusCause, IsUnasked, TellsOutput}
 use Rattle.agent_app.specs.Converting.{Ends, EndsAs, EndsIn, HasConverted, HasRun, IsFinal, Overflows, Pauses, Takes, TellsLast}
 use Rattle.agent_app.specs.Reading.{Ending, Ends as IsOver, GoesOn, RefusedAt, Reading, reading}
-use Rattle.agent_app.proofs.ConvertingLemmas.{both-none, later-unasked, no_memory, rose-later, rose-sooner}
+use Rattle.agent_app.proofs.ConvertingLemmas.{both-none, later-unasked, no_memory, rose-sooner}
 use Rattle.agent_app.proofs.HasReadLemmas.{ending_within, line-onward, read-open, take-append_past, within-ended, within-limit}
 
 -- ---- why a run ended

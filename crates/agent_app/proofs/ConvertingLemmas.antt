@@ -1,7 +1,6 @@
 -- A text whose points are told, line by line.
 use Rattle.std.proofs.Common.{◌≡◌, ℕ, ◌+◌, ◌≤◌, Bool, true, false, List, [], ◌∷◌, ◌++◌, length, take, drop, Ok, Err, inl, inr, refl, sym, ap, subst, ◌∙◌, append_assoc, append-nil, string_bytes, arith}
 use Rattle.std.proofs.lemmas.List.{take-append-drop}
-use Rattle.std.proofs.lemmas.Bool.{cases_lt}
 use Rattle.host_model.specs.Cause.{Rose}
 use Rattle.host_model.specs.Past.{Event, Told, told, MayAdd}
 use Rattle.host_model.specs.declared.status.Status.{Status}
@@ -17,6 +16,7 @@ use Rattle.point_lines.specs.declared.refusal.Refusal.TheVariants as refusal
 use Rattle.point_lines.specs.Judged.{every, judge}
 use Rattle.point_lines.specs.Reader.{IsReaderOf, ReadsLine}
 use Rattle.point_lines.specs.Told.{told_at, told_at_end}
+use Rattle.line_stream.proofs.RunLemmas.{rose-later}
 use Rattle.agent_app.specs.declared.converting.Converting.{Converting}
 use Rattle.agent_app.specs.Convert.{all_told, ending_line, ending_status, point_rules, IsUnasked}
 use Rattle.agent_app.specs.Converting.{AddsEnding, EndsIn, HasConverted, IsFinal, TellsFront}
@@ -33,11 +33,7 @@ pub both-none : (first second : List ℕ) → first ++ second ≡ [] → (first 
 both-none [] second none = (refl, none)
 both-none (byte ∷ first) second none = cc
 
--- a count that rose in a part of a call rose in the call
-pub rose-later : (old middle new : ℕ) → old ≤ middle → middle ≤ new → Rose middle new → Rose old new
-rose-later old middle new before after (inl rose) = inl (omega arith)
-rose-later old middle new before after (inr stands) = elim (cases_lt old new) [ inl rise ↦ inl rise | inr no_rise ↦ inr (omega arith) ]
-
+-- a count that rose in the first part of a call rose in the call
 pub rose-sooner : (old middle new : ℕ) → Rose old middle → middle ≤ new → Rose old new
 rose-sooner old middle new (inl rose) after = inl (omega arith)
 rose-sooner old middle new (inr stands) after = inr stands

@@ -14,19 +14,21 @@ use Rattle.collect_block.specs.Feed.{IsFeedOf}
 use Rattle.point_lines.specs.Judged.{every}
 use Rattle.entry_codec.specs.declared.entry.Settings.{Settings}
 use Rattle.line_stream.specs.Run.{Ran}
+use Rattle.line_stream.proofs.RunLemmas.{rose-later, Takes-none}
 use Rattle.store_core.specs.Stands.{is_made}
 use Rattle.agent_core.specs.declared.fault.AgentFault.{AgentFault}
 use Rattle.agent_core.specs.declared.fault.AgentFault.TheVariants as fault
 use Rattle.agent_core.specs.Agent.{AgentState, IsAgentOf}
 use Rattle.agent_core.specs.Calls.{Opens, Seen}
+use Rattle.agent_core.specs.Faults.{IsOpening}
 use Rattle.agent_core.specs.Kept.{StandsForHistory}
 use Rattle.agent_app.specs.declared.running.Running.{Running}
-use Rattle.agent_app.specs.Run.{is_whole, Keeps, no_more, run_output, run_reading, run_rules, run_status, HasRunCause, Runs, RunsAll}
+use Rattle.agent_app.specs.Run.{is_opened, is_whole, Keeps, no_more, run_output, run_reading, run_rules, run_status, HasRunCause, Runs, RunsAll}
 use Rattle.agent_app.specs.Running.{opening_status, Counts, DiskRose, IsRunning, TellRose}
 use Rattle.agent_app.proofs.AckLemmas.{acked-nothing, acked-since, text-front}
 use Rattle.agent_core.proofs.Within.{within-of}
 use Rattle.agent_app.proofs.HasReadLemmas.{read-start}
-use Rattle.agent_app.proofs.RunLemmas.{EndsFor, cause-wider, rose-sooner, run-counts, run-for, run-over, run_acts}
+use Rattle.agent_app.proofs.RunLemmas.{EndsFor, cause-wider, run-counts, run-for, run-over, run_acts}
 
 -- at each moment of the opening a stop leaves the history
 opening-stops : (set : Settings) (h0 : List Beat) (old new : List Event) → EveryDisk (StandsForHistory set h0) old → told new ≡ told old → Throughout (EveryDisk (IsDisk old)) old new → Throughout (EveryStop (Keeps set h0 h0 (told old))) old new
@@ -52,10 +54,6 @@ complete-by : (left left' : Option (List ℕ)) (text : List ℕ) (P : List ℕ �
 complete-by left None text P takes shows = subst (λ (o : Option (List ℕ)). IfSome o P) (sym takes) tt
 complete-by left (Some more) text P takes shows = subst (λ (o : Option (List ℕ)). IfSome o P) (sym takes) (shows more refl)
 
-takes-none : (left : Option (List ℕ)) → Takes left [] left
-takes-none None = refl
-takes-none (Some bytes) = refl
-
 -- ---- the database was not opened
 module _ (honest : Type 0) (host host' : Seen) (first : honest → IsDisk host.past (reads_as host.past)) where
   -- by which fault it was not
@@ -71,7 +69,7 @@ module _ (honest : Type 0) (host host' : Seen) (first : honest → IsDisk host.p
       record {
         taken = [];
         ended = false;
-        takes = takes-none left;
+        takes = Takes-none left;
         within = omega arith;
         at_end = λ e. absurd (true≢false (sym e));
         stops = opening-stops set h0 host.past host'.past stands (opens.output h) (opens.any_moment h);
@@ -120,6 +118,35 @@ module _ (honest : Type 0) (host host' : Seen) (first : honest → IsDisk host.p
 
       memory : status.Memory ≡ status.Damaged part → ⊥
       memory e = cc
+
+  -- which part is damaged
+  damaged-by : (why : AgentFault) (part : ℕ) → opening_status why ≡ status.Damaged part → why ≡ fault.Damaged part
+  damaged-by (fault.Damaged other) part is = ap fault.Damaged (same other part is)
+    where
+      same : (a b : ℕ) → status.Damaged a ≡ status.Damaged b → a ≡ b
+      same a b e = cc
+  damaged-by fault.DiskFault part is = absurd (apart is)
+    where
+      apart : status.DiskFault ≡ status.Damaged part → ⊥
+      apart e = cc
+  damaged-by fault.NotADatabase part is = absurd (apart is)
+    where
+      apart : status.NotADatabase ≡ status.Damaged part → ⊥
+      apart e = cc
+  damaged-by other part is = absurd (apart is)
+    where
+      apart : status.Memory ≡ status.Damaged part → ⊥
+      apart e = cc
+
+  unopened-parts : (why : AgentFault) → Opens honest host (Err why) host' → (part : ℕ) → opening_status why ≡ status.Damaged part → (part ≡ 4) ⊎ (part ≡ 5)
+  unopened-parts why opens part is = subst IsOpening (damaged-by why part is) opens.faults
+
+  -- no such status says that the database was opened
+  unopened-all : (why : AgentFault) → is_opened (opening_status why) ≡ false
+  unopened-all (fault.Damaged part) = refl
+  unopened-all fault.DiskFault = refl
+  unopened-all fault.NotADatabase = refl
+  unopened-all other = refl
 
   -- the source was not asked, and nothing was told
   unread : (why : AgentFault) → opening_status why ≡ status.ReadFault → ⊥
@@ -171,6 +198,10 @@ module _ (honest : Type 0) (host host' : Seen) (first : honest → IsDisk host.p
     none = λ is h. unopened-none why opens is h;
     unmade = λ h unmade. unopened-unmade why opens h unmade;
     damaged = λ part is h set g stands. unopened-damaged why opens part is h set g stands;
+    parts = λ part is. unopened-parts why opens part is;
+    damaged_records = λ is h. opens.damaged (ap (λ (f : AgentFault). Err f) (damaged-by why 4 is)) h;
+    damaged_notes = λ is h. opens.damaged_notes (ap (λ (f : AgentFault). Err f) (damaged-by why 5 is)) h;
+    opened = λ is h. absurd (true≢false (sym is ∙ unopened-all why));
     used = λ is. unused why is;
     read_cause = record { later = omega arith; failed = λ is. absurd (unread why is) };
     tell_cause = record { later = omega (arith, opens.tells); failed = λ is. absurd (untold-yet why is) };
@@ -208,10 +239,10 @@ module _ {H : Type 0} (honest : Type 0) (seen : H → Seen) (host : Seen) (agent
     all-counts = record { tells = omega (arith, opens.tells, counts.tells); disk = omega (arith, opens.cause.later, counts.disk) }
 
     tells-sooner : TellRose (seen middle) (seen host') → TellRose host (seen host')
-    tells-sooner = rose-sooner host.tell_faults (seen middle).tell_faults (seen host').tell_faults (omega (arith, opens.tells)) counts.tells
+    tells-sooner = rose-later host.tell_faults (seen middle).tell_faults (seen host').tell_faults (omega (arith, opens.tells)) counts.tells
 
     disk-sooner : DiskRose (seen middle) (seen host') → DiskRose host (seen host')
-    disk-sooner = rose-sooner host.disk_faults (seen middle).disk_faults (seen host').disk_faults opens.cause.later counts.disk
+    disk-sooner = rose-later host.disk_faults (seen middle).disk_faults (seen host').disk_faults opens.cause.later counts.disk
 
     for-all : EndsFor s (Rose faults faults') (TellRose (seen middle) (seen host')) (DiskRose (seen middle) (seen host'))
     for-all = run-for honest seen s running middle ran.text running' host' left' (Rose faults faults') ran.ended
@@ -240,6 +271,10 @@ module _ {H : Type 0} (honest : Type 0) (seen : H → Seen) (host : Seen) (agent
       none = λ is h. absurd (for-all.made is);
       unmade = λ h unmade. absurd (true≢false (sym (opens.some h) ∙ unmade));
       damaged = λ part is h set g stands. for-all.sound part is;
+      parts = λ part is. absurd (for-all.sound part is);
+      damaged_records = λ is h. absurd (for-all.sound 4 is);
+      damaged_notes = λ is h. absurd (for-all.sound 5 is);
+      opened = λ is h. opens.notes h;
       used = λ is. for-all.used is;
       read_cause = record { later = up; failed = for-all.read };
       tell_cause = record { later = all-counts.tells; failed = λ is. tells-sooner (for-all.tell is) };

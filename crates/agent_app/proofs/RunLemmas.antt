@@ -1,7 +1,6 @@
 -- A whole run, from its first line to its end.
-use Rattle.std.proofs.Common.{◌≡◌, ◌⊎◌, inl, inr, ⊎_elim, ℕ, ◌-◌, ◌^◌, ◌<◌, ◌≤◌, Bool, true, false, nat_lt, List, [], ◌∷◌, ◌++◌, length, take, Option, Some, IfSome, Result, Ok, Err, refl, sym, ap, subst, ◌∙◌, append_assoc, append-nil, length-append, arith, true≢false}
+use Rattle.std.proofs.Common.{◌≡◌, ◌⊎◌, inl, inr, ℕ, ◌-◌, ◌<◌, ◌≤◌, Bool, true, false, nat_lt, List, [], ◌∷◌, ◌++◌, length, take, Option, Some, IfSome, Result, Ok, Err, refl, sym, ap, subst, ◌∙◌, append_assoc, append-nil, length-append, arith, true≢false}
 use Rattle.std.proofs.lemmas.List.{take_all, take-append-le}
-use Rattle.std.proofs.lemmas.Bool.{cases_lt}
 use Rattle.std.proofs.lemmas.Bool.Decides.{nat_tests}
 use Rattle.std.proofs.lemmas.List.Elements.{recursion_from_All}
 use Rattle.std.specs.List.{AllByRecursion, AllPass}
@@ -18,10 +17,11 @@ use Rattle.point_lines.specs.declared.refusal.Refusal.{Refusal}
 use Rattle.point_lines.specs.Judged.{every}
 use Rattle.entry_codec.specs.declared.entry.Settings.{Settings}
 use Rattle.line_stream.specs.Chain.{Acts, acts_of, Chain, begins, goes_on, pauses}
-use Rattle.line_stream.specs.Run.{Ended, at_line, at_pause, at_long_line, at_end, at_fault, at_limit, at_want}
+use Rattle.line_stream.specs.Run.{input_limit, Ended, at_line, at_pause, at_long_line, at_end, at_fault, at_limit, at_want}
+use Rattle.line_stream.proofs.RunLemmas.{rose-later}
 use Rattle.agent_core.specs.Calls.{Seen}
 use Rattle.agent_app.specs.declared.running.Running.{Running}
-use Rattle.agent_app.specs.Convert.{all_told, ending_status, input_limit}
+use Rattle.agent_app.specs.Convert.{all_told, ending_status}
 use Rattle.agent_app.specs.Reading.{Ending, GoesOn, Reading}
 use Rattle.agent_app.specs.Run.{run_reading, run_rules, run_status, HasRunCause}
 use Rattle.agent_app.specs.Running.{Counts, DiskRose, EndsRun, IsCausedBy, IsRunning, Overflows, Pauses, StopsIn, TakesLine, TellRose}
@@ -30,10 +30,6 @@ use Rattle.agent_app.proofs.HasReadLemmas.{line-onward, read-open, says-all, tak
 use Rattle.agent_app.proofs.StopsLemmas.{output-behind, want-stop, whole-stop}
 
 -- ---- failures
-pub rose-sooner : (a b c : ℕ) → a ≤ b → b ≤ c → Rose b c → Rose a c
-rose-sooner a b c first second (inl less) = inl (omega arith)
-rose-sooner a b c first second (inr full) = ⊎_elim (λ less. inl (omega arith)) (λ more. inr (omega arith)) (cases_lt a (2 ^ 64 - 1))
-
 pub cause-wider : (s : Status) (ended : Bool) (ending : Ending Refusal) (taken : List ℕ) (a b c a' b' c' : Type 0) → (a → a') → (b → b') → (c → c') → HasRunCause s ended ending taken a b c → HasRunCause s ended ending taken a' b' c'
 cause-wider status.ReadFault ended ending taken a b c a' b' c' f g h has = (has.0, has.1, f has.2)
 cause-wider status.TellFault ended ending taken a b c a' b' c' f g h has = g has
@@ -232,10 +228,10 @@ module _ {H : Type 0} (honest : Type 0) (seen : H → Seen) where
       -- a step from a middle host ended the run
       module _ (middle host'' : H) (first : Counts (seen host) (seen middle)) (second : Counts (seen middle) (seen host'')) where
         tells-sooner : TellRose (seen middle) (seen host'') → TellRose (seen host) (seen host'')
-        tells-sooner = rose-sooner (seen host).tell_faults (seen middle).tell_faults (seen host'').tell_faults first.tells second.tells
+        tells-sooner = rose-later (seen host).tell_faults (seen middle).tell_faults (seen host'').tell_faults first.tells second.tells
 
         disk-sooner : DiskRose (seen middle) (seen host'') → DiskRose (seen host) (seen host'')
-        disk-sooner = rose-sooner (seen host).disk_faults (seen middle).disk_faults (seen host'').disk_faults first.disk second.disk
+        disk-sooner = rose-later (seen host).disk_faults (seen middle).disk_faults (seen host'').disk_faults first.disk second.disk
 
         over-by : (ended : Bool) (t : List ℕ) → StopsIn s set h0 ended t start (seen host'').past ⊥ (TellRose (seen middle) (seen host'')) (DiskRose (seen middle) (seen host''))
             → StopsIn s set h0 ended t start (seen host'').past source_rose (TellRose (seen host) (seen host'')) (DiskRose (seen host) (seen host''))
@@ -345,8 +341,8 @@ module _ {H : Type 0} (honest : Type 0) (seen : H → Seen) where
       let own = caused-for s source_rose (TellRose (seen middle) (seen host'')) (DiskRose (seen middle) (seen host'')) caused in
       record {
         read = own.read;
-        tell = λ is. rose-sooner (seen host).tell_faults (seen middle).tell_faults (seen host'').tell_faults first.tells second.tells (own.tell is);
-        disk = λ is. rose-sooner (seen host).disk_faults (seen middle).disk_faults (seen host'').disk_faults first.disk second.disk (own.disk is);
+        tell = λ is. rose-later (seen host).tell_faults (seen middle).tell_faults (seen host'').tell_faults first.tells second.tells (own.tell is);
+        disk = λ is. rose-later (seen host).disk_faults (seen middle).disk_faults (seen host'').disk_faults first.disk second.disk (own.disk is);
         made = own.made;
         sound = own.sound;
         used = own.used;

@@ -14,6 +14,7 @@ use Rattle.point_lines.specs.declared.refusal.Refusal.{Refusal}
 use Rattle.point_lines.specs.declared.refusal.Refusal.TheVariants as refusal
 use Rattle.point_lines.specs.Judged.{every, judge, refusal_number}
 use Rattle.point_lines.specs.Told.{told_at, told_at_end}
+use Rattle.line_stream.specs.Run.{input_limit}
 use Rattle.agent_app.specs.Reading.{Rules, Reading, Ending, GoesOn, Ends, RefusedAt, reading_of}
 
 -- the rules of a text whose points are told
@@ -60,10 +61,6 @@ all_told reading = reading.told ++ ending_line reading.ending
 -- all that is told of a text
 abbrev pub output_of : Bool → List ℕ → List ℕ
 output_of ended text = all_told (converted ended text)
-
--- 2^40 bytes: no call takes more of its input
-abbrev pub input_limit : ℕ
-input_limit = 1099511627776
 
 -- at all other statuses the whole output was told
 abbrev pub tells_all : Status → Bool

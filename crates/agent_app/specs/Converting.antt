@@ -9,8 +9,9 @@ use Rattle.history.specs.declared.line.Line.{Line}
 use Rattle.plugin_text.specs.Lines.{fits}
 use Rattle.point_lines.specs.declared.refusal.Refusal.{Refusal}
 use Rattle.point_lines.specs.Reader.{IsReaderOf}
+use Rattle.line_stream.specs.Run.{input_limit}
 use Rattle.agent_app.specs.declared.converting.Converting.{Converting}
-use Rattle.agent_app.specs.Convert.{all_told, converted, ending_status, input_limit, output_of, point_rules, status_of, tells_all, HasStatusCause, IsUnasked, TellsOutput}
+use Rattle.agent_app.specs.Convert.{all_told, converted, ending_status, output_of, point_rules, status_of, tells_all, HasStatusCause, IsUnasked, TellsOutput}
 use Rattle.agent_app.specs.Reading.{Ending, GoesOn, Ends as IsOver, RefusedAt, HasRead, Reading, reading}
 
 -- a front of the bytes was told

@@ -24,12 +24,14 @@ use Rattle.point_lines.specs.declared.refusal.Refusal.{Refusal}
 use Rattle.point_lines.specs.declared.refusal.Refusal.TheVariants as refusal
 use Rattle.point_lines.specs.Judged.{every}
 use Rattle.entry_codec.specs.declared.entry.Settings.{Settings}
-use Rattle.store_core.specs.Stands.{is_made}
+use Rattle.store_core.specs.Stands.{is_made, IsDamaged}
 use Rattle.store_core.specs.Store.{counted}
 use Rattle.agent_core.specs.Calls.{Seen}
 use Rattle.agent_core.specs.Kept.{StandsForHistory}
+use Rattle.agent_core.specs.Notes.{HasNotes}
 use Rattle.agent_core.specs.Replies.{reply_text}
-use Rattle.agent_app.specs.Convert.{all_told, ending_status, input_limit, HasStatusCause}
+use Rattle.line_stream.specs.Run.{input_limit}
+use Rattle.agent_app.specs.Convert.{all_told, ending_status, HasStatusCause}
 use Rattle.agent_app.specs.Reading.{Ending, Reading, Rules, lines_read, reading_of}
 
 -- ---- what a text says behind a history
@@ -134,6 +136,14 @@ pub record Runs (status : Status) (set : Settings) (h0 : List Beat) (left left' 
   pub output : TellsRun status (run_output h0 ended taken) old new
   pub cause : HasRunCause status ended (run_reading h0 ended taken).ending taken source_rose tell_rose disk_rose
 
+-- the statuses at which the database was opened for sure
+abbrev pub is_opened : Status → Bool
+is_opened NotADatabase = false
+is_opened (Damaged part) = false
+is_opened DiskFault = false
+is_opened Memory = false
+is_opened status = true
+
 -- `run` ended with this status, and left the source and the host so
 pub record RunsAll (honest : Type 0) (status : Status) (left left' : Option (List ℕ)) (source_faults source_faults' : ℕ) (host host' : Seen) : Type 0 where
   pub runs : honest → (set : Settings) (h0 : List Beat) → EveryDisk (StandsForHistory set h0) host.past
@@ -147,6 +157,14 @@ pub record RunsAll (honest : Type 0) (status : Status) (left left' : Option (Lis
   pub unmade : honest → is_made (reads_as host.past) ≡ false → (status ≡ NotADatabase) ⊎ (status ≡ DiskFault) ⊎ (status ≡ Memory)
   -- and a database that stands for a history is never damaged
   pub damaged : (part : ℕ) → status ≡ Damaged part → honest → (set : Settings) (h : List Beat) → StandsForHistory set h (reads_as host.past) → ⊥
+  -- Damaged says which part: 4 where there is a database that holds no settings and beats, 5 where it holds them
+  -- and the notes do not go on. A disk holds one list of beats at most, so that IsDamaged, HasNotes false and
+  -- HasNotes true exclude each other. So where there is a database, and neither the disk nor memory fails, the
+  -- status is Damaged exactly where one of the first two holds.
+  pub parts : (part : ℕ) → status ≡ Damaged part → (part ≡ 4) ⊎ (part ≡ 5)
+  pub damaged_records : status ≡ Damaged 4 → honest → IsDamaged (reads_as host.past)
+  pub damaged_notes : status ≡ Damaged 5 → honest → HasNotes false (reads_as host.past)
+  pub opened : is_opened status ≡ true → honest → HasNotes true (reads_as host.past)
   pub used : status ≢ Usage
   -- each part of the outside fails only where it counted a failure
   pub read_cause : HasCause source_faults source_faults' (status ≡ ReadFault)

@@ -179,7 +179,8 @@ module _ {T H : Type 0} (acts : Acts T H) (start : T) (begin : H) where
 
 -- ---- why a run ended
 
-rose-later : (old mid new : ℕ) → old ≤ mid → mid ≤ new → Rose mid new → Rose old new
+-- a count that rose in a part of a call rose in the call
+pub rose-later : (old mid new : ℕ) → old ≤ mid → mid ≤ new → Rose mid new → Rose old new
 rose-later old mid new earlier later (inl rise) = inl (omega arith)
 rose-later old mid new earlier later (inr stands) = elim (cases_lt old new) [ inl rise ↦ inl rise | inr no_rise ↦ inr (omega arith) ]
 
@@ -201,7 +202,7 @@ pub Takes-append : (left middle right : Option (List ℕ)) (first second : List 
 Takes-append left middle None first second takes then_takes = takes ∙ rw then_takes refl
 Takes-append left middle (Some rest) first second takes then_takes = takes ∙ rw (then_takes, append_assoc first second rest) refl
 
-Takes-none : (left : Option (List ℕ)) → Takes left [] left
+pub Takes-none : (left : Option (List ℕ)) → Takes left [] left
 Takes-none None = refl
 Takes-none (Some rest) = refl
 
