@@ -10,7 +10,8 @@ use Rattle.host_model.specs.Past.{Event, told, IsDisk, IsText}
 use Rattle.host_model.specs.Source.{Takes}
 use Rattle.host_model.proofs.DiskLemmas.{untold}
 use Rattle.history.specs.History.{Beat}
-use Rattle.collect_block.specs.Feed.{IsFeedOf}
+use Rattle.history.specs.Registry.{Registry}
+use Rattle.collect_block.specs.Feed.{CountsFor, IsFeedOf}
 use Rattle.point_lines.specs.Judged.{every}
 use Rattle.entry_codec.specs.declared.entry.Settings.{Settings}
 use Rattle.line_stream.specs.Run.{Ran}
@@ -210,7 +211,7 @@ module _ (honest : Type 0) (host host' : Seen) (first : honest → IsDisk host.p
 
 -- ---- the database was opened
 module _ {H : Type 0} (honest : Type 0) (seen : H → Seen) (host : Seen) (agent : AgentState) (middle : H) (opens : Opens honest host (Ok agent) (seen middle)) (first : honest → IsDisk host.past (reads_as host.past))
-    (running : Running) (agent-is : running.agent ≡ agent) (feed-is : IsFeedOf running.feed every []) where
+    (running : Running) (agent-is : running.agent ≡ agent) (feed-is : IsFeedOf running.feed every []) (feed-counts : (registry : Registry) → CountsFor running.feed registry) where
   begins-so : honest → (set : Settings) (h0 : List Beat) → EveryDisk (StandsForHistory set h0) host.past → IsRunning (seen middle).past running set h0 [] host.past
   begins-so h set h0 stands =
       let here = stands (reads_as host.past) (first h) in
@@ -223,6 +224,7 @@ module _ {H : Type 0} (honest : Type 0) (seen : H → Seen) (host : Seen) (agent
           accepted = tt;
           agent = subst (λ (a : AgentState). IsAgentOf (seen middle).past a set h0) (sym agent-is) (opens.opened h set h0 here);
           feed = feed-is;
+          counts = feed-counts running.agent.registry;
           tells = opens.output h ∙ sym (append-nil (told host.past));
           closed = refl;
           acked = acked-nothing (length h0);

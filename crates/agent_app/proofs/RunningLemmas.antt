@@ -14,7 +14,7 @@ use Rattle.history.specs.History.{Beat}
 use Rattle.history.specs.Read.{history_at, refusal_at}
 use Rattle.plugin_text.specs.Lines.{rest}
 use Rattle.point_lines.specs.Judged.{every}
-use Rattle.collect_block.specs.Feed.{IsFeedOf}
+use Rattle.collect_block.specs.Feed.{CountsFor, IsFeedOf}
 use Rattle.entry_codec.specs.declared.entry.Settings.{Settings}
 use Rattle.store_core.proofs.StoreLemmas.{every_image_of, store_told}
 use Rattle.agent_core.specs.Agent.{AgentState, IsAgentOf}
@@ -84,9 +84,9 @@ module _ (past : List Event) (running : Running) (set : Settings) (h0 : List Bea
 
   -- a line was taken
   pub line-taken : (said : Line) (new : List Event) (running' : Running) (reason : Option BlockFault) → refusal_at every h0 read said ≡ None
-      → IsAgentOf new running'.agent set (history_with now every read said) → IsFeedOf running'.feed every (said ∷ read)
+      → IsAgentOf new running'.agent set (history_with now every read said) → IsFeedOf running'.feed every (said ∷ read) → CountsFor running'.feed running'.agent.registry
       → Throughout (EveryDisk (StandsForOneOf set now reason (history_with now every read said))) past new → told new ≡ told past → RunsAt new running' set h0 start (said ∷ read) made
-  line-taken said new running' reason free agent feed moments silent =
+  line-taken said new running' reason free agent feed counts moments silent =
       let after = history_at every h0 (said ∷ read) in
       let one = extends-line h0 read said in
       record {
@@ -94,6 +94,7 @@ module _ (past : List Event) (running : Running) (set : Settings) (h0 : List Bea
         accepted = (free, at.accepted);
         agent = subst (IsAgentOf new running'.agent set) (with-line h0 read said) agent;
         feed = feed;
+        counts = counts;
         tells = silent ∙ at.tells;
         closed = at.closed;
         acked = acked-weaker (length now) (length after) made (extends-length now after one) at.acked;
@@ -139,6 +140,7 @@ module _ (past : List Event) (running : Running) (set : Settings) (h0 : List Bea
       accepted = at.accepted;
       agent = subst (λ (p : List Event). IsAgentOf p running.agent set now) (sym is) (agent-told text past running.agent set now at.agent);
       feed = at.feed;
+      counts = at.counts;
       tells = ap told is ∙ ap (λ (t : List ℕ). t ++ text) at.tells ∙ append_assoc (told start) made text;
       closed = closed-more made text at.closed closed;
       acked = acked-more (length now) made text at.closed at.acked acked;

@@ -23,9 +23,10 @@ use Rattle.point_lines.specs.declared.refusal.Refusal.{Refusal}
 use Rattle.point_lines.specs.declared.refusal.Refusal.TheVariants as refusal
 use Rattle.point_lines.specs.Judged.{every, refusal_number}
 use Rattle.point_lines.specs.Steps.{HasDivisor}
+use Rattle.point_lines.proofs.StepLemmas.{counts-at}
 use Rattle.beat_points.specs.Text.{HaveDivisors}
 use Rattle.collect_block.specs.declared.feed.Feed.{Feed}
-use Rattle.collect_block.specs.Feed.{Becomes, IsFeedOf}
+use Rattle.collect_block.specs.Feed.{Becomes, CountsFor, IsFeedOf}
 use Rattle.entry_codec.specs.declared.entry.Settings.{Settings}
 use Rattle.agent_core.specs.declared.fault.AgentFault.{AgentFault}
 use Rattle.agent_core.specs.declared.fault.AgentFault.TheVariants as agent_fault
@@ -155,7 +156,7 @@ module _ (honest : Type 0) (running : Running) (host : Seen) (number : ℕ) (byt
       reason-is = (λ i. line_refusal (at.agent.holds.registry_is i) (at.agent.copies i) (at.agent.last_is i) every read said) ∙ text-line every h0 at.within read said at.accepted
 
       refused-by : RefusedBy (reason read) result
-      refused-by = lined.refused at.agent.going every read at.feed
+      refused-by = lined.refused at.agent.going every read at.feed (counts-at running.feed running.agent.registry said at.counts)
 
       moments : Throughout (EveryDisk (StandsForOneOf set (history_at every h0 read) (reason read) (history_with (history_at every h0 read) every read said))) host.past middle.past
       moments = lined.any_moment h set (history_at every h0 read) every read at.agent at.feed
@@ -172,7 +173,8 @@ module _ (honest : Type 0) (running : Running) (host : Seen) (number : ℕ) (byt
             line-taken host.past running set h0 start read made at said middle.past now (reason read) free
             (subst (λ (r : Result Said AgentFault). OnOk r (honest → (set : Settings) (h : List Beat) (every : ℕ) (past : List Line) → IsAgentOf host.past running.agent set h → IsFeedOf running.feed every past
             → IsAgentOf middle.past agent set (history_with h every past said))) ok lined.done h set (history_at every h0 read) every read at.agent at.feed)
-            (subst (λ (r : Result Said AgentFault). OnOk r (Becomes said running.feed feed)) ok lined.takes every read at.feed) moments (lined.output h)
+            (subst (λ (r : Result Said AgentFault). OnOk r (Becomes said running.feed feed)) ok lined.takes every read at.feed)
+            (subst (λ (r : Result Said AgentFault). OnOk r (CountsFor running.feed running.agent.registry → CountsFor feed agent.registry)) ok lined.counts_on at.counts) moments (lined.output h)
 
         reply-is : reply ≡ said_of agent.count said
         reply-is = subst (λ (r : Result Said AgentFault). IfOk r (λ (s : Said). s ≡ said_of agent.count said)) ok lined.said

@@ -14,7 +14,7 @@ use Rattle.plugin_text.specs.Lines.{lines, parts, rest, fits}
 use Rattle.point_lines.specs.declared.refusal.Refusal.{Refusal}
 use Rattle.point_lines.specs.Judged.{every}
 use Rattle.beat_points.specs.Text.{AreAccepted}
-use Rattle.collect_block.specs.Feed.{IsFeedOf}
+use Rattle.collect_block.specs.Feed.{CountsFor, IsFeedOf}
 use Rattle.entry_codec.specs.declared.entry.Settings.{Settings}
 use Rattle.agent_core.specs.declared.fault.AgentFault.{AgentFault}
 use Rattle.agent_core.specs.declared.fault.AgentFault.TheVariants as agent_fault
@@ -37,6 +37,7 @@ pub record RunsAt (past : List Event) (running : Running) (set : Settings) (h0 :
   pub accepted : AreAccepted every h0 read
   pub agent : IsAgentOf past running.agent set (history_at every h0 read)
   pub feed : IsFeedOf running.feed every read
+  pub counts : CountsFor running.feed running.agent.registry
   pub tells : told past ≡ told start ++ made
   pub closed : rest made ≡ []
   pub acked : IsAckedUpTo (length (history_at every h0 read)) made

@@ -6,7 +6,8 @@ ghost use Rattle.plugin_text.specs.Answer.{IsFaultFor};
 ghost use Rattle.plugin_text.specs.Line.{line as line_of};
 ghost use Rattle.plugin_text.specs.Lines.{fits};
 ghost use Rattle.beat_points.specs.Text.{HaveDivisors};
-ghost use Rattle.collect_block.specs.Feed.{IsFeedOf};
+ghost use Rattle.history.specs.Registry.{Registry};
+ghost use Rattle.collect_block.specs.Feed.{CountsFor, IsFeedOf};
 ghost use Rattle.agent_core.specs.Fed.{IsFed};
 ghost use Rattle.agent_core.specs.Replies.{reply_text};
 ghost use Rattle.agent_app.specs.Running.{is_query, IsCutShort, IsFit, TellsRefusal, TakesLine, Pauses, EndsRun, Overflows};
@@ -78,6 +79,7 @@ impl Running {
     pub(crate) fn new(alloc: Global, agent: Agent) -> Running
         ensures agent { result.agent ≡ agent }
         ensures feed { IsFeedOf result.feed 1 [] }
+        ensures counts { (registry : Registry) → CountsFor result.feed registry }
         ensures fed { IsFed result.feed }
     {
         Running {

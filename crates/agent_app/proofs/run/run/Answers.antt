@@ -9,7 +9,7 @@ pub returns-in-Ok : goal.returns-in-Ok
 returns-in-Ok g c =
     let host : Seen = record { past = g.H.Host.past c.args.host.now; disk_faults = g.H.Host.disk_faults c.args.host.now; tell_faults = g.H.Host.tell_faults c.args.host.now } in
     opened g.H.Host.honest (λ h. record { past = g.H.Host.past h; disk_faults = g.H.Host.disk_faults h; tell_faults = g.H.Host.tell_faults h }) host c.in-Ok.agent c.open.new.host c.in-Ok.ensures
-    (λ h file. g.met.H.Host.reads_an_image c.args.host.now file h) c.new-running.result c.new-running.ensures.agent c.new-running.ensures.feed c.take_text.result c.take_text.new.taker c.take_text.new.host
+    (λ h file. g.met.H.Host.reads_an_image c.args.host.now file h) c.new-running.result c.new-running.ensures.agent c.new-running.ensures.feed c.new-running.ensures.counts c.take_text.result c.take_text.new.taker c.take_text.new.host
     (g.S.Source.left c.args.source.now) (g.S.Source.left c.take_text.new.source) (g.S.Source.faults c.args.source.now) (g.S.Source.faults c.take_text.new.source) c.take_text.ensures.count c.take_text.ensures.ran
 
 pub returns-in-Err : goal.returns-in-Err
