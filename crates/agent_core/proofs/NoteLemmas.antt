@@ -23,7 +23,7 @@ use Rattle.store_core.specs.Records.{with_all}
 use Rattle.store_core.specs.Stands.{Stands}
 use Rattle.store_core.specs.Store.{IsReplayed, IsStoreAt, OpensAt, Replays, StoreState}
 use Rattle.store_core.proofs.StandLemmas.{stands_once}
-use Rattle.agent_core.specs.Notes.{beats_go_on, collected_at, collected_in, registry_left, takes_note, with_note, HasNotes}
+use Rattle.agent_core.specs.Notes.{beats_go_on, collected_at, collected_in, names_series, registry_left, takes_note, with_note, HasNotes}
 use Rattle.agent_core.specs.Replay.{HasTaken}
 
 -- ---- the registry that an entry leaves
@@ -65,18 +65,30 @@ absent-in kept none = by (read_entry kept.note) refl
     by (Ok (entry.Collected found)) reads = tested found reads (is_number found.moment kept.moment) refl
     by read reads = refl
 
--- the note of an entry goes on just as the entry does
-pub note-goes : (goes : Bool) (registry : Registry) (kept : StoreBeat) (found : Collected) → read_entry kept.note ≡ Ok (entry.Collected found) → kept.moment ≡ Some found.moment
-    → goes_on registry found ≡ goes → takes_note registry kept ≡ goes
-note-goes goes registry kept found reads at e = ap (λ (o : Option Collected). option_map_or (goes_on registry) o false) (found-in kept found reads at) ∙ e
+-- a beat is not taken whose entry does not go on
+never-goes : (registry : Registry) (kept : StoreBeat) → option_map_or (goes_on registry) (collected_in kept) false ≡ false → takes_note registry kept ≡ false
+never-goes registry kept stops = ap (λ (b : Bool). b && names_series (with_note registry kept) kept.points) stops
 
-pub note-left : (registry registry' : Registry) (kept : StoreBeat) (found : Collected) → read_entry kept.note ≡ Ok (entry.Collected found) → kept.moment ≡ Some found.moment
-    → registry' ≡ restored registry found → registry' ≡ with_note registry kept
-note-left registry registry' kept found reads at e = e ∙ sym (ap (λ (o : Option Collected). option_map_or (restored registry) o registry) (found-in kept found reads at))
-
--- a note with no such entry does not
+-- nor one that has no such entry
 pub no-note : (registry : Registry) (kept : StoreBeat) → ((found : Collected) → read_entry kept.note ≡ Ok (entry.Collected found) → kept.moment ≡ Some found.moment → ⊥) → takes_note registry kept ≡ false
-no-note registry kept none = ap (λ (o : Option Collected). option_map_or (goes_on registry) o false) (absent-in kept none)
+no-note registry kept none = never-goes registry kept (ap (λ (o : Option Collected). option_map_or (goes_on registry) o false) (absent-in kept none))
+
+module _ (registry : Registry) (kept : StoreBeat) (found : Collected) (reads : read_entry kept.note ≡ Ok (entry.Collected found)) (at : kept.moment ≡ Some found.moment) where
+  -- the note of an entry goes on just as the entry does
+  goes-as : (goes : Bool) → goes_on registry found ≡ goes → option_map_or (goes_on registry) (collected_in kept) false ≡ goes
+  goes-as goes e = ap (λ (o : Option Collected). option_map_or (goes_on registry) o false) (found-in kept found reads at) ∙ e
+
+  pub note-stops : goes_on registry found ≡ false → takes_note registry kept ≡ false
+  note-stops e = never-goes registry kept (goes-as false e)
+
+  pub note-left : (registry' : Registry) → registry' ≡ restored registry found → registry' ≡ with_note registry kept
+  note-left registry' e = e ∙ sym (ap (λ (o : Option Collected). option_map_or (restored registry) o registry) (found-in kept found reads at))
+
+  -- where it goes on, the beat is taken just where its points are of series that are there then
+  pub note-takes : (named : Bool) (registry' : Registry) → goes_on registry found ≡ true → registry' ≡ restored registry found → names_series registry' kept.points ≡ named → takes_note registry kept ≡ named
+  note-takes named registry' goes left e =
+      ap (λ (b : Bool). b && names_series (with_note registry kept) kept.points) (goes-as true goes)
+      ∙ ap (λ (r : Registry). names_series r kept.points) (sym (note-left registry' left)) ∙ e
 
 -- ---- the beats of a store
 

@@ -1,14 +1,24 @@
--- The points of a beat with the steps of their charts.
-use Rattle.std.proofs.Common.{◌≡◌, ℕ, ◌+◌, ◌<◌, ◌≤◌, List, [], ◌∷◌, ◌++◌, length, take, map, get_or, slice_get, Option, Some, None, IfSome, sym, ap, ◌∙◌}
-use Rattle.std.specs.List.{find}
+-- The points of a beat with the steps of their charts, and their series.
+use Rattle.std.proofs.Common.{◌≡◌, ℕ, ◌+◌, ◌<◌, ◌≤◌, nat_lt, Bool, true, List, [], ◌∷◌, ◌++◌, length, take, map, get_or, slice_get, Option, Some, None, IfSome, refl, sym, ap, ◌∙◌, arith}
+use Rattle.std.specs.List.{cons_option, enumerate_from, filter_map, find, list_all}
 use Rattle.std.specs.Option.{option_map, option_map_or, option_and_then}
+use Rattle.std.proofs.lemmas.Bool.{and_from, lt-ltb}
 use Rattle.std.proofs.lemmas.List.{map-append, take_more}
+use Rattle.std.proofs.lemmas.List.Folds.{list_all-map}
 use Rattle.std.proofs.lemmas.Option.{none-some, slice_get_past}
+use Rattle.algorithms.specs.Words.{packed}
+use Rattle.history.specs.declared.beat.OpenBeat.{OpenBeat}
 use Rattle.history.specs.declared.beat.OpenDim.{OpenDim}
 use Rattle.history.specs.declared.chart.ChartDef.{ChartDef}
+use Rattle.history.specs.History.{Beat}
+use Rattle.history.specs.Points.{word_at}
 use Rattle.history.specs.Registry.{Registry, is_chart, chart_of}
 use Rattle.chart_registry.proofs.Places.{find-position}
-use Rattle.agent_core.specs.Kept.{step_of}
+use Rattle.beat_points.specs.declared.series_word.SeriesWord.{SeriesWord}
+use Rattle.beat_points.specs.Points.{beat_points}
+use Rattle.store_core.specs.declared.beat.BeatPoint.{BeatPoint}
+use Rattle.agent_core.specs.Kept.{point_of, step_of, stored_points}
+use Rattle.agent_core.specs.Notes.{names_series}
 
 abbrev every_of : Option ChartDef → ℕ
 every_of found = option_map_or (λ (chart : ChartDef). chart.update_every) found 1
@@ -33,3 +43,32 @@ pub mapped-more : {A B : Type 0} (f : A → B) (xs : List A) (n : ℕ) (x : A) (
 mapped-more f xs n x old new within at pushed before =
     pushed ∙ ap (λ l. l ++ f x ∷ []) before ∙ sym (map-append f (take n xs) (x ∷ []))
     ∙ ap (map f) (ap (λ y. take n xs ++ y ∷ []) (sym at) ∙ sym (take_more xs n x within))
+
+-- ---- the series of the points
+
+-- the word of a dimension, if it has one, by its place
+abbrev placed : (OpenDim → Option ℕ) → ℕ × OpenDim → Option SeriesWord
+placed word_of place = option_map (λ (word : ℕ). record { series = place.0; word = word }) (word_of place.1)
+
+abbrev is_below : ℕ → SeriesWord → Bool
+is_below most word = nat_lt word.series most
+
+first-below : (most n : ℕ) (dimension : OpenDim) (word_of : OpenDim → Option ℕ) (words : List SeriesWord) → n < most → list_all (is_below most) words ≡ true
+    → list_all (is_below most) (cons_option (placed word_of (n, dimension)) words) ≡ true
+first-below most n dimension word_of words less rest = by (word_of dimension)
+  where
+    by : (found : Option ℕ) → list_all (is_below most) (cons_option (placed (λ d. found) (n, dimension)) words) ≡ true
+    by None = rest
+    by (Some word) = and_from (nat_lt n most) (list_all (is_below most) words) (lt-ltb n most less) rest
+
+places-below : (most n : ℕ) (word_of : OpenDim → Option ℕ) (dimensions : List OpenDim) → n + length dimensions ≤ most
+    → list_all (is_below most) (filter_map (placed word_of) (enumerate_from n dimensions)) ≡ true
+places-below most n word_of [] fits = refl
+places-below most n word_of (dimension ∷ dimensions) fits =
+    first-below most n dimension word_of (filter_map (placed word_of) (enumerate_from (n + 1) dimensions)) (omega arith) (places-below most (n + 1) word_of dimensions (omega arith))
+
+-- the points that are kept of a beat are of series of the registry
+pub points-named : (registry : Registry) (h : List Beat) (moment : ℕ) (beat : OpenBeat) → names_series registry (stored_points registry h moment beat) ≡ true
+points-named registry h moment beat =
+    list_all-map (λ (point : BeatPoint). nat_lt point.series (length registry.dimensions)) (point_of registry) (beat_points registry h moment beat)
+    ∙ places-below (length registry.dimensions) 0 (word_at packed registry h moment beat) registry.dimensions (omega arith)

@@ -27,8 +27,10 @@ use Rattle.store_core.specs.declared.beat.Beat.{Beat as StoreBeat}
 use Rattle.agent_core.specs.declared.fault.AgentFault.{AgentFault}
 use Rattle.agent_core.specs.declared.fault.AgentFault.TheVariants.{Damaged, Memory}
 use Rattle.agent_core.specs.Kept.{AreBeatsOf, IsBeatOf, IsCollectedOf}
+use Rattle.agent_core.specs.Notes.{names_series}
 use Rattle.agent_core.specs.Replay.{ArePartsOf}
 use Rattle.agent_core.proofs.FollowLemmas.{follows-may, follows-owned, follows-regular}
+use Rattle.agent_core.proofs.PointLemmas.{points-named}
 use Rattle.agent_core.proofs.Within.{within-of}
 
 abbrev read_as : Collected → Result Entry EntryFault
@@ -77,16 +79,29 @@ module _ (g : List Beat) (moment : ℕ) (beat : OpenBeat) (kept : StoreBeat) (of
     registry-same : after_like ≡ after
     registry-same = λ i. record { charts = charts-same i; dimensions = dimensions-same i }
 
+  -- an entry that was read is its own, so the registry took the definitions of a beat of its own entry
+  module _ (registry registry' : Registry) (like : OpenBeat) (found : Collected) (before : registry ≡ registry_of g) (same : own_entry ≡ found)
+      (applied : registry' ≡ with_definitions registry like.charts like.dimensions) (like_of : IsBeatOfEntry registry' found like) where
+    now-like : registry' ≡ with_definitions (registry_of g) like.charts like.dimensions
+    now-like = applied ∙ ap (λ (r : Registry). with_definitions r like.charts like.dimensions) before
+
+    own-like : IsBeatOfEntry (with_definitions (registry_of g) like.charts like.dimensions) own_entry like
+    own-like = subst (λ (r : Registry). IsBeatOfEntry r own_entry like) now-like (subst (λ (e : Collected). IsBeatOfEntry registry' e like) (sym same) like_of)
+
+    -- the points are of series of the registry
+    points-there : names_series registry' kept.points ≡ true
+    points-there =
+        ap (λ (r : Registry). names_series r kept.points) (now-like ∙ registry-same like own-like) ∙ ap (λ (k : StoreBeat). names_series after k.points) of.is_kept
+        ∙ points-named after g moment beat
+
   -- the parts of an agent are those of the history with the beat
   parts-more : (registry registry' : Registry) (lasts lasts' : List (Option Last)) (like : OpenBeat) (found : Collected) → ArePartsOf registry lasts g
       → own_entry ≡ found → registry' ≡ with_definitions registry like.charts like.dimensions → IsBeatOfEntry registry' found like
       → ((h : List Beat) → AreLastOf lasts h → registry' ≡ registry_of (collected found.moment like ∷ h) → AreLastOf lasts' (collected found.moment like ∷ h))
       → ArePartsOf registry' lasts' (collected moment beat ∷ g)
   parts-more registry registry' lasts lasts' like found parts same applied like_of taken =
-      let now : registry' ≡ with_definitions (registry_of g) like.charts like.dimensions
-      = applied ∙ ap (λ (r : Registry). with_definitions r like.charts like.dimensions) parts.registry_is in
-      let own : IsBeatOfEntry (with_definitions (registry_of g) like.charts like.dimensions) own_entry like
-      = subst (λ (r : Registry). IsBeatOfEntry r own_entry like) now (subst (λ (e : Collected). IsBeatOfEntry registry' e like) (sym same) like_of) in
+      let now = now-like registry registry' like found parts.registry_is same applied like_of in
+      let own = own-like registry registry' like found parts.registry_is same applied like_of in
       let equal = registry-same like own in
       let alike = beats-alike g moment beat like (follows-regular g moment beat of.follows) (subst (λ (r : Registry). IsBeatOfEntry r own_entry like) equal own) in
       let moments : found.moment ≡ moment = ap (λ (e : Collected). e.moment) (sym same) in
@@ -129,6 +144,17 @@ entry-goes g beats (collected moment beat) kept registry lasts found are of part
 entry-goes g beats (copied copy) kept registry lasts found are of parts reads stops = of
 entry-goes g beats (health text) kept registry lasts found are of parts reads stops = of
 entry-goes g beats (missing gap) kept registry lasts found are of parts reads stops = of
+
+-- and its points are of series that are there once its definitions are
+pub entry-named : (g : List Beat) (beat : Beat) (kept : StoreBeat) (registry registry' : Registry) (lasts : List (Option Last)) (like : OpenBeat) (found : Collected)
+    → IsBeatOf g beat kept → ArePartsOf registry lasts g → read_entry kept.note ≡ read_as found
+    → registry' ≡ with_definitions registry like.charts like.dimensions → IsBeatOfEntry registry' found like
+    → names_series registry' kept.points ≡ false → ⊥
+entry-named g (collected moment beat) kept registry registry' lasts like found of parts reads applied like_of none =
+    true≢false (sym (points-there g moment beat kept of registry registry' like found parts.registry_is (entry-is g moment beat kept of found reads) applied like_of) ∙ none)
+entry-named g (copied copy) kept registry registry' lasts like found of parts reads applied like_of none = of
+entry-named g (health text) kept registry registry' lasts like found of parts reads applied like_of none = of
+entry-named g (missing gap) kept registry registry' lasts like found of parts reads applied like_of none = of
 
 -- ---- the faults
 pub only-memory : (fault : AgentFault) → (fault ≡ Memory) ⊎ (fault ≡ Damaged 5) → (fault ≡ Damaged 5 → ⊥) → fault ≡ Memory

@@ -138,8 +138,10 @@ impl Agent {
     ///
     /// `NotADatabase` exactly where there is none, and `Damaged` only where what is there stands for no
     /// history: with 4 where its journal holds no settings and beats, and with 5 where an entry in it is none or
-    /// does not go on from those before. At `Ok` the agent is of just the history that the disk stands for. The
-    /// disk is only read and synced.
+    /// does not go on from those before, or where a point names a series that is not there. The words and steps
+    /// of points are not compared with their definition, and the form of ids, as a dot within, is not looked at.
+    /// At `Ok` the agent is of just the history that the disk stands for, if it stands for one. The disk is only
+    /// read and synced.
     pub fn open<H: Host>(alloc: Global, host: &mut H) -> Result<Agent, AgentFault>
         ensures { Opens H.honest (record { past = H.past host.old; disk_faults = H.disk_faults host.old; tell_faults = H.tell_faults host.old })
             result (record { past = H.past host.new; disk_faults = H.disk_faults host.new; tell_faults = H.tell_faults host.new }) }

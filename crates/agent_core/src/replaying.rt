@@ -19,7 +19,7 @@ ghost use Rattle.store_core.specs.Stands.{is_made, IsDamaged, Stands};
 ghost use Rattle.store_core.specs.Store.{IsReady, IsReplayed, IsStoreAt, OpensAt, Replays, TakesFirst};
 ghost use Rattle.agent_core.specs.Faults.{IsOpening};
 ghost use Rattle.agent_core.specs.Kept.{AreBeatsOf, IsBeatOf};
-ghost use Rattle.agent_core.specs.Notes.{beats_go_on, takes_note, with_note};
+ghost use Rattle.agent_core.specs.Notes.{beats_go_on, names_series, takes_note, with_note};
 ghost use Rattle.agent_core.specs.Replay.{fault_of, ArePartsOf, HasTaken, IsReplaying};
 
 use crate::fault::AgentFault;
@@ -31,7 +31,7 @@ use entry_codec::{Collected, Entry, EntryFault, read_entry};
 use history::OpenBeat;
 use host_model::Host;
 use std::alloc::Global;
-use store_core::{Beat, Store, StoreFault};
+use store_core::{Beat, BeatPoint, Store, StoreFault};
 
 /// Why an agent was not opened where its store was not.
 fn opening_fault(fault: StoreFault) -> AgentFault
@@ -116,6 +116,15 @@ fn beat_of(
     }
 }
 
+/// Whether each point is of a series that the registry has.
+fn names_series(registry: &Registry, points: &[BeatPoint]) -> bool
+    ensures { result ≡ names_series registry.now points.now }
+{
+    points
+        .iter()
+        .all(|point| point.series < registry.dimensions())
+}
+
 /// Takes a kept beat: its definitions, and its rows as the last ones.
 fn replay_beat(
     alloc: Global,
@@ -132,7 +141,8 @@ fn replay_beat(
     ensures stands { IfErr result (λ fault. (g : List HistoryBeat) (beats : List StoreBeat) (beat : HistoryBeat) → AreBeatsOf g beats → IsBeatOf g beat kept.now
         → ArePartsOf registry.old last_rows.old g → fault ≡ AgentFault.Memory) }
 
-    // Whatever beat it is: its note has an entry that goes on, or it is damaged.
+    // Whatever beat it is: its note has an entry that goes on and its points are of series that are there then,
+    // or it is damaged.
     ensures registry { OnOk result (registry.new ≡ with_note registry.old kept.now) }
     ensures next { OnOk result (takes_note registry.old kept.now ≡ true) }
     ensures broken { IfErr result (λ fault. fault ≡ AgentFault.Damaged 5 → takes_note registry.old kept.now ≡ false) }
@@ -142,7 +152,11 @@ fn replay_beat(
 {
     let entry = entry_in(alloc, kept)?;
     let beat = beat_of(alloc, registry, &entry)?;
-    take_rows(last_rows, registry, &beat, entry.moment)
+    if names_series(registry, kept.points.as_slice()) {
+        take_rows(last_rows, registry, &beat, entry.moment)
+    } else {
+        Err(AgentFault::Damaged(5))
+    }
 }
 
 /// Gives the next beat that a store has to replay.
@@ -180,7 +194,7 @@ fn replay_next(
     ensures stands { IfErr result (λ fault. (past : List Event) (set : ASettings) (h : List HistoryBeat)
         → IsReplaying past store.old registry.old last_rows.old set h → fault ≡ AgentFault.Memory) }
 
-    // Whatever beats the store keeps: their notes go on so far, and where one does not, it is damaged.
+    // Whatever beats the store keeps: they go on so far, and where one does not, it is damaged.
     ensures notes { OnOk result ((past : List Event) (set : ASettings) (beats : List StoreBeat) → HasTaken past store.old registry.old set beats
         → HasTaken past store.new registry.new set beats) }
     ensures broken { IfErr result (λ fault. fault ≡ AgentFault.Damaged 5 → (past : List Event) (set : ASettings) (beats : List StoreBeat)
@@ -221,7 +235,7 @@ pub(crate) fn replay_all(
     ensures stands { IfErr result (λ fault. (past : List Event) (set : ASettings) (h : List HistoryBeat)
         → IsReplaying past store.old registry.old last_rows.old set h → fault ≡ AgentFault.Memory) }
 
-    // Whatever beats the store keeps: their notes go on so far, and where one does not, it is damaged.
+    // Whatever beats the store keeps: they go on so far, and where one does not, it is damaged.
     ensures notes { OnOk result ((past : List Event) (set : ASettings) (beats : List StoreBeat) → HasTaken past store.old registry.old set beats
         → HasTaken past store.new registry.new set beats) }
     ensures broken { IfErr result (λ fault. fault ≡ AgentFault.Damaged 5 → (past : List Event) (set : ASettings) (beats : List StoreBeat)

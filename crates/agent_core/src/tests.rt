@@ -10,7 +10,7 @@ use history::{Algorithm, BlockFault, ChartDef, ChartKind, DimDef, Line};
 use host_model::{CallList, File, Host, Keep, MemoryHost};
 use std::alloc::{AllocError, Global};
 use std::test::Fail;
-use store_core::{Beat, BeatPointList, ByteList, Store, StoreFault};
+use store_core::{Beat, BeatPoint, BeatPointList, ByteList, Store, StoreFault};
 
 const TIER: TierSettings = TierSettings {
     items: 262_144,
@@ -520,11 +520,16 @@ fn a_journal_that_is_none_is_damage(rt: HostRuntime) -> Result<(), Fail> {
     Ok(())
 }
 
-/// Makes a database with one beat, whose note is this.
-fn note(alloc: Global, host: &mut MemoryHost, bytes: &[u8]) -> Result<(), Fail> {
+/// Makes a database with one beat, which has this note and these points.
+fn note(
+    alloc: Global,
+    host: &mut MemoryHost,
+    bytes: &[u8],
+    points: &[BeatPoint],
+) -> Result<(), Fail> {
     let beat = Beat {
         moment: Some(60),
-        points: BeatPointList::new(alloc),
+        points: BeatPointList::from_vec(points.to_vec(alloc)?),
         note: ByteList::from_slice(alloc, bytes)?,
     };
     if !is_in_limits(&SETTINGS) || !beat.is_in_form() || !beat.fits_a_record() {
@@ -535,10 +540,10 @@ fn note(alloc: Global, host: &mut MemoryHost, bytes: &[u8]) -> Result<(), Fail> 
     Ok(())
 }
 
-/// What opening answers where the one beat has this note.
-fn noted(alloc: Global, bytes: &[u8]) -> Result<Option<AgentFault>, Fail> {
+/// What opening answers where the one beat has this note and these points.
+fn noted(alloc: Global, bytes: &[u8], points: &[BeatPoint]) -> Result<Option<AgentFault>, Fail> {
     let mut host = host_of(alloc, &[])?;
-    note(alloc, &mut host, bytes)?;
+    note(alloc, &mut host, bytes, points)?;
     Ok(opened(alloc, &mut host).err())
 }
 
@@ -547,14 +552,21 @@ fn a_note_that_is_no_entry_is_damage(rt: HostRuntime) -> Result<(), Fail> {
     let alloc = rt.alloc();
     // The entry of a beat at 60 that says nothing.
     let empty = b"\x01\x3c\0\0\0\0\0\0\0\0\0\0\0\0\0\0\0";
-    assert_eq!(rt; noted(alloc, empty)?, None);
+    assert_eq!(rt; noted(alloc, empty, &[])?, None);
     // The same at 61, with a byte behind it, and with a row of a chart that is not there.
     let damaged = Some(AgentFault::Damaged(5));
     let later = b"\x01\x3d\0\0\0\0\0\0\0\0\0\0\0\0\0\0\0";
-    assert_eq!(rt; noted(alloc, later)?, damaged);
+    assert_eq!(rt; noted(alloc, later, &[])?, damaged);
     let longer = b"\x01\x3c\0\0\0\0\0\0\0\0\0\0\0\0\0\0\0\0";
-    assert_eq!(rt; noted(alloc, longer)?, damaged);
+    assert_eq!(rt; noted(alloc, longer, &[])?, damaged);
     let row = b"\x01\x3c\0\0\0\0\0\0\0\0\0\0\0\x01\0\0\0\0\0\0\0\0\0\0\0";
-    assert_eq!(rt; noted(alloc, row)?, damaged);
+    assert_eq!(rt; noted(alloc, row, &[])?, damaged);
+    // A point of a series that is not there, with the word of 42.
+    let point = BeatPoint {
+        series: 0,
+        step: 1,
+        word: 0x2940_1640,
+    };
+    assert_eq!(rt; noted(alloc, empty, &[point])?, damaged);
     Ok(())
 }
