@@ -94,9 +94,9 @@ pub record Opens (honest : Type 0) (host : Seen) (result : Result AgentState Age
   pub some : OnOk result (honest → is_made (reads_as host.past) ≡ true)
   pub damaged : IsErrOf result (Damaged 4) → honest → IsDamaged (reads_as host.past)
   pub made : (part : ℕ) → IsErrOf result (Damaged part) → honest → is_made (reads_as host.past) ≡ true
-  -- what was opened goes on from note to note
+  -- what was opened goes on from beat to beat
   pub notes : OnOk result (honest → HasNotes true (reads_as host.past))
-  -- where a note is no entry that goes on
+  -- where a note is no entry that goes on, or a point is of a series that is not there
   pub damaged_notes : IsErrOf result (Damaged 5) → honest → HasNotes false (reads_as host.past)
   pub faults : IfErr result IsOpening
   -- the disk fails only where the host counted a failure, and nothing is told

@@ -42,12 +42,12 @@ unfoldable pub registry_left : List StoreBeat → Registry
 registry_left [] = empty
 registry_left (kept ∷ beats) = with_note (registry_left beats) kept
 
--- each kept beat has an entry that goes on from what those before it leave, and points of series that are there
+-- the beats go on: each has an entry that goes on from what those before it leave, and points of series that are there
 unfoldable pub beats_go_on : List StoreBeat → Bool
 beats_go_on [] = true
 beats_go_on (kept ∷ beats) = beats_go_on beats && takes_note (registry_left beats) kept
 
--- the disk holds a database of settings and beats, and whether their notes go on
+-- the disk holds a database of settings and beats, and whether these go on
 pub record HasNotes (goes : Bool) (disk : File → List ℕ) : Type 0 where
   pub settings : Settings
   pub beats : List StoreBeat

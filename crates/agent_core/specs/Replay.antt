@@ -53,7 +53,7 @@ pub record IsReplaying (past : List Event) (store : StoreState) (registry : Regi
   pub is_at : IsStoreAt past store set beats rest
   pub parts : ArePartsOf registry lasts front
 
--- the store has replayed a front of these beats, whose notes go on, and the registry is what they leave
+-- the store has replayed a front of these beats, which go on, and the registry is what they leave
 pub record HasTaken (past : List Event) (store : StoreState) (registry : Registry) (set : Settings) (beats : List StoreBeat) : Type 0 where
   pub applied : List StoreBeat
   pub rest : List StoreBeat

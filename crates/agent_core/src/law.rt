@@ -24,7 +24,7 @@ pub fn any_text()
 {}
 
 /// The laws of the notes of a disk: where it holds a database of settings and beats, these are its only ones.
-/// So their notes do not both go on and not, and the database is not one of no settings and beats. It does
+/// So its beats do not both go on and not, and the database is not one of no settings and beats. It does
 /// nothing.
 pub fn any_notes()
     ensures once { (disk : AFile → List ℕ) → HasNotes true disk → HasNotes false disk → ⊥ }

@@ -194,7 +194,7 @@ fn replay_next(
     ensures stands { IfErr result (λ fault. (past : List Event) (set : ASettings) (h : List HistoryBeat)
         → IsReplaying past store.old registry.old last_rows.old set h → fault ≡ AgentFault.Memory) }
 
-    // Whatever beats the store keeps: their notes go on so far, and where one does not, it is damaged.
+    // Whatever beats the store keeps: they go on so far, and where one does not, it is damaged.
     ensures notes { OnOk result ((past : List Event) (set : ASettings) (beats : List StoreBeat) → HasTaken past store.old registry.old set beats
         → HasTaken past store.new registry.new set beats) }
     ensures broken { IfErr result (λ fault. fault ≡ AgentFault.Damaged 5 → (past : List Event) (set : ASettings) (beats : List StoreBeat)
@@ -235,7 +235,7 @@ pub(crate) fn replay_all(
     ensures stands { IfErr result (λ fault. (past : List Event) (set : ASettings) (h : List HistoryBeat)
         → IsReplaying past store.old registry.old last_rows.old set h → fault ≡ AgentFault.Memory) }
 
-    // Whatever beats the store keeps: their notes go on so far, and where one does not, it is damaged.
+    // Whatever beats the store keeps: they go on so far, and where one does not, it is damaged.
     ensures notes { OnOk result ((past : List Event) (set : ASettings) (beats : List StoreBeat) → HasTaken past store.old registry.old set beats
         → HasTaken past store.new registry.new set beats) }
     ensures broken { IfErr result (λ fault. fault ≡ AgentFault.Damaged 5 → (past : List Event) (set : ASettings) (beats : List StoreBeat)
