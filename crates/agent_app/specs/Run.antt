@@ -158,9 +158,9 @@ pub record RunsAll (honest : Type 0) (status : Status) (left left' : Option (Lis
   -- and a database that stands for a history is never damaged
   pub damaged : (part : ℕ) → status ≡ Damaged part → honest → (set : Settings) (h : List Beat) → StandsForHistory set h (reads_as host.past) → ⊥
   -- Damaged says which part: 4 where there is a database that holds no settings and beats, 5 where it holds them
-  -- and the notes do not go on. A disk holds one list of beats at most, so that IsDamaged, HasNotes false and
-  -- HasNotes true exclude each other. So where there is a database, and neither the disk nor memory fails, the
-  -- status is Damaged exactly where one of the first two holds.
+  -- and a note does not go on or a point is of no series that is there. A disk holds one list of beats at most, so
+  -- that IsDamaged, HasNotes false and HasNotes true exclude each other. So where there is a database, and neither
+  -- the disk nor memory fails, the status is Damaged exactly where one of the first two holds.
   pub parts : (part : ℕ) → status ≡ Damaged part → (part ≡ 4) ⊎ (part ≡ 5)
   pub damaged_records : status ≡ Damaged 4 → honest → IsDamaged (reads_as host.past)
   pub damaged_notes : status ≡ Damaged 5 → honest → HasNotes false (reads_as host.past)
