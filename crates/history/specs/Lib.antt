@@ -1,4 +1,5 @@
 pub mod History
+pub mod Limits
 pub mod Looking
 pub mod Put
 pub mod Read

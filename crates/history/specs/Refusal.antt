@@ -36,6 +36,10 @@ is_new_chart registry def = not (list_any (is_chart def.id) registry.charts)
 abbrev pub is_new_dimension : Registry → OpenDim → Bool
 is_new_dimension registry dimension = not (list_any (is_dimension dimension.chart dimension.def.id) registry.dimensions)
 
+-- the dimension is of this chart, and new
+abbrev pub is_new_of : Registry → List ℕ → OpenDim → Bool
+is_new_of registry chart dimension = is_of chart dimension && is_new_dimension registry dimension
+
 -- there is no room for one more chart
 abbrev pub charts_full : Registry → OpenBeat → Bool
 charts_full registry open_beat = nat_le 4096 (length registry.charts + count_by (is_new_chart registry) open_beat.charts)
@@ -43,7 +47,7 @@ charts_full registry open_beat = nat_le 4096 (length registry.charts + count_by 
 -- there is no room for one more dimension, of this chart or at all
 abbrev pub dimensions_full : Registry → OpenBeat → List ℕ → Bool
 dimensions_full registry open_beat chart =
-    nat_le 1024 (count_by (is_of chart) registry.dimensions + count_by (λ dimension. is_of chart dimension && is_new_dimension registry dimension) open_beat.dimensions)
+    nat_le 1024 (count_by (is_of chart) registry.dimensions + count_by (is_new_of registry chart) open_beat.dimensions)
     || nat_le 65536 (length registry.dimensions + count_by (is_new_dimension registry) open_beat.dimensions)
 
 -- why a chart may not be defined so
