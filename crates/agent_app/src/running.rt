@@ -6,6 +6,7 @@ ghost use Rattle.plugin_text.specs.Answer.{IsFaultFor};
 ghost use Rattle.plugin_text.specs.Line.{line as line_of};
 ghost use Rattle.plugin_text.specs.Lines.{fits};
 ghost use Rattle.beat_points.specs.Text.{HaveDivisors};
+ghost use Rattle.history.specs.Limits.{keeps_limits};
 ghost use Rattle.history.specs.Registry.{Registry};
 ghost use Rattle.collect_block.specs.Feed.{CountsFor, IsFeedOf};
 ghost use Rattle.agent_core.specs.Fed.{IsFed};
@@ -105,6 +106,7 @@ impl Running {
     fn take_said<H: Host>(&mut self, host: &mut H, number: u64, said: &Line) -> Result<(), Status>
         requires ready { IsFit H.honest self.old (record { past = H.past host.old; disk_faults = H.disk_faults host.old; tell_faults = H.tell_faults host.old }) }
         requires divisor { HaveDivisors (said.now ∷ []) }
+        requires limits { keeps_limits said.now ≡ true }
         ensures takes { (bytes : List ℕ) → line_of bytes ≡ Ok said.now → fits bytes ≡ true
             → TakesLine H.honest self.old (record { past = H.past host.old; disk_faults = H.disk_faults host.old; tell_faults = H.tell_faults host.old }) number bytes
             result self.new (record { past = H.past host.new; disk_faults = H.disk_faults host.new; tell_faults = H.tell_faults host.new }) }
@@ -120,6 +122,7 @@ impl Running {
     fn take<H: Host>(&mut self, host: &mut H, number: u64, said: &Line) -> Result<(), Status>
         requires ready { IsFit H.honest self.old (record { past = H.past host.old; disk_faults = H.disk_faults host.old; tell_faults = H.tell_faults host.old }) }
         requires divisor { HaveDivisors (said.now ∷ []) }
+        requires limits { keeps_limits said.now ≡ true }
         requires answer { is_query said.now ≡ false }
         ensures takes { (bytes : List ℕ) → line_of bytes ≡ Ok said.now → fits bytes ≡ true
             → TakesLine H.honest self.old (record { past = H.past host.old; disk_faults = H.disk_faults host.old; tell_faults = H.tell_faults host.old }) number bytes

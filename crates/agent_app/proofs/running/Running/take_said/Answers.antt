@@ -10,4 +10,4 @@ returns-in-Query-clause-takes g c bytes is short =
     (told-counts host host' c.tell_refusal.ensures.count c.tell_refusal.ensures.disk)
 
 pub take-requires : goal.take-requires
-take-requires g c = record { ready = c.requires.ready; divisor = c.requires.divisor; answer = no-query c.args.said.now c.in_default.not-Query }
+take-requires g c = record { ready = c.requires.ready; divisor = c.requires.divisor; limits = c.requires.limits; answer = no-query c.args.said.now c.in_default.not-Query }
