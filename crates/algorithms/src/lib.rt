@@ -7,6 +7,10 @@
 //! in 128 bits, and no sum or product comes near their limit. A call takes memory for its result and for
 //! one list of samples that it gives back.
 //!
+//! `row_points` is made of two parts. `sample_of` joins a value, its last row and its dimension's
+//! definition to a `Sample`, and `sample_words` gives the words of a row's samples. A caller that has the
+//! definitions by reference calls these two, and makes no list of definitions.
+//!
 //! The crate stands on the values and definitions of `history`, and on the packing of `storage_number`.
 #![tactic(auto)]
 
@@ -23,4 +27,5 @@ mod word;
 pub use fault::AlgoFault;
 pub use last::{Last, LastList};
 pub use law::{any_cell, any_last};
-pub use row::{DimList, ROW_LIMIT, WordList, row_points};
+pub use row::{DimList, ROW_LIMIT, WordList, row_points, sample_words};
+pub use sample::{Earlier, Sample, sample_of};

@@ -43,10 +43,15 @@ fn samples_of(
     Ok(samples)
 }
 
-/// The words of samples.
-fn words_of(alloc: Global, samples: &[Sample]) -> Result<WordList, AlgoFault>
-    requires { length samples.now ≤ ROW_LIMIT }
-    ensures { IfOk result (λ words. words ≡ row_words packed (map cell_at samples.now)) }
+/// The storage number of each value of a row, in the order of the values, and none where an algorithm that
+/// counts from a value before has none.
+///
+/// The samples are those of all values of the row, since a value in percent is a share of them all.
+pub fn sample_words(alloc: Global, samples: &[Sample]) -> Result<WordList, AlgoFault>
+    requires limit { length samples.now ≤ ROW_LIMIT }
+
+    ensures words { IfOk result (λ words. words ≡ row_words packed (map cell_at samples.now)) }
+    ensures count { IfOk result (λ words. length words ≡ length samples.now) }
 {
     let values = total::total(samples);
     let rises = total::total_difference(samples);
@@ -60,8 +65,9 @@ fn words_of(alloc: Global, samples: &[Sample]) -> Result<WordList, AlgoFault>
 /// The storage number of each value of a row that its chart collected at `moment`, in the order of the
 /// values, and none where an algorithm that counts from a value before has none.
 ///
-/// `last` has the last row of each value's dimension, and `dims` its definition. A last row that is not
-/// before `moment` counts as none, and a divisor or an `update_every` of 0 as 1.
+/// `last` has the last row of each value's dimension, and `dims` its definition. `update_every` and the
+/// moments are in seconds. A last row that is not before `moment` counts as none, and a divisor or an
+/// `update_every` of 0 as 1.
 pub fn row_points(
     alloc: Global,
     update_every: u32,
@@ -88,5 +94,5 @@ pub fn row_points(
         now.as_slice(),
         dims.as_slice(),
     )?;
-    words_of(alloc, samples.as_slice())
+    sample_words(alloc, samples.as_slice())
 }

@@ -6,15 +6,16 @@ ghost use Rattle.algorithms.specs.Samples.{before_at, cell_at};
 use crate::last::Last;
 use history::{Algorithm, DimDef, Value};
 
-/// A value that was collected before another, and how many seconds.
-#[derive(Clone, Copy, Debug)]
+/// A value that was collected before another: the value, and how many seconds lie between the two.
+#[derive(Clone, Copy, Debug, PartialEq, Eq)]
 pub struct Earlier {
     pub value: i64,
     pub seconds: u32,
 }
 
-/// A value of a row with all that its point rests on.
-#[derive(Clone, Copy, Debug)]
+/// A value of a row with all that its point rests on: what stands before it, and what its dimension says
+/// of its point.
+#[derive(Clone, Copy, Debug, PartialEq, Eq)]
 pub struct Sample {
     pub value: i64,
     pub anomalous: bool,
@@ -64,7 +65,10 @@ fn divisor_of(divisor: i32) -> i32
     if divisor == 0 { 1 } else { divisor }
 }
 
-/// The sample of a value, with its dimension's last row and definition.
+/// The sample of a value that its chart collected at `moment`, with the last row and the definition of its
+/// dimension. `update_every` and both moments are in seconds.
+///
+/// A last row that is not before `moment` counts as none, and a divisor or an `update_every` of 0 as 1.
 pub fn sample_of(
     update_every: u32,
     store_first: bool,
@@ -104,7 +108,7 @@ impl Sample {
     ghost use Rattle.algorithms.specs.Samples.{cell_at};
 
     /// How much the value rose, where there is one before.
-    pub fn difference(&self) -> Option<i128>
+    pub(crate) fn difference(&self) -> Option<i128>
         ensures value { result ≡ difference (cell_at self.now) }
         ensures bound { IfSome result (λ rise. unsigned_abs rise ≤ 2 ^ 64) }
     {
@@ -115,7 +119,7 @@ impl Sample {
     }
 
     /// Whether the value fell, and that counts as a reset of its counter.
-    pub fn is_reset(&self) -> bool
+    pub(crate) fn is_reset(&self) -> bool
         ensures { result ≡ is_reset (cell_at self.now) }
     {
         match self.before {

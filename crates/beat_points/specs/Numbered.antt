@@ -2,41 +2,45 @@
 use Rattle.std.specs.Prelude.{◌≡◌, ℕ, List, [], ◌∷◌, ◌++◌, slice_get, slice_index_or, find, filter_map, Option, Some, None, ℤ}
 use Rattle.std.specs.Option.{option_map, option_map_or, option_and_then}
 use Rattle.algorithms.specs.declared.last.Last.{Last}
+use Rattle.algorithms.specs.declared.sample.Sample.{Sample}
 use Rattle.algorithms.specs.Cells.{numbered}
+use Rattle.algorithms.specs.Cells as algorithms
+use Rattle.algorithms.specs.Samples.{cell_at}
 use Rattle.algorithms.specs.Words.{packed}
-use Rattle.history.specs.declared.row.Value.{Value}
 use Rattle.history.specs.declared.beat.OpenRow.{OpenRow}
 use Rattle.history.specs.declared.beat.OpenValue.{OpenValue}
 use Rattle.history.specs.declared.chart.ChartDef.{ChartDef}
-use Rattle.history.specs.declared.dimension.DimDef.{DimDef}
 use Rattle.history.specs.declared.beat.OpenDim.{OpenDim}
 use Rattle.history.specs.History.{Beat}
 use Rattle.history.specs.Points.{Cell, word_by, total, total_difference, cell_of, cells_of}
 use Rattle.history.specs.Registry.{Registry, is_chart, series_of}
 use Rattle.beat_points.specs.declared.series_word.SeriesWord.{SeriesWord}
 
--- a value by its number, with the last row and the definition of its dimension
-pub record IsNumbered (registry : Registry) (lasts : List (Option Last)) (chart : List ℕ) (value : OpenValue) (number : Value) (last : Option Last) (def : DimDef) : Type 0 where
-  pub series : series_of registry chart value.id ≡ Some number.series
-  pub value_is : number ≡ numbered number.series value
-  pub last_is : last ≡ slice_index_or lasts number.series None
-  pub def_is : option_map (λ (dimension : OpenDim). dimension.def) (slice_get registry.dimensions number.series) ≡ Some def
+-- the cell of a value of this series, with the last row and the definition that stand at its number
+abbrev pub cell_by : Registry → List (Option Last) → ChartDef → ℕ → ℕ → OpenValue → Option Cell
+cell_by registry lasts chart moment series value =
+    option_map (λ (dimension : OpenDim). algorithms.cell_of chart.update_every chart.store_first moment (numbered series value) (slice_index_or lasts series None) dimension.def) (slice_get registry.dimensions series)
 
-abbrev pub AreNumbered : Registry → List (Option Last) → List ℕ → List OpenValue → List Value → List (Option Last) → List DimDef → Type 0
-AreNumbered registry lasts chart [] [] [] [] = Unit {0}
-AreNumbered registry lasts chart (value ∷ values) (number ∷ numbers) (last ∷ rows) (def ∷ defs) =
-    IsNumbered registry lasts chart value number last def × AreNumbered registry lasts chart values numbers rows defs
-AreNumbered registry lasts chart values numbers rows defs = ⊥
+-- the series of a value, and its sample
+pub record IsNumbered (registry : Registry) (lasts : List (Option Last)) (chart : ChartDef) (moment : ℕ) (value : OpenValue) (series : ℕ) (sample : Sample) : Type 0 where
+  pub series_is : series_of registry chart.id value.id ≡ Some series
+  pub sample_is : cell_by registry lasts chart moment series value ≡ Some (cell_at sample)
 
--- the word of a numbered value, if there is one
-abbrev pub word_list : Value → Option ℕ → List SeriesWord
-word_list number None = []
-word_list number (Some word) = record { series = number.series; word = word } ∷ []
+abbrev pub AreNumbered : Registry → List (Option Last) → ChartDef → ℕ → List OpenValue → List ℕ → List Sample → Type 0
+AreNumbered registry lasts chart moment [] [] [] = Unit {0}
+AreNumbered registry lasts chart moment (value ∷ values) (series ∷ all) (sample ∷ samples) =
+    IsNumbered registry lasts chart moment value series sample × AreNumbered registry lasts chart moment values all samples
+AreNumbered registry lasts chart moment values all samples = ⊥
 
--- the words of numbered values
-abbrev pub words_by : List Value → List (Option ℕ) → List SeriesWord
-words_by (number ∷ numbers) (word ∷ words) = word_list number word ++ words_by numbers words
-words_by numbers words = []
+-- the word of a series, if there is one
+abbrev pub word_list : ℕ → Option ℕ → List SeriesWord
+word_list series None = []
+word_list series (Some word) = record { series = series; word = word } ∷ []
+
+-- the words of several series
+abbrev pub words_by : List ℕ → List (Option ℕ) → List SeriesWord
+words_by (series ∷ all) (word ∷ words) = word_list series word ++ words_by all words
+words_by all words = []
 
 -- the word of a value, in a row with these sums
 abbrev pub word_of : Registry → List Beat → ℕ → ChartDef → ℤ → ℤ → OpenValue → Option ℕ

@@ -11,43 +11,36 @@ ghost use Rattle.beat_points.specs.Points.{IsNext};
 use crate::fault::PointFault;
 use crate::numbered;
 use crate::series_word::{SeriesWord, SeriesWordList};
-use algorithms::{Last, row_points};
+use algorithms::{Last, sample_words};
 use chart_registry::Registry;
 use fixed_num::ListOf;
-use history::{OpenRow, Value};
+use history::OpenRow;
 use std::alloc::Global;
 
-/// Adds the word of a numbered value, if there is one.
-fn push_word(
-    points: &mut Vec<SeriesWord>,
-    value: &Value,
-    word: Option<u32>,
-) -> Result<(), PointFault>
-    ensures { OnOk result (points.new.items ≡ points.old.items ++ word_list value.now word) }
+/// Adds the word of a series, if there is one.
+fn push_word(points: &mut Vec<SeriesWord>, series: u32, word: Option<u32>) -> Result<(), PointFault>
+    ensures { OnOk result (points.new.items ≡ points.old.items ++ word_list series word) }
 {
     match word {
         Some(word) => {
-            points.push(SeriesWord {
-                series: value.series,
-                word,
-            })?;
+            points.push(SeriesWord { series, word })?;
             Ok(())
         }
         None => Ok(()),
     }
 }
 
-/// Adds the words of numbered values.
+/// Adds the words of several series.
 fn push_words(
     points: &mut Vec<SeriesWord>,
-    values: &[Value],
+    series: &[u32],
     words: &[Option<u32>],
 ) -> Result<(), PointFault>
-    requires { length words.now ≡ length values.now }
-    ensures { OnOk result (points.new.items ≡ points.old.items ++ words_by values.now words.now) }
+    requires { length words.now ≡ length series.now }
+    ensures { OnOk result (points.new.items ≡ points.old.items ++ words_by series.now words.now) }
 {
-    for (i, value) in values.iter().enumerate() {
-        push_word(points, value, words[i])?;
+    for (i, number) in series.iter().enumerate() {
+        push_word(points, *number, words[i])?;
     }
     Ok(())
 }
@@ -68,20 +61,28 @@ fn push_row(
         → points.new.items ≡ points.old.items ++ row_pairs registry.now h moment row.now) }
 {
     if let Some(number) = registry.chart_of(row.chart.as_str()) {
-        let chart = registry.chart(number);
-        let numbered = numbered::number_row(alloc, registry, last, number, row.values.as_slice())?;
-        let words = row_points(
+        let numbered = numbered::number_row(
             alloc,
-            chart.update_every,
-            chart.store_first,
+            registry,
+            last,
+            number,
+            registry.chart(number),
             moment,
-            &numbered.last,
-            &numbered.values,
-            &numbered.dims,
+            row.values.as_slice(),
         )?;
-        push_words(points, numbered.values.as_slice(), words.as_slice())?;
+        let words = sample_words(alloc, numbered.samples.as_slice())?;
+        push_words(points, numbered.series.as_slice(), words.as_slice())?;
     }
     Ok(())
+}
+
+/// How many values rows have, for the room of a list.
+fn count_values(rows: &[OpenRow]) -> usize {
+    let mut count = 0usize;
+    for row in rows {
+        count = count.saturating_add(row.values.len());
+    }
+    count
 }
 
 /// The words of all rows, in their order.
@@ -98,7 +99,7 @@ pub(crate) fn gather(
     ensures { IfOk result (λ points. (h : List Beat) (beat : OpenBeat) → IsNext registry.now last.now h moment beat
         → points.items ≡ rows_pairs registry.now h moment rows.now) }
 {
-    let mut points = Vec::new(alloc);
+    let mut points = Vec::with_capacity(alloc, count_values(rows))?;
     for row in rows {
         push_row(alloc, registry, last, row, moment, &mut points)?;
     }

@@ -1,22 +1,21 @@
-ghost use Rattle.std.specs.Prelude.{◌≡◌, ◌<◌, ◌≤◌, ◌++◌, ◌∷◌, [], ℕ, length, All, IsSome, Some, None, IfOk, OnOk, slice_get, slice_index_or};
+ghost use Rattle.std.specs.Prelude.{◌≡◌, ◌<◌, ◌++◌, ◌∷◌, [], length, All, IsSome, Some, None, IfOk, OnOk, slice_index_or};
+ghost use Rattle.algorithms.specs.Samples.{cell_at};
 ghost use Rattle.chart_registry.specs.Defining.{chart_id};
 ghost use Rattle.history.specs.Registry.{series_of};
-ghost use Rattle.history.specs.declared.beat.OpenValue.{OpenValue as Value};
-ghost use Rattle.beat_points.specs.Numbered.{IsNumbered, AreNumbered};
+ghost use Rattle.history.specs.declared.beat.OpenValue.{OpenValue as Open};
+ghost use Rattle.beat_points.specs.Numbered.{AreNumbered, cell_by};
 
 use crate::fault::PointFault;
-use algorithms::{DimList, Last, LastList};
+use algorithms::{Last, Sample, sample_of};
 use chart_registry::Registry;
-use fixed_num::ListOf;
-use history::{DimDef, OpenValue, ValueList};
+use history::{ChartDef, OpenValue, Value};
 use std::alloc::Global;
 
-/// The values of a row by number, each with the last row and the definition of its dimension.
+/// The series of a row's values, and the sample of each.
 #[derive(Drop)]
 pub(crate) struct NumberedRow {
-    pub(crate) values: ValueList,
-    pub(crate) last: LastList,
-    pub(crate) dims: DimList,
+    pub(crate) series: Vec<u32>,
+    pub(crate) samples: Vec<Sample>,
 }
 
 /// The last row of a series.
@@ -30,59 +29,79 @@ fn last_of(last: &[Option<Last>], series: u32) -> Option<Last>
 }
 
 /// A value by number.
-fn value_of(series: u32, value: &OpenValue) -> history::Value
+fn value_of(series: u32, value: &OpenValue) -> Value
     ensures { result ≡ record { series = series; value = value.now.value; anomalous = value.now.anomalous } }
 {
-    history::Value {
+    Value {
         series,
         value: value.value,
         anomalous: value.anomalous,
     }
 }
 
-/// Adds a value to a row.
-fn push_value(
-    row: &mut NumberedRow,
-    value: history::Value,
-    last: Option<Last>,
-    def: DimDef,
-) -> Result<(), PointFault>
-    ensures values { OnOk result (row.new.values ≡ row.old.values ++ value ∷ []) }
-    ensures rows { OnOk result (row.new.last ≡ row.old.last ++ last ∷ []) }
-    ensures defs { OnOk result (row.new.dims ≡ row.old.dims ++ def ∷ []) }
+/// The sample of the value of a series that its chart collected at `moment`.
+fn sample_at(
+    registry: &Registry,
+    last: &[Option<Last>],
+    chart: &ChartDef,
+    moment: u32,
+    series: u32,
+    value: &OpenValue,
+) -> Sample
+    requires { series < length registry.now.dimensions }
+    ensures { cell_by registry.now last.now chart.now moment series value.now ≡ Some (cell_at result) }
 {
-    row.values.push(value)?;
-    row.last.push(last)?;
-    row.dims.push(def)?;
+    sample_of(
+        chart.update_every,
+        chart.store_first,
+        moment,
+        &value_of(series, value),
+        last_of(last, series),
+        registry.dimension(series),
+    )
+}
+
+/// Adds the series of a value and its sample to a row.
+fn push_value(row: &mut NumberedRow, series: u32, sample: Sample) -> Result<(), PointFault>
+    ensures series { OnOk result (row.new.series.items ≡ row.old.series.items ++ series ∷ []) }
+    ensures samples { OnOk result (row.new.samples.items ≡ row.old.samples.items ++ sample ∷ []) }
+{
+    row.series.push(series)?;
+    row.samples.push(sample)?;
     Ok(())
 }
 
-/// Numbers the values of a row.
+/// The row without values, with room for this many.
+fn empty_row(alloc: Global, values: usize) -> Result<NumberedRow, PointFault>
+    ensures series { IfOk result (λ row. row.series.items ≡ []) }
+    ensures samples { IfOk result (λ row. row.samples.items ≡ []) }
+{
+    Ok(NumberedRow {
+        series: Vec::with_capacity(alloc, values)?,
+        samples: Vec::with_capacity(alloc, values)?,
+    })
+}
+
+/// Numbers the values of a row that the chart with this number and definition collected at `moment`.
 pub(crate) fn number_row(
     alloc: Global,
     registry: &Registry,
     last: &[Option<Last>],
-    chart: u32,
+    number: u32,
+    chart: &ChartDef,
+    moment: u32,
     values: &[OpenValue],
 ) -> Result<NumberedRow, PointFault>
-    requires there { chart < length registry.now.charts }
-    requires known { All (λ (value : Value). IsSome (series_of registry.now (chart_id registry.now chart) value.id)) values.now }
-    ensures { IfOk result (λ row. AreNumbered registry.now last.now (chart_id registry.now chart) values.now row.values row.last row.dims) }
+    requires there { number < length registry.now.charts }
+    requires own { chart_id registry.now number ≡ chart.now.id }
+    requires known { All (λ (value : Open). IsSome (series_of registry.now chart.now.id value.id)) values.now }
+    ensures { IfOk result (λ row. AreNumbered registry.now last.now chart.now moment values.now row.series.items row.samples.items) }
 {
-    let mut row = NumberedRow {
-        values: ListOf::new(alloc),
-        last: ListOf::new(alloc),
-        dims: ListOf::new(alloc),
-    };
+    let mut row = empty_row(alloc, values.len())?;
     for value in values {
-        if let Some(series) = registry.series_of(chart, value.id.as_str()) {
-            let def = registry.dimension(series).clone()?;
-            push_value(
-                &mut row,
-                value_of(series, value),
-                last_of(last, series),
-                def,
-            )?;
+        if let Some(series) = registry.series_of(number, value.id.as_str()) {
+            let sample = sample_at(registry, last, chart, moment, series, value);
+            push_value(&mut row, series, sample)?;
         }
     }
     Ok(row)

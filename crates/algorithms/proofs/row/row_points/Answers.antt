@@ -4,8 +4,8 @@ use Rattle.algorithms.specs.Samples.{cell_at}
 use Rattle.algorithms.proofs.RowLemmas.{length-cells, length-samples, words_counted}
 use Rattle.algorithms.proofs.row.row_points.Goals as goal
 
-pub words_of-requires : goal.words_of-requires
-words_of-requires c =
+pub sample_words-requires : goal.sample_words-requires
+sample_words-requires c =
     let same : map cell_at c.in_ok-samples.samples.items ≡ cells c.args.update_every c.args.store_first c.args.moment c.args.now.now c.args.last.now c.args.dims.now = search rules in
     let counted : length c.in_ok-samples.samples.items ≡ length c.args.now.now =
     length-samples _ c.args.update_every c.args.store_first c.args.moment c.args.now.now c.args.last.now c.args.dims.now

@@ -3,7 +3,7 @@ use Rattle.history.specs.Points.{word_by}
 use Rattle.algorithms.specs.declared.sample.Sample.{Sample}
 use Rattle.algorithms.specs.Samples.{cell_at}
 use Rattle.algorithms.specs.Words.{packed}
-use Rattle.algorithms.proofs.row.words_of.Given as goal
+use Rattle.algorithms.proofs.row.sample_words.Given as goal
 
 abbrev pub invariant-loop-sample : goal.invariant-loop-sample
 invariant-loop-sample l =
