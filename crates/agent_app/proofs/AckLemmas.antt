@@ -11,9 +11,10 @@ use Rattle.std.proofs.lemmas.List.{append_cancel_left, drop-append-le, take_at, 
 use Rattle.std.proofs.lemmas.List.Elements.{All-append, All-from_recursion, All-take}
 use Rattle.std.proofs.lemmas.List.Splits.{slice_split_at}
 use Rattle.host_model.specs.Past.{Event, On, Told, told, IsText}
-use Rattle.plugin_text.specs.Lines.{is_line_feed, but_last, last_part, lines, parts, rest}
+use Rattle.plugin_text.specs.Lines.{but_last, last_part, lines, parts, rest}
 use Rattle.plugin_text.proofs.PartsLemmas.{lines-append, rest-append}
 use Rattle.history.specs.declared.fault.BlockFault.TheVariants as fault
+use Rattle.history.specs.Limits.{is_line_feed}
 use Rattle.point_lines.specs.declared.refusal.Refusal.{Refusal}
 use Rattle.point_lines.specs.declared.refusal.Refusal.TheVariants as refusal
 use Rattle.point_lines.specs.Judged.{refusal_number}

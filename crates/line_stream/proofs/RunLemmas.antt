@@ -3,11 +3,12 @@ use Rattle.std.proofs.Common.{◌≡◌, ℕ, ◌+◌, ◌-◌, ◌<◌, ◌≤�
 use Rattle.std.specs.List.{onto_first, AllPass}
 use Rattle.std.proofs.lemmas.List.Elements.{All-cons, All-head, All-nil, All-tail}
 use Rattle.std.proofs.lemmas.Bool.{cases_lt}
+use Rattle.history.specs.Limits.{is_line_feed}
 use Rattle.host_model.specs.Cause.{Rose}
 use Rattle.host_model.specs.Source.{Takes}
 use Rattle.host_model.specs.declared.status.Status.{Status}
 use Rattle.host_model.specs.declared.status.Status.TheVariants.{ReadFault, InputLimit, Memory}
-use Rattle.plugin_text.specs.Lines.{is_line_feed, parts, lines, rest, fits, but_last, last_part, HasNoLongLine, IsLongAfter, IsRest}
+use Rattle.plugin_text.specs.Lines.{parts, lines, rest, fits, but_last, last_part, HasNoLongLine, IsLongAfter, IsRest}
 use Rattle.plugin_text.proofs.LongLemmas.{AllPass-front, AllPass-lines, HasNoLongLine-append, IsLongAfter-later}
 use Rattle.plugin_text.proofs.PartsLemmas.{parts_first, parts_whole, lines-append, rest-append}
 use Rattle.line_stream.specs.declared.stream.Stream.{Stream}

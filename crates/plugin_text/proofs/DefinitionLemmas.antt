@@ -1,14 +1,12 @@
 -- A definition, field by field.
 use Rattle.std.proofs.Common.{◌≡◌, ℕ, Bool, List, ℤ, pos, refl, codes}
 use Rattle.std.specs.List.{after_first}
-use Rattle.history.specs.declared.chart.ChartDef.{ChartDef}
 use Rattle.history.specs.declared.chart.ChartKind.{ChartKind}
 use Rattle.history.specs.declared.dimension.Algorithm.{Algorithm}
-use Rattle.history.specs.declared.dimension.DimDef.{DimDef}
+use Rattle.history.specs.Limits.{is_dot}
 use Rattle.plugin_text.specs.Chart.{chart_def, chart_kind}
 use Rattle.plugin_text.specs.Dimension.{dimension_def, algorithm_of, is_noreset}
 use Rattle.plugin_text.specs.Fields.{field, word_or}
-use Rattle.plugin_text.specs.Id.{is_dot}
 use Rattle.plugin_text.specs.Text.{shortened, has_option}
 
 pub chart_def-is : (words : List (List ℕ)) (part : List ℕ) (p priority : ℤ) (every : ℕ) (id name title units family context : List ℕ) (kind : ChartKind) (store_first : Bool)

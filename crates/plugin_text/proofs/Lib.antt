@@ -1,9 +1,11 @@
 pub mod CutLemmas
 pub mod DefinitionLemmas
 pub mod FieldsLemmas
+pub mod LimitLemmas
 pub mod LineLemmas
 pub mod LongLemmas
 pub mod NumberLemmas
+pub mod OneLineLemmas
 pub mod PartsLemmas
 pub mod SearchLemmas
 pub mod TextLemmas

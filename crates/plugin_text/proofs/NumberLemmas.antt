@@ -1,5 +1,5 @@
 -- The numbers that words say.
-use Rattle.std.proofs.Common.{◌≡◌, ℕ, suc, ◌+◌, ◌<◌, ◌≤◌, Bool, true, false, not, cond, ◌&&◌, ◌||◌, List, [], ◌∷◌, length, ℤ, int_le, nat_lt, Result, Ok, Err, refl, sym, ap, arith, take, if◌then◌else◌}
+use Rattle.std.proofs.Common.{◌≡◌, ℕ, ◌+◌, ◌<◌, ◌≤◌, Bool, true, false, not, cond, ◌&&◌, ◌||◌, List, [], ◌∷◌, length, ℤ, int_le, nat_lt, Ok, Err, refl, arith, if◌then◌else◌}
 use Rattle.std.proofs.lemmas.Bool.Decides.{nat_tests}
 use Rattle.std.proofs.lemmas.Int.{ints}
 use Rattle.std.proofs.lemmas.List.{take_all}
@@ -9,9 +9,8 @@ use Rattle.std.specs.Int.RustNames.{FitsSigned}
 use Rattle.std.specs.List.{list_all, list_any, position_or_len}
 use Rattle.std.specs.Str.Parse.{AllDigits, IsNumeral, without_leading_sign, signed_digits_value}
 use mir.Syntax.{w64}
-use Rattle.plugin_text.specs.declared.fault.LineFault.{LineFault}
+use Rattle.history.specs.Limits.{is_dot}
 use Rattle.plugin_text.specs.declared.fault.LineFault.TheVariants.{BadNumber}
-use Rattle.plugin_text.specs.Id.{is_dot}
 use Rattle.plugin_text.specs.Number.{is_digits, number_within, number, value}
 
 digit_is : (byte : ℕ) → 48 ≤ byte → byte ≤ 57 → is_ascii_digit byte ≡ true

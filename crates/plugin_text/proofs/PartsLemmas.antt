@@ -3,7 +3,8 @@ use Rattle.std.proofs.Common.{◌≡◌, ℕ, Bool, true, false, cond, List, [],
 use Rattle.std.specs.List.{onto_first}
 use Rattle.std.proofs.lemmas.List.{append-nil, append_cancel_left}
 use Rattle.std.proofs.lemmas.List.Splits.{slice_split-cons_no}
-use Rattle.plugin_text.specs.Lines.{is_line_feed, parts, but_last, last_part, lines, rest}
+use Rattle.history.specs.Limits.{is_line_feed}
+use Rattle.plugin_text.specs.Lines.{parts, but_last, last_part, lines, rest}
 
 -- a text has at least one part
 pub parts_first : (text : List ℕ) → (first : List ℕ) × (others : List (List ℕ)) × (parts text ≡ first ∷ others)

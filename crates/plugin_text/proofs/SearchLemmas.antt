@@ -6,7 +6,8 @@ use Rattle.std.proofs.lemmas.List.{take-append-drop, drop_more, get_or-take, len
 use Rattle.std.proofs.lemmas.List.Elements.{All-from_get_or}
 use Rattle.std.proofs.lemmas.List.Splits.{slice_split_none, slice_split_at}
 use Rattle.memchr.specs.Find.{Nowhere, Passes, is_byte}
-use Rattle.plugin_text.specs.Lines.{is_line_feed, parts}
+use Rattle.history.specs.Limits.{is_line_feed}
+use Rattle.plugin_text.specs.Lines.{parts}
 
 pub parts_none : (text : List ℕ) → Nowhere (Passes (is_byte 10) text) 0 (length text) → parts text ≡ text ∷ []
 parts_none text nowhere =

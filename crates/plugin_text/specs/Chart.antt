@@ -4,14 +4,16 @@ use Rattle.std.specs.Str.{bytes_eq}
 use Rattle.history.specs.declared.chart.ChartDef.{ChartDef}
 use Rattle.history.specs.declared.chart.ChartKind.{ChartKind}
 use Rattle.history.specs.declared.chart.ChartKind.TheVariants.{Line as LineKind, Area, Stacked}
+use Rattle.history.specs.declared.limits.TheConstants.{UPDATE_EVERY_LIMIT}
 use Rattle.history.specs.declared.line.Line.{Line}
 use Rattle.history.specs.declared.line.Line.TheVariants.{Chart}
-use Rattle.plugin_text.specs.declared.chart.TheConstants.{USUAL_PRIORITY, UPDATE_EVERY_LIMIT}
+use Rattle.history.specs.Limits.{is_dot}
+use Rattle.plugin_text.specs.declared.chart.TheConstants.{USUAL_PRIORITY}
 use Rattle.plugin_text.specs.declared.fault.LineFault.{LineFault}
 use Rattle.plugin_text.specs.declared.fault.LineFault.TheVariants.{MissingWord}
 use Rattle.plugin_text.specs.Answer.{◌>>=◌}
 use Rattle.plugin_text.specs.Fields.{field, word_or}
-use Rattle.plugin_text.specs.Id.{is_dot, chart_id}
+use Rattle.plugin_text.specs.Id.{chart_id}
 use Rattle.plugin_text.specs.Number.{number, number_within}
 use Rattle.plugin_text.specs.Text.{shortened, has_option}
 
@@ -28,7 +30,7 @@ priority (byte ∷ bytes) = number (byte ∷ bytes)
 -- in seconds, and 0 where the line leaves it open
 abbrev pub update_every : List ℕ → Result ℤ LineFault
 update_every [] = Ok (pos 0)
-update_every (byte ∷ bytes) = number_within (pos 0) UPDATE_EVERY_LIMIT (byte ∷ bytes)
+update_every (byte ∷ bytes) = number_within (pos 0) (pos UPDATE_EVERY_LIMIT) (byte ∷ bytes)
 
 -- the definition with these two numbers
 abbrev pub chart_def : List (List ℕ) → ℤ → ℤ → ChartDef

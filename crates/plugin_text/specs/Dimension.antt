@@ -3,9 +3,9 @@ use Rattle.std.specs.Str.{bytes_eq}
 use Rattle.history.specs.declared.dimension.Algorithm.{Algorithm}
 use Rattle.history.specs.declared.dimension.Algorithm.TheVariants.{Absolute, Incremental, PercentageOfAbsoluteRow, PercentageOfIncrementalRow}
 use Rattle.history.specs.declared.dimension.DimDef.{DimDef}
+use Rattle.history.specs.declared.limits.TheConstants.{FACTOR_LIMIT}
 use Rattle.history.specs.declared.line.Line.{Line}
 use Rattle.history.specs.declared.line.Line.TheVariants.{Dimension}
-use Rattle.plugin_text.specs.declared.dimension.TheConstants.{FACTOR_LIMIT}
 use Rattle.plugin_text.specs.declared.fault.LineFault.{LineFault}
 use Rattle.plugin_text.specs.Answer.{◌>>=◌}
 use Rattle.plugin_text.specs.Fields.{field, word_or}

@@ -1,9 +1,7 @@
-use Rattle.std.specs.Prelude.{◌≡◌, ℕ, ◌==◌, nat_le, Bool, true, false, List, [], ◌∷◌, ◌++◌, length}
+use Rattle.std.specs.Prelude.{◌≡◌, ℕ, nat_le, Bool, true, false, List, [], ◌∷◌, ◌++◌, length}
 use Rattle.std.specs.List.{slice_split, AllPass}
+use Rattle.history.specs.Limits.{is_line_feed}
 use Rattle.plugin_text.specs.declared.splitter.TheConstants.{LINE_LIMIT}
-
-abbrev pub is_line_feed : ℕ → Bool
-is_line_feed byte = byte == 10
 
 -- what stands between line feeds: the lines of a text, and what follows the last line feed
 abbrev pub parts : List ℕ → List (List ℕ)

@@ -2,10 +2,10 @@ use Rattle.std.specs.Prelude.{ℕ, ◌-◌, ◌^◌, Bool, not, ◌&&◌, nat_lt
 use Rattle.std.specs.Char.{is_ascii_digit}
 use Rattle.std.specs.List.{list_all, list_any, before_first, after_first}
 use Rattle.std.specs.Str.Parse.{without_leading_sign, signed_digits_value}
+use Rattle.history.specs.Limits.{is_dot}
 use Rattle.plugin_text.specs.declared.fault.LineFault.{LineFault}
 use Rattle.plugin_text.specs.declared.fault.LineFault.TheVariants.{BadNumber}
 use Rattle.plugin_text.specs.Answer.{◌>>=◌}
-use Rattle.plugin_text.specs.Id.{is_dot}
 
 -- one digit or more
 abbrev pub is_digits : List ℕ → Bool

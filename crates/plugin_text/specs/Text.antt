@@ -2,8 +2,8 @@ use Rattle.std.specs.Prelude.{◌==◌, ℕ, Bool, ◌||◌, List, take}
 use Rattle.std.specs.List.{list_any, slice_split}
 use Rattle.std.specs.Str.{bytes_eq}
 use Rattle.std.specs.Str.Lossy.{utf8_valid_len}
+use Rattle.history.specs.declared.limits.TheConstants.{TEXT_LIMIT}
 use Rattle.words.specs.Words.{is_blank}
-use Rattle.plugin_text.specs.declared.text.TheConstants.{TEXT_LIMIT}
 
 -- a text that is cut to its longest front of at most so many bytes that ends at a character, which is
 -- the longest front of those bytes that is UTF-8

@@ -1,9 +1,9 @@
 ghost use Rattle.std.specs.Prelude.{◌≡◌, pos, Ok, Err, IfOk, IfErr};
 ghost use Rattle.std.specs.List.{after_first};
+ghost use Rattle.history.specs.Limits.{is_dot};
 ghost use Rattle.plugin_text.specs.Answer.{IsFaultFor};
 ghost use Rattle.plugin_text.specs.Chart.{chart, chart_def, chart_kind, priority, update_every};
 ghost use Rattle.plugin_text.specs.Fields.{field, texts};
-ghost use Rattle.plugin_text.specs.Id.{is_dot};
 
 use crate::fault::LineFault;
 use crate::fields::{Fields, field, keep_field, keep_field_or};
@@ -11,14 +11,11 @@ use crate::id::chart_part;
 use crate::number::{number, number_within};
 use crate::text::has_option;
 use fixed_num::Text;
-use history::{ChartDef, ChartKind, Line};
+use history::{ChartDef, ChartKind, Line, UPDATE_EVERY_LIMIT};
 use std::alloc::{AllocError, Global};
 
 /// The priority of a chart whose line has none.
 pub const USUAL_PRIORITY: i64 = 1000;
-
-/// The most seconds that may lie between two values of a chart.
-pub const UPDATE_EVERY_LIMIT: i64 = 86_400;
 
 /// Those parts of a chart's definition that may be refused.
 #[derive(Debug, Drop)]
@@ -105,6 +102,6 @@ fn update_every(word: &str) -> Result<u32, LineFault>
     if word.is_empty() {
         return Ok(0);
     }
-    let seconds = number_within(word, 0, UPDATE_EVERY_LIMIT)?;
+    let seconds = number_within(word, 0, i64::from(UPDATE_EVERY_LIMIT))?;
     Ok(seconds as u32)
 }

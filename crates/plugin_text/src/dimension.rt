@@ -9,11 +9,8 @@ use crate::id::check_dimension_id;
 use crate::number::number_within;
 use crate::text::has_option;
 use fixed_num::Text;
-use history::{Algorithm, DimDef, Line};
+use history::{Algorithm, DimDef, FACTOR_LIMIT, Line};
 use std::alloc::{AllocError, Global};
-
-/// The largest size of a multiplier or a divisor.
-pub const FACTOR_LIMIT: i64 = 2_147_483_647;
 
 /// Reads the words of a DIMENSION line.
 pub fn read_dimension(alloc: Global, fields: &Fields) -> Result<Line, LineFault>
@@ -74,6 +71,7 @@ fn factor(word: &str) -> Result<i32, LineFault>
     if word.is_empty() {
         return Ok(1);
     }
-    let factor = number_within(word, -FACTOR_LIMIT, FACTOR_LIMIT)?;
+    let limit = i64::from(FACTOR_LIMIT);
+    let factor = number_within(word, -limit, limit)?;
     Ok(if factor == 0 { 1 } else { factor as i32 })
 }

@@ -1,11 +1,10 @@
 ghost use Rattle.std.specs.Prelude.{◌≡◌, Ok, Err, IfOk, IfErr, OnOk};
 ghost use Rattle.std.specs.List.{after_first};
-ghost use Rattle.plugin_text.specs.Id.{is_dot, short_id, chart_id, dimension_id};
+ghost use Rattle.history.specs.Limits.{is_dot};
+ghost use Rattle.plugin_text.specs.Id.{short_id, chart_id, dimension_id};
 
 use crate::fault::LineFault;
-
-/// How many bytes an id may have.
-pub const ID_LIMIT: usize = 200;
+use history::ID_LIMIT;
 
 fn check_length(id: &str) -> Result<(), LineFault>
     ensures id { OnOk result (short_id id.now ≡ Ok id.now) }

@@ -1,10 +1,8 @@
 ghost use Rattle.std.specs.Prelude.{◌≡◌};
 ghost use Rattle.plugin_text.specs.Text.{shortened, is_option_separator, has_option};
 
+use history::TEXT_LIMIT;
 use words::is_blank;
-
-/// How many bytes a text of a definition, other than an id, may have.
-pub const TEXT_LIMIT: usize = 200;
 
 /// The longest front of a text of at most `TEXT_LIMIT` bytes that ends at a character.
 pub fn shortened(text: &str) -> &str

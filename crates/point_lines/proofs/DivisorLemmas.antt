@@ -2,11 +2,11 @@
 use Rattle.std.proofs.Common.{◌≡◌, ◌≢◌, ℕ, zero, suc, Bool, true, false, nat_lt, ◌==◌, List, [], ◌∷◌, length, ℤ, pos, negsuc, neg_ℤ, unsigned_abs, codes, Option, Some, None, Result, Ok, Err, IfOk, subst, if◌then◌else◌}
 use Rattle.std.specs.Option.{option_map_or}
 use Rattle.std.specs.Str.{bytes_eq, is_utf8}
+use Rattle.history.specs.declared.limits.TheConstants.{FACTOR_LIMIT}
 use Rattle.history.specs.declared.line.Line.{Line}
 use Rattle.history.specs.declared.line.Line.TheVariants as line
 use Rattle.words.specs.Words.{words, has_open_quote, behind_first}
 use Rattle.plugin_text.specs.declared.block.TheConstants.{MOMENT_LIMIT}
-use Rattle.plugin_text.specs.declared.dimension.TheConstants.{FACTOR_LIMIT}
 use Rattle.plugin_text.specs.declared.fault.LineFault.{LineFault}
 use Rattle.plugin_text.specs.declared.fault.LineFault.TheVariants.{NotText, OpenQuote, MissingWord}
 use Rattle.plugin_text.specs.declared.keyword.Keyword.{Keyword}

@@ -1,9 +1,13 @@
 use Rattle.plugin_text.proofs.LongLemmas.{IsLongAfter-append, HasNoLongLine-append, IsLongAfter-later}
+use Rattle.plugin_text.proofs.OneLineLemmas.{parts-one_line}
 use Rattle.plugin_text.proofs.PartsLemmas.{parts_whole, parts-append, lines-append, rest-append}
 use Rattle.plugin_text.proofs.law.any_cut.Goals as goal
 
 pub returns-clause-whole : goal.returns-clause-whole
 returns-clause-whole c = parts_whole
+
+pub returns-clause-one_line : goal.returns-clause-one_line
+returns-clause-one_line c = parts-one_line
 
 pub returns-clause-parts : goal.returns-clause-parts
 returns-clause-parts c = parts-append
