@@ -37,9 +37,9 @@ pub(crate) fn stored_points(
 ) -> Result<BeatPointList, AllocError>
     ensures { IfOk result (λ points. points ≡ map (point_of registry.now) words.now) }
 {
-    let mut points = BeatPointList::new(alloc);
+    let mut points = Vec::with_capacity(alloc, words.len())?;
     for word in words {
         points.push(point_of(registry, *word))?;
     }
-    Ok(points)
+    Ok(BeatPointList::from_vec(points))
 }

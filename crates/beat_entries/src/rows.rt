@@ -55,7 +55,7 @@ fn gather_values(
     requires { chart < length registry.now.charts }
     ensures { IfOk result (λ values. values.items ≡ filter_map (value_at registry.now (chart_id registry.now chart)) given.now) }
 {
-    let mut values = Vec::new(alloc);
+    let mut values = Vec::with_capacity(alloc, given.len())?;
     for value in given {
         push_value(&mut values, registry, chart, value)?;
     }
@@ -112,7 +112,7 @@ fn gather_rows(
     requires apart { All (λ (row : Open). AreApart same_value row.values) given.now }
     ensures { IfOk result (λ rows. rows.items ≡ filter_map (row_at registry.now) given.now) }
 {
-    let mut rows = Vec::new(alloc);
+    let mut rows = Vec::with_capacity(alloc, given.len())?;
     for row in given {
         push_row(alloc, &mut rows, registry, row)?;
     }

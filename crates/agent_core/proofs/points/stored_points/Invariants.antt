@@ -3,4 +3,4 @@ use Rattle.agent_core.specs.Kept.{point_of}
 use Rattle.agent_core.proofs.points.stored_points.Given as goal
 
 abbrev pub invariant-loop-word : goal.invariant-loop-word
-invariant-loop-word l = l.points ≡ map (point_of l.registry) (take l.word-index l.words)
+invariant-loop-word l = l.points.items ≡ map (point_of l.registry) (take l.word-index l.words)
