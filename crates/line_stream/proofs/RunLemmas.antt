@@ -3,13 +3,14 @@ use Rattle.std.proofs.Common.{◌≡◌, ℕ, ◌+◌, ◌-◌, ◌<◌, ◌≤�
 use Rattle.std.specs.List.{onto_first, AllPass}
 use Rattle.std.proofs.lemmas.List.Elements.{All-cons, All-head, All-nil, All-tail}
 use Rattle.std.proofs.lemmas.Bool.{cases_lt}
-use Rattle.history.specs.Limits.{is_line_feed}
+use Rattle.history.specs.Limits.{is_line_feed, is_one_line}
 use Rattle.host_model.specs.Cause.{Rose}
 use Rattle.host_model.specs.Source.{Takes}
 use Rattle.host_model.specs.declared.status.Status.{Status}
 use Rattle.host_model.specs.declared.status.Status.TheVariants.{ReadFault, InputLimit, Memory}
 use Rattle.plugin_text.specs.Lines.{parts, lines, rest, fits, but_last, last_part, HasNoLongLine, IsLongAfter, IsRest}
 use Rattle.plugin_text.proofs.LongLemmas.{AllPass-front, AllPass-lines, HasNoLongLine-append, IsLongAfter-later}
+use Rattle.plugin_text.proofs.OneLineLemmas.{parts-one_line}
 use Rattle.plugin_text.proofs.PartsLemmas.{parts_first, parts_whole, lines-append, rest-append}
 use Rattle.line_stream.specs.declared.stream.Stream.{Stream}
 use Rattle.line_stream.specs.Chain.{Acts, Chain, begins, pauses}
@@ -51,6 +52,10 @@ lines_before text before long =
     let fewer : length before ≤ length (lines text) = rw long.whole (before_part before long.long long.more) in
     omega (arith, fewer, lines_and_rest text)
 
+-- the first parts of a text have no line feed
+pub front-one_line : (text : List ℕ) (front others : List (List ℕ)) → parts text ≡ front ++ others → AllPass is_one_line front
+front-one_line text front others whole = AllPass-front is_one_line front others (subst (AllPass is_one_line) whole (parts-one_line text))
+
 -- ---- one piece more
 
 -- a list with something in its midst, and behind it
@@ -65,7 +70,7 @@ in_midst front before (x ∷ more) others line last = (
 
 -- of lines that are short each front is, and each line
 short-front : (front before more : List (List ℕ)) (line : List ℕ) → AllPass fits (front ++ (before ++ line ∷ more)) → AllPass fits (front ++ before)
-short-front front before more line short = AllPass-front (front ++ before) (line ∷ more) (subst (AllPass fits) (sym (append_assoc front before (line ∷ more))) short)
+short-front front before more line short = AllPass-front fits (front ++ before) (line ∷ more) (subst (AllPass fits) (sym (append_assoc front before (line ∷ more))) short)
 
 short-at : (front more : List (List ℕ)) (line : List ℕ) → AllPass fits (front ++ line ∷ more) → fits line ≡ true
 short-at [] more line short = All-head (λ (l : List ℕ). fits l ≡ true) line more short

@@ -6,7 +6,7 @@
 //! a taker does with a line is a relation of its own, and a run is a chain of such steps. So what a command
 //! makes of a whole text is proved from that chain alone, whatever the pieces were.
 //!
-//! It stands on `plugin_text` for lines and on `host_model` for the outside.
+//! It stands on `plugin_text` for lines, on `history` for what one line is, and on `host_model` for the outside.
 #![tactic(auto)]
 
 mod stream;

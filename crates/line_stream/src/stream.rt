@@ -1,5 +1,6 @@
 ghost use Rattle.std.specs.Prelude.{◌≡◌, ℕ, ◌+◌, ◌^◌, ◌<◌, ◌≤◌, ◌++◌, true, List, [], length, Option, None, OnOk, IfOk, IfErr};
 ghost use Rattle.std.specs.List.{AllPass};
+ghost use Rattle.history.specs.Limits.{is_one_line};
 ghost use Rattle.host_model.specs.Cause.{Rose};
 ghost use Rattle.plugin_text.specs.Lines.{fits};
 ghost use Rattle.line_stream.specs.Chain.{acts_of, Chain};
@@ -38,6 +39,7 @@ fn hand_line<H: Host, T: Taker<H>>(
     requires ready { T.ready taker.old host.old (count.old + 1) }
     requires few { count.old < 2 ^ 40 }
     requires short { fits line.now ≡ true }
+    requires whole { is_one_line line.now ≡ true }
     ensures takes { T.takes taker.old host.old (count.old + 1) line.now result taker.new host.new }
     ensures count { OnOk result (count.new ≡ count.old + 1) }
     ensures ready { OnOk result (T.ready taker.new host.new (count.new + 1)) }
@@ -58,6 +60,7 @@ fn hand_over<H: Host, T: Taker<H>>(
     requires ready { T.ready taker.old host.old (count.old + 1) }
     requires few { count.old + length lines.now ≤ 2 ^ 40 }
     requires short { AllPass fits lines.now }
+    requires whole { AllPass is_one_line lines.now }
     ensures handed { (start : T) (begin : H) (front : List (List ℕ)) → length front ≡ count.old → Chain (acts_of T.takes T.pauses T.ends T.overflows) start begin front taker.old host.old
         → HandsOver (acts_of T.takes T.pauses T.ends T.overflows) start begin front lines.now result taker.new host.new }
     ensures count { OnOk result (count.new ≡ count.old + length lines.now) }

@@ -1,4 +1,5 @@
 ghost use Rattle.std.specs.Prelude.{◌≡◌, ℕ, ◌+◌, ◌^◌, ◌≤◌, true, List, Result, OnOk};
+ghost use Rattle.history.specs.Limits.{is_one_line};
 ghost use Rattle.host_model.specs.declared.status.Status.{Status as AStatus};
 ghost use Rattle.plugin_text.specs.Lines.{fits};
 
@@ -29,6 +30,7 @@ pub trait Taker<H: Host> {
         requires ready { ready self.old host.old number }
         requires few { number ≤ 2 ^ 40 }
         requires short { fits line.now ≡ true }
+        requires whole { is_one_line line.now ≡ true }
         ensures takes { takes self.old host.old number line.now result self.new host.new }
         ensures ready { OnOk result (ready self.new host.new (number + 1)) };
 

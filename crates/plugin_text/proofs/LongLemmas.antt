@@ -1,5 +1,5 @@
 -- Where a text has a part that is too long.
-use Rattle.std.proofs.Common.{◌≡◌, ℕ, true, false, List, [], ◌∷◌, ◌++◌, length, refl, sym, ap, ◌∙◌, subst, arith, append_assoc, length-append}
+use Rattle.std.proofs.Common.{◌≡◌, ℕ, Bool, true, false, List, [], ◌∷◌, ◌++◌, length, refl, sym, ap, ◌∙◌, subst, arith, append_assoc, length-append}
 use Rattle.std.specs.List.{AllPass}
 use Rattle.std.proofs.lemmas.Bool.Decides.{nat_tests}
 use Rattle.std.proofs.lemmas.List.{same_from_push, take_at}
@@ -11,9 +11,10 @@ use Rattle.plugin_text.proofs.PartsLemmas.{parts_first, parts_whole, but_last-ap
 pub fits-append : (text more : List ℕ) → fits text ≡ false → fits (text ++ more) ≡ false
 fits-append text more too_long = grind (arith, nat_tests, length-append text more)
 
-pub AllPass-front : (xs ys : List (List ℕ)) → AllPass fits (xs ++ ys) → AllPass fits xs
-AllPass-front xs ys all =
-    subst (AllPass fits) (take_at xs ys (length xs) refl) (All-take (λ part. fits part ≡ true) (length xs) (xs ++ ys) all)
+-- what passes as a whole passes as far as one likes
+pub AllPass-front : (test : List ℕ → Bool) (xs ys : List (List ℕ)) → AllPass test (xs ++ ys) → AllPass test xs
+AllPass-front test xs ys all =
+    subst (AllPass test) (take_at xs ys (length xs) refl) (All-take (λ part. test part ≡ true) (length xs) (xs ++ ys) all)
 
 -- the long part is the text's rest, or one of its lines
 pub IsLongAfter-append : (text more : List ℕ) (before : List (List ℕ)) → IsLongAfter text before → IsLongAfter (text ++ more) before
@@ -42,7 +43,7 @@ IsLongAfter-append text more before h = at_rest h.more h.whole
 
 -- the lines of a text with no long line
 pub AllPass-lines : (text : List ℕ) → HasNoLongLine text → AllPass fits (lines text)
-AllPass-lines text short = AllPass-front (lines text) (rest text ∷ []) (subst (AllPass fits) (parts_whole text) short)
+AllPass-lines text short = AllPass-front fits (lines text) (rest text ∷ []) (subst (AllPass fits) (parts_whole text) short)
 
 pub HasNoLongLine-append : (text more : List ℕ) → HasNoLongLine text → HasNoLongLine (rest text ++ more) → HasNoLongLine (text ++ more)
 HasNoLongLine-append text more short later =
