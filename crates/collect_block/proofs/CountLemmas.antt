@@ -9,7 +9,7 @@ use Rattle.std.proofs.lemmas.List.Sums.{sum_by-cons, count_by-le-length}
 use Rattle.history.specs.declared.beat.OpenDim.{OpenDim}
 use Rattle.history.specs.declared.chart.ChartDef.{ChartDef}
 use Rattle.history.specs.Put.{put}
-use Rattle.history.specs.Refusal.{has_chart, has_dimension, is_new_chart, is_new_dimension}
+use Rattle.history.specs.Refusal.{has_chart, has_dimension, is_new_chart, is_new_dimension, is_new_of}
 use Rattle.history.specs.Registry.{Registry, is_chart, is_of, is_dimension, same_chart, same_dimension}
 use Rattle.chart_registry.proofs.Applying.{has_chart-any}
 use Rattle.chart_registry.proofs.RowsLemmas.{same_text}
@@ -96,9 +96,6 @@ module _ (registry : Registry) (tables : BeatTables) (counts : CountsNew tables 
   }
 
 -- ---- dimensions
-abbrev pub is_new_of : Registry → List ℕ → OpenDim → Bool
-is_new_of registry chart dimension = is_of chart dimension && is_new_dimension registry dimension
-
 module _ (registry : Registry) (x y : OpenDim) (same : same_dimension x y ≡ true) where
   same_chart_of : x.chart ≡ y.chart
   same_chart_of = same_text x.chart y.chart (and_parts (bytes_eq x.chart y.chart) (bytes_eq x.def.id y.def.id) same).0

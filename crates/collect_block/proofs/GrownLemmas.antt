@@ -6,7 +6,7 @@ use Rattle.std.proofs.lemmas.Bool.{and_parts}
 use Rattle.std.proofs.lemmas.List.Sums.{sum_by-cons}
 use Rattle.history.specs.declared.beat.OpenDim.{OpenDim}
 use Rattle.history.specs.declared.chart.ChartDef.{ChartDef}
-use Rattle.history.specs.Refusal.{is_new_chart, is_new_dimension}
+use Rattle.history.specs.Refusal.{is_new_chart, is_new_dimension, is_new_of}
 use Rattle.history.specs.Registry.{Registry, is_chart, is_of, is_dimension, same_chart, same_dimension, with_definitions}
 use Rattle.chart_registry.proofs.Applying.{any-put_all, same_chart-alike}
 use Rattle.chart_registry.proofs.RowsLemmas.{same_text}
@@ -45,8 +45,8 @@ module _ (registry later : Registry) (all : HasAllOf registry later) where
       (λ x. not-fewer (list_any (same_dimension x) registry.dimensions) (list_any (same_dimension x) later.dimensions) (has_all x))
 
   fewer-each : (chart : List ℕ) (dimensions : List OpenDim)
-      → count_by (λ x. is_of chart x && is_new_dimension later x) dimensions ≤ count_by (λ x. is_of chart x && is_new_dimension registry x) dimensions
-  fewer-each chart = count-fewer (λ x. is_of chart x && is_new_dimension registry x) (λ x. is_of chart x && is_new_dimension later x)
+      → count_by (is_new_of later chart) dimensions ≤ count_by (is_new_of registry chart) dimensions
+  fewer-each chart = count-fewer (is_new_of registry chart) (is_new_of later chart)
       (λ x. and_not-fewer (is_of chart x) (list_any (same_dimension x) registry.dimensions) (list_any (same_dimension x) later.dimensions) (has_all x))
 
   pub counts-later : (feed : Feed) → CountsFor feed registry → CountsFor feed later

@@ -1,7 +1,6 @@
-use Rattle.std.specs.Prelude.{ℕ, ◌+◌, ◌≤◌, ◌&&◌, Bool, List, length, nat_le, count_by}
+use Rattle.std.specs.Prelude.{ℕ, ◌+◌, ◌≤◌, Bool, List, length, nat_le, count_by}
 use Rattle.history.specs.declared.beat.OpenBeat.{OpenBeat}
-use Rattle.history.specs.declared.beat.OpenDim.{OpenDim}
-use Rattle.history.specs.Refusal.{is_new_chart, is_new_dimension}
+use Rattle.history.specs.Refusal.{is_new_chart, is_new_dimension, is_new_of}
 use Rattle.history.specs.Registry.{Registry, is_of}
 use Rattle.collect_block.specs.declared.beat_tables.BeatTables.{BeatTables}
 use Rattle.collect_block.specs.Places.{count_in}
@@ -13,7 +12,7 @@ beat_of beat = record { charts = beat.charts; dimensions = beat.dimensions; rows
 -- there is no room for one more dimension of this chart
 abbrev pub chart_full : Registry → OpenBeat → List ℕ → Bool
 chart_full registry open_beat chart =
-    nat_le 1024 (count_by (is_of chart) registry.dimensions + count_by (λ (dimension : OpenDim). is_of chart dimension && is_new_dimension registry dimension) open_beat.dimensions)
+    nat_le 1024 (count_by (is_of chart) registry.dimensions + count_by (is_new_of registry chart) open_beat.dimensions)
 
 -- there is no room for one more dimension of any chart
 abbrev pub all_full : Registry → OpenBeat → Bool
@@ -24,4 +23,4 @@ all_full registry open_beat = nat_le 65536 (length registry.dimensions + count_b
 pub record CountsNew (beat : BeatTables) (registry : Registry) : Type 0 where
   pub charts : count_by (is_new_chart registry) beat.charts ≤ beat.counted_charts
   pub dimensions : count_by (is_new_dimension registry) beat.dimensions ≤ beat.counted_dimensions
-  pub each : (chart : List ℕ) → count_by (λ (dimension : OpenDim). is_of chart dimension && is_new_dimension registry dimension) beat.dimensions ≤ count_in beat.counted_of chart
+  pub each : (chart : List ℕ) → count_by (is_new_of registry chart) beat.dimensions ≤ count_in beat.counted_of chart

@@ -1,6 +1,8 @@
 pub mod BeatTables
+pub mod Block
 pub mod Feed
 pub mod Grown
+pub mod Marks
 pub mod Places
 pub mod Tables
 pub mod Text

@@ -40,7 +40,10 @@ impl CountTable {
     pub(crate) fn count_of(&self, chart: &str) -> usize
         ensures { result ≡ count_in self.now chart.now }
     {
-        count_of(&self.counts, chart)
+        match self.counts.get(chart) {
+            Some(count) => *count,
+            None => 0,
+        }
     }
 
     /// Keeps a dimension's definition in a table, and counts it for its chart: at most as many as the
@@ -55,7 +58,12 @@ impl CountTable {
         ensures table_kept { OnErr result (table.new ≡ table.old) }
         ensures counts_kept { OnErr result (self.new ≡ self.old) }
     {
-        define(&mut self.counts, table, dimension)
+        let chart = dimension.chart.clone()?.into_string();
+        self.counts.reserve(1)?;
+        table.define(dimension)?;
+        let count = raised(self.count_of(chart.as_str()), table.as_slice().len());
+        self.counts.insert(chart, count).unwrap();
+        Ok(())
     }
 
     /// Counts nothing any more.
@@ -71,33 +79,4 @@ pub(crate) fn raised(count: usize, most: usize) -> usize
     ensures { result ≡ min (count + 1) most }
 {
     if count < most { count + 1 } else { most }
-}
-
-// The count of a chart.
-fn count_of(counts: &IndexMap<String, usize>, chart: &str) -> usize
-    ensures { result ≡ count_in counts.now.entries chart.now }
-{
-    match counts.get(chart) {
-        Some(count) => *count,
-        None => 0,
-    }
-}
-
-// Keeps a dimension's definition in a table, and counts it for its chart.
-fn define(
-    counts: &mut IndexMap<String, usize>,
-    table: &mut DimensionTable,
-    dimension: OpenDim,
-) -> Result<(), AllocError>
-    ensures table { OnOk result (table.new ≡ put same_dimension table.old dimension) }
-    ensures counts { OnOk result ((chart : List ℕ) → count_in counts.new.entries chart ≡ with_count counts.old.entries dimension.chart (min (count_in counts.old.entries dimension.chart + 1) (length table.new)) chart) }
-    ensures table_kept { OnErr result (table.new ≡ table.old) }
-    ensures counts_kept { OnErr result (counts.new.entries ≡ counts.old.entries) }
-{
-    let chart = dimension.chart.clone()?.into_string();
-    counts.reserve(1)?;
-    table.define(dimension)?;
-    let count = raised(count_of(counts, chart.as_str()), table.as_slice().len());
-    counts.insert(chart, count).unwrap();
-    Ok(())
 }

@@ -8,11 +8,12 @@ ghost use Rattle.history.specs.declared.line.Line.TheVariants as line;
 ghost use Rattle.collect_block.specs.Feed.{IsFeedOf, Becomes, ClosesNone, CountsAt, CountsFor, CountsPast, RefusedBy, step_of, skips};
 
 use crate::beat_tables::BeatTables;
-use crate::block::{Block, set_value};
+use crate::block::Block;
+use crate::block_values::BlockValues;
 use crate::step::Step;
 use chart_registry::Registry;
-use fixed_num::{ListOf, Text};
-use history::{BlockFault, ChartDef, DimDef, Line, OpenDim, OpenRow};
+use fixed_num::Text;
+use history::{BlockFault, ChartDef, DimDef, Line, OpenDim};
 use std::alloc::{AllocError, Global};
 
 /// What is kept of the lines of a text: its open beat and block, and the chart of its last CHART line. The
@@ -283,7 +284,7 @@ impl Feed {
         let chart = chart.clone()?;
         self.block = Some(Block {
             chart,
-            values: ListOf::new(self.alloc),
+            values: BlockValues::new(self.alloc),
         });
         Ok(())
     }
@@ -293,16 +294,10 @@ impl Feed {
         ensures counts { OnOk result ((registry : Definitions) → CountsFor self.old registry → CountsFor self.new registry) }
         ensures err { OnErr result (self.new ≡ self.old) }
     {
-        let Some(Block { chart, values }) = self.block.take() else {
-            return Ok(());
-        };
-        let mut values = values.into_vec();
-        let result = set_value(&mut values, id, value, anomalous);
-        self.block = Some(Block {
-            chart,
-            values: ListOf::from_vec(values),
-        });
-        result
+        match &mut self.block {
+            Some(block) => block.values.set(id, value, anomalous),
+            None => Ok(()),
+        }
     }
 
     fn end_block(&mut self) -> Result<(), AllocError>
@@ -313,17 +308,10 @@ impl Feed {
         let Some(block) = self.block.take() else {
             return Ok(());
         };
-        let row = OpenRow {
-            chart: block.chart,
-            values: block.values,
-        };
-        match self.beat.rows.add(row) {
+        match self.beat.rows.add(block) {
             Ok(()) => Ok(()),
-            Err(row) => {
-                self.block = Some(Block {
-                    chart: row.chart,
-                    values: row.values,
-                });
+            Err(block) => {
+                self.block = Some(block);
                 Err(AllocError)
             }
         }

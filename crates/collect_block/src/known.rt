@@ -3,7 +3,7 @@
 ghost use Rattle.std.specs.Prelude.{◌≡◌, ◌≤◌, ◌%◌, ◌==◌, ◌&&◌, false, not, nat_lt, count_by, find};
 ghost use Rattle.std.specs.List.{list_any};
 ghost use Rattle.std.specs.Option.{option_map, option_map_or};
-ghost use Rattle.history.specs.Refusal.{is_new_chart, is_new_dimension};
+ghost use Rattle.history.specs.Refusal.{is_new_chart, is_new_dimension, is_new_of};
 ghost use Rattle.history.specs.Registry.{is_chart, is_of, is_dimension};
 
 use chart_registry::{MOST_DIMENSIONS_OF_CHART, Registry};
@@ -90,7 +90,7 @@ pub fn new_dimensions(registry: &Registry, dimensions: &[OpenDim]) -> usize
 
 /// How many of these dimensions are of this chart, and the registry does not have them.
 pub fn new_dimensions_of(registry: &Registry, dimensions: &[OpenDim], chart: &str) -> usize
-    ensures { result ≡ count_by (λ dimension. is_of chart.now dimension && is_new_dimension registry.now dimension) dimensions.now }
+    ensures { result ≡ count_by (is_new_of registry.now chart.now) dimensions.now }
 {
     dimensions
         .iter()

@@ -8,13 +8,14 @@
 //!
 //! As a chart or a dimension is defined, the feed counts whether the registry or the open beat had it. So a
 //! line but a MOMENT goes through the open beat only where the counts leave no room for one definition
-//! more, and then nearly always ends the text; a SET goes through the values of its own block. What was
-//! counted holds for a registry that has all charts and dimensions of those that the feed was handed since
-//! its beat was opened, as that of a history that only grows has (`any_later`).
+//! more, and then nearly always ends the text; a SET goes through the values of its own block, by a short
+//! mark of each id. What was counted holds for a registry that has all charts and dimensions of those that
+//! the feed was handed since its beat was opened, as that of a history that only grows has (`any_later`).
 #![tactic(auto)]
 
 mod beat_tables;
 mod block;
+mod block_values;
 mod chart_table;
 mod count_table;
 mod dimension_table;

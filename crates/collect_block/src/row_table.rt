@@ -1,8 +1,10 @@
 ghost use Rattle.std.specs.Prelude.{◌≡◌, ◌<◌, ◌||◌, ℕ, List, [], ◌∷◌, ◌++◌, is_some, vec_len, vec_capacity, OnOk, OnErr, IfErr};
 ghost use Rattle.std.specs.List.{list_any};
 ghost use Rattle.std.specs.Str.{bytes_eq};
+ghost use Rattle.collect_block.specs.Block.{row_of};
 ghost use Rattle.collect_block.specs.Places.{place_in, FindsRows};
 
+use crate::block::Block;
 use fixed_num::ListOf;
 use history::{OpenRow, OpenRowList};
 use indexmap::IndexMap;
@@ -54,13 +56,13 @@ impl RowTable {
         self.charts.contains_key(chart)
     }
 
-    // Adds a row at the end. After an `Err` all is as before, and the error has the row.
-    pub(crate) fn add(&mut self, row: OpenRow) -> Result<(), OpenRow>
-        ensures ok { OnOk result (self.new ≡ self.old ++ row ∷ []) }
+    // Adds the row of a block at the end. After an `Err` all is as before, and the error has the block.
+    pub(crate) fn add(&mut self, block: Block) -> Result<(), Block>
+        ensures ok { OnOk result (self.new ≡ self.old ++ row_of block ∷ []) }
         ensures err { OnErr result (self.new ≡ self.old) }
-        ensures returned { IfErr result (λ back. back ≡ row) }
+        ensures returned { IfErr result (λ back. back ≡ block) }
     {
-        add(self.alloc, &mut self.rows, &mut self.charts, row)
+        add(self.alloc, &mut self.rows, &mut self.charts, block)
     }
 
     // Takes all rows out.
@@ -73,25 +75,25 @@ impl RowTable {
     }
 }
 
-// Adds a row at the end.
+// Adds the row of a block at the end.
 fn add(
     alloc: Global,
     rows: &mut Vec<OpenRow>,
     charts: &mut IndexMap<String, ()>,
-    row: OpenRow,
-) -> Result<(), OpenRow>
+    block: Block,
+) -> Result<(), Block>
     requires found { FindsRows charts.old.entries rows.old.items }
     ensures found { FindsRows charts.new.entries rows.new.items }
-    ensures ok { OnOk result (rows.new.items ≡ rows.old.items ++ row ∷ []) }
+    ensures ok { OnOk result (rows.new.items ≡ rows.old.items ++ row_of block ∷ []) }
     ensures err { OnErr result (rows.new.items ≡ rows.old.items) }
-    ensures returned { IfErr result (λ back. back ≡ row) }
+    ensures returned { IfErr result (λ back. back ≡ block) }
 {
-    match make_room(alloc, rows, charts, row.chart.as_str()) {
+    match make_room(alloc, rows, charts, block.chart.as_str()) {
         Ok(()) => {
-            rows.push(row).unwrap();
+            rows.push(block.into_row()).unwrap();
             Ok(())
         }
-        Err(_) => Err(row),
+        Err(_) => Err(block),
     }
 }
 

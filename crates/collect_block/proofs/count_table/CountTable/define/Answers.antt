@@ -3,15 +3,15 @@ use Rattle.std.specs.Str.{bytes_eq}
 use Rattle.std.proofs.lemmas.Map.Text.{hash_map_updates_text}
 use Rattle.collect_block.specs.Places.{place_in, count_in}
 use Rattle.collect_block.proofs.CountLemmas.{ok-holds, count-updated}
-use Rattle.collect_block.proofs.count_table.define.Goals as goal
+use Rattle.collect_block.proofs.count_table.CountTable.define.Goals as goal
 
 pub returns-clause-counts : goal.returns-clause-counts
 returns-clause-counts c = λ chart.
-    let old = c.args.counts.now.entries in
+    let old = c.args.self.now in
     let own = c.args.dimension.chart in
     let key = string_bytes c.into_string-chart.result in
     let named : key ≡ own = c.into_string-chart.ensures ∙ c.in_ok-clone.ensures.cases in
-    let kept : c.reserve.new.self.entries ≡ old = c.reserve.ensures.entries in
+    let kept : c.reserve.new.self.entries ≡ old = c.reserve.ensures.entries ∙ c.self.view_is in
     let before : c.count_of.result ≡ count_in old own
     = c.count_of.ensures ∙ (λ i. count_in (kept i) ((c.as_str.ensures.value ∙ named) i)) in
     let count : c.raised-count.result ≡ min (count_in old own + 1) (length c.define.new.self)
