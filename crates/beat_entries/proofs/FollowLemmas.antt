@@ -21,6 +21,7 @@ use Rattle.history.specs.declared.beat.OpenRow.{OpenRow}
 use Rattle.history.specs.declared.beat.OpenValue.{OpenValue}
 use Rattle.history.specs.declared.chart.ChartDef.{ChartDef}
 use Rattle.history.specs.History.{Beat, collected, registry_of}
+use Rattle.history.specs.Limits.{chart_keeps_limits, dimension_keeps_limits}
 use Rattle.history.specs.Looking.{is_value}
 use Rattle.history.specs.Put.{put_all}
 use Rattle.history.specs.Registry.{Registry, is_chart, is_dimension, same_chart, same_dimension, chart_of, series_of}
@@ -186,6 +187,9 @@ module _ (h : List Beat) (moment : ℕ) (beat : OpenBeat) (owned : AreOwned (reg
   abbrev HasGrid : ChartDef → Type 0
   HasGrid def = 0 < def.update_every
 
+  abbrev KeepsLimits : ChartDef → Type 0
+  KeepsLimits def = chart_keeps_limits def ≡ true
+
   abbrev KeepsGrid : ChartDef → Type 0
   KeepsGrid def = (old : ChartDef) → find (is_chart def.id) first.charts ≡ Some old → old.update_every ≡ def.update_every
 
@@ -207,6 +211,7 @@ module _ (h : List Beat) (moment : ℕ) (beat : OpenBeat) (owned : AreOwned (reg
           let same : b ≡ a = same_Some b a (sym there ∙ at-found (is_chart a.id) r.charts m a own at) in
           record {
             grid = subst HasGrid same (found-all HasGrid (is_chart a.id) beat.charts b (recursion_from_All HasGrid beat.charts may.grids) e);
+            limits = subst KeepsLimits same (found-all KeepsLimits (is_chart a.id) beat.charts b (recursion_from_All KeepsLimits beat.charts may.chart_limits) e);
             number = own;
             kept = subst KeepsGrid same (found-all KeepsGrid (is_chart a.id) beat.charts b (recursion_from_All KeepsGrid beat.charts may.kept) e);
           }
@@ -227,12 +232,34 @@ module _ (h : List Beat) (moment : ℕ) (beat : OpenBeat) (owned : AreOwned (reg
   mid-is : mid ≡ with_charts first entry.charts
   mid-is = λ i. record { charts = sym whole-charts i; dimensions = first.dimensions }
 
-  dimension-may : (m : ℕ) (a : OpenDim) (c : NumberedDimension) → slice_get r.dimensions m ≡ Some a → numbered_dimension r m a ≡ Some c → MayDimension r.dimensions may.dimensions may.each mid c
-  dimension-may m a c at e =
+  abbrev IsThere : OpenDim → Type 0
+  IsThere dimension = find (is_dimension dimension.chart dimension.def.id) r.dimensions ≡ Some dimension
+
+  abbrev IsLimited : OpenDim → Type 0
+  IsLimited dimension = dimension_keeps_limits dimension.def ≡ true
+
+  -- a dimension that the beat defines is as the beat has it
+  dimension-limits : (m : ℕ) (a : OpenDim) → slice_get r.dimensions m ≡ Some a → list_any (is_dimension a.chart a.def.id) beat.dimensions ≡ true → IsLimited a
+  dimension-limits m a at any = by (find (is_dimension a.chart a.def.id) beat.dimensions) refl
+    where
+      by : (found : Option OpenDim) → find (is_dimension a.chart a.def.id) beat.dimensions ≡ found → IsLimited a
+      by None e = absurd (true≢false (sym any ∙ any-find (is_dimension a.chart a.def.id) beat.dimensions None e))
+      by (Some b) e =
+          let parts = and_parts (bytes_eq a.chart b.chart) (bytes_eq a.def.id b.def.id) (found-passes (is_dimension a.chart a.def.id) beat.dimensions b e) in
+          let there : find (is_dimension a.chart a.def.id) r.dimensions ≡ Some b
+          = (λ i. find (is_dimension (same_text a.chart b.chart parts.0 i) (same_text a.def.id b.def.id parts.1 i)) r.dimensions)
+          ∙ found-all IsThere (is_dimension a.chart a.def.id) beat.dimensions b (recursion_from_All IsThere beat.dimensions defined.dimensions) e in
+          let same : b ≡ a = same_Some b a (sym there ∙ at-found (is_dimension a.chart a.def.id) r.dimensions m a (own-series r m a defined.own_dimensions at) at) in
+          subst IsLimited same (found-all IsLimited (is_dimension a.chart a.def.id) beat.dimensions b (recursion_from_All IsLimited beat.dimensions may.dimension_limits) e)
+
+  dimension-may : (m : ℕ) (a : OpenDim) (c : NumberedDimension) → slice_get r.dimensions m ≡ Some a → IsLimited a → numbered_dimension r m a ≡ Some c
+      → MayDimension r.dimensions may.dimensions may.each mid c
+  dimension-may m a c at limits e =
       let parts = map-some (λ (number : ℕ). record { series = m; chart = number; def = a.def }) (chart_of r a.chart) c e in
       let id : chart_id r parts.0 ≡ a.chart = subst (λ (o : Option ℕ). IfSome o (λ n. chart_id r n ≡ a.chart)) parts.1.0 (chart_id-chart_of r a.chart) in
       subst (MayDimension r.dimensions may.dimensions may.each mid) parts.1.1 (record {
         chart = chart_of-within r a.chart parts.0 parts.1.0;
+        limits = limits;
         number = ap (λ (chart : List ℕ). position (is_dimension chart a.def.id) r.dimensions) id ∙ own-series r m a defined.own_dimensions at;
       })
 
@@ -242,7 +269,10 @@ module _ (h : List Beat) (moment : ℕ) (beat : OpenBeat) (owned : AreOwned (reg
       ∙ dimensions-taken r.dimensions may.dimensions may.each mid entry.dimensions whole-dimensions
       (all-places (MayDimension r.dimensions may.dimensions may.each mid)
       (λ (place : ℕ × OpenDim). if list_any (is_dimension place.1.chart place.1.def.id) beat.dimensions then numbered_dimension r place.0 place.1 else None) r.dimensions
-      (λ m a c at e. dimension-may m a c at (if-some (list_any (is_dimension a.chart a.def.id) beat.dimensions) (numbered_dimension r m a) c e)))
+      (λ m a c at e.
+      let any = list_any (is_dimension a.chart a.def.id) beat.dimensions in
+      let made = numbered_dimension r m a in
+      dimension-may m a c at (dimension-limits m a at (if-true any made c e)) (if-some any made c e)))
 
   last-is : r ≡ restored first entry
   last-is =

@@ -18,6 +18,7 @@ use Rattle.history.specs.declared.beat.OpenDim.{OpenDim}
 use Rattle.history.specs.declared.chart.ChartDef.{ChartDef}
 use Rattle.history.specs.declared.fault.BlockFault.{BlockFault}
 use Rattle.history.specs.declared.fault.BlockFault.TheVariants as block
+use Rattle.history.specs.Limits.{chart_keeps_limits, dimension_keeps_limits}
 use Rattle.history.specs.Put.{put, put_all}
 use Rattle.history.specs.Refusal.{chart_refusal, dimension_refusal, dimensions_full}
 use Rattle.history.specs.Registry.{Registry, is_chart, is_of, is_dimension, same_chart, same_dimension, chart_of, series_of}
@@ -92,6 +93,7 @@ module _ (last : List ChartDef) (few : length last ≤ 4096) where
   -- a chart that may be defined over these, and that has its number at last
   pub record MayChart (charts : List ChartDef) (chart : NumberedChart) : Type 0 where
     pub grid : 0 < chart.def.update_every
+    pub limits : chart_keeps_limits chart.def ≡ true
     pub number : position (is_chart chart.def.id) last ≡ Some chart.number
     pub kept : (old : ChartDef) → find (is_chart chart.def.id) charts ≡ Some old → old.update_every ≡ chart.def.update_every
 
@@ -120,13 +122,14 @@ module _ (last : List ChartDef) (few : length last ≤ 4096) where
   charts-taken s [] whole apart may = refl
   charts-taken s (chart ∷ charts) whole apart may =
       let takes : takes_chart s chart ≡ true
-      = λ i. lt-ltb 0 chart.def.update_every may.0.grid i && is_none (not-refused s chart (map chart_def charts) may.0 whole i)
+      = λ i. lt-ltb 0 chart.def.update_every may.0.grid i && may.0.limits i && is_none (not-refused s chart (map chart_def charts) may.0 whole i)
       && number-kept same_chart (is_chart chart.def.id) (id-alike chart.def.id) s.charts (map chart_def charts) last chart.def chart.number whole (chart-itself chart.def) may.0.number i in
       ap (λ (b : Bool). b && all_taken takes_chart with_chart (with_chart s chart) charts) takes
       ∙ charts-taken (with_chart s chart) charts whole apart.1
       (all-weaker (λ (x : NumberedChart). MayChart s.charts x × (same_chart chart.def x.def ≡ false)) (MayChart (put same_chart s.charts chart.def))
       (λ x both. record {
         grid = both.0.grid;
+        limits = both.0.limits;
         number = both.0.number;
         kept = λ old found. both.0.kept old
             (sym (find-put same_chart chart-itself chart-alike x.def s.charts chart.def
@@ -139,6 +142,7 @@ module _ (last : List ChartDef) (few : length last ≤ 4096) where
 module _ (last : List OpenDim) (few : length last ≤ 65536) (each : (chart : List ℕ) → count_by (is_of chart) last ≤ 1024) where
   pub record MayDimension (s : Registry) (dimension : NumberedDimension) : Type 0 where
     pub chart : dimension.chart < length s.charts
+    pub limits : dimension_keeps_limits dimension.def ≡ true
     pub number : position (same_dimension (dimension_back s dimension)) last ≡ Some dimension.series
 
   of-alike : (chart : List ℕ) (x y : OpenDim) → same_dimension x y ≡ true → is_of chart x ≡ is_of chart y
@@ -177,9 +181,9 @@ module _ (last : List OpenDim) (few : length last ≤ 65536) (each : (chart : Li
   dimensions-taken s (dimension ∷ dimensions) whole may =
       let made = dimension_back s dimension in
       let takes : takes_dimension s dimension ≡ true
-      = λ i. lt-ltb dimension.chart (length s.charts) may.0.chart i && is_none (not-full s dimension (map (dimension_back s) dimensions) whole i)
+      = λ i. lt-ltb dimension.chart (length s.charts) may.0.chart i && may.0.limits i && is_none (not-full s dimension (map (dimension_back s) dimensions) whole i)
       && number-kept same_dimension (same_dimension made) (same_dimension-alike made.chart made.def.id) s.dimensions (map (dimension_back s) dimensions) last made dimension.series whole
       (dimension-itself made) may.0.number i in
       ap (λ (b : Bool). b && all_taken takes_dimension with_dimension (with_dimension s dimension) dimensions) takes
       ∙ dimensions-taken (with_dimension s dimension) dimensions whole
-      (all-weaker (MayDimension s) (MayDimension (with_dimension s dimension)) (λ x one. record { chart = one.chart; number = one.number }) dimensions may.1)
+      (all-weaker (MayDimension s) (MayDimension (with_dimension s dimension)) (λ x one. record { chart = one.chart; limits = one.limits; number = one.number }) dimensions may.1)

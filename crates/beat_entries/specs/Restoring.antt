@@ -13,6 +13,7 @@ use Rattle.history.specs.declared.beat.OpenDim.{OpenDim}
 use Rattle.history.specs.declared.beat.OpenRow.{OpenRow}
 use Rattle.history.specs.declared.beat.OpenValue.{OpenValue}
 use Rattle.history.specs.declared.chart.ChartDef.{ChartDef}
+use Rattle.history.specs.Limits.{chart_keeps_limits, dimension_keeps_limits}
 use Rattle.history.specs.Refusal.{chart_refusal, dimension_refusal}
 use Rattle.history.specs.Registry.{Registry, chart_of, series_of, with_definitions}
 use Rattle.beat_entries.specs.Gathered.{value_at}
@@ -32,10 +33,10 @@ chart_def chart = chart.def
 abbrev pub with_chart : Registry → NumberedChart → Registry
 with_chart registry chart = with_definitions registry (chart.def ∷ []) []
 
--- a chart that may be defined so, and whose number is then that of the entry
+-- a chart that keeps its limits, that may be defined so, and whose number is then that of the entry
 abbrev pub takes_chart : Registry → NumberedChart → Bool
 takes_chart registry chart =
-    nat_lt 0 chart.def.update_every && is_none (chart_refusal registry nothing_open chart.def)
+    nat_lt 0 chart.def.update_every && chart_keeps_limits chart.def && is_none (chart_refusal registry nothing_open chart.def)
     && is_number chart.number (chart_of (with_chart registry chart) chart.def.id)
 
 -- ---- dimensions
@@ -45,10 +46,12 @@ dimension_back registry dimension = record { chart = chart_id registry dimension
 abbrev pub with_dimension : Registry → NumberedDimension → Registry
 with_dimension registry dimension = with_definitions registry [] (dimension_back registry dimension ∷ [])
 
--- a dimension of a chart that is there, that may be defined so, and whose number is then that of the entry
+-- a dimension of a chart that is there, that keeps its limits, that may be defined so, and whose number is
+-- then that of the entry
 abbrev pub takes_dimension : Registry → NumberedDimension → Bool
 takes_dimension registry dimension =
-    nat_lt dimension.chart (length registry.charts) && is_none (dimension_refusal registry nothing_open (chart_id registry dimension.chart) dimension.def)
+    nat_lt dimension.chart (length registry.charts) && dimension_keeps_limits dimension.def
+    && is_none (dimension_refusal registry nothing_open (chart_id registry dimension.chart) dimension.def)
     && is_number dimension.series (series_of (with_dimension registry dimension) (chart_id registry dimension.chart) dimension.def.id)
 
 -- ---- rows

@@ -36,10 +36,10 @@ pub fn entry_of(
 }
 
 /// The beat of an entry, by ids, once the registry has taken the entry's definitions. `NotNext` exactly where
-/// the entry does not go on from what the registry has, and memory is there: a definition that the registry
-/// refuses or numbers otherwise, a row or a value of nothing that is there, a value of another chart's
-/// dimension, or a row of more than 1,024 values. After an `Err` the registry may have taken a part of the
-/// definitions. An entry that was read is canonical.
+/// the entry does not go on from what the registry has, and memory is there: a definition that does not keep
+/// its limits, or that the registry refuses or numbers otherwise, a row or a value of nothing that is there, a
+/// value of another chart's dimension, or a row of more than 1,024 values. After an `Err` the registry may have
+/// taken a part of the definitions. An entry that was read is canonical.
 pub fn restore(
     alloc: Global,
     registry: &mut Registry,

@@ -26,6 +26,9 @@ fn take_chart(registry: &mut Registry, chart: &NumberedChart) -> Result<(), Entr
     if chart.def.update_every == 0 {
         return Err(EntryRefusal::NotNext);
     }
+    if !chart.def.keeps_limits() {
+        return Err(EntryRefusal::NotNext);
+    }
     match registry.define_chart(&chart.def) {
         Ok(number) => {
             if number == chart.number {
@@ -80,6 +83,9 @@ fn take_dimension(
     ensures refused { IfErr result (λ refusal. refusal ≡ NotNext → takes_dimension registry.old dimension.now ≡ false) }
 {
     if dimension.chart >= registry.charts() {
+        return Err(EntryRefusal::NotNext);
+    }
+    if !dimension.def.keeps_limits() {
         return Err(EntryRefusal::NotNext);
     }
     let made = open_dimension(registry, dimension)?;
