@@ -17,8 +17,8 @@ pub record AreOwned (registry : Registry) (beat : OpenBeat) : Type 0 where
   pub owners : All (λ (dimension : OpenDim). has_chart registry beat dimension.chart ≡ true) beat.dimensions
 
 -- The beat may follow a history with this registry: its definitions keep their limits, each chart has an
--- update_every, which is the one that it has had, and with them there are no more charts and dimensions than
--- there may be.
+-- update_every, which is the one that it has had, and with the definitions there are no more charts and
+-- dimensions than there may be.
 pub record MayFollow (registry : Registry) (beat : OpenBeat) : Type 0 where
   pub grids : All (λ (def : ChartDef). 0 < def.update_every) beat.charts
   pub kept : All (λ (def : ChartDef). (old : ChartDef) → find (is_chart def.id) registry.charts ≡ Some old → old.update_every ≡ def.update_every) beat.charts
