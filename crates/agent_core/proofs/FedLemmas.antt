@@ -1,11 +1,11 @@
 -- The beats that a feed closes may be handed in, and what a feed is after one line more.
-use Rattle.std.proofs.Common.{◌≡◌, ◌≢◌, ℕ, ◌==◌, ◌<◌, Bool, true, false, not, List, [], ◌∷◌, ◌++◌, Option, Some, None, is_some, ℤ, pos, refl, sym, ap, ◌∙◌, subst, arith, if◌then◌else◌}
+use Rattle.std.proofs.Common.{◌≡◌, ◌≢◌, ℕ, ◌==◌, ◌<◌, ◌≤◌, Bool, true, false, not, nat_le, ◌&&◌, List, [], ◌∷◌, ◌++◌, Option, Some, None, is_some, ℤ, pos, refl, sym, ap, ◌∙◌, subst, arith, if◌then◌else◌}
 use Rattle.std.specs.List.{list_any, AllByRecursion}
 use Rattle.std.specs.Option.{option_map_or}
 use Rattle.std.specs.Str.{bytes_eq}
-use Rattle.std.proofs.lemmas.Bool.{eqb-false}
+use Rattle.std.proofs.lemmas.Bool.{and_parts, eqb-false, le-leb}
 use Rattle.std.proofs.lemmas.List.{append-nil}
-use Rattle.std.proofs.lemmas.List.Elements.{All-from_recursion}
+use Rattle.std.proofs.lemmas.List.Elements.{All-from_recursion, recursion_from_All}
 use Rattle.std.proofs.lemmas.Option.{none-some, same_Some}
 use Rattle.history.specs.declared.beat.OpenDim.{OpenDim}
 use Rattle.history.specs.declared.beat.OpenRow.{OpenRow}
@@ -13,8 +13,10 @@ use Rattle.history.specs.declared.beat.OpenValue.{OpenValue}
 use Rattle.history.specs.declared.chart.ChartDef.{ChartDef}
 use Rattle.history.specs.declared.dimension.DimDef.{DimDef}
 use Rattle.history.specs.declared.fault.BlockFault.TheVariants as fault
+use Rattle.history.specs.declared.limits.TheConstants.{UPDATE_EVERY_LIMIT}
 use Rattle.history.specs.declared.line.Line.{Line}
 use Rattle.history.specs.declared.line.Line.TheVariants as line
+use Rattle.history.specs.Limits.{chart_keeps_limits, dimension_keeps_limits, has_short_texts, is_chart_id, keeps_limits}
 use Rattle.history.specs.Looking.{beat, charts, dimensions, is_value, last_chart, open_block, rows, same_value, set_value, values, with_grid}
 use Rattle.history.specs.Put.{put}
 use Rattle.history.specs.Refusal.{has_chart, has_row, refusal}
@@ -56,6 +58,28 @@ charts-grids every (line.Moment moment ∷ past) some = tt
 charts-grids every (line.Chart def ∷ past) some = all-put same_chart HasGrid (charts every past) (with_grid every def) (charts-grids every past some) (grid-of every def some)
 charts-grids every (line ∷ past) some = charts-grids every past some
 
+abbrev KeepsLimits : Line → Type 0
+KeepsLimits line = keeps_limits line ≡ true
+
+abbrev IsLimitedChart : ChartDef → Type 0
+IsLimitedChart def = chart_keeps_limits def ≡ true
+
+limits-of : (every : ℕ) (def : ChartDef) → every ≤ UPDATE_EVERY_LIMIT → IsLimitedChart def → IsLimitedChart (with_grid every def)
+limits-of every def low limits = by (def.update_every == 0)
+  where
+    by : (b : Bool) → IsLimitedChart (if b then record def { update_every = every } else def)
+    by true =
+        let texts = (and_parts (is_chart_id def.id && has_short_texts def) (nat_le def.update_every UPDATE_EVERY_LIMIT) limits).0 in
+        λ i. texts i && le-leb every UPDATE_EVERY_LIMIT low i
+    by false = limits
+
+charts-limits : (every : ℕ) (past : List Line) → every ≤ UPDATE_EVERY_LIMIT → AllByRecursion KeepsLimits past → AllByRecursion IsLimitedChart (charts every past)
+charts-limits every [] low limits = tt
+charts-limits every (line.Moment moment ∷ past) low limits = tt
+charts-limits every (line.Chart def ∷ past) low limits =
+    all-put same_chart IsLimitedChart (charts every past) (with_grid every def) (charts-limits every past low limits.1) (limits-of every def low limits.0)
+charts-limits every (line ∷ past) low limits = charts-limits every past low limits.1
+
 abbrev with_dimension : DimDef → List OpenDim → Option (List ℕ) → List OpenDim
 with_dimension def ds chart = option_map_or (λ chart. put same_dimension ds (record { chart = chart; def = def })) chart ds
 
@@ -69,15 +93,32 @@ dimensions-apart (line.Moment moment ∷ past) = tt
 dimensions-apart (line.Dimension def ∷ past) = dimension-apart def (dimensions past) (last_chart past) (dimensions-apart past)
 dimensions-apart (line ∷ past) = dimensions-apart past
 
-dimension-divides : (def : DimDef) (ds : List OpenDim) (chart : Option (List ℕ)) → def.divisor ≢ pos 0 → AllByRecursion Divides ds → AllByRecursion Divides (with_dimension def ds chart)
-dimension-divides def ds None divides all = all
-dimension-divides def ds (Some chart) divides all = all-put same_dimension Divides ds (record { chart = chart; def = def }) all divides
+module _ (P : DimDef → Type 0) where
+  abbrev OfDimension : OpenDim → Type 0
+  OfDimension dimension = P dimension.def
+
+  -- what holds of a definition and of those before it, holds of all
+  dimension-also : (def : DimDef) (ds : List OpenDim) (chart : Option (List ℕ)) → P def → AllByRecursion OfDimension ds → AllByRecursion OfDimension (with_dimension def ds chart)
+  dimension-also def ds None here all = all
+  dimension-also def ds (Some chart) here all = all-put same_dimension OfDimension ds (record { chart = chart; def = def }) all here
+
+abbrev HasDivisor : DimDef → Type 0
+HasDivisor def = def.divisor ≢ pos 0
 
 dimensions-divide : (past : List Line) → HaveDivisors past → AllByRecursion Divides (dimensions past)
 dimensions-divide [] divisors = tt
-dimensions-divide (line.Dimension def ∷ past) divisors = dimension-divides def (dimensions past) (last_chart past) divisors.0 (dimensions-divide past divisors.1)
+dimensions-divide (line.Dimension def ∷ past) divisors = dimension-also HasDivisor def (dimensions past) (last_chart past) divisors.0 (dimensions-divide past divisors.1)
 dimensions-divide (line.Moment moment ∷ past) divisors = tt
 dimensions-divide (line ∷ past) divisors = dimensions-divide past divisors
+
+abbrev IsLimited : DimDef → Type 0
+IsLimited def = dimension_keeps_limits def ≡ true
+
+dimensions-limits : (past : List Line) → AllByRecursion KeepsLimits past → AllByRecursion (OfDimension IsLimited) (dimensions past)
+dimensions-limits [] limits = tt
+dimensions-limits (line.Dimension def ∷ past) limits = dimension-also IsLimited def (dimensions past) (last_chart past) limits.0 (dimensions-limits past limits.1)
+dimensions-limits (line.Moment moment ∷ past) limits = tt
+dimensions-limits (line ∷ past) limits = dimensions-limits past limits.1
 
 -- ---- its rows
 values-sameness : IsSameness same_value
@@ -144,18 +185,20 @@ rows-apart every (line.End ∷ past) firsts = row-apart (rows past) (values past
 rows-apart every (line ∷ past) firsts = rows-apart every past firsts.1
 
 -- ---- a beat that is closed
-pub open-beat : (every : ℕ) (past : List Line) → 0 < every → OpenEachFirst every past → HaveDivisors past → IsOpenBeat (beat every past)
-open-beat every past some firsts divisors = record {
-  apart_charts = charts-apart every past;
-  apart_dimensions = dimensions-apart past;
-  apart_rows = rows-apart every past firsts;
-  apart_values = All-from_recursion IsApartRow (rows past) (rows-values past);
-  grids = All-from_recursion HasGrid (charts every past) (charts-grids every past some);
-  divisors = All-from_recursion Divides (dimensions past) (dimensions-divide past divisors);
-}
-
 fed-beat : (feed : Feed) (fed : IsFed feed) → IsOpenBeat (beat fed.every fed.past)
-fed-beat feed fed = open-beat fed.every fed.past fed.feed_of.grid fed.blocks fed.divisors
+fed-beat feed fed =
+    let every = fed.every in
+    let past = fed.past in
+    let limits : AllByRecursion KeepsLimits past = recursion_from_All KeepsLimits past fed.limits in record {
+      apart_charts = charts-apart every past;
+      apart_dimensions = dimensions-apart past;
+      apart_rows = rows-apart every past fed.blocks;
+      apart_values = All-from_recursion IsApartRow (rows past) (rows-values past);
+      grids = All-from_recursion HasGrid (charts every past) (charts-grids every past fed.feed_of.grid);
+      divisors = All-from_recursion Divides (dimensions past) (dimensions-divide past fed.divisors);
+      chart_limits = All-from_recursion IsLimitedChart (charts every past) (charts-limits every past fed.grid_limit limits);
+      dimension_limits = All-from_recursion (OfDimension IsLimited) (dimensions past) (dimensions-limits past limits);
+    }
 
 -- what a feed gives
 step-open : (feed : Feed) (fed : IsFed feed) (line : Line) → IsOpenStep (step_of fed.every fed.past line)
@@ -177,12 +220,14 @@ divisors-more : (line : Line) (past : List Line) → HaveDivisors (line ∷ []) 
 divisors-more (line.Dimension def) past one more = (one.0, more)
 divisors-more line past one more = more
 
-pub fed-more : (feed feed' : Feed) (line : Line) (registry : Registry) (copies : Bool) (last : ℕ) → IsFed feed → HaveDivisors (line ∷ []) → Becomes line feed feed'
+pub fed-more : (feed feed' : Feed) (line : Line) (registry : Registry) (copies : Bool) (last : ℕ) → IsFed feed → HaveDivisors (line ∷ []) → KeepsLimits line → Becomes line feed feed'
     → ((every : ℕ) (past : List Line) → IsFeedOf feed every past → CountsAt line feed registry → refusal registry every past copies last line ≡ None) → IsFed feed'
-fed-more feed feed' line registry copies last fed one becomes free = record {
+fed-more feed feed' line registry copies last fed one here becomes free = record {
   every = fed.every;
   past = line ∷ fed.past;
   feed_of = becomes fed.every fed.past fed.feed_of;
+  grid_limit = fed.grid_limit;
   blocks = (opens-first feed registry fed.every fed.past copies last line (free fed.every fed.past fed.feed_of), fed.blocks);
   divisors = divisors-more line fed.past one fed.divisors;
+  limits = All-from_recursion KeepsLimits (line ∷ fed.past) (here, recursion_from_All KeepsLimits fed.past fed.limits);
 }

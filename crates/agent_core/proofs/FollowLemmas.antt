@@ -63,6 +63,8 @@ module _ (h : List Beat) (moment : ℕ) (beat : OpenBeat) (follows : Follows h m
       let grid = same-grid registry (is_some (child h)) (last h) moment beat follows.accepted in
       record {
         grids = follows.is_open.grids;
+        chart_limits = follows.is_open.chart_limits;
+        dimension_limits = follows.is_open.dimension_limits;
         kept = All-from_recursion (KeepsGrid registry) beat.charts
             (all-weaker (λ (def : ChartDef). changes_grid_of registry def ≡ false) (KeepsGrid registry) (keeps registry) beat.charts (none-all (changes_grid_of registry) beat.charts grid));
         charts = after.charts;

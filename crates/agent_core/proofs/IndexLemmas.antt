@@ -3,14 +3,14 @@ use Rattle.std.proofs.Common.{◌≡◌, ℕ, zero, suc, ◌+◌, ◌<◌, Bool,
 use Rattle.std.specs.List.{filter, list_any, count_by}
 use Rattle.std.specs.Str.{bytes_eq}
 use Rattle.std.proofs.lemmas.Bool.{and_parts}
-use Rattle.std.proofs.lemmas.List.{take_more}
+use Rattle.std.proofs.lemmas.List.{append-nil, take_more}
 use Rattle.std.proofs.lemmas.List.Elements.{filter_more}
 use Rattle.std.proofs.lemmas.List.Sums.{sum_by-cons}
 use Rattle.std.proofs.lemmas.Map.Views.{any-filter_same}
 use Rattle.history.specs.declared.beat.OpenDim.{OpenDim}
 use Rattle.history.specs.Put.{put}
 use Rattle.history.specs.Refusal.{is_new_dimension}
-use Rattle.history.specs.Registry.{Registry, is_of, is_dimension}
+use Rattle.history.specs.Registry.{Registry, is_dimension}
 use Rattle.chart_registry.proofs.RegistryLemmas.{or_false}
 use Rattle.chart_registry.proofs.RowsLemmas.{same_text}
 use Rattle.beat_points.specs.Regular.{AreApart}
@@ -71,18 +71,14 @@ module _ {A : Type 0} (q : A → Bool) (xs : List A) (n : ℕ) (x : A) (within :
       sym (filter_more q xs n x within
       ∙ ap (λ (y : A). filter q (take n xs) ++ cond (q y) (y ∷ []) []) at
       ∙ ap (λ (b : Bool). filter q (take n xs) ++ cond b (x ∷ []) []) fails
-      ∙ simp_nil (filter q (take n xs)))
-    where
-      simp_nil : (ys : List A) → ys ++ [] ≡ ys
-      simp_nil [] = refl
-      simp_nil (y ∷ ys) = ap (λ l. y ∷ l) (simp_nil ys)
+      ∙ append-nil (filter q (take n xs)))
 
 -- ---- the dimensions of a beat that are new
 known-or : (a b : Bool) → (a || (not a && b)) ≡ (a || b)
 known-or true b = refl
 known-or false b = refl
 
-count-filter : {A : Type 0} (p q : A → Bool) (xs : List A) → count_by p (filter q xs) ≡ count_by (λ x. p x && q x) xs
+pub count-filter : {A : Type 0} (p q : A → Bool) (xs : List A) → count_by p (filter q xs) ≡ count_by (λ x. p x && q x) xs
 count-filter p q [] = refl
 count-filter p q (x ∷ xs) = by (q x) (count-filter p q xs) ∙ sym (sum_by-cons (λ x. cond (p x && q x) 1 0) x xs)
   where
@@ -113,8 +109,3 @@ module _ (registry : Registry) (chart id : List ℕ) where
   known-or_fresh dimensions =
       ap (λ b. known || b) (any-filter_same (is_dimension chart id) (is_new_dimension registry) (not known) is-new dimensions)
       ∙ known-or known (list_any (is_dimension chart id) dimensions)
-
--- how many new ones a chart has
-pub count-fresh_of : (registry : Registry) (chart : List ℕ) (dimensions : List OpenDim)
-    → count_by (is_of chart) (filter (is_new_dimension registry) dimensions) ≡ count_by (λ dimension. is_of chart dimension && is_new_dimension registry dimension) dimensions
-count-fresh_of registry chart dimensions = count-filter (is_of chart) (is_new_dimension registry) dimensions

@@ -1,5 +1,5 @@
 -- What an agent does with each step of a feed, and with a line that leads to no step.
-use Rattle.std.proofs.Common.{◌≡◌, ◌≢◌, ◌⊎◌, ℕ, inl, inr, Bool, List, [], ◌∷◌, Option, Some, None, Result, Ok, Err, IfOk, OnOk, refl, sym, ap, ◌∙◌, subst, le_refl}
+use Rattle.std.proofs.Common.{◌≡◌, ◌≢◌, ◌⊎◌, ℕ, inl, inr, Bool, true, List, [], ◌∷◌, Option, Some, None, Result, Ok, Err, IfOk, OnOk, refl, sym, ap, ◌∙◌, subst, le_refl}
 use Rattle.std.specs.Option.{option_map_or}
 use Rattle.std.proofs.lemmas.Option.{none-some}
 use Rattle.host_model.specs.Disks.{EveryDisk}
@@ -10,6 +10,7 @@ use Rattle.history.specs.declared.fault.BlockFault.TheVariants as block
 use Rattle.history.specs.declared.line.Line.{Line}
 use Rattle.history.specs.declared.line.Line.TheVariants.{Disable, Moment, Query}
 use Rattle.history.specs.History.{Beat}
+use Rattle.history.specs.Limits.{keeps_limits}
 use Rattle.history.specs.Refusal.{refusal}
 use Rattle.history.specs.Registry.{Registry}
 use Rattle.beat_points.specs.Text.{HaveDivisors}
@@ -139,7 +140,7 @@ counts-or-quiet feed registry every past (Moment moment) = inl tt
 counts-or-quiet feed registry every past line = inr (λ has. has)
 
 -- ---- a line that the feed took
-module _ (honest : Type 0) (host host' : Seen) (agent agent' : AgentState) (feed feed' : Feed) (line : Line) (step : Step) (result : Result Said AgentFault) (fed : IsFed feed) (divisor : HaveDivisors (line ∷ []))
+module _ (honest : Type 0) (host host' : Seen) (agent agent' : AgentState) (feed feed' : Feed) (line : Line) (step : Step) (result : Result Said AgentFault) (fed : IsFed feed) (divisor : HaveDivisors (line ∷ [])) (limits : keeps_limits line ≡ true)
     (free : (every : ℕ) (past : List Line) → IsFeedOf feed every past → CountsAt line feed agent.registry → refusal agent.registry every past agent.copies agent.last line ≡ None)
     (gives : (every : ℕ) (past : List Line) → IsFeedOf feed every past → step ≡ step_of every past line) (becomes : Becomes line feed feed')
     (counts : CountsFor feed agent.registry → CountsPast line feed' agent.registry) (took : Takes honest host agent step result host' agent') where
@@ -191,7 +192,7 @@ module _ (honest : Type 0) (host host' : Seen) (agent agent' : AgentState) (feed
     takes = always (Becomes line feed feed') result becomes;
     counts_on = always (CountsFor feed agent.registry → CountsFor feed' agent'.registry) result counts-on;
     leaves = on_err _ _ result took.beats (λ has. inr (moment-of fed.every fed.past line (subst HasBeat its has), becomes));
-    fed = fed-more feed feed' line agent.registry agent.copies agent.last fed divisor becomes free;
+    fed = fed-more feed feed' line agent.registry agent.copies agent.last fed divisor limits becomes free;
     unchanged = took.unchanged;
     fault = took.fault;
     reopens = took.reopens;

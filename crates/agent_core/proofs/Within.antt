@@ -10,7 +10,7 @@ use Rattle.history.specs.declared.chart.ChartDef.{ChartDef}
 use Rattle.history.specs.declared.fault.BlockFault.TheVariants as fault
 use Rattle.history.specs.History.{Beat, collected, copied, health, missing, child, last, registry_of}
 use Rattle.history.specs.Put.{put_all}
-use Rattle.history.specs.Refusal.{is_new_chart, is_new_dimension}
+use Rattle.history.specs.Refusal.{is_new_chart, is_new_dimension, is_new_of}
 use Rattle.history.specs.Registry.{Registry, is_of, same_chart, same_dimension, with_definitions}
 use Rattle.chart_registry.proofs.Applying.{same_chart-alike}
 use Rattle.chart_registry.proofs.RegistryLemmas.{or_false}
@@ -49,30 +49,27 @@ within-counts registry cs ds charts dimensions few = record {
 }
 
 module _ (registry : Registry) (beat : OpenBeat) where
-  abbrev is_more : List ℕ → OpenDim → Bool
-  is_more chart dimension = is_of chart dimension && is_new_dimension registry dimension
-
   -- a chart that takes a new dimension has room for all that it takes
-  none_or_room : (chart : List ℕ) (ds : List OpenDim) → list_any (fills_chart registry beat) ds ≡ false → (count_by (is_more chart) ds ≡ 0) ⊎ (dimensions_with registry beat chart ≤ 1024)
+  none_or_room : (chart : List ℕ) (ds : List OpenDim) → list_any (fills_chart registry beat) ds ≡ false → (count_by (is_new_of registry chart) ds ≡ 0) ⊎ (dimensions_with registry beat chart ≤ 1024)
   none_or_room chart [] free = inl refl
   none_or_room chart (d ∷ ds) free =
       let parts = or_false (fills_chart registry beat d) (list_any (fills_chart registry beat) ds) free in
-      by (is_more chart d) refl parts.0 (none_or_room chart ds parts.1)
+      by (is_new_of registry chart d) refl parts.0 (none_or_room chart ds parts.1)
     where
-      by : (b : Bool) → is_more chart d ≡ b → fills_chart registry beat d ≡ false → (count_by (is_more chart) ds ≡ 0) ⊎ (dimensions_with registry beat chart ≤ 1024)
-          → (count_by (is_more chart) (d ∷ ds) ≡ 0) ⊎ (dimensions_with registry beat chart ≤ 1024)
+      by : (b : Bool) → is_new_of registry chart d ≡ b → fills_chart registry beat d ≡ false → (count_by (is_new_of registry chart) ds ≡ 0) ⊎ (dimensions_with registry beat chart ≤ 1024)
+          → (count_by (is_new_of registry chart) (d ∷ ds) ≡ 0) ⊎ (dimensions_with registry beat chart ≤ 1024)
       by true e fits rest =
           let both = and_parts (is_of chart d) (is_new_dimension registry d) e in
           let room : nat_lt 1024 (dimensions_with registry beat d.chart) ≡ false = ap (λ (b : Bool). b && nat_lt 1024 (dimensions_with registry beat d.chart)) (sym both.1) ∙ fits in
           let here : dimensions_with registry beat chart ≡ dimensions_with registry beat d.chart = ap (dimensions_with registry beat) (same_text chart d.chart both.0) in
           inr (omega (arith, here, ltb-false 1024 (dimensions_with registry beat d.chart) room))
-      by false e fits (inl none) = inl (omega (arith, count-cons (is_more chart) d ds, ap one_if e, none))
+      by false e fits (inl none) = inl (omega (arith, count-cons (is_new_of registry chart) d ds, ap one_if e, none))
       by false e fits (inr few) = inr few
 
   few-with : HasFew registry → list_any (fills_chart registry beat) beat.dimensions ≡ false → HaveFew registry beat.dimensions
   few-with few free chart = by (none_or_room chart beat.dimensions free)
     where
-      by : (count_by (is_more chart) beat.dimensions ≡ 0) ⊎ (dimensions_with registry beat chart ≤ 1024) → dimensions_with registry beat chart ≤ 1024
+      by : (count_by (is_new_of registry chart) beat.dimensions ≡ 0) ⊎ (dimensions_with registry beat chart ≤ 1024) → dimensions_with registry beat chart ≤ 1024
       by (inl none) = omega (arith, none, few chart)
       by (inr room) = room
 

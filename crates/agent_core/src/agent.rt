@@ -5,6 +5,7 @@ ghost use Rattle.host_model.specs.Disks.{EveryDisk, reads_as};
 ghost use Rattle.host_model.specs.Cause.{HasCause};
 ghost use Rattle.host_model.specs.Moments.{Throughout};
 ghost use Rattle.history.specs.History.{Beat as HistoryBeat, collected};
+ghost use Rattle.history.specs.Limits.{keeps_limits};
 ghost use Rattle.beat_points.specs.Text.{HaveDivisors};
 ghost use Rattle.entry_codec.specs.declared.entry.Settings.{Settings as ASettings};
 ghost use Rattle.store_core.specs.declared.beat.Beat.{Beat as StoreBeat};
@@ -138,8 +139,8 @@ impl Agent {
     ///
     /// `NotADatabase` exactly where there is none, and `Damaged` only where what is there stands for no
     /// history: with 4 where its journal holds no settings and beats, and with 5 where an entry in it is none or
-    /// does not go on from those before, or where a point names a series that is not there. The words and steps
-    /// of points are not compared with their definition, and the form of ids, as a dot within, is not looked at.
+    /// does not go on from those before, where a definition in it does not keep its limits, or where a point
+    /// names a series that is not there. The words and steps of points are not compared with their definition.
     /// At `Ok` the agent is of just the history that the disk stands for, if it stands for one. The disk is only
     /// read and synced.
     pub fn open<H: Host>(alloc: Global, host: &mut H) -> Result<Agent, AgentFault>
@@ -208,8 +209,9 @@ impl Agent {
     /// `Refused` exactly where the line may not stand there or the history does not take its beat, with the
     /// first reason, and then nothing of the agent has changed; at a CHART or a DIMENSION, of a feed that counts
     /// for the agent's registry, as a new one does and goes on to. The feed has taken only lines that were handed
-    /// to `Agent::line` or to `Feed::line` and were not refused. Where the beat of a MOMENT is refused the feed
-    /// has given it away. After `DiskFault` or `Memory` the agent must be opened again.
+    /// to `Agent::line` or to `Feed::line` and were not refused, and their definitions, as that of this line,
+    /// keep their limits. Where the beat of a MOMENT is refused the feed has given it away. After `DiskFault` or
+    /// `Memory` the agent must be opened again.
     pub fn line<H: Host>(
         &mut self,
         host: &mut H,
@@ -219,6 +221,7 @@ impl Agent {
         requires ready { AgentIsReady H.honest (H.past host.old) self.old }
         requires fed { IsFed feed.old }
         requires divisor { HaveDivisors (line.now ∷ []) }
+        requires limits { keeps_limits line.now ≡ true }
         ensures { Lines H.honest (record { past = H.past host.old; disk_faults = H.disk_faults host.old; tell_faults = H.tell_faults host.old }) self.old feed.old
             line.now result (record { past = H.past host.new; disk_faults = H.disk_faults host.new; tell_faults = H.tell_faults host.new }) self.new feed.new }
     {

@@ -1,10 +1,10 @@
 //! What a beat and the registry say of a chart or a dimension.
 
-ghost use Rattle.std.specs.Prelude.{◌≡◌, ◌&&◌, count_by, find};
+ghost use Rattle.std.specs.Prelude.{◌≡◌, count_by, find};
 ghost use Rattle.std.specs.List.{list_any};
 ghost use Rattle.std.specs.Option.{option_map, ForSome};
-ghost use Rattle.history.specs.Refusal.{chart_now, has_chart, has_dimension, is_new_dimension};
-ghost use Rattle.history.specs.Registry.{is_chart, is_of, is_dimension};
+ghost use Rattle.history.specs.Refusal.{chart_now, has_chart, has_dimension, is_new_dimension, is_new_of};
+ghost use Rattle.history.specs.Registry.{is_chart, is_dimension};
 ghost use Rattle.agent_core.specs.Index.{IsIndexOf};
 ghost use Rattle.agent_core.specs.Rules.{IsOpenBeat};
 
@@ -106,7 +106,7 @@ impl<'a> Definitions<'a> {
 
     /// The same, of one chart.
     pub(crate) fn new_dimensions_of(&self, chart: &str) -> usize
-        ensures { result ≡ count_by (λ dimension. is_of chart.now dimension && is_new_dimension self.now.registry.now dimension) self.now.beat.now.dimensions }
+        ensures { result ≡ count_by (is_new_of self.now.registry.now chart.now) self.now.beat.now.dimensions }
     {
         match &self.index {
             Some(index) => index.fresh_of(chart),

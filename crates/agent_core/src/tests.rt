@@ -1,4 +1,5 @@
-ghost use Rattle.std.specs.Prelude.{◌≡◌, ◌≢◌, ◌<◌, ◌∷◌, [], pos, All, IfOk, OnOk};
+ghost use Rattle.std.specs.Prelude.{◌≡◌, ◌≢◌, ◌<◌, ◌∷◌, [], true, pos, All, IfOk, OnOk};
+ghost use Rattle.history.specs.Limits.{chart_keeps_limits, dimension_keeps_limits, keeps_limits};
 ghost use Rattle.history.specs.Looking.{same_value};
 ghost use Rattle.history.specs.Registry.{same_chart, same_dimension};
 ghost use Rattle.beat_points.specs.Regular.{AreApart, same_row};
@@ -39,9 +40,10 @@ struct Taking {
 }
 
 fn chart(alloc: Global, title: &str) -> Result<ChartDef, AllocError>
-    ensures { IfOk result (λ def. def.update_every ≡ 1) }
+    ensures every { IfOk result (λ def. def.update_every ≡ 1) }
+    ensures limits { IfOk result (λ def. chart_keeps_limits def ≡ true) }
 {
-    Ok(ChartDef {
+    let def = ChartDef {
         id: Text::from_str(alloc, "test.one")?,
         name: Text::from_str(alloc, "one")?,
         title: Text::from_str(alloc, title)?,
@@ -52,14 +54,20 @@ fn chart(alloc: Global, title: &str) -> Result<ChartDef, AllocError>
         priority: 1_000,
         update_every: 1,
         store_first: false,
-    })
+    };
+    if def.keeps_limits() {
+        Ok(def)
+    } else {
+        Err(AllocError)
+    }
 }
 
 fn dimension(alloc: Global, id: &str, algorithm: Algorithm) -> Result<DimDef, AllocError>
     ensures id { IfOk result (λ def. def.id ≡ id.now) }
     ensures divisor { IfOk result (λ def. def.divisor ≡ pos 1) }
+    ensures limits { IfOk result (λ def. dimension_keeps_limits def ≡ true) }
 {
-    Ok(DimDef {
+    let def = DimDef {
         id: Text::from_str(alloc, id)?,
         name: Text::from_str(alloc, id)?,
         algorithm,
@@ -67,29 +75,38 @@ fn dimension(alloc: Global, id: &str, algorithm: Algorithm) -> Result<DimDef, Al
         divisor: 1,
         hidden: false,
         noreset: false,
-    })
+    };
+    if def.keeps_limits() {
+        Ok(def)
+    } else {
+        Err(AllocError)
+    }
 }
 
 fn chart_line(alloc: Global, title: &str) -> Result<Line, AllocError>
-    ensures { IfOk result (λ line. HaveDivisors (line ∷ [])) }
+    ensures divisor { IfOk result (λ line. HaveDivisors (line ∷ [])) }
+    ensures limits { IfOk result (λ line. keeps_limits line ≡ true) }
 {
     Ok(Line::Chart(chart(alloc, title)?))
 }
 
 fn dimension_line(alloc: Global, id: &str, algorithm: Algorithm) -> Result<Line, AllocError>
-    ensures { IfOk result (λ line. HaveDivisors (line ∷ [])) }
+    ensures divisor { IfOk result (λ line. HaveDivisors (line ∷ [])) }
+    ensures limits { IfOk result (λ line. keeps_limits line ≡ true) }
 {
     Ok(Line::Dimension(dimension(alloc, id, algorithm)?))
 }
 
 fn begin_line(alloc: Global) -> Result<Line, AllocError>
-    ensures { IfOk result (λ line. HaveDivisors (line ∷ [])) }
+    ensures divisor { IfOk result (λ line. HaveDivisors (line ∷ [])) }
+    ensures limits { IfOk result (λ line. keeps_limits line ≡ true) }
 {
     Ok(Line::Begin(Text::from_str(alloc, "test.one")?))
 }
 
 fn set_line(alloc: Global, id: &str, value: i64) -> Result<Line, AllocError>
-    ensures { IfOk result (λ line. HaveDivisors (line ∷ [])) }
+    ensures divisor { IfOk result (λ line. HaveDivisors (line ∷ [])) }
+    ensures limits { IfOk result (λ line. keeps_limits line ≡ true) }
 {
     Ok(Line::Set {
         id: Text::from_str(alloc, id)?,
@@ -107,6 +124,7 @@ fn take<H: Host>(
     requires ready { AgentIsReady H.honest (H.past host.old) taking.old.agent }
     requires fed { IsFed taking.old.feed }
     requires divisor { IfOk line (λ line. HaveDivisors (line ∷ [])) }
+    requires limits { IfOk line (λ line. keeps_limits line ≡ true) }
     ensures ready { AgentIsReady H.honest (H.past host.new) taking.new.agent }
     ensures fed { IsFed taking.new.feed }
 {
@@ -505,6 +523,7 @@ fn after_a_fault_it_must_be_opened_again(rt: HostRuntime) -> Result<(), Fail> {
 fn open_dimension(alloc: Global, id: &str) -> Result<OpenDim, AllocError>
     ensures id { IfOk result (λ dimension. dimension.def.id ≡ id.now) }
     ensures divisor { IfOk result (λ dimension. dimension.def.divisor ≡ pos 1) }
+    ensures limits { IfOk result (λ dimension. dimension_keeps_limits dimension.def ≡ true) }
 {
     Ok(OpenDim {
         chart: Text::from_str(alloc, "test.one")?,
@@ -515,6 +534,7 @@ fn open_dimension(alloc: Global, id: &str) -> Result<OpenDim, AllocError>
 fn one_chart(alloc: Global) -> Result<ChartDefList, AllocError>
     ensures apart { IfOk result (AreApart same_chart) }
     ensures grids { IfOk result (All (λ def. 0 < def.update_every)) }
+    ensures limits { IfOk result (All (λ def. chart_keeps_limits def ≡ true)) }
 {
     let mut charts = ChartDefList::new(alloc);
     charts.push(chart(alloc, "One")?)?;
@@ -524,6 +544,7 @@ fn one_chart(alloc: Global) -> Result<ChartDefList, AllocError>
 fn two_dimensions(alloc: Global) -> Result<OpenDimList, AllocError>
     ensures apart { IfOk result (AreApart same_dimension) }
     ensures divisors { IfOk result (All (λ dimension. dimension.def.divisor ≢ pos 0)) }
+    ensures limits { IfOk result (All (λ dimension. dimension_keeps_limits dimension.def ≡ true)) }
 {
     let mut dimensions = OpenDimList::new(alloc);
     dimensions.push(open_dimension(alloc, "a")?)?;
@@ -686,5 +707,18 @@ fn a_note_that_is_no_entry_is_damage(rt: HostRuntime) -> Result<(), Fail> {
         word: 0x2940_1640,
     };
     assert_eq!(rt; noted(alloc, empty, &[point])?, damaged);
+    Ok(())
+}
+
+#[test]
+fn a_chart_whose_id_has_no_dot_is_damage(rt: HostRuntime) -> Result<(), Fail> {
+    let alloc = rt.alloc();
+    // The entry of a beat at 60 that defines the chart a.b, and the same of a_b.
+    let dot =
+        b"\x01\x3c\0\0\0\x01\0\0\0\0\0\0\0\x03\0a.b\0\0\0\0\0\0\0\0\0\0\0\xe8\x03\0\0\0\0\0\0\x01\0\0\0\0\0\0\0\0\0\0\0\0";
+    assert_eq!(rt; noted(alloc, dot, &[])?, None);
+    let none =
+        b"\x01\x3c\0\0\0\x01\0\0\0\0\0\0\0\x03\0a_b\0\0\0\0\0\0\0\0\0\0\0\xe8\x03\0\0\0\0\0\0\x01\0\0\0\0\0\0\0\0\0\0\0\0";
+    assert_eq!(rt; noted(alloc, none, &[])?, Some(AgentFault::Damaged(5)));
     Ok(())
 }
