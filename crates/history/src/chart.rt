@@ -3,6 +3,9 @@ ghost use Rattle.std.specs.Prelude.{◌≡◌};
 use fixed_num::Text;
 use std::alloc::AllocError;
 
+/// The priority of a chart that nothing tells.
+pub const USUAL_PRIORITY: i64 = 1000;
+
 /// How a chart is drawn.
 #[derive(Clone, Copy, Debug, PartialEq, Eq)]
 pub enum ChartKind {

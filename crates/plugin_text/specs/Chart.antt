@@ -4,11 +4,11 @@ use Rattle.std.specs.Str.{bytes_eq}
 use Rattle.history.specs.declared.chart.ChartDef.{ChartDef}
 use Rattle.history.specs.declared.chart.ChartKind.{ChartKind}
 use Rattle.history.specs.declared.chart.ChartKind.TheVariants.{Line as LineKind, Area, Stacked}
+use Rattle.history.specs.declared.chart.TheConstants.{USUAL_PRIORITY}
 use Rattle.history.specs.declared.limits.TheConstants.{UPDATE_EVERY_LIMIT}
 use Rattle.history.specs.declared.line.Line.{Line}
 use Rattle.history.specs.declared.line.Line.TheVariants.{Chart}
 use Rattle.history.specs.Limits.{is_dot}
-use Rattle.plugin_text.specs.declared.chart.TheConstants.{USUAL_PRIORITY}
 use Rattle.plugin_text.specs.declared.fault.LineFault.{LineFault}
 use Rattle.plugin_text.specs.declared.fault.LineFault.TheVariants.{MissingWord}
 use Rattle.plugin_text.specs.Answer.{◌>>=◌}

@@ -11,11 +11,8 @@ use crate::id::chart_part;
 use crate::number::{number, number_within};
 use crate::text::has_option;
 use fixed_num::Text;
-use history::{ChartDef, ChartKind, Line, UPDATE_EVERY_LIMIT};
+use history::{ChartDef, ChartKind, Line, UPDATE_EVERY_LIMIT, USUAL_PRIORITY};
 use std::alloc::{AllocError, Global};
-
-/// The priority of a chart whose line has none.
-pub const USUAL_PRIORITY: i64 = 1000;
 
 /// Those parts of a chart's definition that may be refused.
 #[derive(Debug, Drop)]
