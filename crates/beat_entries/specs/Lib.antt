@@ -1,4 +1,5 @@
 pub mod Alike
+pub mod Copied
 pub mod Defined
 pub mod Entry
 pub mod Gathered

@@ -10,6 +10,7 @@
 //! beats of `beat_points`.
 #![tactic(auto)]
 
+mod copied;
 mod definitions;
 mod entry;
 mod law;
@@ -17,6 +18,7 @@ mod refusal;
 mod restoring;
 mod rows;
 
+pub use copied::{any_copied, restore_copied};
 pub use entry::{entry_of, restore};
 pub use law::{any_alike, any_defined, any_next};
 pub use refusal::EntryRefusal;
