@@ -1,10 +1,11 @@
 -- The registry of a history with one beat more has what the beat defines.
-use Rattle.std.proofs.Common.{◌≡◌, ℕ, Bool, true, false, cond, ◌&&◌, ◌||◌, List, [], ◌∷◌, map, filter, Option, Some, None, IsSome, IfSome, All, is_some, ◌+◌, refl, sym, ap, subst, ◌∙◌, true≢false, if◌then◌else◌}
+use Rattle.std.proofs.Common.{◌≡◌, ℕ, Bool, true, false, cond, ◌&&◌, ◌||◌, List, [], ◌∷◌, map, filter, Option, Some, None, IsSome, IfSome, All, is_some, slice_get, ◌+◌, refl, sym, ap, subst, ◌∙◌, true≢false, if◌then◌else◌}
 use Rattle.std.specs.List.{find, list_any, filter_map, cons_option, enumerate_from, AllByRecursion}
 use Rattle.std.specs.Option.{option_map}
 use Rattle.std.specs.Str.{bytes_eq}
 use Rattle.std.proofs.lemmas.Bool.{and_parts}
 use Rattle.std.proofs.lemmas.List.Elements.{All-from_recursion, recursion_from_All}
+use Rattle.std.proofs.lemmas.Option.{same_Some}
 use Rattle.chart_registry.specs.Defining.{chart_id}
 use Rattle.chart_registry.proofs.Applying.{has_chart-applied}
 use Rattle.chart_registry.proofs.Places.{list_any-position}
@@ -20,14 +21,14 @@ use Rattle.history.specs.Put.{put_all}
 use Rattle.history.specs.Refusal.{has_chart}
 use Rattle.history.specs.Registry.{Registry, is_chart, is_dimension, same_chart, same_dimension, chart_of, with_definitions}
 use Rattle.beat_points.specs.Regular.{AreApart}
-use Rattle.beat_points.proofs.ApartLemmas.{apart-registry}
+use Rattle.beat_points.proofs.ApartLemmas.{apart-registry, own-series}
 use Rattle.beat_points.proofs.CountLemmas.{found-passes}
 use Rattle.beat_points.proofs.OrderLemmas.{all-weaker}
 use Rattle.beat_entries.specs.Alike.{AreOwned}
 use Rattle.beat_entries.specs.Defined.{IsDefinedIn}
 use Rattle.beat_entries.specs.Entry.{entry_charts, numbered_dimension, entry_dimensions, entry_of}
 use Rattle.beat_entries.specs.Restoring.{chart_def, dimension_back, IsBeatOf}
-use Rattle.beat_entries.proofs.EntryLemmas.{any-find}
+use Rattle.beat_entries.proofs.EntryLemmas.{any-find, at-found, own-chart}
 use Rattle.beat_entries.proofs.PutLemmas.{apart-put_all, put-found, put-again}
 use Rattle.beat_entries.proofs.Slots.{found-all}
 
@@ -76,6 +77,40 @@ module _ (h : List Beat) (moment : ℕ) (beat : OpenBeat) (owned : AreOwned (reg
         (all-weaker (λ (dimension : OpenDim). has_chart (registry_of h) beat dimension.chart ≡ true) (λ (dimension : OpenDim). IsSome (chart_of registry dimension.chart)) owner-there beat.dimensions
         (recursion_from_All (λ (dimension : OpenDim). has_chart (registry_of h) beat dimension.chart ≡ true) beat.dimensions owned.owners));
   }
+
+-- ---- what the beat defines is as the beat has it
+module _ (registry : Registry) (beat : OpenBeat) (defined : IsDefinedIn registry beat) where
+  abbrev ChartThere : ChartDef → Type 0
+  ChartThere def = find (is_chart def.id) registry.charts ≡ Some def
+
+  pub chart-has : (P : ChartDef → Type 0) → All P beat.charts → (n : ℕ) (a : ChartDef) → slice_get registry.charts n ≡ Some a → list_any (is_chart a.id) beat.charts ≡ true → P a
+  chart-has P all n a here any = by (find (is_chart a.id) beat.charts) refl
+    where
+      by : (found : Option ChartDef) → find (is_chart a.id) beat.charts ≡ found → P a
+      by None e = absurd (true≢false (sym any ∙ any-find (is_chart a.id) beat.charts None e))
+      by (Some b) e =
+          let id : a.id ≡ b.id = same_text a.id b.id (found-passes (is_chart a.id) beat.charts b e) in
+          let there : find (is_chart a.id) registry.charts ≡ Some b
+          = ap (λ (text : List ℕ). find (is_chart text) registry.charts) id ∙ found-all ChartThere (is_chart a.id) beat.charts b (recursion_from_All ChartThere beat.charts defined.charts) e in
+          let same : b ≡ a = same_Some b a (sym there ∙ at-found (is_chart a.id) registry.charts n a (own-chart registry n a defined.own_charts here) here) in
+          subst P same (found-all P (is_chart a.id) beat.charts b (recursion_from_All P beat.charts all) e)
+
+  abbrev DimensionThere : OpenDim → Type 0
+  DimensionThere dimension = find (is_dimension dimension.chart dimension.def.id) registry.dimensions ≡ Some dimension
+
+  pub dimension-has : (P : OpenDim → Type 0) → All P beat.dimensions → (n : ℕ) (a : OpenDim) → slice_get registry.dimensions n ≡ Some a
+      → list_any (is_dimension a.chart a.def.id) beat.dimensions ≡ true → P a
+  dimension-has P all n a here any = by (find (same_dimension a) beat.dimensions) refl
+    where
+      by : (found : Option OpenDim) → find (same_dimension a) beat.dimensions ≡ found → P a
+      by None e = absurd (true≢false (sym any ∙ any-find (same_dimension a) beat.dimensions None e))
+      by (Some b) e =
+          let parts = and_parts (bytes_eq a.chart b.chart) (bytes_eq a.def.id b.def.id) (found-passes (same_dimension a) beat.dimensions b e) in
+          let there : find (same_dimension a) registry.dimensions ≡ Some b
+          = (λ i. find (is_dimension (same_text a.chart b.chart parts.0 i) (same_text a.def.id b.def.id parts.1 i)) registry.dimensions)
+          ∙ found-all DimensionThere (same_dimension a) beat.dimensions b (recursion_from_All DimensionThere beat.dimensions defined.dimensions) e in
+          let same : b ≡ a = same_Some b a (sym there ∙ at-found (same_dimension a) registry.dimensions n a (own-series registry n a defined.own_dimensions here) here) in
+          subst P same (found-all P (same_dimension a) beat.dimensions b (recursion_from_All P beat.dimensions all) e)
 
 -- ---- the definitions of an entry
 pub charts-back : (defs things : List ChartDef) (n : ℕ)

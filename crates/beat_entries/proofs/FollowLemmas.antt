@@ -32,7 +32,7 @@ use Rattle.beat_entries.specs.Alike.{AreOwned, MayFollow}
 use Rattle.beat_entries.specs.Defined.{IsDefinedIn}
 use Rattle.beat_entries.specs.Entry.{entry_charts, numbered_dimension, entry_dimensions, entry_value, entry_values, entry_rows, entry_of}
 use Rattle.beat_entries.specs.Restoring.{all_taken, chart_def, takes_chart, with_chart, dimension_back, takes_dimension, with_dimension, is_number, is_of_chart, takes_row, with_charts, with_dimensions, restored, goes_on}
-use Rattle.beat_entries.proofs.DefinedLemmas.{chart-itself, chart-alike, dimension-itself, dimension-alike, apart-charts, beat-defined, charts-back, dimensions-back}
+use Rattle.beat_entries.proofs.DefinedLemmas.{chart-itself, chart-alike, dimension-itself, dimension-alike, apart-charts, beat-defined, chart-has, charts-back, dimension-has, dimensions-back}
 use Rattle.beat_entries.proofs.EntryLemmas.{any-find, own-chart, at-found, if-some}
 use Rattle.beat_entries.proofs.Gathering.{map-some}
 use Rattle.beat_entries.proofs.NextLemmas.{MayChart, MayDimension, charts-taken, dimensions-taken}
@@ -50,14 +50,14 @@ module _ {A C : Type 0} (P : C → Type 0) (pick : ℕ × A → Option C) where
       by None e rest = rest
       by (Some c) e rest = (each zero a c refl (ap (λ (k : ℕ). pick (k, a)) (add-zero n) ∙ e), rest)
 
-  all-places : (things : List A) → ((m : ℕ) (a : A) (c : C) → slice_get things m ≡ Some a → pick (m, a) ≡ Some c → P c) → AllByRecursion P (filter_map pick (enumerate_from 0 things))
+  pub all-places : (things : List A) → ((m : ℕ) (a : A) (c : C) → slice_get things m ≡ Some a → pick (m, a) ≡ Some c → P c) → AllByRecursion P (filter_map pick (enumerate_from 0 things))
   all-places things each = all-from things 0 (λ m a c at e. each m a c at (ap (λ (k : ℕ). pick (k, a)) (sym (zero-add m)) ∙ e))
 
 each-tests : {X : Type 0} (p : X → Bool) (xs : List X) → AllByRecursion (λ (x : X). p x ≡ true) xs → list_all p xs ≡ true
 each-tests p [] all = refl
 each-tests p (x ∷ xs) all = ap (λ (b : Bool). b && list_all p xs) all.0 ∙ each-tests p xs all.1
 
-if-true : {X : Type 0} (b : Bool) (found : Option X) (x : X) → (if b then found else None) ≡ Some x → b ≡ true
+pub if-true : {X : Type 0} (b : Bool) (found : Option X) (x : X) → (if b then found else None) ≡ Some x → b ≡ true
 if-true true found x e = refl
 if-true false found x e = absurd (none-some x e)
 
@@ -193,28 +193,13 @@ module _ (h : List Beat) (moment : ℕ) (beat : OpenBeat) (owned : AreOwned (reg
   abbrev KeepsGrid : ChartDef → Type 0
   KeepsGrid def = (old : ChartDef) → find (is_chart def.id) first.charts ≡ Some old → old.update_every ≡ def.update_every
 
-  abbrev AsThere : ChartDef → Type 0
-  AsThere def = find (is_chart def.id) r.charts ≡ Some def
-
   chart-may : (m : ℕ) (a : ChartDef) → slice_get r.charts m ≡ Some a → list_any (is_chart a.id) beat.charts ≡ true → MayChart r.charts may.charts first.charts (record { number = m; def = a })
-  chart-may m a at any = by (find (is_chart a.id) beat.charts) refl
-    where
-      own : chart_of r a.id ≡ Some m
-      own = own-chart r m a defined.own_charts at
-
-      by : (found : Option ChartDef) → find (is_chart a.id) beat.charts ≡ found → MayChart r.charts may.charts first.charts (record { number = m; def = a })
-      by None e = absurd (true≢false (sym any ∙ any-find (is_chart a.id) beat.charts None e))
-      by (Some b) e =
-          let id : a.id ≡ b.id = same_text a.id b.id (found-passes (is_chart a.id) beat.charts b e) in
-          let there : find (is_chart a.id) r.charts ≡ Some b
-          = ap (λ (text : List ℕ). find (is_chart text) r.charts) id ∙ found-all AsThere (is_chart a.id) beat.charts b (recursion_from_All AsThere beat.charts defined.charts) e in
-          let same : b ≡ a = same_Some b a (sym there ∙ at-found (is_chart a.id) r.charts m a own at) in
-          record {
-            grid = subst HasGrid same (found-all HasGrid (is_chart a.id) beat.charts b (recursion_from_All HasGrid beat.charts may.grids) e);
-            limits = subst KeepsLimits same (found-all KeepsLimits (is_chart a.id) beat.charts b (recursion_from_All KeepsLimits beat.charts may.chart_limits) e);
-            number = own;
-            kept = subst KeepsGrid same (found-all KeepsGrid (is_chart a.id) beat.charts b (recursion_from_All KeepsGrid beat.charts may.kept) e);
-          }
+  chart-may m a at any = record {
+    grid = chart-has r beat defined HasGrid may.grids m a at any;
+    limits = chart-has r beat defined KeepsLimits may.chart_limits m a at any;
+    number = own-chart r m a defined.own_charts at;
+    kept = chart-has r beat defined KeepsGrid may.kept m a at any;
+  }
 
   charts-go : all_taken takes_chart with_chart first entry.charts ≡ true
   charts-go =
@@ -232,25 +217,8 @@ module _ (h : List Beat) (moment : ℕ) (beat : OpenBeat) (owned : AreOwned (reg
   mid-is : mid ≡ with_charts first entry.charts
   mid-is = λ i. record { charts = sym whole-charts i; dimensions = first.dimensions }
 
-  abbrev IsThere : OpenDim → Type 0
-  IsThere dimension = find (is_dimension dimension.chart dimension.def.id) r.dimensions ≡ Some dimension
-
   abbrev IsLimited : OpenDim → Type 0
   IsLimited dimension = dimension_keeps_limits dimension.def ≡ true
-
-  -- a dimension that the beat defines is as the beat has it
-  dimension-limits : (m : ℕ) (a : OpenDim) → slice_get r.dimensions m ≡ Some a → list_any (is_dimension a.chart a.def.id) beat.dimensions ≡ true → IsLimited a
-  dimension-limits m a at any = by (find (is_dimension a.chart a.def.id) beat.dimensions) refl
-    where
-      by : (found : Option OpenDim) → find (is_dimension a.chart a.def.id) beat.dimensions ≡ found → IsLimited a
-      by None e = absurd (true≢false (sym any ∙ any-find (is_dimension a.chart a.def.id) beat.dimensions None e))
-      by (Some b) e =
-          let parts = and_parts (bytes_eq a.chart b.chart) (bytes_eq a.def.id b.def.id) (found-passes (is_dimension a.chart a.def.id) beat.dimensions b e) in
-          let there : find (is_dimension a.chart a.def.id) r.dimensions ≡ Some b
-          = (λ i. find (is_dimension (same_text a.chart b.chart parts.0 i) (same_text a.def.id b.def.id parts.1 i)) r.dimensions)
-          ∙ found-all IsThere (is_dimension a.chart a.def.id) beat.dimensions b (recursion_from_All IsThere beat.dimensions defined.dimensions) e in
-          let same : b ≡ a = same_Some b a (sym there ∙ at-found (is_dimension a.chart a.def.id) r.dimensions m a (own-series r m a defined.own_dimensions at) at) in
-          subst IsLimited same (found-all IsLimited (is_dimension a.chart a.def.id) beat.dimensions b (recursion_from_All IsLimited beat.dimensions may.dimension_limits) e)
 
   dimension-may : (m : ℕ) (a : OpenDim) (c : NumberedDimension) → slice_get r.dimensions m ≡ Some a → IsLimited a → numbered_dimension r m a ≡ Some c
       → MayDimension r.dimensions may.dimensions may.each mid c
@@ -272,9 +240,9 @@ module _ (h : List Beat) (moment : ℕ) (beat : OpenBeat) (owned : AreOwned (reg
       (λ m a c at e.
       let any = list_any (is_dimension a.chart a.def.id) beat.dimensions in
       let made = numbered_dimension r m a in
-      dimension-may m a c at (dimension-limits m a at (if-true any made c e)) (if-some any made c e)))
+      dimension-may m a c at (dimension-has r beat defined IsLimited may.dimension_limits m a at (if-true any made c e)) (if-some any made c e)))
 
-  last-is : r ≡ restored first entry
+  pub last-is : r ≡ restored first entry
   last-is =
       (λ i. record { charts = r.charts; dimensions = sym whole-dimensions i })
       ∙ ap (λ (s : Registry). with_dimensions s entry.dimensions) mid-is

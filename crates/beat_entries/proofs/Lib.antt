@@ -1,5 +1,6 @@
 pub mod AlikeLemmas
 pub mod Ascending
+pub mod CopiedLemmas
 pub mod DefinedLemmas
 pub mod EntryLemmas
 pub mod FollowLemmas

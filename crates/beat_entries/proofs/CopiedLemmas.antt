@@ -1,0 +1,146 @@
+-- The entry of a copied beat that may follow a history is that of a beat without rows that defines the same.
+use Rattle.std.proofs.Common.{◌≡◌, ℕ, ◌+◌, ◌<◌, ◌≤◌, Bool, true, false, ◌&&◌, nat_lt, lt-ltb, List, [], ◌∷◌, map, length, slice_get, Option, Some, None, IsSome, All, refl, sym, ap, subst, ◌∙◌, if◌then◌else◌}
+use Rattle.std.specs.List.{find, list_any, list_all, filter_map, cons_option, enumerate_from, AllByRecursion}
+use Rattle.std.specs.Option.{option_map, option_map_or}
+use Rattle.std.specs.Str.{bytes_eq}
+use Rattle.std.proofs.lemmas.List.Elements.{All-from_recursion, recursion_from_All}
+use Rattle.std.proofs.lemmas.Option.{same_Some}
+use Rattle.algorithms.specs.declared.last.Last.{Last}
+use Rattle.algorithms.specs.Cells.{last_of}
+use Rattle.entry_codec.specs.declared.charts.NumberedChart.{NumberedChart}
+use Rattle.entry_codec.specs.declared.dimensions.NumberedDimension.{NumberedDimension}
+use Rattle.entry_codec.specs.declared.entry.Collected.{Collected}
+use Rattle.entry_codec.specs.declared.entry.Copied.{Copied}
+use Rattle.history.specs.declared.beat.OpenBeat.{OpenBeat}
+use Rattle.history.specs.declared.beat.OpenDim.{OpenDim}
+use Rattle.history.specs.declared.beat.OpenRow.{OpenRow}
+use Rattle.history.specs.declared.beat.OpenValue.{OpenValue}
+use Rattle.history.specs.declared.chart.ChartDef.{ChartDef}
+use Rattle.history.specs.declared.dimension.DimDef.{DimDef}
+use Rattle.history.specs.declared.row.Row.{Row}
+use Rattle.history.specs.History.{Beat, collected, copied, registry_of, Copy, Word}
+use Rattle.history.specs.Looking.{same_value}
+use Rattle.history.specs.Points.{last_set, value_of}
+use Rattle.history.specs.Registry.{Registry, is_chart, is_dimension, chart_of, series_of}
+use Rattle.beat_points.specs.LastRows.{last_in, AreLastOf}
+use Rattle.beat_points.specs.Regular.{AreApart, IsRegular}
+use Rattle.beat_entries.specs.Copied.{full_chart, full_dimension, defined_by, names_word, copied_goes_on, definitions_of, told_chart, told_dimension, told_word, copied_entry_of, usual_chart, usual_dimension, IsUsualChart, IsUsualDimension, MayCopy}
+use Rattle.beat_entries.specs.Defined.{IsDefinedIn}
+use Rattle.beat_entries.specs.Entry.{entry_charts, numbered_dimension, entry_dimensions, entry_values, entry_rows, entry_of}
+use Rattle.beat_entries.specs.Restoring.{goes_on, restored, AreOf, IsBeatOf, IsRowOf}
+use Rattle.beat_entries.proofs.DefinedLemmas.{beat-defined, chart-has, dimension-has}
+use Rattle.beat_entries.proofs.EntryLemmas.{if-some}
+use Rattle.beat_entries.proofs.FollowLemmas.{all-places, beat-goes-on, if-true, last-is}
+use Rattle.beat_entries.proofs.Gathering.{map-some}
+
+-- ---- what is told of usual definitions tells all
+abbrev IsUsualNumbered : NumberedChart → Type 0
+IsUsualNumbered chart = IsUsualChart chart.def
+
+charts-told : (charts : List NumberedChart) → AllByRecursion IsUsualNumbered charts → map full_chart (map told_chart charts) ≡ charts
+charts-told [] usual = refl
+charts-told (chart ∷ charts) usual = λ i. record { number = chart.number; def = sym usual.0 i } ∷ charts-told charts usual.1 i
+
+abbrev IsUsualSeries : NumberedDimension → Type 0
+IsUsualSeries dimension = dimension.def ≡ usual_dimension dimension.def.id dimension.def.hidden
+
+dimensions-told : (dimensions : List NumberedDimension) → AllByRecursion IsUsualSeries dimensions → map full_dimension (map told_dimension dimensions) ≡ dimensions
+dimensions-told [] usual = refl
+dimensions-told (dimension ∷ dimensions) usual = λ i. record { series = dimension.series; chart = dimension.chart; def = sym usual.0 i } ∷ dimensions-told dimensions usual.1 i
+
+-- ---- a beat without rows
+module _ (r : Registry) (charts : List ChartDef) (dimensions : List OpenDim) where
+  abbrev without_rows : OpenBeat
+  without_rows = record { charts = charts; dimensions = dimensions; rows = [] }
+
+  no-rows : (things : List ChartDef) (n : ℕ)
+      → filter_map {Y = Row} (λ (place : ℕ × ChartDef). option_map (λ (row : OpenRow). record { chart = place.0; values = entry_values r row }) (find (λ (row : OpenRow). bytes_eq place.1.id row.chart) []))
+      (enumerate_from n things) ≡ []
+  no-rows [] n = refl
+  no-rows (a ∷ things) n = no-rows things (n + 1)
+
+  pub regular-without : IsRegular r without_rows
+  regular-without = record {
+    rows = tt;
+    values = All-from_recursion (λ (row : OpenRow). AreApart same_value row.values) [] tt;
+    charts = All-from_recursion (λ (row : OpenRow). IsSome (chart_of r row.chart)) [] tt;
+    dimensions = All-from_recursion (λ (row : OpenRow). All (λ (value : OpenValue). IsSome (series_of r row.chart value.id)) row.values) [] tt;
+    limit = All-from_recursion (λ (row : OpenRow). length row.values ≤ 1024) [] tt;
+  }
+
+  module _ (defined : IsDefinedIn r without_rows) where
+    charts-usual : All IsUsualChart charts → AllByRecursion IsUsualNumbered (entry_charts r without_rows)
+    charts-usual usual =
+        all-places IsUsualNumbered (λ (place : ℕ × ChartDef). if list_any (is_chart place.1.id) charts then Some (record { number = place.0; def = place.1 }) else None) r.charts
+        (λ m a c at e.
+        let any = list_any (is_chart a.id) charts in
+        let made : Option NumberedChart = Some (record { number = m; def = a }) in
+        subst IsUsualNumbered (same_Some (record { number = m; def = a }) c (if-some any made c e))
+        (chart-has r without_rows defined IsUsualChart usual m a at (if-true any made c e)))
+
+    dimensions-usual : All IsUsualDimension dimensions → AllByRecursion IsUsualSeries (entry_dimensions r without_rows)
+    dimensions-usual usual =
+        all-places IsUsualSeries (λ (place : ℕ × OpenDim). if list_any (is_dimension place.1.chart place.1.def.id) dimensions then numbered_dimension r place.0 place.1 else None) r.dimensions
+        (λ m a c at e.
+        let any = list_any (is_dimension a.chart a.def.id) dimensions in
+        let made = numbered_dimension r m a in
+        let parts = map-some (λ (number : ℕ). record { series = m; chart = number; def = a.def }) (chart_of r a.chart) c (if-some any made c e) in
+        subst IsUsualSeries parts.1.1 (dimension-has r without_rows defined IsUsualDimension usual m a at (if-true any made c e)))
+
+-- ---- a copied beat that may follow a history
+module _ (h : List Beat) (copy : Copy) (may : MayCopy h copy) where
+  abbrev first : Registry
+  first = registry_of h
+
+  abbrev r : Registry
+  r = registry_of (copied copy ∷ h)
+
+  abbrev beat : OpenBeat
+  beat = definitions_of copy
+
+  abbrev entry : Copied
+  entry = copied_entry_of r copy
+
+  defined : IsDefinedIn r beat
+  defined = beat-defined h copy.moment beat may.owned
+
+  defined-is : defined_by entry ≡ entry_of r copy.moment beat
+  defined-is =
+      let charts = charts-told (entry_charts r beat) (charts-usual r copy.charts copy.dimensions defined may.charts) in
+      let dimensions = dimensions-told (entry_dimensions r beat) (dimensions-usual r copy.charts copy.dimensions defined may.dimensions) in
+      let rows = no-rows r copy.charts copy.dimensions r.charts 0 in
+      λ i. record { moment = copy.moment; charts = charts i; dimensions = dimensions i; rows = sym rows i }
+
+  pub copied-registry : restored first (defined_by entry) ≡ r
+  copied-registry = ap (restored first) defined-is ∙ sym (last-is h copy.moment beat may.owned may.may)
+
+  words-named : (words : List Word) → AllByRecursion (λ (word : Word). word.series < length r.dimensions) words → list_all (names_word r) (map told_word words) ≡ true
+  words-named [] all = refl
+  words-named (word ∷ words) all = λ i. lt-ltb word.series (length r.dimensions) all.0 i && words-named words all.1 i
+
+  pub copied-next : copied_goes_on first entry ≡ true
+  copied-next =
+      let goes : goes_on first (defined_by entry) ≡ true
+      = ap (goes_on first) defined-is ∙ beat-goes-on h copy.moment beat may.owned may.may (regular-without r copy.charts copy.dimensions) in
+      let words : list_all (names_word (restored first (defined_by entry))) entry.words ≡ true
+      = ap (λ (s : Registry). list_all (names_word s) entry.words) copied-registry
+      ∙ words-named copy.words (recursion_from_All (λ (word : Word). word.series < length r.dimensions) copy.words may.words) in
+      λ i. goes i && words i
+
+-- ---- the last rows
+of-nothing : {X Y : Type 0} (R : X → Y → Type 0) (ys : List Y) → AreOf R [] ys → ys ≡ []
+of-nothing R [] of = refl
+of-nothing R (y ∷ ys) of = absurd of
+
+pub copied-last : (h : List Beat) (copy : Copy) (like : OpenBeat) (lasts : List (Option Last))
+    → IsBeatOf (registry_of (copied copy ∷ h)) (defined_by (copied_entry_of (registry_of (copied copy ∷ h)) copy)) like
+    → registry_of (collected copy.moment like ∷ h) ≡ registry_of (copied copy ∷ h)
+    → AreLastOf lasts (collected copy.moment like ∷ h) → AreLastOf lasts (copied copy ∷ h)
+copied-last h copy like lasts of same last = record {
+  rows = λ chart id.
+      let none : value_of like chart id ≡ None
+      = ap (λ (rows : List OpenRow). value_of (record { charts = like.charts; dimensions = like.dimensions; rows = rows }) chart id) (of-nothing (IsRowOf (registry_of (copied copy ∷ h))) like.rows of.rows) in
+      ap (λ (r : Registry). last_in lasts (series_of r chart id)) (sym same) ∙ last.rows chart id
+      ∙ ap (λ (value : Option OpenValue). option_map last_of (option_map_or (λ (value : OpenValue). Some (record { moment = copy.moment; value = value.value })) value (last_set h chart id))) none;
+  within = subst (λ (r : Registry). length lasts ≤ length r.dimensions) same last.within;
+}
