@@ -3,14 +3,20 @@ use Rattle.std.proofs.Common.{◌≡◌, ℕ, ◌+◌, ◌<◌, ◌≤◌, Bool,
 use Rattle.std.specs.List.{find, list_any, list_all, filter_map, cons_option, enumerate_from, AllByRecursion}
 use Rattle.std.specs.Option.{option_map, option_map_or}
 use Rattle.std.specs.Str.{bytes_eq}
+use Rattle.std.proofs.lemmas.Bool.{and_parts}
 use Rattle.std.proofs.lemmas.List.Elements.{All-from_recursion, recursion_from_All}
 use Rattle.std.proofs.lemmas.Option.{same_Some}
 use Rattle.algorithms.specs.declared.last.Last.{Last}
 use Rattle.algorithms.specs.Cells.{last_of}
+use Rattle.entry_codec.specs.declared.charts.CopiedChart.{CopiedChart}
 use Rattle.entry_codec.specs.declared.charts.NumberedChart.{NumberedChart}
+use Rattle.entry_codec.specs.declared.dimensions.CopiedDimension.{CopiedDimension}
 use Rattle.entry_codec.specs.declared.dimensions.NumberedDimension.{NumberedDimension}
 use Rattle.entry_codec.specs.declared.entry.Collected.{Collected}
 use Rattle.entry_codec.specs.declared.entry.Copied.{Copied}
+use Rattle.entry_codec.specs.declared.words.CopiedWord.{CopiedWord}
+use Rattle.entry_codec.specs.Entries.{is_collected_canonical, is_copied_canonical, is_storage_number}
+use Rattle.entry_codec.specs.Lists.{is_ascending}
 use Rattle.history.specs.declared.beat.OpenBeat.{OpenBeat}
 use Rattle.history.specs.declared.beat.OpenDim.{OpenDim}
 use Rattle.history.specs.declared.beat.OpenRow.{OpenRow}
@@ -21,7 +27,7 @@ use Rattle.history.specs.declared.row.Row.{Row}
 use Rattle.history.specs.History.{Beat, collected, copied, registry_of, Copy, Word}
 use Rattle.history.specs.Looking.{same_value}
 use Rattle.history.specs.Points.{last_set, value_of}
-use Rattle.history.specs.Registry.{Registry, is_chart, is_dimension, chart_of, series_of}
+use Rattle.history.specs.Registry.{Registry, is_chart, is_dimension, chart_of, series_of, with_definitions}
 use Rattle.beat_points.specs.LastRows.{last_in, AreLastOf}
 use Rattle.beat_points.specs.Regular.{AreApart, IsRegular}
 use Rattle.beat_entries.specs.Copied.{full_chart, full_dimension, defined_by, names_word, copied_goes_on, definitions_of, told_chart, told_dimension, told_word, copied_entry_of, usual_chart, usual_dimension, IsUsualChart, IsUsualDimension, MayCopy}
@@ -32,6 +38,8 @@ use Rattle.beat_entries.proofs.DefinedLemmas.{beat-defined, chart-has, dimension
 use Rattle.beat_entries.proofs.EntryLemmas.{if-some}
 use Rattle.beat_entries.proofs.FollowLemmas.{all-places, beat-goes-on, if-true, last-is}
 use Rattle.beat_entries.proofs.Gathering.{map-some}
+use Rattle.beat_entries.proofs.RestoringLemmas.{restored-is}
+use Rattle.beat_entries.proofs.Steps.{and-no}
 
 -- ---- what is told of usual definitions tells all
 abbrev IsUsualNumbered : NumberedChart → Type 0
@@ -144,3 +152,32 @@ copied-last h copy like lasts of same last = record {
       ∙ ap (λ (value : Option OpenValue). option_map last_of (option_map_or (λ (value : OpenValue). Some (record { moment = copy.moment; value = value.value })) value (last_set h chart id))) none;
   within = subst (λ (r : Registry). length lasts ≤ length r.dimensions) same last.within;
 }
+
+-- ---- an entry that is restored
+same-numbers : {X Y : Type 0} (full : X → Y) (key : X → ℕ) (full_key : Y → ℕ) → ((x : X) → full_key (full x) ≡ key x) → (xs : List X) → map full_key (map full xs) ≡ map key xs
+same-numbers full key full_key same [] = refl
+same-numbers full key full_key same (x ∷ xs) = λ i. same x i ∷ same-numbers full key full_key same xs i
+
+pub defined-canonical : (entry : Copied) → is_copied_canonical entry ≡ true → is_collected_canonical (defined_by entry) ≡ true
+unfolding is_copied_canonical is_collected_canonical
+defined-canonical entry canonical =
+    let chart_order = is_ascending (map (λ (chart : CopiedChart). chart.number) entry.charts) in
+    let dimension_order = is_ascending (map (λ (dimension : CopiedDimension). dimension.series) entry.dimensions) in
+    let word_order = is_ascending (map (λ (word : CopiedWord). word.series) entry.words) in
+    let all = and_parts (chart_order && dimension_order && word_order) (list_all is_storage_number entry.words) canonical in
+    let orders = and_parts chart_order dimension_order (and_parts (chart_order && dimension_order) word_order all.0).0 in
+    let charts : is_ascending (map (λ (chart : NumberedChart). chart.number) (map full_chart entry.charts)) ≡ true
+    = ap is_ascending (same-numbers full_chart (λ (chart : CopiedChart). chart.number) (λ (chart : NumberedChart). chart.number) (λ chart. refl) entry.charts) ∙ orders.0 in
+    let dimensions : is_ascending (map (λ (dimension : NumberedDimension). dimension.series) (map full_dimension entry.dimensions)) ≡ true
+    = ap is_ascending (same-numbers full_dimension (λ (dimension : CopiedDimension). dimension.series) (λ (dimension : NumberedDimension). dimension.series) (λ dimension. refl) entry.dimensions) ∙ orders.1 in
+    λ i. charts i && dimensions i && true && true
+
+module _ (first last : Registry) (entry : Copied) (beat : OpenBeat) (made : last ≡ with_definitions first beat.charts beat.dimensions) (of : IsBeatOf last (defined_by entry) beat) where
+  words-tested : list_all (names_word (restored first (defined_by entry))) entry.words ≡ list_all (names_word last) entry.words
+  words-tested = ap (λ (s : Registry). list_all (names_word s) entry.words) (sym (restored-is first last (defined_by entry) beat made of))
+
+  pub words-there : goes_on first (defined_by entry) ≡ true → list_all (names_word last) entry.words ≡ true → copied_goes_on first entry ≡ true
+  words-there goes there = λ i. goes i && (words-tested ∙ there) i
+
+  pub words-missing : list_all (names_word last) entry.words ≡ false → copied_goes_on first entry ≡ false
+  words-missing missing = ap (λ (b : Bool). goes_on first (defined_by entry) && b) (words-tested ∙ missing) ∙ and-no (goes_on first (defined_by entry))

@@ -23,6 +23,7 @@ use Rattle.history.specs.declared.beat.OpenValue.{OpenValue}
 use Rattle.history.specs.declared.chart.ChartDef.{ChartDef}
 use Rattle.history.specs.declared.dimension.DimDef.{DimDef}
 use Rattle.history.specs.Looking.{same_value}
+use Rattle.history.specs.Put.{put_all}
 use Rattle.history.specs.Registry.{Registry, chart_of, series_of, same_chart, same_dimension, with_definitions}
 use Rattle.beat_points.specs.Regular.{AreApart, IsRegular, same_row}
 use Rattle.beat_points.proofs.OrderLemmas.{all-weaker}
@@ -117,6 +118,22 @@ module _ (first mid last : Registry) (entry : Collected) (defs : List ChartDef) 
       dimensions = dims_are ∙ ap (λ (r : Registry). map (dimension_back r) entry.dimensions) (sym last_is);
       rows = are;
     }
+
+-- a dimension of an entry by the id of its chart, which is one of these
+abbrev back_in : List ChartDef → NumberedDimension → OpenDim
+back_in charts dimension = dimension_back (record { charts = charts; dimensions = [] }) dimension
+
+-- a registry that took the definitions of an entry's beat is the one that the entry leaves
+pub restored-is : (first last : Registry) (entry : Collected) (beat : OpenBeat) → last ≡ with_definitions first beat.charts beat.dimensions → IsBeatOf last entry beat → last ≡ restored first entry
+restored-is first last entry beat made of =
+    let mid : Registry = with_charts first entry.charts in
+    let charts : last.charts ≡ mid.charts
+    = ap (λ (r : Registry). r.charts) made ∙ ap (put_all same_chart first.charts) of.charts in
+    let back : map (dimension_back last) entry.dimensions ≡ map (dimension_back mid) entry.dimensions
+    = ap (λ (defs : List ChartDef). map (back_in defs) entry.dimensions) charts in
+    let dimensions : last.dimensions ≡ (restored first entry).dimensions
+    = ap (λ (r : Registry). r.dimensions) made ∙ ap (put_all same_dimension first.dimensions) (of.dimensions ∙ back) in
+    λ i. record { charts = charts i; dimensions = dimensions i }
 
 -- ---- a regular beat
 module _ {X Y : Type 0} (R : X → Y → Type 0) where

@@ -2,21 +2,47 @@
 
 ghost use Rattle.std.specs.Prelude.{◌≡◌, ℕ, true, false, List, ◌∷◌, Option, IfOk, IfErr, OnOk};
 ghost use Rattle.algorithms.specs.declared.last.Last.{Last};
-ghost use Rattle.entry_codec.specs.Entries.{is_copied_canonical};
+ghost use Rattle.std.specs.List.{list_all};
+ghost use Rattle.entry_codec.specs.Entries.{is_collected_canonical, is_copied_canonical};
 ghost use Rattle.beat_points.specs.LastRows.{AreLastOf};
 ghost use Rattle.beat_points.specs.Regular.{IsRegular};
 ghost use Rattle.history.specs.declared.beat.OpenBeat.{OpenBeat as AnOpenBeat};
 ghost use Rattle.history.specs.History.{Beat, collected, copied, registry_of, Copy};
 ghost use Rattle.history.specs.Registry.{with_definitions};
-ghost use Rattle.beat_entries.specs.Copied.{copied_entry_of, copied_goes_on, defined_by, MayCopy};
+ghost use Rattle.beat_entries.specs.Copied.{copied_entry_of, copied_goes_on, defined_by, names_word, MayCopy};
 ghost use Rattle.beat_entries.specs.Restoring.{restored, IsBeatOf};
 ghost use Rattle.beat_entries.specs.declared.refusal.EntryRefusal.TheVariants.{NotNext};
 
+use crate::entry::restore;
 use crate::refusal::EntryRefusal;
+use crate::usual;
 use chart_registry::Registry;
-use entry_codec::Copied;
+use entry_codec::{Collected, Copied, CopiedWord};
+use fixed_num::ListOf;
 use history::OpenBeat;
-use std::alloc::Global;
+use std::alloc::{AllocError, Global};
+
+/// The entry of a beat without rows that defines the same.
+fn defined_by(alloc: Global, entry: &Copied) -> Result<Collected, AllocError>
+    requires canonical { is_copied_canonical entry.now ≡ true }
+    ensures made { IfOk result (λ made. made ≡ defined_by entry.now) }
+    ensures canonical { IfOk result (λ made. is_collected_canonical made ≡ true) }
+{
+    Ok(Collected {
+        moment: entry.moment,
+        charts: usual::full_charts(alloc, entry.charts.as_slice())?,
+        dimensions: usual::full_dimensions(alloc, entry.dimensions.as_slice())?,
+        rows: ListOf::new(alloc),
+    })
+}
+
+/// Whether each word is of a series that is there.
+fn names_words(registry: &Registry, words: &[CopiedWord]) -> bool
+    ensures { result ≡ list_all (names_word registry.now) words.now }
+{
+    let dimensions = registry.dimensions();
+    words.iter().all(|word| word.series < dimensions)
+}
 
 /// The definitions of a copied beat's entry, as a beat without rows, once the registry has taken them. A
 /// chart's name and family are the part of its id behind the first dot, a dimension's name is its id, and what
@@ -36,7 +62,13 @@ pub fn restore_copied(
     ensures next { OnOk result (copied_goes_on registry.old entry.now ≡ true) }
     ensures refused { IfErr result (λ refusal. refusal ≡ NotNext → copied_goes_on registry.old entry.now ≡ false) }
 {
-    Err(EntryRefusal::Memory)
+    let defined = defined_by(alloc, entry)?;
+    let beat = restore(alloc, registry, &defined)?;
+    if names_words(registry, entry.words.as_slice()) {
+        Ok(beat)
+    } else {
+        Err(EntryRefusal::NotNext)
+    }
 }
 
 /// The laws of a copied beat that may follow a history: its entry goes on from the history's registry, the

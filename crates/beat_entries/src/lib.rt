@@ -17,6 +17,7 @@ mod law;
 mod refusal;
 mod restoring;
 mod rows;
+mod usual;
 
 pub use copied::{any_copied, restore_copied};
 pub use entry::{entry_of, restore};
