@@ -23,10 +23,7 @@ fn take_chart(registry: &mut Registry, chart: &NumberedChart) -> Result<(), Entr
     ensures taken { OnOk result (takes_chart registry.old chart.now ≡ true) }
     ensures refused { IfErr result (λ refusal. refusal ≡ NotNext → takes_chart registry.old chart.now ≡ false) }
 {
-    if chart.def.update_every == 0 {
-        return Err(EntryRefusal::NotNext);
-    }
-    if !chart.def.keeps_limits() {
+    if chart.def.update_every == 0 || !chart.def.keeps_limits() {
         return Err(EntryRefusal::NotNext);
     }
     match registry.define_chart(&chart.def) {

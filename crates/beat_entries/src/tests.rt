@@ -1,9 +1,9 @@
 ghost use Rattle.std.specs.Prelude.{◌≡◌, ◌<◌, true, IfOk};
-ghost use Rattle.entry_codec.specs.Entries.{is_collected_canonical};
+ghost use Rattle.entry_codec.specs.Entries.{is_collected_canonical, is_copied_canonical};
 
 use super::*;
 use chart_registry::Registry;
-use entry_codec::{Collected, Entry, read_entry};
+use entry_codec::{Collected, Copied, Entry, read_entry};
 use std::alloc::Global;
 use std::test::Fail;
 
@@ -61,5 +61,67 @@ fn a_definition_that_breaks_its_limits_is_not_next(rt: HostRuntime) -> Result<()
     assert_eq!(rt; changed(rt.alloc(), 19, b'_')?.as_str(), "NotNext");
     assert_eq!(rt; changed(rt.alloc(), 83, b'\n')?.as_str(), "NotNext");
     assert_ne!(rt; changed(rt.alloc(), 83, b'b')?.as_str(), "NotNext");
+    Ok(())
+}
+
+/// The copied entry of the moment 60: the chart test.one with a hidden dimension a, and a word.
+const COPY: &[u8; 73] =
+    b"\x02\x07\0\0\0\0\0\0\0\x3c\0\0\0\x01\0\0\0\0\0\0\0\x08\0test.one\x08\0test.all\x05\0\0\0\x01\0\0\0\0\0\0\0\0\0\0\0\x01\0a\x01\x01\0\0\0\0\0\0\0\0\0\0\x01";
+
+fn copied_entry(alloc: Global, bytes: &[u8]) -> Result<Copied, Fail>
+    ensures { IfOk result (λ entry. is_copied_canonical entry ≡ true) }
+{
+    match read_entry(alloc, bytes) {
+        Ok(Entry::Copied(entry)) => Ok(entry),
+        Ok(_) => Err(Fail::from("another entry")),
+        Err(_) => Err(Fail::from("no entry")),
+    }
+}
+
+/// What a copied entry defines, or why it is not restored.
+fn definitions(alloc: Global, registry: &mut Registry, bytes: &[u8]) -> Result<String, Fail> {
+    let entry = copied_entry(alloc, bytes)?;
+    match restore_copied(alloc, registry, &entry) {
+        Ok(beat) => Ok(format!(in alloc; "{:?} {:?}", beat.charts, beat.dimensions)?),
+        Err(refusal) => Ok(format!(in alloc; "{refusal:?}")?),
+    }
+}
+
+#[test]
+fn restores_usual_definitions(rt: HostRuntime) -> Result<(), Fail> {
+    let mut registry = Registry::new(rt.alloc());
+    let text = definitions(rt.alloc(), &mut registry, COPY.as_slice())?;
+    let ids = r#"id: Text { string: "test.one" }, name: Text { string: "one" }, "#;
+    let texts = r#"title: Text { string: "" }, units: Text { string: "" }, "#;
+    let kinds = r#"family: Text { string: "one" }, context: Text { string: "test.all" }, "#;
+    let rest = "kind: Line, priority: 1000, update_every: 5, store_first: false }";
+    let dimension = r#"def: DimDef { id: Text { string: "a" }, name: Text { string: "a" }, "#;
+    let factors = "algorithm: Absolute, multiplier: 1, divisor: 1, hidden: true, noreset: false }";
+    for part in [ids, texts, kinds, rest, dimension, factors] {
+        assert!(rt; text.as_str().contains(part), "at {part}");
+    }
+    assert_eq!(rt; registry.charts(), 1);
+    assert_eq!(rt; registry.dimensions(), 1);
+    Ok(())
+}
+
+/// What comes of the copied entry with another byte at this place.
+fn changed_copy(alloc: Global, place: usize, byte: u8) -> Result<String, Fail>
+    requires { place < 73 }
+{
+    let mut bytes = *COPY;
+    bytes[place] = byte;
+    let mut registry = Registry::new(alloc);
+    definitions(alloc, &mut registry, bytes.as_slice())
+}
+
+#[test]
+fn a_copied_number_that_is_not_the_next_is_not_next(rt: HostRuntime) -> Result<(), Fail> {
+    // The numbers of the chart, the dimension, its chart, and the word's series.
+    assert_eq!(rt; changed_copy(rt.alloc(), 17, 1)?.as_str(), "NotNext");
+    assert_eq!(rt; changed_copy(rt.alloc(), 49, 1)?.as_str(), "NotNext");
+    assert_eq!(rt; changed_copy(rt.alloc(), 53, 1)?.as_str(), "NotNext");
+    assert_eq!(rt; changed_copy(rt.alloc(), 65, 1)?.as_str(), "NotNext");
+    assert_ne!(rt; changed_copy(rt.alloc(), 60, 0)?.as_str(), "NotNext");
     Ok(())
 }
