@@ -1,6 +1,6 @@
 -- A beat that is restored of an entry has the rows and values of the beat that the entry was made of.
-use Rattle.std.proofs.Common.{◌≡◌, ℕ, zero, suc, ◌+◌, ◌<◌, ◌≤◌, Bool, true, false, cond, ◌&&◌, nat_eq, List, [], ◌∷◌, length, slice_get, Option, Some, None, IsSome, All, ℤ, is_some, refl, sym, ap, subst, ◌∙◌, arith, true≢false, add-zero, zero-add, if◌then◌else◌}
-use Rattle.std.specs.List.{find, list_any, filter_map, cons_option, enumerate_from, AllByRecursion}
+use Rattle.std.proofs.Common.{◌≡◌, ℕ, zero, suc, ◌+◌, ◌<◌, ◌≤◌, Bool, true, false, cond, nat_eq, List, [], ◌∷◌, length, slice_get, Option, Some, None, IsSome, All, is_some, refl, sym, ap, subst, ◌∙◌, arith, true≢false, add-zero, zero-add, if◌then◌else◌}
+use Rattle.std.specs.List.{find, filter_map, cons_option, enumerate_from, AllByRecursion}
 use Rattle.std.specs.Option.{option_map, option_map_or, option_and_then}
 use Rattle.std.specs.Str.{bytes_eq}
 use Rattle.std.proofs.lemmas.Bool.{and_parts}
@@ -10,7 +10,6 @@ use Rattle.algorithms.specs.declared.last.Last.{Last}
 use Rattle.algorithms.specs.Cells.{last_of}
 use Rattle.chart_registry.proofs.Places.{IsFirst, first-from_position}
 use Rattle.chart_registry.proofs.RowsLemmas.{same_text, bytes_eq_same}
-use Rattle.entry_codec.specs.declared.entry.Collected.{Collected}
 use Rattle.history.specs.declared.row.Row.{Row}
 use Rattle.history.specs.declared.row.Value.{Value}
 use Rattle.history.specs.declared.beat.OpenBeat.{OpenBeat}
@@ -22,7 +21,7 @@ use Rattle.history.specs.History.{Beat, collected, registry_of}
 use Rattle.history.specs.Looking.{is_value}
 use Rattle.history.specs.Points.{last_set}
 use Rattle.history.specs.Registry.{Registry, is_chart, is_dimension, chart_of, series_of}
-use Rattle.beat_points.specs.LastRows.{last_in, value_in, AreLastOf}
+use Rattle.beat_points.specs.LastRows.{last_in, AreLastOf}
 use Rattle.beat_points.specs.Regular.{IsRegular}
 use Rattle.beat_points.proofs.CountLemmas.{found-passes, nat_eq_same, nat_eq_other}
 use Rattle.beat_points.proofs.TakingLemmas.{one_series}

@@ -1,6 +1,6 @@
 -- The entry of a copied beat that may follow a history is that of a beat without rows that defines the same.
-use Rattle.std.proofs.Common.{◌≡◌, ℕ, ◌+◌, ◌<◌, ◌≤◌, Bool, true, false, ◌&&◌, nat_lt, lt-ltb, List, [], ◌∷◌, map, length, slice_get, Option, Some, None, IsSome, All, refl, sym, ap, subst, ◌∙◌, if◌then◌else◌}
-use Rattle.std.specs.List.{find, list_any, list_all, filter_map, cons_option, enumerate_from, AllByRecursion}
+use Rattle.std.proofs.Common.{◌≡◌, ℕ, ◌+◌, ◌<◌, ◌≤◌, Bool, true, false, ◌&&◌, lt-ltb, List, [], ◌∷◌, map, length, Option, Some, None, IsSome, All, refl, sym, ap, subst, ◌∙◌, if◌then◌else◌}
+use Rattle.std.specs.List.{find, list_any, list_all, filter_map, enumerate_from, AllByRecursion}
 use Rattle.std.specs.Option.{option_map, option_map_or}
 use Rattle.std.specs.Str.{bytes_eq}
 use Rattle.std.proofs.lemmas.Bool.{and_parts}
@@ -12,7 +12,6 @@ use Rattle.entry_codec.specs.declared.charts.CopiedChart.{CopiedChart}
 use Rattle.entry_codec.specs.declared.charts.NumberedChart.{NumberedChart}
 use Rattle.entry_codec.specs.declared.dimensions.CopiedDimension.{CopiedDimension}
 use Rattle.entry_codec.specs.declared.dimensions.NumberedDimension.{NumberedDimension}
-use Rattle.entry_codec.specs.declared.entry.Collected.{Collected}
 use Rattle.entry_codec.specs.declared.entry.Copied.{Copied}
 use Rattle.entry_codec.specs.declared.words.CopiedWord.{CopiedWord}
 use Rattle.entry_codec.specs.Entries.{is_collected_canonical, is_copied_canonical, is_storage_number}
@@ -22,7 +21,6 @@ use Rattle.history.specs.declared.beat.OpenDim.{OpenDim}
 use Rattle.history.specs.declared.beat.OpenRow.{OpenRow}
 use Rattle.history.specs.declared.beat.OpenValue.{OpenValue}
 use Rattle.history.specs.declared.chart.ChartDef.{ChartDef}
-use Rattle.history.specs.declared.dimension.DimDef.{DimDef}
 use Rattle.history.specs.declared.row.Row.{Row}
 use Rattle.history.specs.History.{Beat, collected, copied, registry_of, Copy, Word}
 use Rattle.history.specs.Looking.{same_value}
@@ -30,9 +28,9 @@ use Rattle.history.specs.Points.{last_set, value_of}
 use Rattle.history.specs.Registry.{Registry, is_chart, is_dimension, chart_of, series_of, with_definitions}
 use Rattle.beat_points.specs.LastRows.{last_in, AreLastOf}
 use Rattle.beat_points.specs.Regular.{AreApart, IsRegular}
-use Rattle.beat_entries.specs.Copied.{full_chart, full_dimension, defined_by, names_word, copied_goes_on, definitions_of, told_chart, told_dimension, told_word, copied_entry_of, usual_chart, usual_dimension, IsUsualChart, IsUsualDimension, MayCopy}
+use Rattle.beat_entries.specs.Copied.{full_chart, full_dimension, defined_by, names_word, copied_goes_on, definitions_of, told_chart, told_dimension, told_word, copied_entry_of, usual_dimension, IsUsualChart, IsUsualDimension, MayCopy}
 use Rattle.beat_entries.specs.Defined.{IsDefinedIn}
-use Rattle.beat_entries.specs.Entry.{entry_charts, numbered_dimension, entry_dimensions, entry_values, entry_rows, entry_of}
+use Rattle.beat_entries.specs.Entry.{entry_charts, numbered_dimension, entry_dimensions, entry_values, entry_of}
 use Rattle.beat_entries.specs.Restoring.{goes_on, restored, AreOf, IsBeatOf, IsRowOf}
 use Rattle.beat_entries.proofs.DefinedLemmas.{beat-defined, chart-has, dimension-has}
 use Rattle.beat_entries.proofs.EntryLemmas.{if-some}

@@ -1,5 +1,5 @@
 -- The registry of a history with one beat more has what the beat defines.
-use Rattle.std.proofs.Common.{◌≡◌, ℕ, Bool, true, false, cond, ◌&&◌, ◌||◌, List, [], ◌∷◌, map, filter, Option, Some, None, IsSome, IfSome, All, is_some, slice_get, ◌+◌, refl, sym, ap, subst, ◌∙◌, true≢false, if◌then◌else◌}
+use Rattle.std.proofs.Common.{◌≡◌, ℕ, Bool, true, false, cond, ◌&&◌, List, [], ◌∷◌, map, filter, Option, Some, None, IsSome, IfSome, All, is_some, slice_get, ◌+◌, refl, sym, ap, subst, ◌∙◌, true≢false, if◌then◌else◌}
 use Rattle.std.specs.List.{find, list_any, filter_map, cons_option, enumerate_from, AllByRecursion}
 use Rattle.std.specs.Option.{option_map}
 use Rattle.std.specs.Str.{bytes_eq}
@@ -11,7 +11,6 @@ use Rattle.chart_registry.proofs.Applying.{has_chart-applied}
 use Rattle.chart_registry.proofs.Places.{list_any-position}
 use Rattle.chart_registry.proofs.RegistryLemmas.{chart_id-chart_of}
 use Rattle.chart_registry.proofs.RowsLemmas.{same_text, bytes_eq_same}
-use Rattle.entry_codec.specs.declared.charts.NumberedChart.{NumberedChart}
 use Rattle.entry_codec.specs.declared.dimensions.NumberedDimension.{NumberedDimension}
 use Rattle.history.specs.declared.beat.OpenBeat.{OpenBeat}
 use Rattle.history.specs.declared.beat.OpenDim.{OpenDim}
@@ -19,14 +18,14 @@ use Rattle.history.specs.declared.chart.ChartDef.{ChartDef}
 use Rattle.history.specs.History.{Beat, collected, copied, health, missing, registry_of}
 use Rattle.history.specs.Put.{put_all}
 use Rattle.history.specs.Refusal.{has_chart}
-use Rattle.history.specs.Registry.{Registry, is_chart, is_dimension, same_chart, same_dimension, chart_of, with_definitions}
+use Rattle.history.specs.Registry.{Registry, is_chart, is_dimension, same_chart, same_dimension, chart_of}
 use Rattle.beat_points.specs.Regular.{AreApart}
 use Rattle.beat_points.proofs.ApartLemmas.{apart-registry, own-series}
 use Rattle.beat_points.proofs.CountLemmas.{found-passes}
 use Rattle.beat_points.proofs.OrderLemmas.{all-weaker}
 use Rattle.beat_entries.specs.Alike.{AreOwned}
 use Rattle.beat_entries.specs.Defined.{IsDefinedIn}
-use Rattle.beat_entries.specs.Entry.{entry_charts, numbered_dimension, entry_dimensions, entry_of}
+use Rattle.beat_entries.specs.Entry.{numbered_dimension, entry_of}
 use Rattle.beat_entries.specs.Restoring.{chart_def, dimension_back, IsBeatOf}
 use Rattle.beat_entries.proofs.EntryLemmas.{any-find, at-found, own-chart}
 use Rattle.beat_entries.proofs.PutLemmas.{apart-put_all, put-found, put-again}

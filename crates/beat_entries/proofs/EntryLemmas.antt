@@ -1,5 +1,5 @@
 -- The lists that are gathered and sorted are those of the entry.
-use Rattle.std.proofs.Common.{◌≡◌, ℕ, zero, suc, ◌+◌, ◌<◌, Bool, true, false, cond, ◌&&◌, ◌||◌, List, [], ◌∷◌, map, length, slice_get, position, Option, Some, None, IsSome, IfSome, All, is_some, Result, Ok, Err, IfOk, refl, sym, ap, subst, ◌∙◌, true≢false, if◌then◌else◌}
+use Rattle.std.proofs.Common.{◌≡◌, ℕ, zero, suc, ◌<◌, Bool, true, false, cond, ◌&&◌, ◌||◌, List, [], ◌∷◌, map, length, slice_get, position, Option, Some, None, IsSome, IfSome, is_some, Result, Ok, Err, IfOk, refl, sym, ap, subst, ◌∙◌, true≢false, if◌then◌else◌}
 use Rattle.std.specs.List.{find, list_any, list_all, filter_map, enumerate_from, AllByRecursion}
 use Rattle.std.specs.List.Sorted.{IsPermutation, IsNonDecreasingBy}
 use Rattle.std.specs.Option.{option_map, option_and_then}
@@ -9,7 +9,6 @@ use Rattle.std.proofs.lemmas.List.Elements.{recursion_from_All}
 use Rattle.std.proofs.lemmas.Option.{none-some, same_Some}
 use Rattle.entry_codec.specs.declared.charts.NumberedChart.{NumberedChart}
 use Rattle.entry_codec.specs.declared.dimensions.NumberedDimension.{NumberedDimension}
-use Rattle.entry_codec.specs.declared.entry.Collected.{Collected}
 use Rattle.history.specs.declared.row.Row.{Row}
 use Rattle.history.specs.declared.row.Value.{Value}
 use Rattle.entry_codec.specs.Entries.{are_values_ascending, is_collected_canonical}
@@ -25,7 +24,7 @@ use Rattle.chart_registry.proofs.Places.{IsFirst, position-first, find-position}
 use Rattle.chart_registry.proofs.RegistryLemmas.{or_false, chart_id-chart_of, chart_of-within, series_of-within}
 use Rattle.chart_registry.proofs.RowsLemmas.{same_text, bytes_eq_same}
 use Rattle.chart_registry.specs.Defining.{chart_id}
-use Rattle.beat_points.specs.Regular.{AreApart, IsRegular, same_row}
+use Rattle.beat_points.specs.Regular.{AreApart, same_row}
 use Rattle.beat_points.proofs.ApartLemmas.{own-series}
 use Rattle.beat_points.proofs.CountLemmas.{found-passes}
 use Rattle.beat_points.proofs.TakingLemmas.{one_series}

@@ -1,5 +1,5 @@
 -- The whole entry of a beat that may follow goes on from what stands before it.
-use Rattle.std.proofs.Common.{◌≡◌, ℕ, zero, suc, ◌+◌, ◌<◌, ◌≤◌, Bool, true, false, cond, ◌&&◌, ◌||◌, nat_eq, List, [], ◌∷◌, map, filter, length, position, slice_get, Option, Some, None, IsSome, IfSome, All, is_some, refl, sym, ap, subst, ◌∙◌, arith, true≢false, add-zero, zero-add, lt-ltb, if◌then◌else◌}
+use Rattle.std.proofs.Common.{◌≡◌, ℕ, zero, suc, ◌+◌, ◌<◌, ◌≤◌, Bool, true, false, cond, ◌&&◌, ◌||◌, List, [], ◌∷◌, map, filter, length, position, slice_get, Option, Some, None, IsSome, IfSome, refl, sym, ap, subst, ◌∙◌, arith, true≢false, add-zero, zero-add, lt-ltb, if◌then◌else◌}
 use Rattle.std.specs.List.{find, list_any, list_all, filter_map, cons_option, count_by, enumerate_from, AllByRecursion}
 use Rattle.std.specs.Option.{option_map, option_and_then}
 use Rattle.std.specs.Str.{bytes_eq}
@@ -10,7 +10,6 @@ use Rattle.std.proofs.lemmas.Option.{none-some, same_Some, slice_get_within}
 use Rattle.chart_registry.specs.Defining.{chart_id}
 use Rattle.chart_registry.proofs.RegistryLemmas.{or_false, chart_id-chart_of, chart_of-within}
 use Rattle.chart_registry.proofs.RowsLemmas.{same_text, bytes_eq_same}
-use Rattle.entry_codec.specs.declared.charts.NumberedChart.{NumberedChart}
 use Rattle.entry_codec.specs.declared.dimensions.NumberedDimension.{NumberedDimension}
 use Rattle.entry_codec.specs.declared.entry.Collected.{Collected}
 use Rattle.history.specs.declared.row.Row.{Row}
@@ -24,16 +23,16 @@ use Rattle.history.specs.History.{Beat, collected, registry_of}
 use Rattle.history.specs.Limits.{chart_keeps_limits, dimension_keeps_limits}
 use Rattle.history.specs.Looking.{is_value}
 use Rattle.history.specs.Put.{put_all}
-use Rattle.history.specs.Registry.{Registry, is_chart, is_dimension, same_chart, same_dimension, chart_of, series_of}
+use Rattle.history.specs.Registry.{Registry, is_chart, is_dimension, same_chart, same_dimension, chart_of}
 use Rattle.beat_points.specs.Regular.{AreApart, IsRegular}
 use Rattle.beat_points.proofs.ApartLemmas.{apart-registry, own-series}
 use Rattle.beat_points.proofs.CountLemmas.{found-passes, nat_eq_same, one_if}
 use Rattle.beat_entries.specs.Alike.{AreOwned, MayFollow}
 use Rattle.beat_entries.specs.Defined.{IsDefinedIn}
-use Rattle.beat_entries.specs.Entry.{entry_charts, numbered_dimension, entry_dimensions, entry_value, entry_values, entry_rows, entry_of}
+use Rattle.beat_entries.specs.Entry.{numbered_dimension, entry_value, entry_values, entry_of}
 use Rattle.beat_entries.specs.Restoring.{all_taken, chart_def, takes_chart, with_chart, dimension_back, takes_dimension, with_dimension, is_number, is_of_chart, takes_row, with_charts, with_dimensions, restored, goes_on}
 use Rattle.beat_entries.proofs.DefinedLemmas.{chart-itself, chart-alike, dimension-itself, dimension-alike, apart-charts, beat-defined, chart-has, charts-back, dimension-has, dimensions-back}
-use Rattle.beat_entries.proofs.EntryLemmas.{any-find, own-chart, at-found, if-some}
+use Rattle.beat_entries.proofs.EntryLemmas.{own-chart, if-some}
 use Rattle.beat_entries.proofs.Gathering.{map-some}
 use Rattle.beat_entries.proofs.NextLemmas.{MayChart, MayDimension, charts-taken, dimensions-taken}
 use Rattle.beat_entries.proofs.PutLemmas.{put-again}

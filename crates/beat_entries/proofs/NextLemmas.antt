@@ -1,12 +1,12 @@
 -- The entry of a beat that may follow a history goes on from the history's registry.
-use Rattle.std.proofs.Common.{◌≡◌, ℕ, zero, suc, ◌+◌, ◌<◌, ◌≤◌, Bool, true, false, cond, ◌&&◌, ◌||◌, nat_eq, nat_le, List, [], ◌∷◌, ◌++◌, map, filter, length, position, slice_get, Option, Some, None, IsSome, All, is_some, is_none, refl, sym, ap, subst, ◌∙◌, arith, true≢false, add-zero, lt-ltb, if◌then◌else◌}
-use Rattle.std.specs.List.{find, list_any, list_all, filter_map, cons_option, count_by, enumerate_from, AllByRecursion}
-use Rattle.std.specs.Option.{option_map, option_map_or, option_and_then}
+use Rattle.std.proofs.Common.{◌≡◌, ℕ, zero, suc, ◌+◌, ◌<◌, ◌≤◌, Bool, true, false, cond, ◌&&◌, ◌||◌, nat_eq, List, [], ◌∷◌, ◌++◌, map, length, position, slice_get, Option, Some, None, is_some, is_none, refl, sym, ap, ◌∙◌, arith, true≢false, lt-ltb, if◌then◌else◌}
+use Rattle.std.specs.List.{find, list_any, count_by, AllByRecursion}
+use Rattle.std.specs.Option.{option_and_then}
 use Rattle.std.specs.Str.{bytes_eq}
-use Rattle.std.proofs.lemmas.Bool.{lt-leb, le-leb}
+use Rattle.std.proofs.lemmas.Bool.{lt-leb}
 use Rattle.std.proofs.lemmas.List.{length_push}
 use Rattle.std.proofs.lemmas.List.Sums.{sum_by-cons}
-use Rattle.std.proofs.lemmas.Option.{none-some, same_Some}
+use Rattle.std.proofs.lemmas.Option.{same_Some}
 use Rattle.chart_registry.specs.Defining.{chart_id, nothing_open}
 use Rattle.chart_registry.proofs.Applying.{any-put}
 use Rattle.chart_registry.proofs.Places.{IsFirst, first-from_position, position-first, put-absent, list_any-position, find-position, count_by-push}
@@ -16,18 +16,17 @@ use Rattle.entry_codec.specs.declared.charts.NumberedChart.{NumberedChart}
 use Rattle.entry_codec.specs.declared.dimensions.NumberedDimension.{NumberedDimension}
 use Rattle.history.specs.declared.beat.OpenDim.{OpenDim}
 use Rattle.history.specs.declared.chart.ChartDef.{ChartDef}
-use Rattle.history.specs.declared.fault.BlockFault.{BlockFault}
 use Rattle.history.specs.declared.fault.BlockFault.TheVariants as block
 use Rattle.history.specs.Limits.{chart_keeps_limits, dimension_keeps_limits}
 use Rattle.history.specs.Put.{put, put_all}
 use Rattle.history.specs.Refusal.{chart_refusal, dimension_refusal, dimensions_full}
-use Rattle.history.specs.Registry.{Registry, is_chart, is_of, is_dimension, same_chart, same_dimension, chart_of, series_of}
+use Rattle.history.specs.Registry.{Registry, is_chart, is_of, same_chart, same_dimension, chart_of, series_of}
 use Rattle.beat_points.specs.Regular.{AreApart}
 use Rattle.beat_points.proofs.CountLemmas.{nat_eq_same, one_if}
 use Rattle.beat_points.proofs.Growing.{length-put_all, same_dimension-alike}
 use Rattle.beat_entries.specs.Restoring.{all_taken, chart_def, is_number, with_chart, takes_chart, dimension_back, with_dimension, takes_dimension}
 use Rattle.beat_entries.proofs.AlikeLemmas.{first-at}
-use Rattle.beat_entries.proofs.DefinedLemmas.{chart-itself, chart-alike, dimension-itself, dimension-alike}
+use Rattle.beat_entries.proofs.DefinedLemmas.{chart-itself, chart-alike, dimension-itself}
 use Rattle.beat_entries.proofs.PutLemmas.{turned, find-put}
 use Rattle.beat_entries.proofs.Slots.{all-both, none-all}
 use Rattle.beat_entries.proofs.Steps.{number-yes}

@@ -1,8 +1,7 @@
 -- What an entry that is restored leaves: the registry with its definitions, and a regular beat.
-use Rattle.std.proofs.Common.{◌≡◌, ℕ, suc, ◌+◌, ◌<◌, ◌≤◌, Bool, true, false, ◌&&◌, ◌||◌, nat_eq, ltb, List, [], ◌∷◌, ◌++◌, length, map, slice_get, Option, Some, None, IsSome, IfSome, is_some, All, refl, sym, ap, subst, ◌∙◌, arith, true≢false}
+use Rattle.std.proofs.Common.{◌≡◌, ℕ, suc, ◌<◌, ◌≤◌, Bool, true, false, ◌&&◌, ◌||◌, ltb, List, [], ◌∷◌, ◌++◌, length, map, slice_get, Option, Some, None, IsSome, IfSome, is_some, All, refl, sym, ap, subst, ◌∙◌, arith, true≢false}
 use Rattle.std.specs.List.{list_any, list_all, AllByRecursion}
-use Rattle.std.specs.Option.{option_map, option_map_or, option_and_then}
-use Rattle.std.specs.Str.{bytes_eq}
+use Rattle.std.specs.Option.{option_map, option_and_then}
 use Rattle.std.proofs.lemmas.Bool.{and_parts, eqb-true, ltb-true}
 use Rattle.std.proofs.lemmas.List.Elements.{All-from_recursion}
 use Rattle.std.proofs.lemmas.Option.{none-some, same_Some}
@@ -28,7 +27,7 @@ use Rattle.history.specs.Registry.{Registry, chart_of, series_of, same_chart, sa
 use Rattle.beat_points.specs.Regular.{AreApart, IsRegular, same_row}
 use Rattle.beat_points.proofs.OrderLemmas.{all-weaker}
 use Rattle.beat_entries.specs.Gathered.{value_at}
-use Rattle.beat_entries.specs.Restoring.{all_taken, chart_def, takes_chart, with_chart, dimension_back, takes_dimension, with_dimension, owner_of, is_number, is_of_chart, takes_row, with_charts, with_dimensions, restored, goes_on, AreOf, IsValueOf, IsRowOf, IsBeatOf}
+use Rattle.beat_entries.specs.Restoring.{all_taken, chart_def, takes_chart, with_chart, dimension_back, takes_dimension, with_dimension, is_number, is_of_chart, takes_row, with_charts, with_dimensions, restored, goes_on, AreOf, IsValueOf, IsRowOf, IsBeatOf}
 use Rattle.beat_entries.proofs.Gathering.{map-some}
 use Rattle.beat_entries.proofs.Slots.{Strict}
 use Rattle.beat_entries.proofs.Steps.{and-no, put_all-push}

@@ -1,6 +1,6 @@
 -- The entry of a copied beat, and what it defines: a copy tells of a chart its id, its context and its
 -- update_every, and of a dimension its id and whether it is hidden. The rest is as usual.
-use Rattle.std.specs.Prelude.{◌≡◌, ℕ, ◌<◌, Bool, true, false, ◌&&◌, nat_lt, List, [], ◌∷◌, length, map, pos, All}
+use Rattle.std.specs.Prelude.{◌≡◌, ℕ, ◌<◌, Bool, false, ◌&&◌, nat_lt, List, [], ◌∷◌, length, map, pos, All}
 use Rattle.std.specs.List.{after_first, list_all}
 use Rattle.entry_codec.specs.declared.charts.CopiedChart.{CopiedChart}
 use Rattle.entry_codec.specs.declared.charts.NumberedChart.{NumberedChart}

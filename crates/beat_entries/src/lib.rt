@@ -6,6 +6,9 @@
 //! registry, while the code looks up by hashes and sorts what the beat says. An entry so made is in the one
 //! form that has a spelling.
 //!
+//! The entry of a copied beat tells less of a definition: the rest is as usual. `restore_copied` gives what the
+//! beat defined as a beat without rows.
+//!
 //! The crate stands on the numbers of `chart_registry`, on the entries of `entry_codec`, and on the regular
 //! beats of `beat_points`.
 #![tactic(auto)]

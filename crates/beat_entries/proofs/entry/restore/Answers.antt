@@ -1,12 +1,8 @@
-use Rattle.std.proofs.Common.{◌≡◌, List, map, sym, ap, subst, ◌∙◌}
+use Rattle.std.proofs.Common.{List, map, sym, ap, subst, ◌∙◌}
 use Rattle.std.specs.List.{list_all}
 use Rattle.std.proofs.lemmas.Result.{err_from_is_err_and}
-use Rattle.entry_codec.specs.declared.charts.NumberedChart.{NumberedChart}
-use Rattle.entry_codec.specs.declared.dimensions.NumberedDimension.{NumberedDimension}
 use Rattle.history.specs.declared.row.Row.{Row}
-use Rattle.history.specs.declared.beat.OpenBeat.{OpenBeat}
-use Rattle.history.specs.declared.beat.OpenRow.{OpenRow}
-use Rattle.beat_entries.specs.Restoring.{chart_def, dimension_back, takes_row, goes_on, AreOf, IsRowOf}
+use Rattle.beat_entries.specs.Restoring.{chart_def, dimension_back, takes_row, AreOf, IsRowOf}
 use Rattle.beat_entries.proofs.RestoringLemmas.{stops-at-rows, restored-regular}
 use Rattle.beat_entries.proofs.entry.restore.Goals as goal
 

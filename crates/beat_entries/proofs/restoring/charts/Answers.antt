@@ -1,7 +1,6 @@
-use Rattle.std.proofs.Common.{◌≡◌, ◌++◌, ◌∷◌, [], List, sym, ap, ◌∙◌}
+use Rattle.std.proofs.Common.{◌≡◌, ◌++◌, ◌∷◌, [], sym, ap, ◌∙◌}
 use Rattle.history.specs.declared.chart.ChartDef.{ChartDef}
 use Rattle.std.proofs.lemmas.Result.{err_from_is_err_and}
-use Rattle.history.specs.Registry.{Registry, with_definitions}
 use Rattle.beat_entries.specs.Restoring.{chart_def, takes_chart, with_chart}
 use Rattle.beat_entries.proofs.RestoringLemmas.{charts-pushed}
 use Rattle.beat_entries.proofs.Steps.{map-more, steps-more, steps-stop}

@@ -1,7 +1,7 @@
-use Rattle.std.proofs.Common.{◌≡◌, ◌++◌, ◌∷◌, [], List, sym, ap, ◌∙◌}
+use Rattle.std.proofs.Common.{◌≡◌, ◌++◌, ◌∷◌, [], sym, ap, ◌∙◌}
 use Rattle.history.specs.declared.beat.OpenDim.{OpenDim}
 use Rattle.std.proofs.lemmas.Result.{err_from_is_err_and}
-use Rattle.history.specs.Registry.{Registry, with_definitions}
+use Rattle.history.specs.Registry.{Registry}
 use Rattle.beat_entries.specs.Restoring.{dimension_back, takes_dimension, with_dimension}
 use Rattle.beat_entries.proofs.RestoringLemmas.{dimensions-pushed}
 use Rattle.beat_entries.proofs.Steps.{map-more, steps-more, steps-stop}

@@ -1,6 +1,6 @@
-use Rattle.std.proofs.Common.{List, sym, subst}
-use Rattle.beat_entries.specs.Restoring.{takes_row, AreOf, IsRowOf}
-use Rattle.beat_entries.proofs.Steps.{of-pushed, tests-more, tests-stop}
+use Rattle.std.proofs.Common.{sym}
+use Rattle.beat_entries.specs.Restoring.{takes_row, IsRowOf}
+use Rattle.beat_entries.proofs.Steps.{of-pushed, tests-more}
 use Rattle.beat_entries.proofs.restoring.rows.Goals as goal
 
 pub loop-row-preserved : goal.loop-row-preserved

@@ -1,4 +1,4 @@
-use Rattle.std.proofs.Common.{◌≡◌, length, arith, sym, ap, ◌∙◌}
+use Rattle.std.proofs.Common.{arith}
 use Rattle.beat_entries.proofs.RestoringLemmas.{row-back}
 use Rattle.beat_entries.proofs.restoring.take_row.Goals as goal
 

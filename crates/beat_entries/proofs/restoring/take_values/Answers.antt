@@ -1,7 +1,5 @@
-use Rattle.std.proofs.Common.{List}
 use Rattle.chart_registry.specs.Defining.{chart_id}
-use Rattle.history.specs.declared.row.Value.{Value}
-use Rattle.beat_entries.specs.Restoring.{is_of_chart, AreOf, IsValueOf}
+use Rattle.beat_entries.specs.Restoring.{is_of_chart, IsValueOf}
 use Rattle.beat_entries.proofs.Steps.{of-pushed-at, tests-more-at}
 use Rattle.beat_entries.proofs.restoring.take_values.Goals as goal
 

@@ -3,7 +3,6 @@ use Rattle.std.specs.List.{filter_map}
 use Rattle.std.specs.List.Sorted.{IsPermutation}
 use Rattle.std.specs.Option.{option_map}
 use Rattle.chart_registry.specs.Defining.{chart_id}
-use Rattle.history.specs.declared.row.Row.{Row}
 use Rattle.history.specs.declared.row.Value.{Value}
 use Rattle.history.specs.Registry.{chart_of}
 use Rattle.beat_entries.specs.Entry.{entry_values}
