@@ -1,19 +1,22 @@
 -- An agent that replays the beats of its store: where it begins, each step, and where it ends.
-use Rattle.std.proofs.Common.{◌≡◌, ℕ, suc, false, List, [], ◌∷◌, length, Option, Some, None, is_some, refl, sym, ap, ◌∙◌, subst}
+use Rattle.std.proofs.Common.{◌≡◌, ℕ, suc, not, List, [], ◌∷◌, length, Option, Some, None, refl, sym, ap, ◌∙◌, subst}
 use Rattle.host_model.specs.declared.file.File.{File}
 use Rattle.host_model.specs.Past.{Event}
 use Rattle.algorithms.specs.declared.last.Last.{Last}
-use Rattle.history.specs.History.{Beat, collected, copied, health, missing, child, last}
-use Rattle.history.specs.Registry.{Registry, empty}
+use Rattle.history.specs.History.{Beat, collected, copied, health, missing, last}
 use Rattle.beat_points.specs.LastRows.{AreLastOf}
 use Rattle.entry_codec.specs.declared.entry.Settings.{Settings}
 use Rattle.store_core.specs.declared.beat.Beat.{Beat as StoreBeat}
 use Rattle.store_core.specs.Records.{last_after, last_moment, with_all}
 use Rattle.store_core.specs.Stands.{Stands}
 use Rattle.store_core.specs.Store.{counted, IsReplayed, IsStoreAt, IsStoreOf, OpensAt, Replays, StoreState}
+use Rattle.agent_core.specs.declared.left.Left.{Left}
 use Rattle.agent_core.specs.Agent.{AgentState, IsAgentOf}
 use Rattle.agent_core.specs.Kept.{AreBeatsOf, IsBeatOf, StandsForHistory}
+use Rattle.agent_core.specs.Notes.{left_by}
 use Rattle.agent_core.specs.Replay.{onto, AreNextOf, ArePartsOf, IsOpenedFor, IsReplaying}
+use Rattle.agent_core.specs.Roles.{may_collect}
+use Rattle.agent_core.proofs.HistoryLemmas.{copies-of}
 
 -- ---- the beginning
 
@@ -43,9 +46,9 @@ none-front : (front : List Beat) → AreBeatsOf front [] → front ≡ []
 none-front [] are = refl
 none-front (beat ∷ front) are = absurd are
 
-pub replaying-begins : (past : List Event) (store : StoreState) (registry : Registry) (lasts : List (Option Last)) (set : Settings) (h : List Beat) → IsOpenedFor past store set h
-    → registry ≡ empty → AreLastOf lasts [] → IsReplaying past store registry lasts set h
-replaying-begins past store registry lasts set h opened is_empty none =
+pub replaying-begins : (past : List Event) (store : StoreState) (left : Left) (lasts : List (Option Last)) (set : Settings) (h : List Beat) → IsOpenedFor past store set h
+    → left ≡ left_by [] → AreLastOf lasts [] → IsReplaying past store left lasts set h
+replaying-begins past store left lasts set h opened is_empty none =
     let opens = opened.opens in
     let found = cut h opens.applied opens.rest (subst (AreBeatsOf h) (sym opens.whole) opened.are) in
     let start : found.front ≡ [] = none-front found.front (subst (AreBeatsOf found.front) opens.from_start found.are) in
@@ -58,7 +61,7 @@ replaying-begins past store registry lasts set h opened is_empty none =
       are = found.are;
       next = found.next;
       is_at = opens.is_at;
-      parts = subst (ArePartsOf registry lasts) (sym start) (record { registry_is = is_empty; last_rows_are = none });
+      parts = subst (ArePartsOf left lasts) (sym start) (record { left_is = is_empty; last_rows_are = none });
     }
 
 -- ---- a step
@@ -93,18 +96,18 @@ module _ (past : List Event) (store : StoreState) (set : Settings) (h : List Bea
   none-of beats (first ∷ rest) replays = absurd replays
 
 -- the next beat of a history that is replayed
-pub next-of : (past : List Event) (store store' : StoreState) (registry : Registry) (lasts : List (Option Last)) (set : Settings) (h : List Beat) (kept : StoreBeat)
-    → (was : IsReplaying past store registry lasts set h) → Replays past store' set was.beats was.rest (Some kept) → IsNextBeat past store' set h was.front was.beats kept
-next-of past store store' registry lasts set h kept was replays =
+pub next-of : (past : List Event) (store store' : StoreState) (left : Left) (lasts : List (Option Last)) (set : Settings) (h : List Beat) (kept : StoreBeat)
+    → (was : IsReplaying past store left lasts set h) → Replays past store' set was.beats was.rest (Some kept) → IsNextBeat past store' set h was.front was.beats kept
+next-of past store store' left lasts set h kept was replays =
     step-of past store' set h was.front was.more was.beats was.rest kept was.whole was.next replays
 
-pub replaying-more : (past : List Event) (store store' : StoreState) (registry registry' : Registry) (lasts lasts' : List (Option Last)) (set : Settings) (h : List Beat) (kept : StoreBeat)
-    → IsReplaying past store registry lasts set h
+pub replaying-more : (past : List Event) (store store' : StoreState) (left left' : Left) (lasts lasts' : List (Option Last)) (set : Settings) (h : List Beat) (kept : StoreBeat)
+    → IsReplaying past store left lasts set h
     → ((beats rest : List StoreBeat) → IsStoreAt past store set beats rest → Replays past store' set beats rest (Some kept))
-    → ((g : List Beat) (beat : Beat) → IsBeatOf g beat kept → ArePartsOf registry lasts g → ArePartsOf registry' lasts' (beat ∷ g))
-    → IsReplaying past store' registry' lasts' set h
-replaying-more past store store' registry registry' lasts lasts' set h kept was replays taken =
-    let step = next-of past store store' registry lasts set h kept was (replays was.beats was.rest was.is_at) in
+    → ((g : List Beat) (beats : List StoreBeat) (beat : Beat) → AreBeatsOf g beats → IsBeatOf g beat kept → ArePartsOf left lasts g → ArePartsOf left' lasts' (beat ∷ g))
+    → IsReplaying past store' left' lasts' set h
+replaying-more past store store' left left' lasts lasts' set h kept was replays taken =
+    let step = next-of past store store' left lasts set h kept was (replays was.beats was.rest was.is_at) in
     record {
       front = step.beat ∷ was.front;
       more = step.more;
@@ -114,23 +117,23 @@ replaying-more past store store' registry registry' lasts lasts' set h kept was 
       are = (step.of, was.are);
       next = step.next;
       is_at = step.is_at;
-      parts = taken was.front step.beat step.of was.parts;
+      parts = taken was.front was.beats step.beat was.are step.of was.parts;
     }
 
 -- the step is not refused for what is kept
-pub replaying-stands : {P : Type 0} (past : List Event) (store store' : StoreState) (registry : Registry) (lasts : List (Option Last)) (set : Settings) (h : List Beat) (kept : StoreBeat)
-    → IsReplaying past store registry lasts set h
+pub replaying-stands : {P : Type 0} (past : List Event) (store store' : StoreState) (left : Left) (lasts : List (Option Last)) (set : Settings) (h : List Beat) (kept : StoreBeat)
+    → IsReplaying past store left lasts set h
     → ((beats rest : List StoreBeat) → IsStoreAt past store set beats rest → Replays past store' set beats rest (Some kept))
-    → ((g : List Beat) (beats : List StoreBeat) (beat : Beat) → AreBeatsOf g beats → IsBeatOf g beat kept → ArePartsOf registry lasts g → P) → P
-replaying-stands past store store' registry lasts set h kept was replays stands =
-    let step = next-of past store store' registry lasts set h kept was (replays was.beats was.rest was.is_at) in
+    → ((g : List Beat) (beats : List StoreBeat) (beat : Beat) → AreBeatsOf g beats → IsBeatOf g beat kept → ArePartsOf left lasts g → P) → P
+replaying-stands past store store' left lasts set h kept was replays stands =
+    let step = next-of past store store' left lasts set h kept was (replays was.beats was.rest was.is_at) in
     stands was.front was.beats step.beat was.are step.of was.parts
 
-pub replaying-same : (past : List Event) (store store' : StoreState) (registry : Registry) (lasts : List (Option Last)) (set : Settings) (h : List Beat)
-    → IsReplaying past store registry lasts set h
+pub replaying-same : (past : List Event) (store store' : StoreState) (left : Left) (lasts : List (Option Last)) (set : Settings) (h : List Beat)
+    → IsReplaying past store left lasts set h
     → ((beats rest : List StoreBeat) → IsStoreAt past store set beats rest → Replays past store' set beats rest None)
-    → IsReplaying past store' registry lasts set h
-replaying-same past store store' registry lasts set h was replays = record {
+    → IsReplaying past store' left lasts set h
+replaying-same past store store' left lasts set h was replays = record {
   front = was.front;
   more = was.more;
   beats = was.beats;
@@ -148,33 +151,32 @@ no-more : (front more : List Beat) → AreNextOf front more [] → more ≡ []
 no-more front [] next = refl
 no-more front (beat ∷ more) next = absurd next
 
--- what a history of collected beats answers
+-- what a history answers
 record Answers (h : List Beat) (beats : List StoreBeat) : Type 0 where
   last_is : last_moment beats ≡ last h
   count : length beats ≡ length h
-  copies : false ≡ is_some (child h)
 
 answers : (h : List Beat) (beats : List StoreBeat) → AreBeatsOf h beats → Answers h beats
-answers [] [] are = record { last_is = refl; count = refl; copies = refl }
+answers [] [] are = record { last_is = refl; count = refl }
 answers [] (kept ∷ beats) are = absurd are
-answers (collected moment beat ∷ h) [] are = absurd are
-answers (collected moment beat ∷ h) (kept ∷ beats) are =
+answers (beat ∷ h) [] are = absurd are
+answers (beat ∷ h) (kept ∷ beats) are =
     let before = answers h beats are.1 in
-    record {
-      last_is = ap (λ (k : StoreBeat). last_after (last_moment beats) k.moment) are.0.is_kept;
-      count = ap suc before.count;
-      copies = before.copies;
-    }
-answers (copied copy ∷ h) [] are = absurd are
-answers (copied copy ∷ h) (kept ∷ beats) are = absurd are.0
-answers (health text ∷ h) [] are = absurd are
-answers (health text ∷ h) (kept ∷ beats) are = absurd are.0
-answers (missing gap ∷ h) [] are = absurd are
-answers (missing gap ∷ h) (kept ∷ beats) are = absurd are.0
+    record { last_is = now beat are.0 before.last_is; count = ap suc before.count }
+  where
+    at : (moment : Option ℕ) → kept.moment ≡ moment → last_moment (kept ∷ beats) ≡ last_after (last_moment beats) moment
+    at moment e = ap (last_after (last_moment beats)) e
 
-pub replayed-is_of : (past : List Event) (agent : AgentState) (set : Settings) (h : List Beat) → IsReplaying past agent.store agent.registry agent.last_rows set h → IsReplayed agent.store
-    → agent.last ≡ agent.store.last → agent.count ≡ agent.store.count → agent.copies ≡ false → agent.fault ≡ None → IsAgentOf past agent set h
-replayed-is_of past agent set h was done last_is count copies going =
+    now : (beat : Beat) → IsBeatOf h beat kept → last_moment beats ≡ last h → last_moment (kept ∷ beats) ≡ last (beat ∷ h)
+    now (collected moment beat) of before = at (Some moment) (ap (λ (k : StoreBeat). k.moment) of.is_kept)
+    now (copied copy) of before = at (Some copy.moment) (ap (λ (k : StoreBeat). k.moment) of.is_kept)
+    now (health text) of before = at None (ap (λ (k : StoreBeat). k.moment) of.is_kept) ∙ before
+    now (missing gap) of before = at (Some gap.to) (ap (λ (k : StoreBeat). k.moment) of.is_kept)
+
+pub replayed-is_of : (past : List Event) (agent : AgentState) (left : Left) (set : Settings) (h : List Beat) → IsReplaying past agent.store left agent.last_rows set h → IsReplayed agent.store
+    → agent.registry ≡ left.registry → agent.last ≡ agent.store.last → agent.count ≡ agent.store.count → agent.copies ≡ not (may_collect left.role) → agent.fault ≡ None
+    → IsAgentOf past agent set h
+replayed-is_of past agent left set h was done registry last_is count copies going =
     let none : was.rest ≡ [] = sym was.is_at.waiting ∙ done in
     let store_of : IsStoreOf past agent.store set was.beats = subst (λ (rest : List StoreBeat). IsStoreAt past agent.store set was.beats rest) none was.is_at in
     let end : was.more ≡ [] = no-more was.front was.more (subst (AreNextOf was.front was.more) none was.next) in
@@ -185,12 +187,12 @@ replayed-is_of past agent set h was done last_is count copies going =
         beats = was.beats;
         are = was.are;
         store_of = store_of;
-        registry_is = was.parts.registry_is;
+        registry_is = registry ∙ ap (λ (l : Left). l.registry) was.parts.left_is;
         last_rows_are = was.parts.last_rows_are;
       };
       last_is = last_is ∙ was.is_at.last ∙ said.last_is;
       count = count ∙ was.is_at.count ∙ ap counted said.count;
-      copies = copies ∙ said.copies;
+      copies = copies ∙ ap (λ (l : Left). not (may_collect l.role)) was.parts.left_is ∙ sym (copies-of was.front was.beats was.are);
       going = going;
     })
 

@@ -1,162 +1,173 @@
--- A kept beat reads back as a beat that leaves the same, and goes on from what is before it.
-use Rattle.std.proofs.Common.{◌≡◌, ℕ, ◌⊎◌, inl, inr, true, false, true≢false, List, [], ◌∷◌, map, Option, Some, IsSome, Result, Ok, sym, ap, ◌∙◌, subst}
+-- A kept beat has an entry that goes on from what is before it, and leaves what the beat leaves.
+use Rattle.std.proofs.Common.{◌≡◌, ℕ, ◌<◌, ◌⊎◌, inl, inr, lt-ltb, Bool, true, false, not, ◌&&◌, nat_lt, List, [], ◌∷◌, length, map, Option, Some, None, is_some, Result, Ok, refl, sym, ap, ◌∙◌, subst, true≢false}
+use Rattle.std.specs.List.{AllByRecursion}
 use Rattle.std.proofs.lemmas.List.Elements.{recursion_from_All}
+use Rattle.std.proofs.lemmas.Option.{same_Some}
 use Rattle.algorithms.specs.declared.last.Last.{Last}
-use Rattle.history.specs.declared.beat.OpenBeat.{OpenBeat}
-use Rattle.history.specs.declared.beat.OpenDim.{OpenDim}
-use Rattle.history.specs.declared.chart.ChartDef.{ChartDef}
-use Rattle.history.specs.History.{Beat, collected, copied, health, missing, registry_of}
-use Rattle.history.specs.Put.{put_all}
-use Rattle.history.specs.Registry.{Registry, chart_of, same_chart, same_dimension, with_definitions}
+use Rattle.history.specs.History.{Beat, collected, copied, health, missing, child, registry_of, Word}
+use Rattle.history.specs.Registry.{Registry, same_chart, same_dimension}
 use Rattle.beat_points.specs.LastRows.{AreLastOf}
-use Rattle.beat_points.proofs.ApartLemmas.{apart-registry}
-use Rattle.entry_codec.specs.declared.dimensions.NumberedDimension.{NumberedDimension}
+use Rattle.beat_points.specs.Regular.{AreApart}
 use Rattle.entry_codec.specs.declared.entry.Collected.{Collected}
-use Rattle.entry_codec.specs.declared.entry.Entry.TheVariants as entry
-use Rattle.entry_codec.specs.declared.fault.EntryFault.{EntryFault}
 use Rattle.entry_codec.specs.declared.entry.Entry.{Entry}
-use Rattle.entry_codec.specs.Entries.{read_entry}
+use Rattle.entry_codec.specs.declared.entry.Entry.TheVariants as entry
+use Rattle.entry_codec.specs.Entries.{entry_bytes, read_entry, HasSpelling}
 use Rattle.entry_codec.proofs.EntriesLaw.{reads_back}
+use Rattle.beat_entries.specs.Copied.{defined_by}
 use Rattle.beat_entries.specs.Entry.{entry_of}
-use Rattle.beat_entries.specs.Restoring.{dimension_back, goes_on, IsBeatOf as IsBeatOfEntry}
+use Rattle.beat_entries.specs.Restoring.{goes_on}
 use Rattle.beat_entries.proofs.AlikeLemmas.{beats-alike, lasts-alike}
-use Rattle.beat_entries.proofs.DefinedLemmas.{apart-charts, beat-defined, chart-alike, chart-itself, charts-back, dimension-alike, dimension-itself, dimensions-back}
-use Rattle.beat_entries.proofs.FollowLemmas.{beat-goes-on}
-use Rattle.beat_entries.proofs.PutLemmas.{put-again}
+use Rattle.beat_entries.proofs.CopiedLemmas.{copied-last, copied-next, copied-registry}
+use Rattle.beat_entries.proofs.DefinedLemmas.{chart-alike, chart-itself, dimension-alike, dimension-itself}
+use Rattle.beat_entries.proofs.FollowLemmas.{beat-goes-on, last-is}
+use Rattle.beat_entries.proofs.PutLemmas.{apart-put_all}
 use Rattle.store_core.specs.declared.beat.Beat.{Beat as StoreBeat}
 use Rattle.agent_core.specs.declared.fault.AgentFault.{AgentFault}
 use Rattle.agent_core.specs.declared.fault.AgentFault.TheVariants.{Damaged, Memory}
-use Rattle.agent_core.specs.Kept.{AreBeatsOf, IsBeatOf, IsCollectedOf}
-use Rattle.agent_core.specs.Notes.{names_series}
-use Rattle.agent_core.specs.Replay.{ArePartsOf}
+use Rattle.agent_core.specs.declared.left.Left.{Left}
+use Rattle.agent_core.specs.declared.left.Role.TheVariants.{Collects, Copies}
+use Rattle.agent_core.specs.Kept.{copied_entry, copied_point, gap_entry, AreBeatsOf, IsBeatOf}
+use Rattle.agent_core.specs.Notes.{entry_goes_on, entry_in, left_by, moment_of, names_series, takes_note, with_entry, with_note}
+use Rattle.agent_core.specs.Replay.{ArePartsOf, HasRows, IsRestored}
+use Rattle.agent_core.specs.Roles.{may_collect, role_of}
 use Rattle.agent_core.proofs.FollowLemmas.{follows-may, follows-owned, follows-regular}
+use Rattle.agent_core.proofs.HistoryLemmas.{copies-of, follows-alone}
+use Rattle.agent_core.proofs.NoteLemmas.{found-in, note-left, note-takes}
 use Rattle.agent_core.proofs.PointLemmas.{points-named}
 use Rattle.agent_core.proofs.Within.{within-of}
 
-abbrev read_as : Collected → Result Entry EntryFault
-read_as found = Ok (entry.Collected found)
+-- the entry of a beat that follows a history
+abbrev pub entry_for : List Beat → Beat → Entry
+entry_for g (collected moment beat) = entry.Collected (entry_of (registry_of (collected moment beat ∷ g)) moment beat)
+entry_for g (copied copy) = copied_entry g copy
+entry_for g (health text) = entry.Health text
+entry_for g (missing gap) = gap_entry gap
 
--- a dimension of an entry by the id of its chart, which is one of these
-abbrev back_in : List ChartDef → NumberedDimension → OpenDim
-back_in charts dimension = dimension_back (record { charts = charts; dimensions = [] }) dimension
+-- ---- the note has the entry
+has-entry : (kept : StoreBeat) (found : Entry) → kept.note ≡ entry_bytes found → HasSpelling found → kept.moment ≡ moment_of found → entry_in kept ≡ Some found
+has-entry kept found note spelt at = found-in kept found (ap read_entry note ∙ reads_back found spelt) (sym at)
 
-module _ (g : List Beat) (moment : ℕ) (beat : OpenBeat) (kept : StoreBeat) (of : IsCollectedOf g moment beat kept) where
-  abbrev after : Registry
-  after = registry_of (collected moment beat ∷ g)
+pub note-is : (g : List Beat) (beat : Beat) (kept : StoreBeat) → IsBeatOf g beat kept → entry_in kept ≡ Some (entry_for g beat)
+note-is g (collected moment beat) kept of =
+    has-entry kept (entry_for g (collected moment beat)) (ap (λ (k : StoreBeat). k.note) of.is_kept) of.spelt (ap (λ (k : StoreBeat). k.moment) of.is_kept)
+note-is g (copied copy) kept of =
+    has-entry kept (entry_for g (copied copy)) (ap (λ (k : StoreBeat). k.note) of.is_kept) of.spelt (ap (λ (k : StoreBeat). k.moment) of.is_kept)
+note-is g (health text) kept of =
+    has-entry kept (entry_for g (health text)) (ap (λ (k : StoreBeat). k.note) of.is_kept) of.spelt (ap (λ (k : StoreBeat). k.moment) of.is_kept)
+note-is g (missing gap) kept of =
+    has-entry kept (entry_for g (missing gap)) (ap (λ (k : StoreBeat). k.note) of.is_kept) of.spelt (ap (λ (k : StoreBeat). k.moment) of.is_kept)
 
-  abbrev own_entry : Collected
-  own_entry = entry_of after moment beat
+-- ---- the entry goes on
+not-false : (b : Bool) → false ≡ not b → b ≡ true
+not-false true e = refl
+not-false false e = e
 
-  note-reads : read_entry kept.note ≡ read_as own_entry
-  note-reads = ap (λ (k : StoreBeat). read_entry k.note) of.is_kept ∙ reads_back (entry.Collected own_entry) of.spelt
+-- each word names a series, and so does its point
+words-named : (registry : Registry) (words : List Word) → AllByRecursion (λ (word : Word). word.series < length registry.dimensions) words
+    → names_series registry (map (copied_point registry) words) ≡ true
+words-named registry [] all = refl
+words-named registry (word ∷ words) all = λ i. lt-ltb word.series (length registry.dimensions) all.0 i && words-named registry words all.1 i
 
-  moment-is : kept.moment ≡ Some own_entry.moment
-  moment-is = ap (λ (k : StoreBeat). k.moment) of.is_kept
+module _ (g : List Beat) (beats : List StoreBeat) (are : AreBeatsOf g beats) where
+  pub entry-goes : (beat : Beat) (kept : StoreBeat) → IsBeatOf g beat kept → entry_goes_on (left_by g) (entry_for g beat) ≡ true
+  entry-goes (collected moment beat) kept of =
+      let may = not-false (may_collect (role_of g)) (sym (follows-alone g moment beat of.follows) ∙ copies-of g beats are) in
+      let goes = beat-goes-on g moment beat (follows-owned g moment beat of.follows) (follows-may g moment beat of.follows (within-of g beats are)) (follows-regular g moment beat of.follows) in
+      λ i. may i && goes i
+  entry-goes (copied copy) kept of = λ i. of.follows.role i && copied-next g copy of.follows.may i
+  entry-goes (health text) kept of = refl
+  entry-goes (missing gap) kept of = of.role
 
-  entry-is : (found : Collected) → read_entry kept.note ≡ read_as found → own_entry ≡ found
-  entry-is found reads =
-      let one : (a b : Collected) → read_as a ≡ read_as b → a ≡ b = λ a b e. cc in
-      one own_entry found (sym note-reads ∙ reads)
+  -- it leaves what the beat leaves
+  left-after : (beat : Beat) (kept : StoreBeat) → IsBeatOf g beat kept → left_by (beat ∷ g) ≡ with_entry (left_by g) (entry_for g beat)
+  left-after (collected moment beat) kept of =
+      let same = last-is g moment beat (follows-owned g moment beat of.follows) (follows-may g moment beat of.follows (within-of g beats are)) in
+      λ i. record { registry = same i; role = Collects }
+  left-after (copied copy) kept of = λ i. record { registry = sym (copied-registry g copy of.follows.may) i; role = Copies copy.child }
+  left-after (health text) kept of = refl
+  left-after (missing gap) kept of = refl
 
-  -- the registry has the same charts and dimensions after either beat
-  module _ (like : OpenBeat) (like_of : IsBeatOfEntry (with_definitions (registry_of g) like.charts like.dimensions) own_entry like) where
-    abbrev after_like : Registry
-    after_like = with_definitions (registry_of g) like.charts like.dimensions
+  points-there : (beat : Beat) (kept : StoreBeat) → IsBeatOf g beat kept → names_series (registry_of (beat ∷ g)) kept.points ≡ true
+  points-there (collected moment beat) kept of =
+      ap (λ (k : StoreBeat). names_series (registry_of (collected moment beat ∷ g)) k.points) of.is_kept ∙ points-named (registry_of (collected moment beat ∷ g)) g moment beat
+  points-there (copied copy) kept of =
+      let registry = registry_of (copied copy ∷ g) in
+      ap (λ (k : StoreBeat). names_series registry k.points) of.is_kept
+      ∙ words-named registry copy.words (recursion_from_All (λ (word : Word). word.series < length registry.dimensions) copy.words of.follows.may.words)
+  points-there (health text) kept of = ap (λ (k : StoreBeat). names_series (registry_of g) k.points) of.is_kept
+  points-there (missing gap) kept of = ap (λ (k : StoreBeat). names_series (registry_of g) k.points) of.is_kept
 
-    charts-same : after_like.charts ≡ after.charts
-    charts-same =
-        ap (put_all same_chart (registry_of g).charts) (like_of.charts ∙ charts-back beat.charts after.charts 0)
-        ∙ put-again same_chart chart-itself chart-alike (registry_of g).charts beat.charts (apart-charts g)
+  module _ (beat : Beat) (kept : StoreBeat) (of : IsBeatOf g beat kept) where
+    pub beat-takes : (left : Left) → left ≡ left_by g → takes_note left kept ≡ true
+    beat-takes left is =
+        ap (λ (l : Left). takes_note l kept) is
+        ∙ note-takes (left_by g) kept (entry_for g beat) (note-is g beat kept of) true (left_by (beat ∷ g)) (entry-goes beat kept of) (left-after beat kept of) (points-there beat kept of)
 
-    dimensions-same : after_like.dimensions ≡ after.dimensions
-    dimensions-same =
-        let owners = recursion_from_All (λ (dimension : OpenDim). IsSome (chart_of after dimension.chart)) beat.dimensions (beat-defined g moment beat (follows-owned g moment beat of.follows)).owners in
-        let back : map (dimension_back after_like) own_entry.dimensions ≡ map (dimension_back after) own_entry.dimensions
-        = ap (λ (charts : List ChartDef). map (back_in charts) own_entry.dimensions) charts-same in
-        ap (put_all same_dimension (registry_of g).dimensions) (like_of.dimensions ∙ back ∙ dimensions-back after beat.dimensions owners after.dimensions 0)
-        ∙ put-again same_dimension dimension-itself dimension-alike (registry_of g).dimensions beat.dimensions (apart-registry g)
+    pub beat-leaves : (left left' : Left) → left ≡ left_by g → left' ≡ with_note left kept → left' ≡ left_by (beat ∷ g)
+    beat-leaves left left' is made =
+        made ∙ ap (λ (l : Left). with_note l kept) is
+        ∙ sym (note-left (left_by g) kept (entry_for g beat) (note-is g beat kept of) (left_by (beat ∷ g)) (left-after beat kept of))
 
-    registry-same : after_like ≡ after
-    registry-same = λ i. record { charts = charts-same i; dimensions = dimensions-same i }
+-- ---- the last rows
 
-  -- an entry that was read is its own, so the registry took the definitions of a beat of its own entry
-  module _ (registry registry' : Registry) (like : OpenBeat) (found : Collected) (before : registry ≡ registry_of g) (same : own_entry ≡ found)
-      (applied : registry' ≡ with_definitions registry like.charts like.dimensions) (like_of : IsBeatOfEntry registry' found like) where
-    now-like : registry' ≡ with_definitions (registry_of g) like.charts like.dimensions
-    now-like = applied ∙ ap (λ (r : Registry). with_definitions r like.charts like.dimensions) before
+-- where nothing is defined and set, they stay
+last-stays : (lasts lasts' : List (Option Last)) (g h : List Beat) → lasts' ≡ lasts → (AreLastOf lasts g → AreLastOf lasts h) → AreLastOf lasts g → AreLastOf lasts' h
+last-stays lasts lasts' g h same carry was = subst (λ (l : List (Option Last)). AreLastOf l h) (sym same) (carry was)
 
-    own-like : IsBeatOfEntry (with_definitions (registry_of g) like.charts like.dimensions) own_entry like
-    own-like = subst (λ (r : Registry). IsBeatOfEntry r own_entry like) now-like (subst (λ (e : Collected). IsBeatOfEntry registry' e like) (sym same) like_of)
+last-after : (g : List Beat) (beat : Beat) (kept : StoreBeat) (lasts lasts' : List (Option Last)) → IsBeatOf g beat kept → AreLastOf lasts g
+    → HasRows (registry_of g) (registry_of (beat ∷ g)) lasts lasts' (entry_for g beat) → AreLastOf lasts' (beat ∷ g)
+last-after g (collected moment beat) kept lasts lasts' of was rows =
+    let equal : registry_of (collected moment rows.beat ∷ g) ≡ registry_of (collected moment beat ∷ g) = sym rows.definitions in
+    let alike = beats-alike g moment beat rows.beat (follows-regular g moment beat of.follows) rows.of in
+    lasts-alike g moment beat rows.beat lasts' alike equal (rows.rows g was rows.definitions)
+last-after g (copied copy) kept lasts lasts' of was rows = copied-last g copy rows.beat lasts' rows.of (sym rows.definitions) (rows.rows g was rows.definitions)
+last-after g (health text) kept lasts lasts' of was rows =
+    last-stays lasts lasts' g (health text ∷ g) rows (λ was. record { rows = was.rows; within = was.within }) was
+last-after g (missing gap) kept lasts lasts' of was rows =
+    last-stays lasts lasts' g (missing gap ∷ g) rows (λ was. record { rows = was.rows; within = was.within }) was
 
-    -- the points are of series of the registry
-    points-there : names_series registry' kept.points ≡ true
-    points-there =
-        ap (λ (r : Registry). names_series r kept.points) (now-like ∙ registry-same like own-like) ∙ ap (λ (k : StoreBeat). names_series after k.points) of.is_kept
-        ∙ points-named after g moment beat
+-- the parts of an agent are those of the history with the beat
+pub parts-after : (g : List Beat) (beats : List StoreBeat) (beat : Beat) (kept : StoreBeat) (left left' : Left) (lasts lasts' : List (Option Last)) (found : Entry)
+    → AreBeatsOf g beats → IsBeatOf g beat kept → ArePartsOf left lasts g → entry_in kept ≡ Some found → left' ≡ with_note left kept
+    → HasRows left.registry left'.registry lasts lasts' found → ArePartsOf left' lasts' (beat ∷ g)
+parts-after g beats beat kept left left' lasts lasts' found are of parts has made rows =
+    let is : left' ≡ left_by (beat ∷ g) = beat-leaves g beats are beat kept of left left' parts.left_is made in
+    let same : found ≡ entry_for g beat = same_Some found (entry_for g beat) (sym has ∙ note-is g beat kept of) in
+    let now : HasRows (registry_of g) (registry_of (beat ∷ g)) lasts lasts' (entry_for g beat)
+    = subst (λ (l : Left). HasRows (registry_of g) l.registry lasts lasts' (entry_for g beat)) is
+    (subst (λ (l : Left). HasRows l.registry left'.registry lasts lasts' (entry_for g beat)) parts.left_is
+    (subst (λ (e : Entry). HasRows left.registry left'.registry lasts lasts' e) same rows)) in
+    record { left_is = is; last_rows_are = last-after g beat kept lasts lasts' of parts.last_rows_are now }
 
-  -- the parts of an agent are those of the history with the beat
-  parts-more : (registry registry' : Registry) (lasts lasts' : List (Option Last)) (like : OpenBeat) (found : Collected) → ArePartsOf registry lasts g
-      → own_entry ≡ found → registry' ≡ with_definitions registry like.charts like.dimensions → IsBeatOfEntry registry' found like
-      → ((h : List Beat) → AreLastOf lasts h → registry' ≡ registry_of (collected found.moment like ∷ h) → AreLastOf lasts' (collected found.moment like ∷ h))
-      → ArePartsOf registry' lasts' (collected moment beat ∷ g)
-  parts-more registry registry' lasts lasts' like found parts same applied like_of taken =
-      let now = now-like registry registry' like found parts.registry_is same applied like_of in
-      let own = own-like registry registry' like found parts.registry_is same applied like_of in
-      let equal = registry-same like own in
-      let alike = beats-alike g moment beat like (follows-regular g moment beat of.follows) (subst (λ (r : Registry). IsBeatOfEntry r own_entry like) equal own) in
-      let moments : found.moment ≡ moment = ap (λ (e : Collected). e.moment) (sym same) in
-      let last : AreLastOf lasts' (collected moment like ∷ g)
-      = subst (λ (m : ℕ). AreLastOf lasts' (collected m like ∷ g)) moments (taken g parts.last_rows_are now) in
-      record { registry_is = now ∙ equal; last_rows_are = lasts-alike g moment beat like lasts' alike equal last }
+-- ---- what stays so of any entry
 
-  -- the entry goes on
-  goes : (beats : List StoreBeat) (registry : Registry) (found : Collected) → AreBeatsOf g beats → registry ≡ registry_of g → own_entry ≡ found → goes_on registry found ≡ true
-  goes beats registry found are same found_is =
-      ap (goes_on registry) (sym found_is) ∙ ap (λ (r : Registry). goes_on r own_entry) same
-      ∙ beat-goes-on g moment beat (follows-owned g moment beat of.follows) (follows-may g moment beat of.follows (within-of g beats are)) (follows-regular g moment beat of.follows)
+-- each thing stands once in the registry
+once-after : (registry registry' : Registry) (lasts lasts' : List (Option Last)) (found : Collected) → IsRestored registry registry' lasts lasts' found
+    → AreApart same_chart registry.charts → AreApart same_dimension registry.dimensions → AreApart same_chart registry'.charts × AreApart same_dimension registry'.dimensions
+once-after registry registry' lasts lasts' found rows charts dimensions =
+    (subst (λ (r : Registry). AreApart same_chart r.charts) (sym rows.definitions) (apart-put_all same_chart chart-itself chart-alike registry.charts rows.beat.charts charts),
+    subst (λ (r : Registry). AreApart same_dimension r.dimensions) (sym rows.definitions) (apart-put_all same_dimension dimension-itself dimension-alike registry.dimensions rows.beat.dimensions dimensions))
 
--- ---- the same of any beat
+same-once : (left left' : Left) → left'.registry ≡ left.registry → AreApart same_chart left.registry.charts → AreApart same_dimension left.registry.dimensions
+    → AreApart same_chart left'.registry.charts × AreApart same_dimension left'.registry.dimensions
+same-once left left' same charts dimensions =
+    (subst (λ (r : Registry). AreApart same_chart r.charts) (sym same) charts, subst (λ (r : Registry). AreApart same_dimension r.dimensions) (sym same) dimensions)
 
-pub replayed-parts : (g : List Beat) (beat : Beat) (kept : StoreBeat) (registry registry' : Registry) (lasts lasts' : List (Option Last)) (like : OpenBeat) (found : Collected)
-    → IsBeatOf g beat kept → ArePartsOf registry lasts g → read_entry kept.note ≡ read_as found
-    → registry' ≡ with_definitions registry like.charts like.dimensions → IsBeatOfEntry registry' found like
-    → ((h : List Beat) → AreLastOf lasts h → registry' ≡ registry_of (collected found.moment like ∷ h) → AreLastOf lasts' (collected found.moment like ∷ h))
-    → ArePartsOf registry' lasts' (beat ∷ g)
-replayed-parts g (collected moment beat) kept registry registry' lasts lasts' like found of parts reads applied like_of taken =
-    parts-more g moment beat kept of registry registry' lasts lasts' like found parts (entry-is g moment beat kept of found reads) applied like_of taken
-replayed-parts g (copied copy) kept registry registry' lasts lasts' like found of parts reads applied like_of taken = absurd of
-replayed-parts g (health text) kept registry registry' lasts lasts' like found of parts reads applied like_of taken = absurd of
-replayed-parts g (missing gap) kept registry registry' lasts lasts' like found of parts reads applied like_of taken = absurd of
-
--- a kept beat has an entry at its moment
-pub entry-there : (g : List Beat) (beat : Beat) (kept : StoreBeat) → IsBeatOf g beat kept
-    → ((found : Collected) → read_entry kept.note ≡ read_as found → kept.moment ≡ Some found.moment → ⊥) → ⊥
-entry-there g (collected moment beat) kept of none = none (own_entry g moment beat kept of) (note-reads g moment beat kept of) (moment-is g moment beat kept of)
-entry-there g (copied copy) kept of none = of
-entry-there g (health text) kept of none = of
-entry-there g (missing gap) kept of none = of
-
--- and that goes on
-pub entry-goes : (g : List Beat) (beats : List StoreBeat) (beat : Beat) (kept : StoreBeat) (registry : Registry) (lasts : List (Option Last)) (found : Collected) → AreBeatsOf g beats
-    → IsBeatOf g beat kept → ArePartsOf registry lasts g → read_entry kept.note ≡ read_as found → goes_on registry found ≡ false → ⊥
-entry-goes g beats (collected moment beat) kept registry lasts found are of parts reads stops =
-    true≢false (sym (goes g moment beat kept of beats registry found are parts.registry_is (entry-is g moment beat kept of found reads)) ∙ stops)
-entry-goes g beats (copied copy) kept registry lasts found are of parts reads stops = of
-entry-goes g beats (health text) kept registry lasts found are of parts reads stops = of
-entry-goes g beats (missing gap) kept registry lasts found are of parts reads stops = of
-
--- and its points are of series that are there once its definitions are
-pub entry-named : (g : List Beat) (beat : Beat) (kept : StoreBeat) (registry registry' : Registry) (lasts : List (Option Last)) (like : OpenBeat) (found : Collected)
-    → IsBeatOf g beat kept → ArePartsOf registry lasts g → read_entry kept.note ≡ read_as found
-    → registry' ≡ with_definitions registry like.charts like.dimensions → IsBeatOfEntry registry' found like
-    → names_series registry' kept.points ≡ false → ⊥
-entry-named g (collected moment beat) kept registry registry' lasts like found of parts reads applied like_of none =
-    true≢false (sym (points-there g moment beat kept of registry registry' like found parts.registry_is (entry-is g moment beat kept of found reads) applied like_of) ∙ none)
-entry-named g (copied copy) kept registry registry' lasts like found of parts reads applied like_of none = of
-entry-named g (health text) kept registry registry' lasts like found of parts reads applied like_of none = of
-entry-named g (missing gap) kept registry registry' lasts like found of parts reads applied like_of none = of
+pub entry-once : (left left' : Left) (lasts lasts' : List (Option Last)) (found : Entry) → left' ≡ with_entry left found → HasRows left.registry left'.registry lasts lasts' found
+    → AreApart same_chart left.registry.charts → AreApart same_dimension left.registry.dimensions → AreApart same_chart left'.registry.charts × AreApart same_dimension left'.registry.dimensions
+entry-once left left' lasts lasts' (entry.Settings set) made rows charts dimensions = same-once left left' (ap (λ (l : Left). l.registry) made) charts dimensions
+entry-once left left' lasts lasts' (entry.Collected found) made rows charts dimensions = once-after left.registry left'.registry lasts lasts' found rows charts dimensions
+entry-once left left' lasts lasts' (entry.Copied found) made rows charts dimensions = once-after left.registry left'.registry lasts lasts' (defined_by found) rows charts dimensions
+entry-once left left' lasts lasts' (entry.Health text) made rows charts dimensions = same-once left left' (ap (λ (l : Left). l.registry) made) charts dimensions
+entry-once left left' lasts lasts' (entry.Gap gap) made rows charts dimensions = same-once left left' (ap (λ (l : Left). l.registry) made) charts dimensions
 
 -- ---- the faults
+
+-- a beat of a history is taken
+pub never-broken : (g : List Beat) (beats : List StoreBeat) (beat : Beat) (kept : StoreBeat) (left : Left) (lasts : List (Option Last)) → AreBeatsOf g beats → IsBeatOf g beat kept
+    → ArePartsOf left lasts g → takes_note left kept ≡ false → ⊥
+never-broken g beats beat kept left lasts are of parts broken = true≢false (sym (beat-takes g beats are beat kept of left parts.left_is) ∙ broken)
+
 pub only-memory : (fault : AgentFault) → (fault ≡ Memory) ⊎ (fault ≡ Damaged 5) → (fault ≡ Damaged 5 → ⊥) → fault ≡ Memory
 only-memory fault (inl memory) never = memory
 only-memory fault (inr damaged) never = absurd (never damaged)

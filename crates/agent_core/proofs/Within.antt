@@ -106,8 +106,10 @@ within-of (collected moment beat ∷ h) (kept ∷ beats) are =
     let room = room-for (registry_of h) (is_some (child h)) (last h) moment beat are.0.follows.accepted in
     within-after (registry_of h) beat (within-of h beats are.1) room.0 room.1
 within-of (copied copy ∷ h) [] are = absurd are
-within-of (copied copy ∷ h) (kept ∷ beats) are = absurd are.0
+within-of (copied copy ∷ h) (kept ∷ beats) are =
+    let may = are.0.follows.may.may in
+    record { charts = may.charts; dimensions = may.dimensions; each = may.each }
 within-of (health text ∷ h) [] are = absurd are
-within-of (health text ∷ h) (kept ∷ beats) are = absurd are.0
+within-of (health text ∷ h) (kept ∷ beats) are = within-of h beats are.1
 within-of (missing gap ∷ h) [] are = absurd are
-within-of (missing gap ∷ h) (kept ∷ beats) are = absurd are.0
+within-of (missing gap ∷ h) (kept ∷ beats) are = within-of h beats are.1

@@ -1,23 +1,26 @@
 -- How a store keeps the beats of a history, and which disks stand for it. A history has its newest beat
 -- first, and so has the store.
-use Rattle.std.specs.Prelude.{◌≡◌, ◌⊎◌, ℕ, List, [], ◌∷◌, map, find, slice_get, false, Option, Some, None, is_some}
+use Rattle.std.specs.Prelude.{◌≡◌, ◌⊎◌, ℕ, ◌<◌, true, List, [], ◌∷◌, map, find, slice_get, false, Option, Some, None, is_some}
 use Rattle.std.specs.Option.{option_map_or, option_and_then}
 use Rattle.host_model.specs.declared.file.File.{File}
 use Rattle.history.specs.declared.beat.OpenBeat.{OpenBeat}
 use Rattle.history.specs.declared.beat.OpenDim.{OpenDim}
 use Rattle.history.specs.declared.chart.ChartDef.{ChartDef}
 use Rattle.history.specs.declared.fault.BlockFault.{BlockFault}
-use Rattle.history.specs.History.{Beat, collected, copied, health, missing, child, last, registry_of}
+use Rattle.history.specs.History.{Beat, collected, copied, health, missing, child, last, registry_of, Copy, Gap, Word}
 use Rattle.history.specs.Registry.{Registry, is_chart}
 use Rattle.beat_points.specs.declared.series_word.SeriesWord.{SeriesWord}
 use Rattle.beat_points.specs.Points.{beat_points}
+use Rattle.entry_codec.specs.declared.entry.Entry.{Entry}
 use Rattle.entry_codec.specs.declared.entry.Entry.TheVariants as entry
 use Rattle.entry_codec.specs.declared.entry.Settings.{Settings}
 use Rattle.entry_codec.specs.Entries.{entry_bytes, HasSpelling}
+use Rattle.beat_entries.specs.Copied.{copied_entry_of, MayCopy}
 use Rattle.beat_entries.specs.Entry.{entry_of}
 use Rattle.store_core.specs.declared.beat.Beat.{Beat as StoreBeat}
 use Rattle.store_core.specs.declared.beat.BeatPoint.{BeatPoint}
 use Rattle.store_core.specs.Stands.{is_made, Stands}
+use Rattle.agent_core.specs.Roles.{may_copy, role_of}
 use Rattle.agent_core.specs.Rules.{beat_refusal, IsOpenBeat}
 
 -- the update_every of the chart of the dimension with this number
@@ -56,12 +59,55 @@ pub record IsCollectedOf (h : List Beat) (moment : ℕ) (beat : OpenBeat) (kept 
   -- the entry has a spelling
   pub spelt : HasSpelling (entry.Collected (entry_of (registry_of (collected moment beat ∷ h)) moment beat))
 
--- The same of each kind. How copies, configurations and gaps are kept is not said yet: no call stores them.
+-- ---- copies, gaps and configurations
+
+-- the copied beat may follow the history: it is of the child that the history copies, if it copies, and later
+pub record CopyFollows (h : List Beat) (copy : Copy) : Type 0 where
+  pub role : may_copy (role_of h) copy.child ≡ true
+  pub later : last h < copy.moment
+  pub may : MayCopy h copy
+
+-- the point of a copied word
+abbrev pub copied_point : Registry → Word → BeatPoint
+copied_point registry word = record { series = word.series; step = step_of registry word.series; word = word.word }
+
+-- the entry of a copied beat that follows a history
+abbrev pub copied_entry : List Beat → Copy → Entry
+copied_entry h copy = entry.Copied (copied_entry_of (registry_of (copied copy ∷ h)) copy)
+
+-- what a store keeps of a copied beat: its moment, its words as points, and its entry
+pub record IsCopyOf (h : List Beat) (copy : Copy) (kept : StoreBeat) : Type 0 where
+  pub follows : CopyFollows h copy
+  pub is_kept : kept ≡ record {
+    moment = Some copy.moment;
+    points = map (copied_point (registry_of (copied copy ∷ h))) copy.words;
+    note = entry_bytes (copied_entry h copy);
+  }
+  pub spelt : HasSpelling (copied_entry h copy)
+
+abbrev pub gap_entry : Gap → Entry
+gap_entry gap = entry.Gap (record { child = gap.child; from = gap.from; to = gap.to })
+
+-- what a store keeps of a gap of the child that the history copies, if it copies: the moment of its end, and its entry
+pub record IsGapOf (h : List Beat) (gap : Gap) (kept : StoreBeat) : Type 0 where
+  pub role : may_copy (role_of h) gap.child ≡ true
+  pub later : last h < gap.to
+  pub is_kept : kept ≡ record { moment = Some gap.to; points = []; note = entry_bytes (gap_entry gap) }
+  pub spelt : HasSpelling (gap_entry gap)
+
+-- what a store keeps of a configuration: its entry
+pub record IsHealthOf (text : List ℕ) (kept : StoreBeat) : Type 0 where
+  pub is_kept : kept ≡ record { moment = None; points = []; note = entry_bytes (entry.Health text) }
+  pub spelt : HasSpelling (entry.Health text)
+
+-- ---- histories
+
+-- what a store keeps of a beat that follows a history
 abbrev pub IsBeatOf : List Beat → Beat → StoreBeat → Type 0
 IsBeatOf h (collected moment beat) kept = IsCollectedOf h moment beat kept
-IsBeatOf h (copied copy) kept = ⊥
-IsBeatOf h (health text) kept = ⊥
-IsBeatOf h (missing gap) kept = ⊥
+IsBeatOf h (copied copy) kept = IsCopyOf h copy kept
+IsBeatOf h (health text) kept = IsHealthOf text kept
+IsBeatOf h (missing gap) kept = IsGapOf h gap kept
 
 -- a store keeps these beats for this history
 abbrev pub AreBeatsOf : List Beat → List StoreBeat → Type 0

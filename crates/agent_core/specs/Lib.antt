@@ -7,6 +7,7 @@ pub mod Kept
 pub mod Notes
 pub mod Replay
 pub mod Replies
+pub mod Roles
 pub mod Rules
 pub mod Said
 pub mod Steps

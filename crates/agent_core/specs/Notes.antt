@@ -1,51 +1,95 @@
 -- From which kept beats an agent can be opened: the entries in their notes go on, each from what those before it
 -- leave, and their points are of series that are there. A store has its newest beat first.
-use Rattle.std.specs.Prelude.{◌≡◌, ℕ, nat_lt, Bool, true, false, ◌&&◌, List, [], ◌∷◌, length, Option, Some, None, Result, Ok, if◌then◌else◌}
+use Rattle.std.specs.Prelude.{◌≡◌, ℕ, nat_lt, Bool, true, false, ◌&&◌, List, [], ◌∷◌, length, Option, Some, None, is_none, Result, Ok, Err, if◌then◌else◌}
 use Rattle.std.specs.List.{list_all}
 use Rattle.std.specs.Option.{option_map_or}
 use Rattle.host_model.specs.declared.file.File.{File}
+use Rattle.history.specs.History.{Beat, registry_of}
 use Rattle.history.specs.Registry.{Registry, empty}
-use Rattle.entry_codec.specs.declared.entry.Collected.{Collected}
 use Rattle.entry_codec.specs.declared.entry.Entry.{Entry}
 use Rattle.entry_codec.specs.declared.entry.Entry.TheVariants as entry
 use Rattle.entry_codec.specs.declared.entry.Settings.{Settings}
 use Rattle.entry_codec.specs.declared.fault.EntryFault.{EntryFault}
 use Rattle.entry_codec.specs.Entries.{read_entry}
+use Rattle.beat_entries.specs.Copied.{copied_goes_on, defined_by}
 use Rattle.beat_entries.specs.Restoring.{goes_on, is_number, restored}
 use Rattle.store_core.specs.declared.beat.Beat.{Beat as StoreBeat}
 use Rattle.store_core.specs.declared.beat.BeatPoint.{BeatPoint}
 use Rattle.store_core.specs.Stands.{Stands}
+use Rattle.agent_core.specs.declared.left.Left.{Left}
+use Rattle.agent_core.specs.declared.left.Role.TheVariants.{Undecided, Collects, Copies}
+use Rattle.agent_core.specs.Roles.{may_collect, may_copy, role_of}
 
--- the entry that was read, if it is that of a beat collected at this moment
-abbrev pub collected_at : Option ℕ → Result Entry EntryFault → Option Collected
-collected_at moment (Ok (entry.Collected found)) = if is_number found.moment moment then Some found else None
-collected_at moment read = None
+-- ---- the entry of a note
 
--- the entry in the note of a kept beat, if it is that of a beat collected at its moment
-abbrev pub collected_in : StoreBeat → Option Collected
-collected_in kept = collected_at kept.moment (read_entry kept.note)
+-- the moment of an entry's beat: a gap counts with its end, and a configuration has none
+abbrev pub moment_of : Entry → Option ℕ
+moment_of (entry.Settings set) = None
+moment_of (entry.Collected found) = Some found.moment
+moment_of (entry.Copied found) = Some found.moment
+moment_of (entry.Health text) = None
+moment_of (entry.Gap gap) = Some gap.to
 
--- the registry once it has taken the definitions of such an entry, if there is one
-abbrev pub with_note : Registry → StoreBeat → Registry
-with_note registry kept = option_map_or (restored registry) (collected_in kept) registry
+abbrev pub same_moment : Option ℕ → Option ℕ → Bool
+same_moment None moment = is_none moment
+same_moment (Some own) moment = is_number own moment
+
+-- the entry that was read, if it is that of a beat at this moment
+abbrev pub entry_at : Option ℕ → Result Entry EntryFault → Option Entry
+entry_at moment (Ok found) = if same_moment (moment_of found) moment then Some found else None
+entry_at moment (Err fault) = None
+
+-- the entry in the note of a kept beat, if it is that of a beat at its moment
+abbrev pub entry_in : StoreBeat → Option Entry
+entry_in kept = entry_at kept.moment (read_entry kept.note)
+
+-- ---- what an entry goes on from, and what it leaves
+
+-- Whether an entry goes on: settings are no beat; a collected beat follows what is collected, copies and gaps
+-- follow those of the same child, and what is defined goes on from what the registry has. The text of a
+-- configuration is not read, nor the beginning of a gap.
+abbrev pub entry_goes_on : Left → Entry → Bool
+entry_goes_on left (entry.Settings set) = false
+entry_goes_on left (entry.Collected found) = may_collect left.role && goes_on left.registry found
+entry_goes_on left (entry.Copied found) = may_copy left.role found.child && copied_goes_on left.registry found
+entry_goes_on left (entry.Health text) = true
+entry_goes_on left (entry.Gap gap) = may_copy left.role gap.child
+
+-- what is left once it is taken
+abbrev pub with_entry : Left → Entry → Left
+with_entry left (entry.Settings set) = left
+with_entry left (entry.Collected found) = record { registry = restored left.registry found; role = Collects }
+with_entry left (entry.Copied found) = record { registry = restored left.registry (defined_by found); role = Copies found.child }
+with_entry left (entry.Health text) = left
+with_entry left (entry.Gap gap) = record { registry = left.registry; role = Copies gap.child }
+
+-- what is left once the note of a kept beat is taken, if it has such an entry
+abbrev pub with_note : Left → StoreBeat → Left
+with_note left kept = option_map_or (with_entry left) (entry_in kept) left
 
 -- each point is of a series that the registry has
 abbrev pub names_series : Registry → List BeatPoint → Bool
 names_series registry points = list_all (λ (point : BeatPoint). nat_lt point.series (length registry.dimensions)) points
 
--- there is such an entry, it goes on from what the registry has, and the points are of series that are there then
-abbrev pub takes_note : Registry → StoreBeat → Bool
-takes_note registry kept = option_map_or (goes_on registry) (collected_in kept) false && names_series (with_note registry kept) kept.points
+-- there is such an entry, it goes on, and the points are of series that are there then
+abbrev pub takes_note : Left → StoreBeat → Bool
+takes_note left kept = option_map_or (entry_goes_on left) (entry_in kept) false && names_series (with_note left kept).registry kept.points
 
--- the registry that the entries of kept beats leave
-unfoldable pub registry_left : List StoreBeat → Registry
-registry_left [] = empty
-registry_left (kept ∷ beats) = with_note (registry_left beats) kept
+-- ---- the beats of a store
+
+-- what a history leaves
+abbrev pub left_by : List Beat → Left
+left_by h = record { registry = registry_of h; role = role_of h }
+
+-- what the entries of kept beats leave
+unfoldable pub left_of : List StoreBeat → Left
+left_of [] = record { registry = empty; role = Undecided }
+left_of (kept ∷ beats) = with_note (left_of beats) kept
 
 -- the beats go on: each has an entry that goes on from what those before it leave, and points of series that are there
 unfoldable pub beats_go_on : List StoreBeat → Bool
 beats_go_on [] = true
-beats_go_on (kept ∷ beats) = beats_go_on beats && takes_note (registry_left beats) kept
+beats_go_on (kept ∷ beats) = beats_go_on beats && takes_note (left_of beats) kept
 
 -- the disk holds a database of settings and beats, and whether these go on
 pub record HasNotes (goes : Bool) (disk : File → List ℕ) : Type 0 where

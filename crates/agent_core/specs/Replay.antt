@@ -2,10 +2,16 @@
 use Rattle.std.specs.Prelude.{◌≡◌, true, List, [], ◌∷◌, Option, None}
 use Rattle.host_model.specs.Past.{Event}
 use Rattle.algorithms.specs.declared.last.Last.{Last}
-use Rattle.history.specs.History.{Beat, registry_of}
-use Rattle.history.specs.Registry.{Registry, same_chart, same_dimension}
+use Rattle.history.specs.declared.beat.OpenBeat.{OpenBeat}
+use Rattle.history.specs.History.{Beat, collected, registry_of}
+use Rattle.history.specs.Registry.{Registry, same_chart, same_dimension, with_definitions}
 use Rattle.beat_points.specs.LastRows.{AreLastOf}
 use Rattle.beat_points.specs.Regular.{AreApart}
+use Rattle.beat_entries.specs.Copied.{defined_by}
+use Rattle.beat_entries.specs.Restoring.{IsBeatOf as IsBeatOfEntry}
+use Rattle.entry_codec.specs.declared.entry.Collected.{Collected}
+use Rattle.entry_codec.specs.declared.entry.Entry.{Entry}
+use Rattle.entry_codec.specs.declared.entry.Entry.TheVariants as entry
 use Rattle.entry_codec.specs.declared.entry.Settings.{Settings}
 use Rattle.store_core.specs.declared.beat.Beat.{Beat as StoreBeat}
 use Rattle.store_core.specs.declared.fault.StoreFault.{StoreFault}
@@ -14,9 +20,10 @@ use Rattle.store_core.specs.Records.{with_all}
 use Rattle.store_core.specs.Store.{IsReplayed, IsStoreAt, OpensAt, StoreState}
 use Rattle.agent_core.specs.declared.fault.AgentFault.{AgentFault}
 use Rattle.agent_core.specs.declared.fault.AgentFault.TheVariants.{DiskFault, NotADatabase, Damaged, Memory}
+use Rattle.agent_core.specs.declared.left.Left.{Left}
 use Rattle.agent_core.specs.Agent.{AgentState}
 use Rattle.agent_core.specs.Kept.{AreBeatsOf, IsBeatOf}
-use Rattle.agent_core.specs.Notes.{beats_go_on, registry_left}
+use Rattle.agent_core.specs.Notes.{beats_go_on, left_by, left_of}
 
 -- why an agent is not opened where its store is not
 abbrev pub fault_of : StoreFault → AgentFault
@@ -24,6 +31,25 @@ fault_of store.DiskFault = DiskFault
 fault_of store.NotADatabase = NotADatabase
 fault_of (store.Damaged part) = Damaged part
 fault_of fault = Memory
+
+-- ---- the parts that an entry leaves
+
+-- a beat of the entry was restored, the registry took its definitions, and the last rows took its rows
+pub record IsRestored (registry registry' : Registry) (lasts lasts' : List (Option Last)) (found : Collected) : Type 0 where
+  pub beat : OpenBeat
+  pub definitions : registry' ≡ with_definitions registry beat.charts beat.dimensions
+  pub of : IsBeatOfEntry registry' found beat
+  pub rows : (g : List Beat) → AreLastOf lasts g → registry' ≡ registry_of (collected found.moment beat ∷ g) → AreLastOf lasts' (collected found.moment beat ∷ g)
+
+-- the last rows are those after an entry: a copied beat has no rows, and configurations and gaps have nothing
+abbrev pub HasRows : Registry → Registry → List (Option Last) → List (Option Last) → Entry → Type 0
+HasRows registry registry' lasts lasts' (entry.Settings set) = lasts' ≡ lasts
+HasRows registry registry' lasts lasts' (entry.Collected found) = IsRestored registry registry' lasts lasts' found
+HasRows registry registry' lasts lasts' (entry.Copied found) = IsRestored registry registry' lasts lasts' (defined_by found)
+HasRows registry registry' lasts lasts' (entry.Health text) = lasts' ≡ lasts
+HasRows registry registry' lasts lasts' (entry.Gap gap) = lasts' ≡ lasts
+
+-- ---- the front of a history
 
 -- a history with these beats, the oldest first, on top of it
 abbrev pub onto : List Beat → List Beat → List Beat
@@ -36,13 +62,13 @@ AreNextOf g [] [] = Unit {0}
 AreNextOf g (beat ∷ more) (kept ∷ rest) = IsBeatOf g beat kept × AreNextOf (beat ∷ g) more rest
 AreNextOf g more rest = ⊥
 
--- a registry and last rows are those of a history
-pub record ArePartsOf (registry : Registry) (lasts : List (Option Last)) (g : List Beat) : Type 0 where
-  pub registry_is : registry ≡ registry_of g
+-- what is left and the last rows are those of a history
+pub record ArePartsOf (left : Left) (lasts : List (Option Last)) (g : List Beat) : Type 0 where
+  pub left_is : left ≡ left_by g
   pub last_rows_are : AreLastOf lasts g
 
 -- the store has replayed a front of the history, and the other parts are those of that front
-pub record IsReplaying (past : List Event) (store : StoreState) (registry : Registry) (lasts : List (Option Last)) (set : Settings) (h : List Beat) : Type 0 where
+pub record IsReplaying (past : List Event) (store : StoreState) (left : Left) (lasts : List (Option Last)) (set : Settings) (h : List Beat) : Type 0 where
   pub front : List Beat
   pub more : List Beat
   pub beats : List StoreBeat
@@ -51,16 +77,16 @@ pub record IsReplaying (past : List Event) (store : StoreState) (registry : Regi
   pub are : AreBeatsOf front beats
   pub next : AreNextOf front more rest
   pub is_at : IsStoreAt past store set beats rest
-  pub parts : ArePartsOf registry lasts front
+  pub parts : ArePartsOf left lasts front
 
--- the store has replayed a front of these beats, which go on, and the registry is what they leave
-pub record HasTaken (past : List Event) (store : StoreState) (registry : Registry) (set : Settings) (beats : List StoreBeat) : Type 0 where
+-- the store has replayed a front of these beats, which go on, and this is what they leave
+pub record HasTaken (past : List Event) (store : StoreState) (left : Left) (set : Settings) (beats : List StoreBeat) : Type 0 where
   pub applied : List StoreBeat
   pub rest : List StoreBeat
   pub whole : with_all applied rest ≡ beats
   pub is_at : IsStoreAt past store set applied rest
   pub go_on : beats_go_on applied ≡ true
-  pub registry_is : registry ≡ registry_left applied
+  pub left_is : left ≡ left_of applied
 
 -- the store was opened, with the beats that it keeps for this history
 pub record IsOpenedFor (past : List Event) (store : StoreState) (set : Settings) (h : List Beat) : Type 0 where

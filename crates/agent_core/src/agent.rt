@@ -23,6 +23,7 @@ ghost use Rattle.agent_core.specs.Steps.{IsOpenStep, Takes};
 
 use crate::fault::AgentFault;
 use crate::keeping::add;
+use crate::left::{Left, Role};
 use crate::refusal::refusal;
 use crate::replaying::{open_store, replay_all};
 use crate::reply::{Reply, Said};
@@ -189,17 +190,21 @@ impl Agent {
             → OpensAt past store set beats → beats_go_on beats ≡ false) }
         ensures faults { IfErr result (λ fault. (fault ≡ AgentFault.Memory) ⊎ (fault ≡ AgentFault.Damaged 5)) }
     {
-        let mut registry = Registry::new(alloc);
+        let mut left = Left {
+            registry: Registry::new(alloc),
+            role: Role::Undecided,
+        };
         let mut last_rows = LastRows::new(alloc);
-        replay_all(alloc, &mut store, &mut registry, &mut last_rows)?;
+        replay_all(alloc, &mut store, &mut left, &mut last_rows)?;
+        let copies = !left.role.may_collect();
         Ok(Agent {
             alloc,
             last: store.last(),
             count: store.count(),
             store,
-            registry,
+            registry: left.registry,
             last_rows,
-            copies: false,
+            copies,
             fault: None,
         })
     }

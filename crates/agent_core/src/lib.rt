@@ -23,6 +23,8 @@ mod definitions;
 mod fault;
 mod keeping;
 mod law;
+mod left;
+mod notes;
 mod points;
 mod refusal;
 mod replaying;

@@ -13,11 +13,11 @@ decreases-loop l = length l.store.waiting
 
 abbrev pub invariant-loop : goal.invariant-loop
 invariant-loop l = record {
-  replaying : (past : List Event) (set : Settings) (h : List Beat) → IsReplaying past l.initial.store l.initial.registry l.initial.last_rows set h
-      → IsReplaying past l.store l.registry l.last_rows set h;
-  notes : (past : List Event) (set : Settings) (beats : List StoreBeat) → HasTaken past l.initial.store l.initial.registry set beats → HasTaken past l.store l.registry set beats;
+  replaying : (past : List Event) (set : Settings) (h : List Beat) → IsReplaying past l.initial.store l.initial.left l.initial.last_rows set h
+      → IsReplaying past l.store l.left l.last_rows set h;
+  notes : (past : List Event) (set : Settings) (beats : List StoreBeat) → HasTaken past l.initial.store l.initial.left set beats → HasTaken past l.store l.left set beats;
   going : l.store.fault ≡ None;
   journal : l.store.journal ≡ l.initial.store.journal;
-  charts : AreApart same_chart l.registry.charts;
-  dimensions : AreApart same_dimension l.registry.dimensions;
+  charts : AreApart same_chart l.left.registry.charts;
+  dimensions : AreApart same_dimension l.left.registry.dimensions;
 }

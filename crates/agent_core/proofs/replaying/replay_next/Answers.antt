@@ -9,19 +9,19 @@ pub returns-in_err-replay_beat-in-Some-clause-stands : goal.returns-in_err-repla
 returns-in_err-replay_beat-in-Some-clause-stands c =
     let error = err_from_is_err_and c.from_residual-in_err-replay_beat-in-Some.result c.from_residual-in_err-replay_beat-in-Some.ensures.1 in
     rw (error.1, error.2) (λ past set h was.
-    replaying-stands past c.args.store.now c.next_beat.new.store c.args.registry.now c.args.last_rows.now set h c.in-Some.kept was
+    replaying-stands past c.args.store.now c.next_beat.new.store c.args.left.now c.args.last_rows.now set h c.in-Some.kept was
     (λ beats rest is_at. subst (Replays past c.next_beat.new.store set beats rest) c.in-Some.is (c.in_ok-kept.ensures.next past set beats rest is_at))
     c.in_err-replay_beat-in-Some.ensures.stands)
 
 pub returns-in_ok-replay_beat-in-Some-clause-replaying : goal.returns-in_ok-replay_beat-in-Some-clause-replaying
 returns-in_ok-replay_beat-in-Some-clause-replaying c past set h was =
-    replaying-more past c.args.store.now c.next_beat.new.store c.args.registry.now c.replay_beat.new.registry c.args.last_rows.now c.replay_beat.new.last_rows set h c.in-Some.kept was
+    replaying-more past c.args.store.now c.next_beat.new.store c.args.left.now c.replay_beat.new.left c.args.last_rows.now c.replay_beat.new.last_rows set h c.in-Some.kept was
     (λ beats rest is_at. subst (Replays past c.next_beat.new.store set beats rest) c.in-Some.is (c.in_ok-kept.ensures.next past set beats rest is_at))
     c.in_ok-replay_beat-in-Some.ensures.taken
 
 pub returns-in-None-clause-replaying : goal.returns-in-None-clause-replaying
 returns-in-None-clause-replaying c past set h was =
-    replaying-same past c.args.store.now c.next_beat.new.store c.args.registry.now c.args.last_rows.now set h was
+    replaying-same past c.args.store.now c.next_beat.new.store c.args.left.now c.args.last_rows.now set h was
     (λ beats rest is_at. subst (Replays past c.next_beat.new.store set beats rest) c.in-None.is (c.in_ok-kept.ensures.next past set beats rest is_at))
 
 -- ---- whatever beats the store keeps
@@ -29,17 +29,17 @@ pub returns-in_err-replay_beat-in-Some-clause-broken : goal.returns-in_err-repla
 returns-in_err-replay_beat-in-Some-clause-broken c =
     let error = err_from_is_err_and c.from_residual-in_err-replay_beat-in-Some.result c.from_residual-in_err-replay_beat-in-Some.ensures.1 in
     rw (error.1, error.2) (λ damaged past set beats was.
-    taken-broken past c.args.store.now c.next_beat.new.store c.args.registry.now set beats c.in-Some.kept was
+    taken-broken past c.args.store.now c.next_beat.new.store c.args.left.now set beats c.in-Some.kept was
     (λ applied rest is_at. subst (Replays past c.next_beat.new.store set applied rest) c.in-Some.is (c.in_ok-kept.ensures.next past set applied rest is_at))
     (c.in_err-replay_beat-in-Some.ensures.broken damaged))
 
 pub returns-in_ok-replay_beat-in-Some-clause-notes : goal.returns-in_ok-replay_beat-in-Some-clause-notes
 returns-in_ok-replay_beat-in-Some-clause-notes c past set beats was =
-    taken-more past c.args.store.now c.next_beat.new.store c.args.registry.now set beats c.in-Some.kept c.replay_beat.new.registry was
+    taken-more past c.args.store.now c.next_beat.new.store c.args.left.now set beats c.in-Some.kept c.replay_beat.new.left was
     (λ applied rest is_at. subst (Replays past c.next_beat.new.store set applied rest) c.in-Some.is (c.in_ok-kept.ensures.next past set applied rest is_at))
-    c.in_ok-replay_beat-in-Some.ensures.registry c.in_ok-replay_beat-in-Some.ensures.next
+    c.in_ok-replay_beat-in-Some.ensures.left c.in_ok-replay_beat-in-Some.ensures.next
 
 pub returns-in-None-clause-notes : goal.returns-in-None-clause-notes
 returns-in-None-clause-notes c past set beats was =
-    taken-same past c.args.store.now c.next_beat.new.store c.args.registry.now set beats was
+    taken-same past c.args.store.now c.next_beat.new.store c.args.left.now set beats was
     (λ applied rest is_at. subst (Replays past c.next_beat.new.store set applied rest) c.in-None.is (c.in_ok-kept.ensures.next past set applied rest is_at))

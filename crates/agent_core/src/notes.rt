@@ -1,0 +1,229 @@
+//! What is taken of the note of a kept beat.
+
+ghost use Rattle.std.specs.Prelude.{◌≡◌, ◌⊎◌, ◌∷◌, List, Some, None, true, false, IfOk, IfErr, OnOk};
+ghost use Rattle.history.specs.History.{Beat as HistoryBeat, collected, registry_of};
+ghost use Rattle.history.specs.Registry.{same_chart, same_dimension, with_definitions};
+ghost use Rattle.beat_points.specs.Regular.{AreApart, IsRegular};
+ghost use Rattle.beat_entries.specs.Copied.{copied_goes_on, defined_by};
+ghost use Rattle.beat_entries.specs.Restoring.{goes_on, restored, IsBeatOf as IsBeatOfEntry};
+ghost use Rattle.entry_codec.specs.Entries.{is_canonical, is_collected_canonical, is_copied_canonical};
+ghost use Rattle.store_core.specs.declared.beat.Beat.{Beat as StoreBeat};
+ghost use Rattle.agent_core.specs.Kept.{AreBeatsOf, IsBeatOf};
+ghost use Rattle.agent_core.specs.Notes.{entry_goes_on, entry_in, moment_of, names_series, takes_note, with_entry, with_note};
+ghost use Rattle.agent_core.specs.Replay.{ArePartsOf, HasRows, IsRestored};
+
+use crate::fault::AgentFault;
+use crate::keeping::take_rows;
+use crate::left::{Left, Role};
+use beat_entries::{EntryRefusal, restore, restore_copied};
+use beat_points::LastRows;
+use chart_registry::Registry;
+use entry_codec::{Collected, Copied, Entry, EntryFault, Gap, read_entry};
+use history::OpenBeat;
+use std::alloc::Global;
+use store_core::{Beat, BeatPoint};
+
+/// The moment of an entry's beat: a gap counts with its end, and a configuration has none.
+fn moment_of(entry: &Entry) -> Option<u32>
+    ensures { result ≡ moment_of entry.now }
+{
+    match entry {
+        Entry::Settings(_) | Entry::Health(_) => None,
+        Entry::Collected(found) => Some(found.moment),
+        Entry::Copied(found) => Some(found.moment),
+        Entry::Gap(gap) => Some(gap.to),
+    }
+}
+
+/// The entry of a kept beat: that of a beat at its moment, or the database is damaged.
+fn entry_in(alloc: Global, kept: &Beat) -> Result<Entry, AgentFault>
+    ensures found { IfOk result (λ entry. entry_in kept.now ≡ Some entry) }
+    ensures canonical { IfOk result (λ entry. is_canonical entry ≡ true) }
+
+    // It is damaged only where there is no such entry.
+    ensures refused { IfErr result (λ fault. fault ≡ AgentFault.Damaged 5 → entry_in kept.now ≡ None) }
+    ensures faults { IfErr result (λ fault. (fault ≡ AgentFault.Memory) ⊎ (fault ≡ AgentFault.Damaged 5)) }
+{
+    match read_entry(alloc, kept.note.as_slice()) {
+        Ok(entry) => {
+            if moment_of(&entry) == kept.moment {
+                Ok(entry)
+            } else {
+                Err(AgentFault::Damaged(5))
+            }
+        }
+        Err(EntryFault::Memory) => Err(AgentFault::Memory),
+        Err(_) => Err(AgentFault::Damaged(5)),
+    }
+}
+
+/// The beat of an entry, once the registry has taken its definitions, or the database is damaged.
+fn beat_of(
+    alloc: Global,
+    registry: &mut Registry,
+    entry: &Collected,
+) -> Result<OpenBeat, AgentFault>
+    requires canonical { is_collected_canonical entry.now ≡ true }
+    ensures definitions { IfOk result (λ beat. registry.new ≡ with_definitions registry.old beat.charts beat.dimensions) }
+    ensures beat { IfOk result (IsBeatOfEntry registry.new entry.now) }
+    ensures regular { IfOk result (IsRegular registry.new) }
+    ensures restored { OnOk result (registry.new ≡ restored registry.old entry.now) }
+    ensures next { OnOk result (goes_on registry.old entry.now ≡ true) }
+    ensures refused { IfErr result (λ fault. fault ≡ AgentFault.Damaged 5 → goes_on registry.old entry.now ≡ false) }
+    ensures faults { IfErr result (λ fault. (fault ≡ AgentFault.Memory) ⊎ (fault ≡ AgentFault.Damaged 5)) }
+{
+    match restore(alloc, registry, entry) {
+        Ok(beat) => Ok(beat),
+        Err(EntryRefusal::NotNext) => Err(AgentFault::Damaged(5)),
+        Err(EntryRefusal::Memory) => Err(AgentFault::Memory),
+    }
+}
+
+/// What the entry of a copied beat defines, as a beat without rows, once the registry has taken it, or the
+/// database is damaged.
+fn copied_of(
+    alloc: Global,
+    registry: &mut Registry,
+    entry: &Copied,
+) -> Result<OpenBeat, AgentFault>
+    requires canonical { is_copied_canonical entry.now ≡ true }
+    ensures definitions { IfOk result (λ beat. registry.new ≡ with_definitions registry.old beat.charts beat.dimensions) }
+    ensures beat { IfOk result (IsBeatOfEntry registry.new (defined_by entry.now)) }
+    ensures regular { IfOk result (IsRegular registry.new) }
+    ensures restored { OnOk result (registry.new ≡ restored registry.old (defined_by entry.now)) }
+    ensures next { OnOk result (copied_goes_on registry.old entry.now ≡ true) }
+    ensures refused { IfErr result (λ fault. fault ≡ AgentFault.Damaged 5 → copied_goes_on registry.old entry.now ≡ false) }
+    ensures faults { IfErr result (λ fault. (fault ≡ AgentFault.Memory) ⊎ (fault ≡ AgentFault.Damaged 5)) }
+{
+    match restore_copied(alloc, registry, entry) {
+        Ok(beat) => Ok(beat),
+        Err(EntryRefusal::NotNext) => Err(AgentFault::Damaged(5)),
+        Err(EntryRefusal::Memory) => Err(AgentFault::Memory),
+    }
+}
+
+/// Takes a collected beat: its definitions, and its rows as the last ones.
+fn take_collected(
+    alloc: Global,
+    left: &mut Left,
+    last_rows: &mut LastRows,
+    entry: &Collected,
+) -> Result<(), AgentFault>
+    requires canonical { is_collected_canonical entry.now ≡ true }
+    ensures left { OnOk result (left.new ≡ with_entry left.old (Entry.Collected entry.now)) }
+    ensures rows { OnOk result (IsRestored left.old.registry left.new.registry last_rows.old last_rows.new entry.now) }
+    ensures next { OnOk result (entry_goes_on left.old (Entry.Collected entry.now) ≡ true) }
+    ensures broken { IfErr result (λ fault. fault ≡ AgentFault.Damaged 5 → entry_goes_on left.old (Entry.Collected entry.now) ≡ false) }
+    ensures faults { IfErr result (λ fault. (fault ≡ AgentFault.Memory) ⊎ (fault ≡ AgentFault.Damaged 5)) }
+{
+    if !left.role.may_collect() {
+        return Err(AgentFault::Damaged(5));
+    }
+    let beat = beat_of(alloc, &mut left.registry, entry)?;
+    take_rows(last_rows, &left.registry, &beat, entry.moment)?;
+    left.role = Role::Collects;
+    Ok(())
+}
+
+/// Takes a copied beat: its definitions, and that its series have no rows yet.
+fn take_copied(
+    alloc: Global,
+    left: &mut Left,
+    last_rows: &mut LastRows,
+    entry: &Copied,
+) -> Result<(), AgentFault>
+    requires canonical { is_copied_canonical entry.now ≡ true }
+    ensures left { OnOk result (left.new ≡ with_entry left.old (Entry.Copied entry.now)) }
+    ensures rows { OnOk result (IsRestored left.old.registry left.new.registry last_rows.old last_rows.new (defined_by entry.now)) }
+    ensures next { OnOk result (entry_goes_on left.old (Entry.Copied entry.now) ≡ true) }
+    ensures broken { IfErr result (λ fault. fault ≡ AgentFault.Damaged 5 → entry_goes_on left.old (Entry.Copied entry.now) ≡ false) }
+    ensures faults { IfErr result (λ fault. (fault ≡ AgentFault.Memory) ⊎ (fault ≡ AgentFault.Damaged 5)) }
+{
+    if !left.role.may_copy(entry.child) {
+        return Err(AgentFault::Damaged(5));
+    }
+    let beat = copied_of(alloc, &mut left.registry, entry)?;
+    take_rows(last_rows, &left.registry, &beat, entry.moment)?;
+    left.role = Role::Copies(entry.child);
+    Ok(())
+}
+
+/// Takes a gap: it is of the child that is copied.
+fn take_gap(left: &mut Left, gap: &Gap) -> Result<(), AgentFault>
+    ensures left { OnOk result (left.new ≡ with_entry left.old (Entry.Gap gap.now)) }
+    ensures next { OnOk result (entry_goes_on left.old (Entry.Gap gap.now) ≡ true) }
+    ensures broken { IfErr result (λ fault. fault ≡ AgentFault.Damaged 5 → entry_goes_on left.old (Entry.Gap gap.now) ≡ false) }
+    ensures faults { IfErr result (λ fault. fault ≡ AgentFault.Damaged 5) }
+{
+    if !left.role.may_copy(gap.child) {
+        return Err(AgentFault::Damaged(5));
+    }
+    left.role = Role::Copies(gap.child);
+    Ok(())
+}
+
+/// Takes the entry of a beat. Settings are none.
+fn take_entry(
+    alloc: Global,
+    left: &mut Left,
+    last_rows: &mut LastRows,
+    entry: &Entry,
+) -> Result<(), AgentFault>
+    requires canonical { is_canonical entry.now ≡ true }
+    ensures left { OnOk result (left.new ≡ with_entry left.old entry.now) }
+    ensures rows { OnOk result (HasRows left.old.registry left.new.registry last_rows.old last_rows.new entry.now) }
+    ensures next { OnOk result (entry_goes_on left.old entry.now ≡ true) }
+    ensures broken { IfErr result (λ fault. fault ≡ AgentFault.Damaged 5 → entry_goes_on left.old entry.now ≡ false) }
+    ensures faults { IfErr result (λ fault. (fault ≡ AgentFault.Memory) ⊎ (fault ≡ AgentFault.Damaged 5)) }
+{
+    match entry {
+        Entry::Settings(_) => Err(AgentFault::Damaged(5)),
+        Entry::Collected(found) => take_collected(alloc, left, last_rows, found),
+        Entry::Copied(found) => take_copied(alloc, left, last_rows, found),
+        Entry::Health(_) => Ok(()),
+        Entry::Gap(gap) => take_gap(left, gap),
+    }
+}
+
+/// Whether each point is of a series that the registry has.
+fn names_series(registry: &Registry, points: &[BeatPoint]) -> bool
+    ensures { result ≡ names_series registry.now points.now }
+{
+    points
+        .iter()
+        .all(|point| point.series < registry.dimensions())
+}
+
+/// Takes a kept beat by its note.
+pub(crate) fn replay_beat(
+    alloc: Global,
+    left: &mut Left,
+    last_rows: &mut LastRows,
+    kept: &Beat,
+) -> Result<(), AgentFault>
+    requires charts { AreApart same_chart left.old.registry.charts }
+    requires dimensions { AreApart same_dimension left.old.registry.dimensions }
+    ensures taken { OnOk result ((g : List HistoryBeat) (beats : List StoreBeat) (beat : HistoryBeat) → AreBeatsOf g beats → IsBeatOf g beat kept.now
+        → ArePartsOf left.old last_rows.old g → ArePartsOf left.new last_rows.new (beat ∷ g)) }
+
+    // Where the beat is kept for one that follows the history, only memory can be short.
+    ensures stands { IfErr result (λ fault. (g : List HistoryBeat) (beats : List StoreBeat) (beat : HistoryBeat) → AreBeatsOf g beats → IsBeatOf g beat kept.now
+        → ArePartsOf left.old last_rows.old g → fault ≡ AgentFault.Memory) }
+
+    // Whatever beat it is: its note has an entry that goes on and its points are of series that are there then,
+    // or it is damaged.
+    ensures left { OnOk result (left.new ≡ with_note left.old kept.now) }
+    ensures next { OnOk result (takes_note left.old kept.now ≡ true) }
+    ensures broken { IfErr result (λ fault. fault ≡ AgentFault.Damaged 5 → takes_note left.old kept.now ≡ false) }
+    ensures charts { OnOk result (AreApart same_chart left.new.registry.charts) }
+    ensures dimensions { OnOk result (AreApart same_dimension left.new.registry.dimensions) }
+    ensures faults { IfErr result (λ fault. (fault ≡ AgentFault.Memory) ⊎ (fault ≡ AgentFault.Damaged 5)) }
+{
+    let entry = entry_in(alloc, kept)?;
+    take_entry(alloc, left, last_rows, &entry)?;
+    if names_series(&left.registry, kept.points.as_slice()) {
+        Ok(())
+    } else {
+        Err(AgentFault::Damaged(5))
+    }
+}
