@@ -1,10 +1,10 @@
 -- A kept beat has an entry that goes on from what is before it, and leaves what the beat leaves.
-use Rattle.std.proofs.Common.{◌≡◌, ℕ, ◌<◌, ◌⊎◌, inl, inr, lt-ltb, Bool, true, false, not, ◌&&◌, nat_lt, List, [], ◌∷◌, length, map, Option, Some, None, is_some, Result, Ok, refl, sym, ap, ◌∙◌, subst, true≢false}
+use Rattle.std.proofs.Common.{◌≡◌, ◌<◌, ◌⊎◌, inl, inr, lt-ltb, Bool, true, false, not, ◌&&◌, List, [], ◌∷◌, length, map, Option, Some, refl, sym, ap, ◌∙◌, subst, true≢false}
 use Rattle.std.specs.List.{AllByRecursion}
 use Rattle.std.proofs.lemmas.List.Elements.{recursion_from_All}
 use Rattle.std.proofs.lemmas.Option.{same_Some}
 use Rattle.algorithms.specs.declared.last.Last.{Last}
-use Rattle.history.specs.History.{Beat, collected, copied, health, missing, child, registry_of, Word}
+use Rattle.history.specs.History.{Beat, collected, copied, health, missing, registry_of, Word}
 use Rattle.history.specs.Registry.{Registry, same_chart, same_dimension}
 use Rattle.beat_points.specs.LastRows.{AreLastOf}
 use Rattle.beat_points.specs.Regular.{AreApart}
@@ -15,7 +15,6 @@ use Rattle.entry_codec.specs.Entries.{entry_bytes, read_entry, HasSpelling}
 use Rattle.entry_codec.proofs.EntriesLaw.{reads_back}
 use Rattle.beat_entries.specs.Copied.{defined_by}
 use Rattle.beat_entries.specs.Entry.{entry_of}
-use Rattle.beat_entries.specs.Restoring.{goes_on}
 use Rattle.beat_entries.proofs.AlikeLemmas.{beats-alike, lasts-alike}
 use Rattle.beat_entries.proofs.CopiedLemmas.{copied-last, copied-next, copied-registry}
 use Rattle.beat_entries.proofs.DefinedLemmas.{chart-alike, chart-itself, dimension-alike, dimension-itself}
@@ -144,9 +143,10 @@ parts-after g beats beat kept left left' lasts lasts' found are of parts has mad
 -- each thing stands once in the registry
 once-after : (registry registry' : Registry) (lasts lasts' : List (Option Last)) (found : Collected) → IsRestored registry registry' lasts lasts' found
     → AreApart same_chart registry.charts → AreApart same_dimension registry.dimensions → AreApart same_chart registry'.charts × AreApart same_dimension registry'.dimensions
-once-after registry registry' lasts lasts' found rows charts dimensions =
-    (subst (λ (r : Registry). AreApart same_chart r.charts) (sym rows.definitions) (apart-put_all same_chart chart-itself chart-alike registry.charts rows.beat.charts charts),
-    subst (λ (r : Registry). AreApart same_dimension r.dimensions) (sym rows.definitions) (apart-put_all same_dimension dimension-itself dimension-alike registry.dimensions rows.beat.dimensions dimensions))
+once-after registry registry' lasts lasts' found rows charts dimensions = (
+  subst (λ (r : Registry). AreApart same_chart r.charts) (sym rows.definitions) (apart-put_all same_chart chart-itself chart-alike registry.charts rows.beat.charts charts),
+  subst (λ (r : Registry). AreApart same_dimension r.dimensions) (sym rows.definitions) (apart-put_all same_dimension dimension-itself dimension-alike registry.dimensions rows.beat.dimensions dimensions),
+)
 
 same-once : (left left' : Left) → left'.registry ≡ left.registry → AreApart same_chart left.registry.charts → AreApart same_dimension left.registry.dimensions
     → AreApart same_chart left'.registry.charts × AreApart same_dimension left'.registry.dimensions

@@ -139,9 +139,10 @@ impl Agent {
     /// Opens the database of an agent and goes through all that it holds.
     ///
     /// `NotADatabase` exactly where there is none, and `Damaged` only where what is there stands for no
-    /// history: with 4 where its journal holds no settings and beats, and with 5 where an entry in it is none or
-    /// does not go on from those before, where a definition in it does not keep its limits, or where a point
-    /// names a series that is not there. The words and steps of points are not compared with their definition.
+    /// history: with 4 where its journal holds no settings and beats, and with 5 where an entry in it is none of
+    /// a beat or does not go on from those before, where collected beats and copies mix, where a definition in it
+    /// does not keep its limits, or where a point names a series that is not there. The words and steps of
+    /// points are not compared with their definition, and no text of a configuration is read.
     /// At `Ok` the agent is of just the history that the disk stands for, if it stands for one. The disk is only
     /// read and synced.
     pub fn open<H: Host>(alloc: Global, host: &mut H) -> Result<Agent, AgentFault>

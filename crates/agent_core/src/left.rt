@@ -1,6 +1,6 @@
 //! What the notes of kept beats leave.
 
-ghost use Rattle.std.specs.Prelude.{◌≡◌, not};
+ghost use Rattle.std.specs.Prelude.{◌≡◌};
 
 use chart_registry::Registry;
 

@@ -13,8 +13,8 @@
 //!
 //! It stands on the store of `store_core`, which keeps of each beat its moment, its points by `beat_points`
 //! and its entry by `beat_entries`, on the feed of `collect_block` and on the numbers of `chart_registry`. It
-//! names no file and no byte of a journal. Nothing is said here of copies, configurations and gaps: no call
-//! stores them, and a database that holds one is answered as damaged.
+//! names no file and no byte of a journal. No call stores copies, gaps and configurations, but a database that
+//! holds them opens where its notes go on, and one that copies collects nothing.
 #![tactic(auto)]
 
 mod agent;

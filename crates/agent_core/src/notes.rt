@@ -6,6 +6,7 @@ ghost use Rattle.history.specs.Registry.{same_chart, same_dimension, with_defini
 ghost use Rattle.beat_points.specs.Regular.{AreApart, IsRegular};
 ghost use Rattle.beat_entries.specs.Copied.{copied_goes_on, defined_by};
 ghost use Rattle.beat_entries.specs.Restoring.{goes_on, restored, IsBeatOf as IsBeatOfEntry};
+ghost use Rattle.beat_entries.specs.declared.refusal.EntryRefusal.TheVariants.{NotNext};
 ghost use Rattle.entry_codec.specs.Entries.{is_canonical, is_collected_canonical, is_copied_canonical};
 ghost use Rattle.store_core.specs.declared.beat.Beat.{Beat as StoreBeat};
 ghost use Rattle.agent_core.specs.Kept.{AreBeatsOf, IsBeatOf};
@@ -57,6 +58,17 @@ fn entry_in(alloc: Global, kept: &Beat) -> Result<Entry, AgentFault>
     }
 }
 
+/// Why an entry is not taken: it does not go on, or there was no memory.
+fn fault_of(refusal: EntryRefusal) -> AgentFault
+    ensures damaged { result ≡ AgentFault.Damaged 5 → refusal ≡ NotNext }
+    ensures faults { (result ≡ AgentFault.Memory) ⊎ (result ≡ AgentFault.Damaged 5) }
+{
+    match refusal {
+        EntryRefusal::NotNext => AgentFault::Damaged(5),
+        EntryRefusal::Memory => AgentFault::Memory,
+    }
+}
+
 /// The beat of an entry, once the registry has taken its definitions, or the database is damaged.
 fn beat_of(
     alloc: Global,
@@ -74,18 +86,13 @@ fn beat_of(
 {
     match restore(alloc, registry, entry) {
         Ok(beat) => Ok(beat),
-        Err(EntryRefusal::NotNext) => Err(AgentFault::Damaged(5)),
-        Err(EntryRefusal::Memory) => Err(AgentFault::Memory),
+        Err(refusal) => Err(fault_of(refusal)),
     }
 }
 
 /// What the entry of a copied beat defines, as a beat without rows, once the registry has taken it, or the
 /// database is damaged.
-fn copied_of(
-    alloc: Global,
-    registry: &mut Registry,
-    entry: &Copied,
-) -> Result<OpenBeat, AgentFault>
+fn copied_of(alloc: Global, registry: &mut Registry, entry: &Copied) -> Result<OpenBeat, AgentFault>
     requires canonical { is_copied_canonical entry.now ≡ true }
     ensures definitions { IfOk result (λ beat. registry.new ≡ with_definitions registry.old beat.charts beat.dimensions) }
     ensures beat { IfOk result (IsBeatOfEntry registry.new (defined_by entry.now)) }
@@ -97,8 +104,7 @@ fn copied_of(
 {
     match restore_copied(alloc, registry, entry) {
         Ok(beat) => Ok(beat),
-        Err(EntryRefusal::NotNext) => Err(AgentFault::Damaged(5)),
-        Err(EntryRefusal::Memory) => Err(AgentFault::Memory),
+        Err(refusal) => Err(fault_of(refusal)),
     }
 }
 
@@ -142,8 +148,8 @@ fn take_copied(
     if !left.role.may_copy(entry.child) {
         return Err(AgentFault::Damaged(5));
     }
-    let beat = copied_of(alloc, &mut left.registry, entry)?;
-    take_rows(last_rows, &left.registry, &beat, entry.moment)?;
+    let defined = copied_of(alloc, &mut left.registry, entry)?;
+    take_rows(last_rows, &left.registry, &defined, entry.moment)?;
     left.role = Role::Copies(entry.child);
     Ok(())
 }

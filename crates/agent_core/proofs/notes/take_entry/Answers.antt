@@ -1,7 +1,6 @@
 use Rattle.std.proofs.Common.{◌≡◌, true, sym, ap, ◌∙◌}
 use Rattle.entry_codec.specs.declared.entry.Collected.{Collected}
 use Rattle.entry_codec.specs.declared.entry.Copied.{Copied}
-use Rattle.entry_codec.specs.declared.entry.Entry.{Entry}
 use Rattle.entry_codec.specs.declared.entry.Entry.TheVariants as entry
 use Rattle.entry_codec.specs.Entries.{is_canonical, is_collected_canonical, is_copied_canonical}
 use Rattle.agent_core.proofs.notes.take_entry.Goals as goal
