@@ -79,10 +79,7 @@ fn take_dimension(
     ensures taken { OnOk result (takes_dimension registry.old dimension.now ≡ true) }
     ensures refused { IfErr result (λ refusal. refusal ≡ NotNext → takes_dimension registry.old dimension.now ≡ false) }
 {
-    if dimension.chart >= registry.charts() {
-        return Err(EntryRefusal::NotNext);
-    }
-    if !dimension.def.keeps_limits() {
+    if dimension.chart >= registry.charts() || !dimension.def.keeps_limits() {
         return Err(EntryRefusal::NotNext);
     }
     let made = open_dimension(registry, dimension)?;
@@ -197,10 +194,7 @@ fn take_row(alloc: Global, registry: &Registry, row: &Row) -> Result<OpenRow, En
     ensures taken { OnOk result (takes_row registry.now row.now ≡ true) }
     ensures refused { IfErr result (λ refusal. refusal ≡ NotNext → takes_row registry.now row.now ≡ false) }
 {
-    if row.chart >= registry.charts() {
-        return Err(EntryRefusal::NotNext);
-    }
-    if row.values.len() > MOST_VALUES {
+    if row.chart >= registry.charts() || row.values.len() > MOST_VALUES {
         return Err(EntryRefusal::NotNext);
     }
     let values = take_values(alloc, registry, row.chart, row.values.as_slice())?;
