@@ -78,20 +78,20 @@ unfolding beats_go_on
 never beats [] e = e
 never beats (next ∷ rest) e = never (next ∷ beats) rest (ap (λ (b : Bool). b && takes_note (left_of beats) next) e)
 
-go-on-more : (left : Left) (beats : List StoreBeat) (kept : StoreBeat) (goes : Bool) → beats_go_on beats ≡ true → left ≡ left_of beats → takes_note left kept ≡ goes → beats_go_on (kept ∷ beats) ≡ goes
+pub go-on-more : (left : Left) (beats : List StoreBeat) (kept : StoreBeat) (goes : Bool) → beats_go_on beats ≡ true → left ≡ left_of beats → takes_note left kept ≡ goes → beats_go_on (kept ∷ beats) ≡ goes
 unfolding beats_go_on
 go-on-more left beats kept goes before is e =
     ap (λ (b : Bool). b && takes_note (left_of beats) kept) before ∙ ap (λ (l : Left). takes_note l kept) (sym is) ∙ e
 
-left-more : (left left' : Left) (beats : List StoreBeat) (kept : StoreBeat) → left ≡ left_of beats → left' ≡ with_note left kept → left' ≡ left_of (kept ∷ beats)
+pub left-more : (left left' : Left) (beats : List StoreBeat) (kept : StoreBeat) → left ≡ left_of beats → left' ≡ with_note left kept → left' ≡ left_of (kept ∷ beats)
 unfolding left_of
 left-more left left' beats kept is e = e ∙ ap (λ (l : Left). with_note l kept) is
 
-left-none : left_of [] ≡ left_by []
+pub left-none : left_of [] ≡ left_by []
 unfolding left_of
 left-none = refl
 
-go-on-none : beats_go_on [] ≡ true
+pub go-on-none : beats_go_on [] ≡ true
 unfolding beats_go_on
 go-on-none = refl
 

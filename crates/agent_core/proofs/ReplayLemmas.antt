@@ -26,12 +26,12 @@ use Rattle.agent_core.specs.declared.fault.AgentFault.TheVariants.{Damaged, Memo
 use Rattle.agent_core.specs.declared.left.Left.{Left}
 use Rattle.agent_core.specs.declared.left.Role.TheVariants.{Collects, Copies}
 use Rattle.agent_core.specs.Kept.{copied_entry, copied_point, gap_entry, AreBeatsOf, IsBeatOf}
-use Rattle.agent_core.specs.Notes.{entry_goes_on, entry_in, left_by, moment_of, names_series, takes_note, with_entry, with_note}
+use Rattle.agent_core.specs.Notes.{beats_go_on, entry_goes_on, entry_in, left_by, left_of, moment_of, names_series, takes_note, with_entry, with_note}
 use Rattle.agent_core.specs.Replay.{ArePartsOf, HasRows, IsRestored}
 use Rattle.agent_core.specs.Roles.{may_collect, role_of}
 use Rattle.agent_core.proofs.FollowLemmas.{follows-may, follows-owned, follows-regular}
 use Rattle.agent_core.proofs.HistoryLemmas.{copies-of, follows-alone}
-use Rattle.agent_core.proofs.NoteLemmas.{found-in, note-left, note-takes}
+use Rattle.agent_core.proofs.NoteLemmas.{found-in, go-on-more, go-on-none, left-more, left-none, note-left, note-takes}
 use Rattle.agent_core.proofs.PointLemmas.{points-named}
 use Rattle.agent_core.proofs.Within.{within-of}
 
@@ -106,6 +106,18 @@ module _ (g : List Beat) (beats : List StoreBeat) (are : AreBeatsOf g beats) whe
     beat-leaves left left' is made =
         made ∙ ap (λ (l : Left). with_note l kept) is
         ∙ sym (note-left (left_by g) kept (entry_for g beat) (note-is g beat kept of) (left_by (beat ∷ g)) (left-after beat kept of))
+
+-- the beats of a history go on, and leave what it leaves
+pub history-goes : (h : List Beat) (beats : List StoreBeat) → AreBeatsOf h beats → (left_of beats ≡ left_by h) × (beats_go_on beats ≡ true)
+history-goes [] [] are = (left-none, go-on-none)
+history-goes [] (kept ∷ beats) are = absurd are
+history-goes (beat ∷ h) [] are = absurd are
+history-goes (beat ∷ h) (kept ∷ beats) are =
+    let before = history-goes h beats are.1 in
+    let now : with_note (left_by h) kept ≡ left_of (kept ∷ beats) = left-more (left_by h) (with_note (left_by h) kept) beats kept (sym before.0) refl in (
+      sym now ∙ beat-leaves h beats are.1 beat kept are.0 (left_by h) (with_note (left_by h) kept) refl refl,
+      go-on-more (left_by h) beats kept true before.1 (sym before.0) (beat-takes h beats are.1 beat kept are.0 (left_by h) refl),
+    )
 
 -- ---- the last rows
 

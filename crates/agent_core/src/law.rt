@@ -6,7 +6,9 @@ ghost use Rattle.history.specs.History.{Beat, child, last, registry_of};
 ghost use Rattle.history.specs.Looking.{beat as open_beat};
 ghost use Rattle.history.specs.Read.{history_at, refusal_at};
 ghost use Rattle.beat_points.specs.Text.{AreAccepted};
+ghost use Rattle.entry_codec.specs.declared.entry.Settings.{Settings as ASettings};
 ghost use Rattle.store_core.specs.Stands.{is_made, IsDamaged};
+ghost use Rattle.agent_core.specs.Kept.{StandsForHistory};
 ghost use Rattle.agent_core.specs.Notes.{HasNotes};
 ghost use Rattle.agent_core.specs.Rules.{beat_refusal, line_refusal, IsWithin};
 
@@ -23,10 +25,11 @@ pub fn any_text()
         → IsWithin (registry_of (history_at every h past)) }
 {}
 
-/// The laws of the notes of a disk: where it holds a database of settings and beats, these are its only ones.
-/// So its beats do not both go on and not, and the database is not one of no settings and beats. It does
-/// nothing.
+/// The laws of the notes of a disk: where it stands for a history, they go on. Where it holds a database of
+/// settings and beats, these are its only ones, so that its beats do not both go on and not, and the database
+/// is not one of no settings and beats. It does nothing.
 pub fn any_notes()
+    ensures history { (set : ASettings) (h : List Beat) (disk : AFile → List ℕ) → StandsForHistory set h disk → HasNotes true disk }
     ensures once { (disk : AFile → List ℕ) → HasNotes true disk → HasNotes false disk → ⊥ }
     ensures records { (goes : Bool) (disk : AFile → List ℕ) → HasNotes goes disk → IsDamaged disk → ⊥ }
     ensures made { (goes : Bool) (disk : AFile → List ℕ) → HasNotes goes disk → is_made disk ≡ true }

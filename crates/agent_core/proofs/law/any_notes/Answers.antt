@@ -1,5 +1,6 @@
 use Rattle.store_core.proofs.StandLemmas.{stands_made}
 use Rattle.agent_core.proofs.NoteLemmas.{notes-once}
+use Rattle.agent_core.proofs.ReplayLemmas.{history-goes}
 use Rattle.agent_core.proofs.law.any_notes.Goals as goal
 
 pub returns-clause-once : goal.returns-clause-once
@@ -10,3 +11,11 @@ returns-clause-records c goes disk notes damaged = damaged.no_beats notes.settin
 
 pub returns-clause-made : goal.returns-clause-made
 returns-clause-made c goes disk notes = stands_made notes.settings notes.beats disk notes.stands
+
+pub returns-clause-history : goal.returns-clause-history
+returns-clause-history c set h disk stands = record {
+  settings = set;
+  beats = stands.beats;
+  stands = stands.stands;
+  notes = (history-goes h stands.beats stands.are).1;
+}
