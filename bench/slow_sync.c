@@ -1,11 +1,13 @@
-/* Makes each sync of a file take 2 ms longer, as on a disk of its own kind: preloaded beside a program. */
+/* Makes each sync of a file take SLOW_SYNC_US microseconds longer, as on a slower disk: preloaded beside a program. */
 #define _GNU_SOURCE
 #include <dlfcn.h>
+#include <stdlib.h>
 #include <unistd.h>
 
 static int slow(const char *name, int file) {
     int (*call)(int) = (int (*)(int))dlsym(RTLD_NEXT, name);
-    usleep(2000);
+    const char *microseconds = getenv("SLOW_SYNC_US");
+    usleep(microseconds ? atoi(microseconds) : 0);
     return call(file);
 }
 

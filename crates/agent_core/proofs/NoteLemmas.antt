@@ -157,6 +157,12 @@ taken-all past store left set beats was done =
     let none : was.rest ≡ [] = sym was.is_at.waiting ∙ done in
     ap beats_go_on (sym was.whole ∙ ap (with_all was.applied) none) ∙ was.go_on
 
+-- and this is what they leave
+pub taken-left : (past : List Event) (store : StoreState) (left : Left) (set : Settings) (beats : List StoreBeat) → HasTaken past store left set beats → IsReplayed store → left ≡ left_of beats
+taken-left past store left set beats was done =
+    let none : was.rest ≡ [] = sym was.is_at.waiting ∙ done in
+    was.left_is ∙ ap left_of (sym (ap (with_all was.applied) none) ∙ was.whole)
+
 -- what is known of a store's beats is known of a disk that it was opened on
 pub noted : (goes : Bool) (disk : File → List ℕ) (past : List Event) (store : StoreState) → ((set : Settings) (beats : List StoreBeat) → Stands set beats disk → OpensAt past store set beats)
     → (set : Settings) × (beats : List StoreBeat) × Stands set beats disk

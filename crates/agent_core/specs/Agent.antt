@@ -1,5 +1,5 @@
 -- What contracts see of an agent, and of what history an agent is.
-use Rattle.std.specs.Prelude.{◌≡◌, ◌⊎◌, ℕ, Bool, List, ◌∷◌, length, Option, Some, None, is_some}
+use Rattle.std.specs.Prelude.{◌≡◌, ◌⊎◌, ℕ, Bool, not, List, ◌∷◌, length, Option, Some, None, is_some}
 use Rattle.host_model.specs.Past.{Event}
 use Rattle.host_model.specs.Disks.{EveryDisk}
 use Rattle.algorithms.specs.declared.last.Last.{Last}
@@ -12,6 +12,8 @@ use Rattle.store_core.specs.declared.beat.Beat.{Beat as StoreBeat}
 use Rattle.store_core.specs.declared.fault.Why.{Why}
 use Rattle.store_core.specs.Store.{counted, IsReady, IsReplayed, IsStoreOf, StoreState}
 use Rattle.agent_core.specs.Kept.{AreBeatsOf, StandsForHistory}
+use Rattle.agent_core.specs.Notes.{left_of}
+use Rattle.agent_core.specs.Roles.{may_collect}
 
 pub record AgentState : Type 0 where
   pub store : StoreState
@@ -74,6 +76,11 @@ pub record IsSpentAfter (past : List Event) (agent : AgentState) (set : Settings
 -- the agent is of this history, or was
 abbrev pub IsSoundBy : List Event → AgentState → Settings → List Beat → Type 0
 IsSoundBy past agent set h = IsAgentOf past agent set h ⊎ IsSpentAfter past agent set h
+
+-- the agent was opened with these kept beats, of whatever history they are: it has what their notes leave
+pub record HasLeft (beats : List StoreBeat) (agent : AgentState) : Type 0 where
+  pub registry : agent.registry ≡ (left_of beats).registry
+  pub copies : agent.copies ≡ not (may_collect (left_of beats).role)
 
 -- an agent that was just made
 pub record IsNewAgent (set : Settings) (agent : AgentState) : Type 0 where

@@ -12,13 +12,14 @@ use Rattle.history.specs.History.{Beat, collected}
 use Rattle.collect_block.specs.declared.feed.Feed.{Feed}
 use Rattle.collect_block.specs.Feed.{IsFeedOf, Becomes, CountsAt, CountsFor}
 use Rattle.entry_codec.specs.declared.entry.Settings.{Settings}
-use Rattle.store_core.specs.Stands.{is_made, IsDamaged}
+use Rattle.store_core.specs.declared.beat.Beat.{Beat as StoreBeat}
+use Rattle.store_core.specs.Stands.{is_made, IsDamaged, Stands}
 use Rattle.store_core.specs.Store.{raised}
 use Rattle.agent_core.specs.declared.fault.AgentFault.{AgentFault}
 use Rattle.agent_core.specs.declared.fault.AgentFault.TheVariants.{DiskFault, NotADatabase, Damaged, Exists, Memory}
 use Rattle.agent_core.specs.declared.reply.Reply.{Reply}
 use Rattle.agent_core.specs.declared.reply.Said.{Said}
-use Rattle.agent_core.specs.Agent.{id_of, AgentIsReady, AgentState, IsAgentOf, IsNewAgent}
+use Rattle.agent_core.specs.Agent.{id_of, AgentIsReady, AgentState, HasLeft, IsAgentOf, IsNewAgent}
 use Rattle.agent_core.specs.Faults.{fault_after, IsCreating, IsOpening, LeavesAll, RefusedBy, Reopens}
 use Rattle.agent_core.specs.Fed.{IsFed}
 use Rattle.agent_core.specs.Kept.{StandsForHistory, StandsForNew, StandsForOneOf}
@@ -85,6 +86,8 @@ pub record Opens (honest : Type 0) (host : Seen) (result : Result AgentState Age
   pub opened : IfOk result (λ agent. honest → (set : Settings) (h : List Beat) → StandsForHistory set h (reads_as host.past) → IsAgentOf host'.past agent set h)
   pub ready : IfOk result (AgentIsReady honest host'.past)
   pub going : IfOk result (λ agent. agent.fault ≡ None)
+  -- whatever history that is: its registry is what the notes leave, and it copies where they do
+  pub left : IfOk result (λ agent. honest → (set : Settings) (beats : List StoreBeat) → Stands set beats (reads_as host.past) → HasLeft beats agent)
   -- what a stop leaves at any moment is what it may have left before, and all files read as before
   pub any_moment : honest → Throughout (EveryDisk (IsDisk host.past)) host.past host'.past
   pub same : honest → (file : File) → reads_as host'.past file ≡ reads_as host.past file

@@ -61,9 +61,9 @@ pub record IsCollectedOf (h : List Beat) (moment : ℕ) (beat : OpenBeat) (kept 
 
 -- ---- copies, gaps and configurations
 
--- the copied beat may follow the history: it is of the child that the history copies, if it copies, and later
+-- the copied beat may follow the history: this has collected nothing, and the beat is later
 pub record CopyFollows (h : List Beat) (copy : Copy) : Type 0 where
-  pub role : may_copy (role_of h) copy.child ≡ true
+  pub role : may_copy (role_of h) ≡ true
   pub later : last h < copy.moment
   pub may : MayCopy h copy
 
@@ -88,9 +88,9 @@ pub record IsCopyOf (h : List Beat) (copy : Copy) (kept : StoreBeat) : Type 0 wh
 abbrev pub gap_entry : Gap → Entry
 gap_entry gap = entry.Gap (record { child = gap.child; from = gap.from; to = gap.to })
 
--- what a store keeps of a gap of the child that the history copies, if it copies: the moment of its end, and its entry
+-- what a store keeps of a gap, where nothing was collected: the moment of its end, and its entry
 pub record IsGapOf (h : List Beat) (gap : Gap) (kept : StoreBeat) : Type 0 where
-  pub role : may_copy (role_of h) gap.child ≡ true
+  pub role : may_copy (role_of h) ≡ true
   pub later : last h < gap.to
   pub is_kept : kept ≡ record { moment = Some gap.to; points = []; note = entry_bytes (gap_entry gap) }
   pub spelt : HasSpelling (gap_entry gap)

@@ -22,7 +22,7 @@ use Rattle.agent_core.specs.Roles.{may_collect, may_copy, role_of}
 
 -- ---- the entry of a note
 
--- the moment of an entry's beat: a gap counts with its end, and a configuration has none
+-- the moment of an entry's beat: a gap counts with its end, and settings and a configuration have none
 abbrev pub moment_of : Entry → Option ℕ
 moment_of (entry.Settings set) = None
 moment_of (entry.Collected found) = Some found.moment
@@ -34,34 +34,34 @@ abbrev pub same_moment : Option ℕ → Option ℕ → Bool
 same_moment None moment = is_none moment
 same_moment (Some own) moment = is_number own moment
 
--- the entry that was read, if it is that of a beat at this moment
+-- the entry that was read, if this is its moment
 abbrev pub entry_at : Option ℕ → Result Entry EntryFault → Option Entry
 entry_at moment (Ok found) = if same_moment (moment_of found) moment then Some found else None
 entry_at moment (Err fault) = None
 
--- the entry in the note of a kept beat, if it is that of a beat at its moment
+-- the entry in the note of a kept beat, if its moment is that of the beat
 abbrev pub entry_in : StoreBeat → Option Entry
 entry_in kept = entry_at kept.moment (read_entry kept.note)
 
 -- ---- what an entry goes on from, and what it leaves
 
--- Whether an entry goes on: settings are no beat; a collected beat follows what is collected, copies and gaps
--- follow those of the same child, and what is defined goes on from what the registry has. The text of a
--- configuration is not read, nor the beginning of a gap.
+-- Whether an entry goes on: settings are no beat; collected beats do not mix with copies and gaps; and what is
+-- defined goes on from what the registry has. The text of a configuration is not read, and a gap's child and
+-- beginning are compared with nothing.
 abbrev pub entry_goes_on : Left → Entry → Bool
 entry_goes_on left (entry.Settings set) = false
 entry_goes_on left (entry.Collected found) = may_collect left.role && goes_on left.registry found
-entry_goes_on left (entry.Copied found) = may_copy left.role found.child && copied_goes_on left.registry found
+entry_goes_on left (entry.Copied found) = may_copy left.role && copied_goes_on left.registry found
 entry_goes_on left (entry.Health text) = true
-entry_goes_on left (entry.Gap gap) = may_copy left.role gap.child
+entry_goes_on left (entry.Gap gap) = may_copy left.role
 
 -- what is left once it is taken
 abbrev pub with_entry : Left → Entry → Left
 with_entry left (entry.Settings set) = left
 with_entry left (entry.Collected found) = record { registry = restored left.registry found; role = Collects }
-with_entry left (entry.Copied found) = record { registry = restored left.registry (defined_by found); role = Copies found.child }
+with_entry left (entry.Copied found) = record { registry = restored left.registry (defined_by found); role = Copies }
 with_entry left (entry.Health text) = left
-with_entry left (entry.Gap gap) = record { registry = left.registry; role = Copies gap.child }
+with_entry left (entry.Gap gap) = record { registry = left.registry; role = Copies }
 
 -- what is left once the note of a kept beat is taken, if it has such an entry
 abbrev pub with_note : Left → StoreBeat → Left

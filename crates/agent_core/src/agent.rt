@@ -10,7 +10,7 @@ ghost use Rattle.beat_points.specs.Text.{HaveDivisors};
 ghost use Rattle.entry_codec.specs.declared.entry.Settings.{Settings as ASettings};
 ghost use Rattle.store_core.specs.declared.beat.Beat.{Beat as StoreBeat};
 ghost use Rattle.store_core.specs.FirstRecord.{InLimits};
-ghost use Rattle.store_core.specs.Stands.{is_made, IsDamaged};
+ghost use Rattle.store_core.specs.Stands.{is_made, IsDamaged, Stands};
 ghost use Rattle.store_core.specs.Store.{raised, OpensAt};
 ghost use Rattle.agent_core.specs.Calls.{Beats, Creates, Lines, Opens};
 ghost use Rattle.agent_core.specs.Fed.{IsFed};
@@ -79,7 +79,7 @@ fn raised(count: u64) -> u64
 }
 
 impl Agent {
-    ghost use Rattle.agent_core.specs.Agent.{id_of, AgentIsReady, IsAgentOf, IsNewAgent};
+    ghost use Rattle.agent_core.specs.Agent.{id_of, AgentIsReady, HasLeft, IsAgentOf, IsNewAgent};
 
     /// Makes the agent of a history without beats, and its database, where there is none.
     ///
@@ -139,10 +139,11 @@ impl Agent {
     /// Opens the database of an agent and goes through all that it holds.
     ///
     /// `NotADatabase` exactly where there is none, and `Damaged` only where what is there stands for no
-    /// history: with 4 where its journal holds no settings and beats, and with 5 where an entry in it is none of
-    /// a beat or does not go on from those before, where collected beats and copies mix, where a definition in it
-    /// does not keep its limits, or where a point names a series that is not there. The words and steps of
-    /// points are not compared with their definition, and no text of a configuration is read.
+    /// history: with 4 where its journal holds no settings and beats, and with 5 where a note in it is no entry
+    /// of a beat with the moment of its record, or does not go on from those before, where collected beats and
+    /// copies mix, where a definition in it does not keep its limits, or where a point names a series that is not
+    /// there. The words and steps of points are not compared with their definition, the text of a configuration is
+    /// not read, and a gap's child and beginning are compared with nothing.
     /// At `Ok` the agent is of just the history that the disk stands for, if it stands for one. The disk is only
     /// read and synced.
     pub fn open<H: Host>(alloc: Global, host: &mut H) -> Result<Agent, AgentFault>
@@ -157,6 +158,7 @@ impl Agent {
             → IsAgentOf (H.past host.new) agent set h) }
         ensures ready { IfOk result (AgentIsReady H.honest (H.past host.new)) }
         ensures going { IfOk result (λ agent. agent.fault ≡ None) }
+        ensures left { IfOk result (λ agent. H.honest → (set : ASettings) (beats : List StoreBeat) → Stands set beats (reads_as (H.past host.old)) → HasLeft beats agent) }
         ensures any_moment { H.honest → Throughout (EveryDisk (IsDisk (H.past host.old))) (H.past host.old) (H.past host.new) }
         ensures same { H.honest → (file : AFile) → reads_as (H.past host.new) file ≡ reads_as (H.past host.old) file }
         ensures stands { H.honest → (set : ASettings) (h : List HistoryBeat) → StandsForHistory set h (reads_as (H.past host.old))
@@ -186,6 +188,7 @@ impl Agent {
             → IsAgentOf past agent set h) }
         ensures stands { IfErr result (λ fault. (past : List Event) (set : ASettings) (h : List HistoryBeat) → IsOpenedFor past store set h
             → fault ≡ AgentFault.Memory) }
+        ensures left { IfOk result (λ agent. (past : List Event) (set : ASettings) (beats : List StoreBeat) → OpensAt past store set beats → HasLeft beats agent) }
         ensures notes { OnOk result ((past : List Event) (set : ASettings) (beats : List StoreBeat) → OpensAt past store set beats → beats_go_on beats ≡ true) }
         ensures broken { IfErr result (λ fault. fault ≡ AgentFault.Damaged 5 → (past : List Event) (set : ASettings) (beats : List StoreBeat)
             → OpensAt past store set beats → beats_go_on beats ≡ false) }

@@ -4,16 +4,15 @@ ghost use Rattle.std.specs.Prelude.{◌≡◌};
 
 use chart_registry::Registry;
 
-/// What a history does. One that collects copies nobody, and one that copies has one child. A configuration
-/// decides nothing.
+/// What a history does: it collects, or it copies. A configuration decides nothing.
 #[derive(Clone, Copy, Debug, PartialEq, Eq)]
 pub enum Role {
     /// Nothing yet.
     Undecided,
     /// It has collected beats.
     Collects,
-    /// It has copied beats or gaps of the child with this number.
-    Copies(u64),
+    /// It has copied beats or gaps.
+    Copies,
 }
 
 impl Role {
@@ -25,18 +24,17 @@ impl Role {
     {
         match self {
             Role::Undecided | Role::Collects => true,
-            Role::Copies(_) => false,
+            Role::Copies => false,
         }
     }
 
-    /// Whether a beat or a gap of this child may be copied.
-    pub(crate) fn may_copy(self, child: u64) -> bool
-        ensures { result ≡ may_copy self child }
+    /// Whether a beat or a gap may be copied.
+    pub(crate) fn may_copy(self) -> bool
+        ensures { result ≡ may_copy self }
     {
         match self {
-            Role::Undecided => true,
+            Role::Undecided | Role::Copies => true,
             Role::Collects => false,
-            Role::Copies(own) => own == child,
         }
     }
 }

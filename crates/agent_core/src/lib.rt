@@ -14,7 +14,7 @@
 //! It stands on the store of `store_core`, which keeps of each beat its moment, its points by `beat_points`
 //! and its entry by `beat_entries`, on the feed of `collect_block` and on the numbers of `chart_registry`. It
 //! names no file and no byte of a journal. No call stores copies, gaps and configurations, but a database that
-//! holds them opens where its notes go on, and one that copies collects nothing.
+//! holds them opens where its notes go on, and then an agent with copies or gaps refuses every beat.
 #![tactic(auto)]
 
 mod agent;

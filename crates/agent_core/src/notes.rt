@@ -1,16 +1,17 @@
 //! What is taken of the note of a kept beat.
 
 ghost use Rattle.std.specs.Prelude.{◌≡◌, ◌⊎◌, ◌∷◌, List, Some, None, true, false, IfOk, IfErr, OnOk};
-ghost use Rattle.history.specs.History.{Beat as HistoryBeat, collected, registry_of};
+ghost use Rattle.history.specs.History.{Beat as HistoryBeat};
 ghost use Rattle.history.specs.Registry.{same_chart, same_dimension, with_definitions};
 ghost use Rattle.beat_points.specs.Regular.{AreApart, IsRegular};
 ghost use Rattle.beat_entries.specs.Copied.{copied_goes_on, defined_by};
 ghost use Rattle.beat_entries.specs.Restoring.{goes_on, restored, IsBeatOf as IsBeatOfEntry};
-ghost use Rattle.beat_entries.specs.declared.refusal.EntryRefusal.TheVariants.{NotNext};
+ghost use Rattle.beat_entries.specs.declared.refusal.EntryRefusal.TheVariants.{Memory as NoMemory, NotNext};
 ghost use Rattle.entry_codec.specs.Entries.{is_canonical, is_collected_canonical, is_copied_canonical};
 ghost use Rattle.store_core.specs.declared.beat.Beat.{Beat as StoreBeat};
 ghost use Rattle.agent_core.specs.Kept.{AreBeatsOf, IsBeatOf};
 ghost use Rattle.agent_core.specs.Notes.{entry_goes_on, entry_in, moment_of, names_series, takes_note, with_entry, with_note};
+ghost use Rattle.agent_core.specs.Roles.{may_copy};
 ghost use Rattle.agent_core.specs.Replay.{ArePartsOf, HasRows, IsRestored};
 
 use crate::fault::AgentFault;
@@ -19,12 +20,12 @@ use crate::left::{Left, Role};
 use beat_entries::{EntryRefusal, restore, restore_copied};
 use beat_points::LastRows;
 use chart_registry::Registry;
-use entry_codec::{Collected, Copied, Entry, EntryFault, Gap, read_entry};
+use entry_codec::{Collected, Copied, Entry, EntryFault, read_entry};
 use history::OpenBeat;
 use std::alloc::Global;
 use store_core::{Beat, BeatPoint};
 
-/// The moment of an entry's beat: a gap counts with its end, and a configuration has none.
+/// The moment of an entry's beat: a gap counts with its end, and settings and a configuration have none.
 fn moment_of(entry: &Entry) -> Option<u32>
     ensures { result ≡ moment_of entry.now }
 {
@@ -36,7 +37,7 @@ fn moment_of(entry: &Entry) -> Option<u32>
     }
 }
 
-/// The entry of a kept beat: that of a beat at its moment, or the database is damaged.
+/// The entry of a kept beat, with the beat's moment, or the database is damaged.
 fn entry_in(alloc: Global, kept: &Beat) -> Result<Entry, AgentFault>
     ensures found { IfOk result (λ entry. entry_in kept.now ≡ Some entry) }
     ensures canonical { IfOk result (λ entry. is_canonical entry ≡ true) }
@@ -61,6 +62,7 @@ fn entry_in(alloc: Global, kept: &Beat) -> Result<Entry, AgentFault>
 /// Why an entry is not taken: it does not go on, or there was no memory.
 fn fault_of(refusal: EntryRefusal) -> AgentFault
     ensures damaged { result ≡ AgentFault.Damaged 5 → refusal ≡ NotNext }
+    ensures memory { result ≡ AgentFault.Memory → refusal ≡ NoMemory }
     ensures faults { (result ≡ AgentFault.Memory) ⊎ (result ≡ AgentFault.Damaged 5) }
 {
     match refusal {
@@ -131,7 +133,7 @@ fn take_collected(
     Ok(())
 }
 
-/// Takes a copied beat: its definitions, and that its series have no rows yet.
+/// Takes a copied beat: its definitions. It has no rows, so the last rows only make room for its series.
 fn take_copied(
     alloc: Global,
     left: &mut Left,
@@ -145,30 +147,31 @@ fn take_copied(
     ensures broken { IfErr result (λ fault. fault ≡ AgentFault.Damaged 5 → entry_goes_on left.old (Entry.Copied entry.now) ≡ false) }
     ensures faults { IfErr result (λ fault. (fault ≡ AgentFault.Memory) ⊎ (fault ≡ AgentFault.Damaged 5)) }
 {
-    if !left.role.may_copy(entry.child) {
+    if !left.role.may_copy() {
         return Err(AgentFault::Damaged(5));
     }
     let defined = copied_of(alloc, &mut left.registry, entry)?;
     take_rows(last_rows, &left.registry, &defined, entry.moment)?;
-    left.role = Role::Copies(entry.child);
+    left.role = Role::Copies;
     Ok(())
 }
 
-/// Takes a gap: it is of the child that is copied.
-fn take_gap(left: &mut Left, gap: &Gap) -> Result<(), AgentFault>
-    ensures left { OnOk result (left.new ≡ with_entry left.old (Entry.Gap gap.now)) }
-    ensures next { OnOk result (entry_goes_on left.old (Entry.Gap gap.now) ≡ true) }
-    ensures broken { IfErr result (λ fault. fault ≡ AgentFault.Damaged 5 → entry_goes_on left.old (Entry.Gap gap.now) ≡ false) }
+/// Takes a gap, where nothing was collected.
+fn take_gap(left: &mut Left) -> Result<(), AgentFault>
+    ensures left { OnOk result (left.new ≡ record { registry = left.old.registry; role = Role.Copies }) }
+    ensures next { OnOk result (may_copy left.old.role ≡ true) }
+    ensures broken { IfErr result (λ fault. fault ≡ AgentFault.Damaged 5 → may_copy left.old.role ≡ false) }
     ensures faults { IfErr result (λ fault. fault ≡ AgentFault.Damaged 5) }
 {
-    if !left.role.may_copy(gap.child) {
-        return Err(AgentFault::Damaged(5));
+    if left.role.may_copy() {
+        left.role = Role::Copies;
+        Ok(())
+    } else {
+        Err(AgentFault::Damaged(5))
     }
-    left.role = Role::Copies(gap.child);
-    Ok(())
 }
 
-/// Takes the entry of a beat. Settings are none.
+/// Takes the entry of a beat, which settings are not.
 fn take_entry(
     alloc: Global,
     left: &mut Left,
@@ -187,7 +190,7 @@ fn take_entry(
         Entry::Collected(found) => take_collected(alloc, left, last_rows, found),
         Entry::Copied(found) => take_copied(alloc, left, last_rows, found),
         Entry::Health(_) => Ok(()),
-        Entry::Gap(gap) => take_gap(left, gap),
+        Entry::Gap(_) => take_gap(left),
     }
 }
 

@@ -1,6 +1,6 @@
 //! Copied beats.
 
-ghost use Rattle.std.specs.Prelude.{◌≡◌, ℕ, true, false, List, ◌∷◌, Option, IfOk, IfErr, OnOk};
+ghost use Rattle.std.specs.Prelude.{◌≡◌, true, false, List, ◌∷◌, Option, IfOk, IfErr, OnOk};
 ghost use Rattle.algorithms.specs.declared.last.Last.{Last};
 ghost use Rattle.std.specs.List.{list_all};
 ghost use Rattle.entry_codec.specs.Entries.{is_collected_canonical, is_copied_canonical};
@@ -71,9 +71,9 @@ pub fn restore_copied(
     }
 }
 
-/// The laws of a copied beat that may follow a history: its entry goes on from the history's registry, the
-/// entry's definitions leave the registry that the copied beat leaves, and so do the last rows, in which there
-/// is nothing of it. It does nothing.
+/// The laws of a copied beat that may follow a history: its entry goes on from the history's registry; what
+/// the entry defines leaves the registry that the copied beat leaves; and the last rows after a beat that was
+/// restored of it are those after the copied beat, which has no rows. It does nothing.
 pub fn any_copied()
     ensures next { (h : List Beat) (copy : Copy) → MayCopy h copy
         → copied_goes_on (registry_of h) (copied_entry_of (registry_of (copied copy ∷ h)) copy) ≡ true }

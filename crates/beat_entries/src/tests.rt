@@ -116,12 +116,14 @@ fn changed_copy(alloc: Global, place: usize, byte: u8) -> Result<String, Fail>
 }
 
 #[test]
-fn a_copied_number_that_is_not_the_next_is_not_next(rt: HostRuntime) -> Result<(), Fail> {
-    // The numbers of the chart, the dimension, its chart, and the word's series.
+fn a_copied_entry_of_another_number_is_not_next(rt: HostRuntime) -> Result<(), Fail> {
+    // Another number of the chart, of the dimension, of its chart, and of the word's series, and a chart's id
+    // without a dot. Whether the dimension is hidden may change.
     assert_eq!(rt; changed_copy(rt.alloc(), 17, 1)?.as_str(), "NotNext");
     assert_eq!(rt; changed_copy(rt.alloc(), 49, 1)?.as_str(), "NotNext");
     assert_eq!(rt; changed_copy(rt.alloc(), 53, 1)?.as_str(), "NotNext");
     assert_eq!(rt; changed_copy(rt.alloc(), 65, 1)?.as_str(), "NotNext");
+    assert_eq!(rt; changed_copy(rt.alloc(), 27, b'_')?.as_str(), "NotNext");
     assert_ne!(rt; changed_copy(rt.alloc(), 60, 0)?.as_str(), "NotNext");
     Ok(())
 }

@@ -1,6 +1,6 @@
 //! Which databases open, by their notes.
 
-ghost use Rattle.std.specs.Prelude.{◌≡◌, ◌<◌, ◌≤◌, ◌^◌, length, IfOk};
+ghost use Rattle.std.specs.Prelude.{◌<◌, ◌≤◌, ◌^◌, length, IfOk};
 ghost use Rattle.store_core.specs.Beats.{beat_bytes, InForm};
 
 use super::*;
@@ -141,8 +141,8 @@ fn a_database_of_copies_opens_and_collects_nothing(rt: HostRuntime) -> Result<()
         dimensions: 1,
     };
     assert_eq!(rt; opened(alloc, &mut host)?, two);
-    let none = AgentFault::Refused(BlockFault::MixedRoles);
-    assert_eq!(rt; mixed(alloc, &mut host)?, Some(none));
+    let refused = AgentFault::Refused(BlockFault::MixedRoles);
+    assert_eq!(rt; mixed(alloc, &mut host)?, Some(refused));
     Ok(())
 }
 
@@ -160,10 +160,10 @@ fn changed_copy(alloc: Global, place: usize, byte: u8) -> Result<Option<AgentFau
 fn a_copied_beat_that_does_not_go_on_is_damage(rt: HostRuntime) -> Result<(), Fail> {
     let alloc = rt.alloc();
     let damaged = Some(AgentFault::Damaged(5));
-    // The moment itself changes nothing.
+    // The same moment, and another child than that of the gap.
     assert_eq!(rt; changed_copy(alloc, 9, 61)?, None);
-    // Another child, another moment, a chart's number that is not the next, and a word of no series.
-    assert_eq!(rt; changed_copy(alloc, 1, 8)?, damaged);
+    assert_eq!(rt; changed_copy(alloc, 1, 8)?, None);
+    // Another moment, a chart's number that is not the next, and a word of no series.
     assert_eq!(rt; changed_copy(alloc, 9, 62)?, damaged);
     assert_eq!(rt; changed_copy(alloc, 17, 1)?, damaged);
     assert_eq!(rt; changed_copy(alloc, 53, 1)?, damaged);
@@ -195,7 +195,7 @@ fn a_configuration_has_no_moment(rt: HostRuntime) -> Result<(), Fail> {
 }
 
 #[test]
-fn what_collects_has_no_gap(rt: HostRuntime) -> Result<(), Fail> {
+fn a_gap_behind_a_collected_beat_is_damage(rt: HostRuntime) -> Result<(), Fail> {
     let alloc = rt.alloc();
     let mut bytes = *GAP;
     bytes[13] = 61;
@@ -203,6 +203,20 @@ fn what_collects_has_no_gap(rt: HostRuntime) -> Result<(), Fail> {
     let beat = kept(alloc, Some(60), EMPTY.as_slice(), &[])?;
     assert_eq!(rt;
         opened_two(alloc, &beat, &gap)?,
+        Some(AgentFault::Damaged(5))
+    );
+    Ok(())
+}
+
+#[test]
+fn a_collected_beat_behind_a_gap_is_damage(rt: HostRuntime) -> Result<(), Fail> {
+    let alloc = rt.alloc();
+    let mut bytes = *EMPTY;
+    bytes[1] = 61;
+    let gap = kept(alloc, Some(60), GAP.as_slice(), &[])?;
+    let beat = kept(alloc, Some(61), bytes.as_slice(), &[])?;
+    assert_eq!(rt;
+        opened_two(alloc, &gap, &beat)?,
         Some(AgentFault::Damaged(5))
     );
     Ok(())

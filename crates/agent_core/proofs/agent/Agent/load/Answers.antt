@@ -32,3 +32,8 @@ returns-in-Ok-clause-damaged_notes g c is true_host =
     let disk = reads_as (g.H.Host.past c.args.host.now) in
     let past = g.H.Host.past c.open_store.new.host in
     noted false disk past c.in-Ok.store (c.in-Ok.ensures.opened true_host) (c.in-Ok.ensures.found true_host) (IfErr-at_err _ is c.replayed.ensures.broken refl)
+
+pub returns-in-Ok-clause-left : goal.returns-in-Ok-clause-left
+returns-in-Ok-clause-left g c =
+    let past = g.H.Host.past c.open_store.new.host in
+    IfOk-weaker c.replayed.result _ _ (λ agent left true_host set beats stands. left past set beats (c.in-Ok.ensures.opened true_host set beats stands)) c.replayed.ensures.left

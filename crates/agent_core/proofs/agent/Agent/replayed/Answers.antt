@@ -1,10 +1,11 @@
-use Rattle.std.proofs.Common.{◌≡◌, not, [], refl, ap}
+use Rattle.std.proofs.Common.{◌≡◌, not, [], refl, ap, ◌∙◌}
 use Rattle.std.proofs.lemmas.Result.{err_from_is_err_and}
 use Rattle.history.specs.Registry.{Registry, empty}
 use Rattle.agent_core.specs.declared.left.Left.{Left}
 use Rattle.agent_core.specs.declared.left.Role.TheVariants.{Undecided}
 use Rattle.agent_core.specs.Notes.{left_by}
-use Rattle.agent_core.proofs.NoteLemmas.{taken-all, taken-begins}
+use Rattle.agent_core.specs.Roles.{may_collect}
+use Rattle.agent_core.proofs.NoteLemmas.{taken-all, taken-begins, taken-left}
 use Rattle.agent_core.proofs.OpeningLemmas.{replayed-is_of, replaying-begins}
 use Rattle.agent_core.proofs.agent.Agent.replayed.Goals as goal
 
@@ -40,3 +41,13 @@ returns-clause-notes c past set beats opens =
     taken-all past c.replay_all.new.store c.replay_all.new.left set beats
     (c.in_ok-replay_all.ensures.notes past set beats (taken-begins past c.args.store (starts c.new.result) set beats opens (starts-empty c.new.result c.new.ensures)))
     c.in_ok-replay_all.ensures.done
+
+pub returns-clause-left : goal.returns-clause-left
+returns-clause-left c past set beats opens =
+    let left = taken-left past c.replay_all.new.store c.replay_all.new.left set beats
+    (c.in_ok-replay_all.ensures.notes past set beats (taken-begins past c.args.store (starts c.new.result) set beats opens (starts-empty c.new.result c.new.ensures)))
+    c.in_ok-replay_all.ensures.done in
+    record {
+      registry = ap (λ (l : Left). l.registry) left;
+      copies = ap not c.may_collect-copies.ensures ∙ ap (λ (l : Left). not (may_collect l.role)) left;
+    }
