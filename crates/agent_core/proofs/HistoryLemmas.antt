@@ -13,6 +13,7 @@ use Rattle.history.specs.Registry.{Registry, same_dimension}
 use Rattle.beat_points.specs.Points.{IsBefore}
 use Rattle.beat_entries.specs.Copied.{IsUsualDimension}
 use Rattle.beat_points.proofs.LawLemmas.{before-collected, before-none}
+use Rattle.beat_points.proofs.OrderLemmas.{all-weaker}
 use Rattle.store_core.specs.declared.beat.Beat.{Beat as StoreBeat}
 use Rattle.agent_core.specs.Kept.{AreBeatsOf, Follows}
 use Rattle.agent_core.specs.Roles.{may_collect, role_of}
@@ -87,15 +88,15 @@ open-divides : (beat : OpenBeat) → IsOpenBeat beat → AllByRecursion Divides 
 open-divides beat is_open = recursion_from_All Divides beat.dimensions is_open.divisors
 
 -- a usual dimension divides by 1
-usual-divides : (dimensions : List OpenDim) → AllByRecursion IsUsualDimension dimensions → AllByRecursion Divides dimensions
-usual-divides [] usual = tt
-usual-divides (dimension ∷ dimensions) usual = (λ e. one (sym (ap (λ (def : DimDef). def.divisor) usual.0) ∙ e), usual-divides dimensions usual.1)
+usual-divides : (dimension : OpenDim) → IsUsualDimension dimension → Divides dimension
+usual-divides dimension usual e = one (sym (ap (λ (def : DimDef). def.divisor) usual) ∙ e)
   where
     one : pos 1 ≡ pos 0 → ⊥
     one e = cc
 
 copy-divides : (copy : Copy) → All IsUsualDimension copy.dimensions → AllByRecursion Divides copy.dimensions
-copy-divides copy usual = usual-divides copy.dimensions (recursion_from_All IsUsualDimension copy.dimensions usual)
+copy-divides copy usual =
+    all-weaker IsUsualDimension Divides usual-divides copy.dimensions (recursion_from_All IsUsualDimension copy.dimensions usual)
 
 divides-of : (h : List Beat) (beats : List StoreBeat) → AreBeatsOf h beats → AllByRecursion Divides (registry_of h).dimensions
 divides-of [] beats are = tt

@@ -1,13 +1,12 @@
 -- What the notes of kept beats leave as they are replayed, of whatever beats they are.
-use Rattle.std.proofs.Common.{◌≡◌, ℕ, Bool, true, false, ◌&&◌, List, [], ◌∷◌, Option, Some, None, Ok, Err, refl, sym, ap, ◌∙◌, true≢false, if◌then◌else◌}
+use Rattle.std.proofs.Common.{◌≡◌, ℕ, Bool, true, false, ◌&&◌, List, [], ◌∷◌, Option, Some, None, Ok, refl, sym, ap, ◌∙◌, true≢false, if◌then◌else◌}
 use Rattle.std.specs.Option.{option_map_or}
 use Rattle.host_model.specs.declared.file.File.{File}
 use Rattle.host_model.specs.Past.{Event}
 use Rattle.entry_codec.specs.declared.entry.Entry.{Entry}
 use Rattle.entry_codec.specs.declared.entry.Settings.{Settings}
-use Rattle.entry_codec.specs.declared.fault.EntryFault.{EntryFault}
 use Rattle.entry_codec.specs.Entries.{read_entry}
-use Rattle.beat_entries.proofs.Steps.{number-no, number-yes}
+use Rattle.beat_entries.proofs.Steps.{number-yes}
 use Rattle.store_core.specs.declared.beat.Beat.{Beat as StoreBeat}
 use Rattle.store_core.specs.Records.{with_all}
 use Rattle.store_core.specs.Stands.{Stands}
@@ -18,32 +17,15 @@ use Rattle.agent_core.specs.Notes.{beats_go_on, entry_at, entry_goes_on, entry_i
 use Rattle.agent_core.specs.Replay.{HasTaken}
 
 -- ---- the entry of a note
-pub same-yes : (own moment : Option ℕ) → own ≡ moment → same_moment own moment ≡ true
-same-yes own moment e = ap (same_moment own) (sym e) ∙ itself own
-  where
-    itself : (own : Option ℕ) → same_moment own own ≡ true
-    itself None = refl
-    itself (Some moment) = number-yes moment moment (Some moment) refl refl
+same-itself : (moment : Option ℕ) → same_moment moment moment ≡ true
+same-itself None = refl
+same-itself (Some moment) = number-yes moment moment (Some moment) refl refl
 
-pub same-no : (own moment : Option ℕ) → (own ≡ moment → ⊥) → same_moment own moment ≡ false
-same-no None None other = absurd (other refl)
-same-no None (Some moment) other = refl
-same-no (Some own) None other = refl
-same-no (Some own) (Some moment) other = number-no own moment (Some moment) refl (λ e. other (ap Some (sym e)))
-
--- what is read is the entry where it is of a beat at this moment, and else there is none
-module _ (kept : StoreBeat) (found : Entry) (reads : read_entry kept.note ≡ Ok found) where
-  abbrev if_same : Bool → Option Entry
-  if_same b = if b then Some found else None
-
-  pub found-in : moment_of found ≡ kept.moment → entry_in kept ≡ Some found
-  found-in at = ap (entry_at kept.moment) reads ∙ ap if_same (same-yes (moment_of found) kept.moment at)
-
-  pub absent-in : (moment_of found ≡ kept.moment → ⊥) → entry_in kept ≡ None
-  absent-in other = ap (entry_at kept.moment) reads ∙ ap if_same (same-no (moment_of found) kept.moment other)
-
-pub unread-in : (kept : StoreBeat) (fault : EntryFault) → read_entry kept.note ≡ Err fault → entry_in kept ≡ None
-unread-in kept fault reads = ap (entry_at kept.moment) reads
+-- what is read is the entry, where it is of a beat at this moment
+pub found-in : (kept : StoreBeat) (found : Entry) → read_entry kept.note ≡ Ok found → kept.moment ≡ moment_of found → entry_in kept ≡ Some found
+found-in kept found reads at =
+    ap (entry_at kept.moment) reads ∙ ap (λ (moment : Option ℕ). if same_moment (moment_of found) moment then Some found else None) at
+    ∙ ap (λ (b : Bool). if b then Some found else None) (same-itself (moment_of found))
 
 -- a beat is not taken whose entry does not go on
 never-goes : (left : Left) (kept : StoreBeat) → option_map_or (entry_goes_on left) (entry_in kept) false ≡ false → takes_note left kept ≡ false

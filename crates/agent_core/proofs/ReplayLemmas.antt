@@ -1,6 +1,6 @@
 -- A kept beat has an entry that goes on from what is before it, and leaves what the beat leaves.
-use Rattle.std.proofs.Common.{◌≡◌, ◌<◌, ◌⊎◌, inl, inr, lt-ltb, Bool, true, false, not, ◌&&◌, List, [], ◌∷◌, length, map, Option, Some, refl, sym, ap, ◌∙◌, subst, true≢false}
-use Rattle.std.specs.List.{AllByRecursion}
+use Rattle.std.proofs.Common.{◌≡◌, ◌<◌, ◌⊎◌, inl, inr, lt-ltb, true, false, ◌&&◌, nat_lt, List, [], ◌∷◌, length, Option, Some, refl, sym, ap, ◌∙◌, subst, true≢false}
+use Rattle.std.proofs.lemmas.Bool.{not-false}
 use Rattle.std.proofs.lemmas.List.Elements.{recursion_from_All}
 use Rattle.std.proofs.lemmas.Option.{same_Some}
 use Rattle.algorithms.specs.declared.last.Last.{Last}
@@ -16,11 +16,12 @@ use Rattle.entry_codec.proofs.EntriesLaw.{reads_back}
 use Rattle.beat_entries.specs.Copied.{defined_by}
 use Rattle.beat_entries.specs.Entry.{entry_of}
 use Rattle.beat_entries.proofs.AlikeLemmas.{beats-alike, lasts-alike}
-use Rattle.beat_entries.proofs.CopiedLemmas.{copied-last, copied-next, copied-registry}
+use Rattle.beat_entries.proofs.CopiedLemmas.{all-mapped, copied-last, copied-next, copied-registry}
 use Rattle.beat_entries.proofs.DefinedLemmas.{chart-alike, chart-itself, dimension-alike, dimension-itself}
 use Rattle.beat_entries.proofs.FollowLemmas.{beat-goes-on, last-is}
 use Rattle.beat_entries.proofs.PutLemmas.{apart-put_all}
 use Rattle.store_core.specs.declared.beat.Beat.{Beat as StoreBeat}
+use Rattle.store_core.specs.declared.beat.BeatPoint.{BeatPoint}
 use Rattle.agent_core.specs.declared.fault.AgentFault.{AgentFault}
 use Rattle.agent_core.specs.declared.fault.AgentFault.TheVariants.{Damaged, Memory}
 use Rattle.agent_core.specs.declared.left.Left.{Left}
@@ -44,7 +45,7 @@ entry_for g (missing gap) = gap_entry gap
 
 -- ---- the note has the entry
 has-entry : (kept : StoreBeat) (found : Entry) → kept.note ≡ entry_bytes found → HasSpelling found → kept.moment ≡ moment_of found → entry_in kept ≡ Some found
-has-entry kept found note spelt at = found-in kept found (ap read_entry note ∙ reads_back found spelt) (sym at)
+has-entry kept found note spelt at = found-in kept found (ap read_entry note ∙ reads_back found spelt) at
 
 pub note-is : (g : List Beat) (beat : Beat) (kept : StoreBeat) → IsBeatOf g beat kept → entry_in kept ≡ Some (entry_for g beat)
 note-is g (collected moment beat) kept of =
@@ -57,20 +58,10 @@ note-is g (missing gap) kept of =
     has-entry kept (entry_for g (missing gap)) (ap (λ (k : StoreBeat). k.note) of.is_kept) of.spelt (ap (λ (k : StoreBeat). k.moment) of.is_kept)
 
 -- ---- the entry goes on
-not-false : (b : Bool) → false ≡ not b → b ≡ true
-not-false true e = refl
-not-false false e = e
-
--- each word names a series, and so does its point
-words-named : (registry : Registry) (words : List Word) → AllByRecursion (λ (word : Word). word.series < length registry.dimensions) words
-    → names_series registry (map (copied_point registry) words) ≡ true
-words-named registry [] all = refl
-words-named registry (word ∷ words) all = λ i. lt-ltb word.series (length registry.dimensions) all.0 i && words-named registry words all.1 i
-
 module _ (g : List Beat) (beats : List StoreBeat) (are : AreBeatsOf g beats) where
   pub entry-goes : (beat : Beat) (kept : StoreBeat) → IsBeatOf g beat kept → entry_goes_on (left_by g) (entry_for g beat) ≡ true
   entry-goes (collected moment beat) kept of =
-      let may = not-false (may_collect (role_of g)) (sym (follows-alone g moment beat of.follows) ∙ copies-of g beats are) in
+      let may = not-false (may_collect (role_of g)) (sym (copies-of g beats are) ∙ follows-alone g moment beat of.follows) in
       let goes = beat-goes-on g moment beat (follows-owned g moment beat of.follows) (follows-may g moment beat of.follows (within-of g beats are)) (follows-regular g moment beat of.follows) in
       λ i. may i && goes i
   entry-goes (copied copy) kept of = λ i. of.follows.role i && copied-next g copy of.follows.may i
@@ -92,7 +83,8 @@ module _ (g : List Beat) (beats : List StoreBeat) (are : AreBeatsOf g beats) whe
   points-there (copied copy) kept of =
       let registry = registry_of (copied copy ∷ g) in
       ap (λ (k : StoreBeat). names_series registry k.points) of.is_kept
-      ∙ words-named registry copy.words (recursion_from_All (λ (word : Word). word.series < length registry.dimensions) copy.words of.follows.may.words)
+      ∙ all-mapped (λ (word : Word). word.series < length registry.dimensions) (copied_point registry) (λ (point : BeatPoint). nat_lt point.series (length registry.dimensions))
+      (λ word below. lt-ltb word.series (length registry.dimensions) below) copy.words (recursion_from_All (λ (word : Word). word.series < length registry.dimensions) copy.words of.follows.may.words)
   points-there (health text) kept of = ap (λ (k : StoreBeat). names_series (registry_of g) k.points) of.is_kept
   points-there (missing gap) kept of = ap (λ (k : StoreBeat). names_series (registry_of g) k.points) of.is_kept
 

@@ -39,20 +39,27 @@ use Rattle.beat_entries.proofs.Gathering.{map-some}
 use Rattle.beat_entries.proofs.RestoringLemmas.{restored-is}
 use Rattle.beat_entries.proofs.Steps.{and-no}
 
+-- ---- mapped lists
+mapped-back : {X Y : Type 0} (P : Y → Type 0) (tell : Y → X) (full : X → Y) → ((y : Y) → P y → full (tell y) ≡ y) → (ys : List Y) → AllByRecursion P ys → map full (map tell ys) ≡ ys
+mapped-back P tell full back [] all = refl
+mapped-back P tell full back (y ∷ ys) all = λ i. back y all.0 i ∷ mapped-back P tell full back ys all.1 i
+
+pub all-mapped : {X Y : Type 0} (P : X → Type 0) (f : X → Y) (q : Y → Bool) → ((x : X) → P x → q (f x) ≡ true) → (xs : List X) → AllByRecursion P xs → list_all q (map f xs) ≡ true
+all-mapped P f q passes [] all = refl
+all-mapped P f q passes (x ∷ xs) all = λ i. passes x all.0 i && all-mapped P f q passes xs all.1 i
+
 -- ---- what is told of usual definitions tells all
 abbrev IsUsualNumbered : NumberedChart → Type 0
 IsUsualNumbered chart = IsUsualChart chart.def
 
 charts-told : (charts : List NumberedChart) → AllByRecursion IsUsualNumbered charts → map full_chart (map told_chart charts) ≡ charts
-charts-told [] usual = refl
-charts-told (chart ∷ charts) usual = λ i. record { number = chart.number; def = sym usual.0 i } ∷ charts-told charts usual.1 i
+charts-told = mapped-back IsUsualNumbered told_chart full_chart (λ chart usual. λ i. record { number = chart.number; def = sym usual i })
 
 abbrev IsUsualSeries : NumberedDimension → Type 0
 IsUsualSeries dimension = dimension.def ≡ usual_dimension dimension.def.id dimension.def.hidden
 
 dimensions-told : (dimensions : List NumberedDimension) → AllByRecursion IsUsualSeries dimensions → map full_dimension (map told_dimension dimensions) ≡ dimensions
-dimensions-told [] usual = refl
-dimensions-told (dimension ∷ dimensions) usual = λ i. record { series = dimension.series; chart = dimension.chart; def = sym usual.0 i } ∷ dimensions-told dimensions usual.1 i
+dimensions-told = mapped-back IsUsualSeries told_dimension full_dimension (λ dimension usual. λ i. record { series = dimension.series; chart = dimension.chart; def = sym usual i })
 
 -- ---- a beat without rows
 module _ (r : Registry) (charts : List ChartDef) (dimensions : List OpenDim) where
@@ -120,9 +127,8 @@ module _ (h : List Beat) (copy : Copy) (may : MayCopy h copy) where
   pub copied-registry : restored first (defined_by entry) ≡ r
   copied-registry = ap (restored first) defined-is ∙ sym (last-is h copy.moment beat may.owned may.may)
 
-  words-named : (words : List Word) → AllByRecursion (λ (word : Word). word.series < length r.dimensions) words → list_all (names_word r) (map told_word words) ≡ true
-  words-named [] all = refl
-  words-named (word ∷ words) all = λ i. lt-ltb word.series (length r.dimensions) all.0 i && words-named words all.1 i
+  abbrev IsNamed : Word → Type 0
+  IsNamed word = word.series < length r.dimensions
 
   pub copied-next : copied_goes_on first entry ≡ true
   copied-next =
@@ -130,7 +136,7 @@ module _ (h : List Beat) (copy : Copy) (may : MayCopy h copy) where
       = ap (goes_on first) defined-is ∙ beat-goes-on h copy.moment beat may.owned may.may (regular-without r copy.charts copy.dimensions) in
       let words : list_all (names_word (restored first (defined_by entry))) entry.words ≡ true
       = ap (λ (s : Registry). list_all (names_word s) entry.words) copied-registry
-      ∙ words-named copy.words (recursion_from_All (λ (word : Word). word.series < length r.dimensions) copy.words may.words) in
+      ∙ all-mapped IsNamed told_word (names_word r) (λ word below. lt-ltb word.series (length r.dimensions) below) copy.words (recursion_from_All IsNamed copy.words may.words) in
       λ i. goes i && words i
 
 -- ---- the last rows
