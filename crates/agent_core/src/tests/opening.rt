@@ -6,6 +6,9 @@ ghost use Rattle.store_core.specs.Beats.{beat_bytes, InForm};
 use super::*;
 use store_core::{Beat, BeatPoint, BeatPointList, ByteList, Store, StoreFault};
 
+/// A beat that was collected at 60 and says nothing.
+const EMPTY: &[u8; 17] = b"\x01\x3c\0\0\0\0\0\0\0\0\0\0\0\0\0\0\0";
+
 /// The point of a series with the word of 42.
 fn point(series: u32) -> BeatPoint {
     BeatPoint {
@@ -72,9 +75,7 @@ fn noted(alloc: Global, bytes: &[u8], points: &[BeatPoint]) -> Result<Option<Age
 #[test]
 fn a_note_that_is_no_entry_is_damage(rt: HostRuntime) -> Result<(), Fail> {
     let alloc = rt.alloc();
-    // The entry of a beat at 60 that says nothing.
-    let empty = b"\x01\x3c\0\0\0\0\0\0\0\0\0\0\0\0\0\0\0";
-    assert_eq!(rt; noted(alloc, empty, &[])?, None);
+    assert_eq!(rt; noted(alloc, EMPTY.as_slice(), &[])?, None);
     // The same at 61, with a byte behind it, and with a row of a chart that is not there.
     let damaged = Some(AgentFault::Damaged(5));
     let later = b"\x01\x3d\0\0\0\0\0\0\0\0\0\0\0\0\0\0\0";
@@ -84,7 +85,7 @@ fn a_note_that_is_no_entry_is_damage(rt: HostRuntime) -> Result<(), Fail> {
     let row = b"\x01\x3c\0\0\0\0\0\0\0\0\0\0\0\x01\0\0\0\0\0\0\0\0\0\0\0";
     assert_eq!(rt; noted(alloc, row, &[])?, damaged);
     // A point of a series that is not there.
-    assert_eq!(rt; noted(alloc, empty, &[point(0)])?, damaged);
+    assert_eq!(rt; noted(alloc, EMPTY.as_slice(), &[point(0)])?, damaged);
     Ok(())
 }
 
@@ -110,9 +111,6 @@ const HEALTH: &[u8; 6] = b"\x03\x01\0\0\0x";
 /// A beat that was copied of the child 7 at 61: the chart a.b with a dimension d, and the word of 42.
 const COPY: &[u8; 61] =
     b"\x02\x07\0\0\0\0\0\0\0\x3d\0\0\0\x01\0\0\0\0\0\0\0\x03\0a.b\x01\0c\x01\0\0\0\x01\0\0\0\0\0\0\0\0\0\0\0\x01\0d\0\x01\0\0\0\0\0\0\0\x40\x16\x40\x29";
-
-/// A beat that was collected at 60 and says nothing.
-const EMPTY: &[u8; 17] = b"\x01\x3c\0\0\0\0\0\0\0\0\0\0\0\0\0\0\0";
 
 /// The host of a database with a gap, and a copied beat behind it.
 fn copying(alloc: Global, copy: &[u8], points: &[BeatPoint]) -> Result<MemoryHost, Fail> {
