@@ -1,6 +1,6 @@
 -- what a crash may leave of one file, from what has happened to it since its last sync
 use Rattle.std.proofs.Common.{◌≡◌, ℕ, ◌+◌, ◌<◌, ◌≤◌, List, [], ◌∷◌, ◌++◌, length, max, take, drop, refl, sym, ap, ◌∙◌, inl, inr, arith}
-use Rattle.std.proofs.lemmas.List.{append-nil, append_assoc, length-append, length-take, length-drop, get_or-take, get_or-drop, ext_get_or, take_all, drop_all, take_at, drop_at, take-take, take-append-le}
+use Rattle.std.proofs.lemmas.List.{append-nil, append_assoc, length-append, length-take, length-drop, get_or-take, get_or-drop, ext_get_or, take_all, drop_all, take_at, drop_at, drop-drop, take-take, take-append-le}
 use Rattle.host_model.specs.Images.{Change, Wrote, Cut, Synced, contents, written, synced, least, greatest, IsUntouched, IsImage, IsSynced}
 
 -- a file with no change since its last sync has one image, and that is what it reads as
@@ -185,3 +185,12 @@ read-written old at bytes within =
     ap (λ (l : List ℕ). drop at l) (append_assoc (take at old) bytes (drop (at + length bytes) old))
     ∙ drop_at (take at old) (bytes ++ drop (at + length bytes) old) at size in
     ap (λ (l : List ℕ). take (length bytes) l) rest ∙ take_at bytes (drop (at + length bytes) old) (length bytes) refl
+
+-- bytes written behind the front of a list
+pub written-behind : (front rest : List ℕ) (at : ℕ) (bytes : List ℕ) → length front ≡ at
+    → written (front ++ rest) at bytes ≡ (front ++ bytes) ++ drop (length bytes) rest
+written-behind front rest at bytes size =
+    let before : take at (front ++ rest) ≡ front = take_at front rest at size in
+    let after : drop (at + length bytes) (front ++ rest) ≡ drop (length bytes) rest =
+    sym (drop-drop (length bytes) at (front ++ rest)) ∙ ap (λ (l : List ℕ). drop (length bytes) l) (drop_at front rest at size) in
+    rw (before, after) refl

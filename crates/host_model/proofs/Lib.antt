@@ -6,4 +6,5 @@ mod LeftLemmas
 pub mod MomentLemmas
 mod Rows
 pub mod RunLemmas
+pub mod SizeLemmas
 mod StopLemmas

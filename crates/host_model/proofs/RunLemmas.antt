@@ -6,7 +6,7 @@ use Rattle.host_model.specs.Images.{Wrote, Cut, Synced, contents, synced, IsImag
 use Rattle.host_model.specs.Past.{Event, On, of, MayAdd}
 use Rattle.host_model.specs.Moments.{Throughout, EveryImage}
 use Rattle.host_model.proofs.FileLemmas.{image_when_synced, contents-synced, IsFrom, IsFrom-synced, front_kept, IsWithin, IsWithin-synced, KeepsAround, around_kept}
-use Rattle.host_model.proofs.MomentLemmas.{of-on_same}
+use Rattle.host_model.proofs.MomentLemmas.{at_end, joined, of-on_same}
 use Rattle.host_model.proofs.CallLemmas.{changed, settled}
 
 -- a sync that succeeds keeps what holds of each image
@@ -121,3 +121,38 @@ write_within honest result file from to at bytes after old past new h behind bef
     run
     (RunsWithin-write file from to at (length bytes) after old past behind before run)
     (λ now. RunsWithin-write file from to at (length bytes) now old past behind before run)
+
+-- one more call
+
+-- one more write from a place on
+pub then_from : {T E : Type 0} (honest : Type 0) (result : Result T E) (file : File) (from at : ℕ) (bytes after : List ℕ) (old past new : List Event) → honest → from ≤ at
+    → OnOk result (honest → new ≡ On file (Wrote at (length bytes) after) ∷ past)
+    → OnErr result (honest → MayAdd (λ now. On file (Wrote at (length bytes) now)) past new)
+    → Throughout (RunsFrom file from old) old past → Throughout (RunsFrom file from old) old new
+then_from honest result file from at bytes after old past new h behind done torn moments =
+    joined moments (write_from honest result file from at bytes after old past new h behind done torn (at_end moments))
+
+-- one more cut to a place at or behind it
+pub then_cut : {T E : Type 0} (honest : Type 0) (result : Result T E) (file : File) (from len : ℕ) (after : List ℕ) (old past new : List Event) → honest → from ≤ len
+    → OnOk result (honest → new ≡ On file (Cut len after) ∷ past)
+    → OnErr result (honest → MayAdd (λ now. On file (Cut len now)) past new)
+    → Throughout (RunsFrom file from old) old past → Throughout (RunsFrom file from old) old new
+then_cut honest result file from len after old past new h behind done torn moments =
+    joined moments (cut_from honest result file from len after old past new h behind done torn (at_end moments))
+
+-- one more write within a range
+pub then_within : {T E : Type 0} (honest : Type 0) (result : Result T E) (file : File) (from to at : ℕ) (bytes after : List ℕ) (old past new : List Event) → honest
+    → from ≤ at → at + length bytes ≤ to
+    → OnOk result (honest → new ≡ On file (Wrote at (length bytes) after) ∷ past)
+    → OnErr result (honest → MayAdd (λ now. On file (Wrote at (length bytes) now)) past new)
+    → Throughout (RunsWithin file from to old) old past → Throughout (RunsWithin file from to old) old new
+then_within honest result file from to at bytes after old past new h behind before done torn moments =
+    joined moments (write_within honest result file from to at bytes after old past new h behind before done torn (at_end moments))
+
+-- one more sync
+pub then_sync : {T E : Type 0} (P : List ℕ → Type 0) (honest : Type 0) (result : Result T E) (file : File) (old past new : List Event) → honest
+    → OnOk result (honest → new ≡ On file Synced ∷ past) → OnErr result (honest → new ≡ past)
+    → IsImage (of file past) (contents (of file past))
+    → Throughout (EveryImage file P) old past → Throughout (EveryImage file P) old new
+then_sync P honest result file old past new h done torn reads moments =
+    joined moments (images_in_sync P honest result file past new h done torn reads (at_end moments))

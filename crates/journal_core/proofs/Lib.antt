@@ -1,10 +1,8 @@
-pub mod CallLemmas
 pub mod FormLemmas
 pub mod GrammarLemmas
 pub mod HeaderLemmas
 pub mod NextLemmas
 pub mod PieceLemmas
 pub mod ReadLemmas
-pub mod ShortLemmas
 pub mod StoreLemmas
 mod Rows

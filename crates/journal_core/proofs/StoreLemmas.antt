@@ -1,30 +1,22 @@
 -- what a record that is being stored leaves of a journal
 use Rattle.std.proofs.Common.{◌≡◌, ℕ, ◌+◌, ◌<◌, ◌≤◌, inl, inr, ⊎_elim, List, [], ◌∷◌, ◌++◌, length, take, drop, get_or, Result, Ok, Err, false, ◌-◌, refl, sym, ap, ◌∙◌, subst, arith, append_assoc, length-append}
-use Rattle.std.specs.Result.{OnOk, OnErr, is_err}
+use Rattle.std.specs.Result.{OnOk, is_err}
 use Rattle.std.specs.List.{AllByRecursion}
 use Rattle.std.proofs.lemmas.Bool.{cases_eq}
-use Rattle.std.proofs.lemmas.List.{take-append-drop, take_at, drop_at, drop-drop, drop_more, length-take}
+use Rattle.std.proofs.lemmas.List.{take-append-drop, take_at, drop_at, drop_more, length-take}
 use Rattle.host_model.specs.declared.file.File.{File}
-use Rattle.host_model.specs.Images.{Wrote, Synced, contents, written, IsImage, IsSynced}
-use Rattle.host_model.specs.Past.{Event, On, of, MayAdd}
+use Rattle.host_model.specs.Images.{contents, written, IsSynced}
+use Rattle.host_model.specs.Past.{Event, of}
 use Rattle.host_model.specs.Moments.{Throughout, EveryImage}
-use Rattle.host_model.proofs.FileLemmas.{image_when_synced}
-use Rattle.host_model.proofs.MomentLemmas.{at_end, joined, weakened}
-use Rattle.host_model.proofs.RunLemmas.{images_in_sync, RunsFrom, RunsFrom-images, write_from, RunsWithin, RunsWithin-images}
+use Rattle.host_model.proofs.FileLemmas.{image_when_synced, written-behind}
+use Rattle.host_model.proofs.MomentLemmas.{weakened}
+use Rattle.host_model.proofs.RunLemmas.{RunsFrom, RunsFrom-images, RunsWithin, RunsWithin-images}
 use Rattle.journal_core.specs.Form.{header, length_field, opened, IsShort, StandsFor}
 use Rattle.journal_core.specs.Journal.{JournalState, IsOpen, StandsForEither}
 use Rattle.journal_core.specs.Store.{KeepsThrough, KeepsBeside, Stages}
 use Rattle.journal_core.proofs.FormLemmas.{length-header, length-length_field, opened-more, length-opened_more, short-more}
 
 -- moments
-
--- one more write from a place on
-pub then_from : {T E : Type 0} (honest : Type 0) (result : Result T E) (file : File) (from at : ℕ) (bytes after : List ℕ) (old past new : List Event) → honest → from ≤ at
-    → OnOk result (honest → new ≡ On file (Wrote at (length bytes) after) ∷ past)
-    → OnErr result (honest → MayAdd (λ now. On file (Wrote at (length bytes) now)) past new)
-    → Throughout (RunsFrom file from old) old past → Throughout (RunsFrom file from old) old new
-then_from honest result file from at bytes after old past new h behind done torn moments =
-    joined moments (write_from honest result file from at bytes after old past new h behind done torn (at_end moments))
 
 -- writes behind a gate leave what stands up to it
 pub through_moments : (file : File) (gate : ℕ) (old new : List Event) → gate < length (contents (of file old))
@@ -42,24 +34,7 @@ beside_moments file gate old new inside moments =
     let kept = RunsWithin-images file gate (gate + 1) old past (omega arith) run bytes image in
     record { reaches = omega (arith, kept.no_shorter); front = kept.front; behind = kept.rest }) moments
 
--- one more sync
-pub then_sync : {T E : Type 0} (P : List ℕ → Type 0) (honest : Type 0) (result : Result T E) (file : File) (old past new : List Event) → honest
-    → OnOk result (honest → new ≡ On file Synced ∷ past) → OnErr result (honest → new ≡ past)
-    → IsImage (of file past) (contents (of file past))
-    → Throughout (EveryImage file P) old past → Throughout (EveryImage file P) old new
-then_sync P honest result file old past new h done torn reads moments =
-    joined moments (images_in_sync P honest result file past new h done torn reads (at_end moments))
-
 -- lists of bytes
-
--- bytes written behind the front of a list
-pub written-behind : (front rest : List ℕ) (at : ℕ) (bytes : List ℕ) → length front ≡ at
-    → written (front ++ rest) at bytes ≡ (front ++ bytes) ++ drop (length bytes) rest
-written-behind front rest at bytes size =
-    let before : take at (front ++ rest) ≡ front = take_at front rest at size in
-    let after : drop (at + length bytes) (front ++ rest) ≡ drop (length bytes) rest =
-    sym (drop-drop (length bytes) at (front ++ rest)) ∙ ap (λ (l : List ℕ). drop (length bytes) l) (drop_at front rest at size) in
-    rw (before, after) refl
 
 -- a length, a record and a closed gate, written behind a gate
 pub staged : (gate : ℕ) (field body old first second third : List ℕ) → field ≡ length_field (length body) → gate < length old

@@ -1,9 +1,9 @@
 use Rattle.std.proofs.Common.{◌+◌, [], ◌∷◌, arith}
 use Rattle.host_model.specs.Images.{contents, written}
 use Rattle.host_model.specs.Past.{of}
-use Rattle.host_model.proofs.RunLemmas.{RunsWithin-start, write_within}
+use Rattle.host_model.proofs.RunLemmas.{RunsWithin-start, write_within, then_sync}
 use Rattle.journal_core.specs.Store.{KeepsBeside}
-use Rattle.journal_core.proofs.StoreLemmas.{beside_moments, then_sync}
+use Rattle.journal_core.proofs.StoreLemmas.{beside_moments}
 use Rattle.journal_core.proofs.gate.open_gate.Goals as goal
 
 pub returns-in_err-write_at-clause-any_moment : goal.returns-in_err-write_at-clause-any_moment

@@ -1,5 +1,5 @@
 use Rattle.host_model.specs.Past.{of}
-use Rattle.journal_core.proofs.ShortLemmas.{within_when_synced, within_images}
+use Rattle.host_model.proofs.SizeLemmas.{within_when_synced, within_images}
 use Rattle.journal_core.proofs.start.prepare.Goals as goal
 
 pub returns-clause-short : goal.returns-clause-short

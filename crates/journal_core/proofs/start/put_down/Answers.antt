@@ -5,8 +5,8 @@ use Rattle.host_model.specs.Past.{of}
 use Rattle.host_model.specs.Moments.{begins}
 use Rattle.host_model.proofs.FileLemmas.{written-end}
 use Rattle.host_model.proofs.MomentLemmas.{OnlyOn-same}
-use Rattle.journal_core.proofs.CallLemmas.{reads_after, only_changed, only_settled}
-use Rattle.journal_core.proofs.ShortLemmas.{within_write, within_cut, within_sync}
+use Rattle.host_model.proofs.CallLemmas.{reads_after, only_changed, only_settled}
+use Rattle.host_model.proofs.SizeLemmas.{within_write, within_cut, within_sync}
 use Rattle.journal_core.proofs.start.put_down.Goals as goal
 
 pub returns-in_err-cut-clause-any_moment : goal.returns-in_err-cut-clause-any_moment

@@ -3,10 +3,10 @@ use Rattle.std.proofs.lemmas.Result.{on_ok_weaker}
 use Rattle.host_model.specs.Images.{Wrote, Synced, contents, written}
 use Rattle.host_model.specs.Past.{of}
 use Rattle.host_model.specs.Moments.{begins}
-use Rattle.host_model.proofs.RunLemmas.{RunsFrom-start}
+use Rattle.host_model.proofs.RunLemmas.{RunsFrom-start, then_from, then_sync}
 use Rattle.journal_core.specs.Store.{KeepsThrough, Stages}
-use Rattle.journal_core.proofs.CallLemmas.{reads_after}
-use Rattle.journal_core.proofs.StoreLemmas.{then_from, then_sync, through_moments, staged}
+use Rattle.host_model.proofs.CallLemmas.{reads_after}
+use Rattle.journal_core.proofs.StoreLemmas.{through_moments, staged}
 use Rattle.journal_core.proofs.store.stage.Goals as goal
 
 pub returns-in_err-write_at-clause-any_moment : goal.returns-in_err-write_at-clause-any_moment
