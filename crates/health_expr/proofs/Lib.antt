@@ -1,7 +1,14 @@
 pub mod Boundaries
+pub mod Course
+pub mod FirstFault
 pub mod GrammarLemmas
+pub mod PlaceLevels
 pub mod Rereads
 pub mod Rewords
+pub mod SpelledBack
+pub mod SpelledRows
+pub mod SpelledTexts
+pub mod Spellings
 pub mod Trees
 pub mod WordLemmas
 pub mod WordsLemmas

@@ -107,7 +107,7 @@ operator_is operator.Subtract = refl
 operator_is operator.Multiply = refl
 operator_is operator.Divide = refl
 
-looseness_bounds : (op : Operator) → (1 ≤ looseness op) × (looseness op ≤ 6)
+pub looseness_bounds : (op : Operator) → (1 ≤ looseness op) × (looseness op ≤ 6)
 looseness_bounds operator.Or = (lit≤ tt, lit≤ tt)
 looseness_bounds operator.And = (lit≤ tt, lit≤ tt)
 looseness_bounds operator.Equal = (lit≤ tt, lit≤ tt)
@@ -121,11 +121,11 @@ looseness_bounds operator.Subtract = (lit≤ tt, lit≤ tt)
 looseness_bounds operator.Multiply = (lit≤ tt, lit≤ tt)
 looseness_bounds operator.Divide = (lit≤ tt, lit≤ tt)
 
-other_looseness : (k : ℕ) (op : Operator) (b : Bool) → (looseness op == k) ≡ b → k < looseness op → None ≡ cond b (Some op) None
+pub other_looseness : (k : ℕ) (op : Operator) (b : Bool) → (looseness op == k) ≡ b → k < looseness op → None ≡ cond b (Some op) None
 other_looseness k op true e h = absurd (grind (arith, nat_tests))
 other_looseness k op false e h = refl
 
-this_looseness : (k : ℕ) (op : Operator) (b : Bool) → (looseness op == k) ≡ b → k ≡ looseness op → Some op ≡ cond b (Some op) None
+pub this_looseness : (k : ℕ) (op : Operator) (b : Bool) → (looseness op == k) ≡ b → k ≡ looseness op → Some op ≡ cond b (Some op) None
 this_looseness k op true e h = refl
 this_looseness k op false e h = absurd (grind (arith, nat_tests))
 

@@ -40,7 +40,7 @@ by_break P none more [] b = none
 by_break P none more (byte ∷ rest) b = subst (λ (x : ℕ). P (x ∷ rest)) (sym b) (more rest)
 
 -- a text that is not empty begins with the word by its first byte
-first_cons : (byte : ℕ) (rest : List ℕ) → first_word (byte ∷ rest) ≡ first_by byte (byte ∷ rest)
+pub first_cons : (byte : ℕ) (rest : List ℕ) → first_word (byte ∷ rest) ≡ first_by byte (byte ∷ rest)
 unfolding first_word
 first_cons byte rest =
     let some : (length (byte ∷ rest) == 0) ≡ false = grind (arith, nat_tests) in

@@ -1,9 +1,11 @@
 pub mod Arithmetic
 pub mod Cursor
 pub mod Cut
+pub mod Faults
 pub mod Grammar
 pub mod Operators
 pub mod Reads
+pub mod Spelling
 pub mod Tree
 pub mod TreeOf
 pub mod Value

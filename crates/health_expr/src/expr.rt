@@ -1,5 +1,7 @@
 ghost use Rattle.std.specs.Prelude.{◌≡◌, ℕ, Ok, Err, IfOk};
+ghost use Rattle.health_expr.specs.Faults.{IsMisfit, IsTooDeep, IsTooWide};
 ghost use Rattle.health_expr.specs.Grammar.{tree_read};
+ghost use Rattle.health_expr.specs.Spelling.{IsSpelling};
 ghost use Rattle.health_expr.specs.Tree.{worth};
 ghost use Rattle.health_expr.specs.TreeOf.{tree_of, combined_all};
 ghost use Rattle.health_expr.specs.Value.{IsWithin};
@@ -49,6 +51,11 @@ impl Expr {
             → tree_read text.now ≡ Err ExprFault.TooDeep }
         ensures too_wide { result ≡ Err ExprFault.NumberTooWide
             → tree_read text.now ≡ Err ExprFault.NumberTooWide }
+        ensures spelling { IfOk result (λ expr. IsSpelling text.now (tree_of expr)) }
+        ensures misfit { (place : ℕ) → result ≡ Err (ExprFault.Syntax place)
+            → IsMisfit text.now place }
+        ensures levels { result ≡ Err ExprFault.TooDeep → IsTooDeep text.now }
+        ensures number { result ≡ Err ExprFault.NumberTooWide → IsTooWide text.now }
     {
         parser::read(alloc, text)
     }

@@ -8,9 +8,17 @@
 //!
 //! `Expr::read` is proved to read just the texts of the grammar, each as its tree, and to tell the first
 //! fault of any other; `Expr::eval` is proved to give what a tree is worth for any variables. `eval`
-//! takes no memory and returns on every tree. `any_tree` says of the grammar that the text of a tree,
-//! with parentheses only where they are needed, is read as that tree. Such are the expressions of alarms in Netdata's public
-//! documentation; the rules are made exact here. It stands on `fixed_num` for numbers and texts.
+//! takes no memory and returns on every tree.
+//!
+//! Two laws say of the grammar that it is the language. By `any_text` a text is read as a tree just
+//! where it spells it by the forms of the language (`specs/Spelling.antt`: a sum is a sum, `+` or `-`,
+//! and a product), at most 64 levels holding any place. A fault is told just where the words before it
+//! begin a spelling and no spelling goes on with its word, or where that word is too deep or its number
+//! too wide (`specs/Faults.antt`). By `any_tree` the text of a tree, with parentheses only where they
+//! are needed, is read as that tree.
+//!
+//! Such are the expressions of alarms in Netdata's public documentation; the rules are made exact here.
+//! It stands on `fixed_num` for numbers and texts.
 #![tactic(auto)]
 
 mod arithmetic;
@@ -26,7 +34,7 @@ mod word;
 
 pub use expr::Expr;
 pub use fault::ExprFault;
-pub use law::any_tree;
+pub use law::{any_front, any_text, any_tree};
 pub use operator::{Operator, Prefix};
 pub use value::{Value, Vars};
 
