@@ -1,0 +1,4 @@
+pub mod Items
+pub mod Page
+pub mod Records
+pub mod Slots

@@ -1,0 +1,30 @@
+ghost use Rattle.std.specs.Prelude.{◌≡◌};
+ghost use Rattle.page_buffer.specs.declared.fault.PageFault.TheVariants.{Memory};
+
+use std::alloc::AllocError;
+use thiserror::Error;
+
+/// Why an item was not put into a page, or a page not written or read.
+#[derive(Clone, Copy, Debug, PartialEq, Eq, Error)]
+pub enum PageFault {
+    /// The page would have more items than it may.
+    #[error("the page is full")]
+    PageFull,
+    /// The item's moment does not follow the page's last one.
+    #[error("the moment is too far from the page's last")]
+    TooFar,
+    /// The bytes are no page's.
+    #[error("the bytes are no page")]
+    BadPage,
+    /// There was no memory to write a page.
+    #[error("out of memory")]
+    Memory,
+}
+
+impl From<AllocError> for PageFault {
+    ghost from_gives = { λ _ fault. fault ≡ Memory };
+
+    fn from(_error: AllocError) -> PageFault {
+        PageFault::Memory
+    }
+}

@@ -1,0 +1,29 @@
+//! Raw pages of 4,096 bytes that are used again: a pool, and the pages that it gives.
+//!
+//! A `RawPage` is a list of at most 4,096 bytes in one block of memory of its own, which it frees when it
+//! is dropped, so that it may outlive its pool. A `PagePool` keeps free pages as a list that stands in the
+//! pages themselves: the link to the next stands beside the bytes in the free page's block. So memory is
+//! taken in `reserve` alone, one block for each page that is missing, and `take` and `give` take none.
+//!
+//! Proved is that a page is the list of the bytes that were pushed since it was taken or cleared, whatever
+//! stood in its block before, that as many pages can be taken as are spare, and that each block has one
+//! owner, who frees it once. Seven small functions go through a pointer, those of `Block` and `FreeList`;
+//! their proofs are by hand, and all else stands on their contracts.
+//!
+//! The crate stands on no other of the repository. It names the crates of std whose proofs on boxes and on
+//! the heap it cites.
+#![tactic(auto)]
+
+mod block;
+mod fault;
+mod free_list;
+mod node;
+mod page;
+mod pool;
+
+pub use fault::PoolFault;
+pub use page::RawPage;
+pub use pool::PagePool;
+
+#[cfg(test)]
+mod tests;
