@@ -1,0 +1,4 @@
+pub mod CountLemmas
+pub mod FormLemmas
+pub mod MomentLemmas
+pub mod SlotLemmas

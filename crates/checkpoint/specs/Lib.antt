@@ -1,0 +1,4 @@
+pub mod Files
+pub mod Form
+pub mod Loading
+pub mod Switching

@@ -1,0 +1,80 @@
+ghost use Rattle.std.specs.Prelude.{◌≡◌, ◌≢◌, ℕ, ◌<◌, ◌≤◌, ◌↔◌, length, slice_index, IsTrue, IfOk, IsErr, OnOk};
+ghost use Rattle.host_model.specs.Images.{contents, greatest, IsSynced};
+ghost use Rattle.host_model.specs.Past.{of};
+ghost use Rattle.host_model.specs.Cause.{HasCause};
+ghost use Rattle.host_model.specs.Moments.{Throughout, EveryImage, OnlyOn};
+ghost use Rattle.checkpoint.specs.Switching.{IsSameOrShut};
+
+use crate::gate::set_gate;
+use host_model::{Failed, File, Host};
+
+/// Leaves one closed gate in a file that has no gate and all that belongs to it.
+fn begin<H: Host>(host: &mut H, file: File) -> Result<(), Failed>
+    ensures closed { OnOk result (H.honest → (length (contents (of file (H.past host.new))) ≡ 1)
+        × (slice_index (contents (of file (H.past host.new))) 0 ≡ 0)) }
+    ensures synced { OnOk result (H.honest → IsSynced (of file (H.past host.new))) }
+    ensures bound { (size : ℕ) → 1 ≤ size → H.honest → greatest (of file (H.past host.old)) ≤ size
+        → Throughout (λ past. greatest (of file past) ≤ size) (H.past host.old) (H.past host.new) }
+    ensures only_here { H.honest → OnlyOn file (H.past host.old) (H.past host.new) }
+    ensures cause { HasCause (H.disk_faults host.old) (H.disk_faults host.new) (IsErr result) }
+    ensures output { H.tell_faults host.new ≡ H.tell_faults host.old }
+{
+    host.cut(file, 0)?;
+    host.write_at(file, 0, &[0])?;
+    host.sync(file)
+}
+
+/// Whether the first byte of a file is 1.
+fn is_gate_open<H: Host>(host: &mut H, file: File) -> Result<bool, Failed>
+    requires { H.honest → 0 < length (contents (of file (H.past host.old))) }
+    ensures value { IfOk result (λ said. H.honest
+        → (IsTrue said ↔ (slice_index (contents (of file (H.past host.old))) 0 ≡ 1))) }
+    ensures past { H.honest → H.past host.new ≡ H.past host.old }
+    ensures cause { HasCause (H.disk_faults host.old) (H.disk_faults host.new) (IsErr result) }
+    ensures output { H.tell_faults host.new ≡ H.tell_faults host.old }
+{
+    let mut gate = [0];
+    host.read(file, 0, &mut gate)?;
+    Ok(gate[0] == 1)
+}
+
+/// Closes the gate of a synced file that has all that belongs to a head.
+fn close_open<H: Host>(host: &mut H, file: File) -> Result<(), Failed>
+    requires stable { H.honest → IsSynced (of file (H.past host.old)) }
+    requires inside { H.honest → 17 ≤ length (contents (of file (H.past host.old))) }
+    ensures closed { OnOk result (H.honest → slice_index (contents (of file (H.past host.new))) 0 ≢ 1) }
+    ensures reaches { OnOk result (H.honest → 0 < length (contents (of file (H.past host.new)))) }
+    ensures synced { OnOk result (H.honest → IsSynced (of file (H.past host.new))) }
+    ensures any_moment { H.honest → Throughout (EveryImage file (IsSameOrShut (of file (H.past host.old)))) (H.past host.old) (H.past host.new) }
+    ensures bound { (size : ℕ) → 1 ≤ size → H.honest → greatest (of file (H.past host.old)) ≤ size
+        → Throughout (λ past. greatest (of file past) ≤ size) (H.past host.old) (H.past host.new) }
+    ensures only_here { H.honest → OnlyOn file (H.past host.old) (H.past host.new) }
+    ensures cause { HasCause (H.disk_faults host.old) (H.disk_faults host.new) (IsErr result) }
+    ensures output { H.tell_faults host.new ≡ H.tell_faults host.old }
+{
+    let is_open = is_gate_open(host, file)?;
+    if is_open {
+        return set_gate(host, file, 0);
+    }
+    Ok(())
+}
+
+/// Closes the gate of a file, whatever it holds: it then has a gate, and that is closed.
+pub(crate) fn close_gate<H: Host>(host: &mut H, file: File) -> Result<(), Failed>
+    ensures closed { OnOk result (H.honest → slice_index (contents (of file (H.past host.new))) 0 ≢ 1) }
+    ensures reaches { OnOk result (H.honest → 0 < length (contents (of file (H.past host.new)))) }
+    ensures synced { OnOk result (H.honest → IsSynced (of file (H.past host.new))) }
+    ensures any_moment { H.honest → Throughout (EveryImage file (IsSameOrShut (of file (H.past host.old)))) (H.past host.old) (H.past host.new) }
+    ensures bound { (size : ℕ) → 1 ≤ size → H.honest → greatest (of file (H.past host.old)) ≤ size
+        → Throughout (λ past. greatest (of file past) ≤ size) (H.past host.old) (H.past host.new) }
+    ensures only_here { H.honest → OnlyOn file (H.past host.old) (H.past host.new) }
+    ensures cause { HasCause (H.disk_faults host.old) (H.disk_faults host.new) (IsErr result) }
+    ensures output { H.tell_faults host.new ≡ H.tell_faults host.old }
+{
+    host.sync(file)?;
+    let len = host.len(file)?;
+    if len < 17 {
+        return begin(host, file);
+    }
+    close_open(host, file)
+}

@@ -1,0 +1,62 @@
+ghost use Rattle.std.specs.Prelude.{◌≡◌, ℕ, ◌+◌, ◌≤◌, ◌∷◌, ◌++◌, length, Option, IfErr, IsErr, IsErrOf, OnOk};
+ghost use Rattle.host_model.specs.Images.{contents, greatest, IsSynced};
+ghost use Rattle.host_model.specs.Past.{of};
+ghost use Rattle.host_model.specs.Disks.{EveryDisk};
+ghost use Rattle.host_model.specs.Cause.{HasCause};
+ghost use Rattle.host_model.specs.Moments.{Throughout, EveryImage, OnlyOn};
+ghost use Rattle.checkpoint.specs.Form.{slot_bytes};
+ghost use Rattle.checkpoint.specs.Files.{Slot, new_slot, slot_file, checkpoint_in, IsNext, HasOldOrNew};
+ghost use Rattle.checkpoint.specs.Switching.{IsReplacing};
+
+use crate::closing::close_gate;
+use crate::fault::CheckFault;
+use crate::gate::set_gate;
+use crate::head::{head_bytes, slot_file_of};
+use crate::rest::write_rest;
+use host_model::{Failed, File, Host};
+
+/// Makes a body the checkpoint of this number, which is one above that of the checkpoint that is there,
+/// or 0 where there is none. At `Ok` it is stored and synced. After `DiskFault` each stop leaves the old
+/// checkpoint or the new one, as at every moment of the call.
+pub fn switch<H: Host>(host: &mut H, number: u64, body: &[u8]) -> Result<(), CheckFault>
+    ensures switched { OnOk result (H.honest → (old : Option Slot) → EveryDisk (λ disk. checkpoint_in disk ≡ old) (H.past host.old)
+        → IsNext old number → EveryDisk (λ disk. checkpoint_in disk ≡ new_slot number body.now) (H.past host.new)) }
+    ensures any_moment { H.honest → (old : Option Slot) → EveryDisk (λ disk. checkpoint_in disk ≡ old) (H.past host.old)
+        → IsNext old number → Throughout (EveryDisk (HasOldOrNew old number body.now)) (H.past host.old) (H.past host.new) }
+    ensures whole { OnOk result (H.honest → contents (of (slot_file number) (H.past host.new)) ≡ slot_bytes 1 number body.now) }
+    ensures synced { OnOk result (H.honest → IsSynced (of (slot_file number) (H.past host.new))) }
+
+    // No stop leaves a file that is longer than it could be before, or than the new checkpoint is.
+    ensures bound { (size : ℕ) → 17 + length body.now ≤ size → H.honest → greatest (of (slot_file number) (H.past host.old)) ≤ size
+        → Throughout (λ past. greatest (of (slot_file number) past) ≤ size) (H.past host.old) (H.past host.new) }
+
+    // The images of all other files and the output stay.
+    ensures only_here { H.honest → OnlyOn (slot_file number) (H.past host.old) (H.past host.new) }
+    ensures faults { IfErr result (λ fault. fault ≡ CheckFault.DiskFault) }
+    ensures cause { HasCause (H.disk_faults host.old) (H.disk_faults host.new) (IsErrOf result CheckFault.DiskFault) }
+    ensures output { H.tell_faults host.new ≡ H.tell_faults host.old }
+{
+    let head = head_bytes(number, body.len() as u64);
+    if replace(host, slot_file_of(number), head, body).is_err() {
+        return Err(CheckFault::DiskFault);
+    }
+    Ok(())
+}
+
+/// Leaves an open gate, a head and a body in a file, whatever it held. At every moment a stop leaves
+/// what was there, or a file that is not open, or the new bytes whole.
+fn replace<H: Host>(host: &mut H, file: File, head: [u8; 16], body: &[u8]) -> Result<(), Failed>
+    ensures whole { OnOk result (H.honest → contents (of file (H.past host.new)) ≡ 1 ∷ (head ++ body.now)) }
+    ensures synced { OnOk result (H.honest → IsSynced (of file (H.past host.new))) }
+    ensures any_moment { H.honest → Throughout (EveryImage file (IsReplacing (of file (H.past host.old)) (1 ∷ (head ++ body.now))))
+        (H.past host.old) (H.past host.new) }
+    ensures bound { (size : ℕ) → 17 + length body.now ≤ size → H.honest → greatest (of file (H.past host.old)) ≤ size
+        → Throughout (λ past. greatest (of file past) ≤ size) (H.past host.old) (H.past host.new) }
+    ensures only_here { H.honest → OnlyOn file (H.past host.old) (H.past host.new) }
+    ensures cause { HasCause (H.disk_faults host.old) (H.disk_faults host.new) (IsErr result) }
+    ensures output { H.tell_faults host.new ≡ H.tell_faults host.old }
+{
+    close_gate(host, file)?;
+    write_rest(host, file, head, body)?;
+    set_gate(host, file, 1)
+}
