@@ -1,0 +1,107 @@
+use super::*;
+use fixed_num::Text;
+use health_expr::Value;
+use std::alloc::{AllocError, Global};
+use std::test::Fail;
+
+fn event(
+    alloc: Global,
+    statuses: (Status, Status),
+    value: Value,
+    due: Option<u32>,
+) -> Result<Event, AllocError> {
+    Ok(Event {
+        id: 7,
+        moment: 60,
+        chart: Text::from_str(alloc, "test.one")?,
+        alarm: Text::from_str(alloc, "high")?,
+        old: statuses.0.number(),
+        new: statuses.1.number(),
+        value,
+        due,
+    })
+}
+
+/// Two statuses, a value, when the event is due, and its line.
+type Row = (Status, Status, Value, Option<u32>, &'static str);
+
+static LINES: [Row; 5] = [
+    (
+        Status::Uninitialized,
+        Status::Clear,
+        Value::Fixed(800_000_000),
+        None,
+        "EVENT 7 60 test.one high UNINITIALIZED CLEAR 80 -\n",
+    ),
+    (
+        Status::Clear,
+        Status::Warning,
+        Value::Fixed(-5_000_000),
+        Some(120),
+        "EVENT 7 60 test.one high CLEAR WARNING -0.5 120\n",
+    ),
+    (
+        Status::Warning,
+        Status::Critical,
+        Value::Inf(true),
+        Some(4_294_967_295),
+        "EVENT 7 60 test.one high WARNING CRITICAL -inf 4294967295\n",
+    ),
+    (
+        Status::Critical,
+        Status::Undefined,
+        Value::Inf(false),
+        None,
+        "EVENT 7 60 test.one high CRITICAL UNDEFINED inf -\n",
+    ),
+    (
+        Status::Undefined,
+        Status::Removed,
+        Value::Nan,
+        None,
+        "EVENT 7 60 test.one high UNDEFINED REMOVED nan -\n",
+    ),
+];
+
+#[test]
+fn events_are_lines(rt: HostRuntime) -> Result<(), Fail> {
+    let alloc = rt.alloc();
+    for (old, new, value, due, line) in &LINES {
+        let event = event(alloc, (*old, *new), *value, *due)?;
+        assert_eq!(rt; write_event(alloc, &event)?.as_str(), *line);
+    }
+    Ok(())
+}
+
+#[test]
+fn statuses_have_numbers(rt: HostRuntime) {
+    for number in 0..=255 {
+        if let Some(status) = Status::of(number) {
+            assert_eq!(rt; status.number(), number);
+        }
+    }
+    assert_eq!(rt; Status::of(4), None);
+    assert_eq!(rt; Status::of(6), Some(Status::Critical));
+    assert!(rt; Status::Critical.is_raised());
+    assert!(rt; !Status::Clear.is_raised());
+}
+
+#[test]
+fn the_log_shows_the_last_events(rt: HostRuntime) -> Result<(), Fail> {
+    let alloc = rt.alloc();
+    let mut log = EventLog::new(alloc)?;
+    for n in 1..=1_003u32 {
+        assert_eq!(rt; log.next_id(), u64::from(n));
+        let mut next = event(alloc, (Status::Clear, Status::Warning), Value::Nan, None)?;
+        next.id = log.next_id();
+        log.note(next);
+    }
+    let shown = log.log()?;
+    assert_eq!(rt; shown.dropped, 3);
+    assert_eq!(rt; shown.events.len(), 1_000);
+    let events = shown.events.as_slice();
+    assert_eq!(rt; events.first().map(|event| event.id), Some(4));
+    assert_eq!(rt; events.last().map(|event| event.id), Some(1_003));
+    assert_eq!(rt; log.next_id(), 1_004);
+    Ok(())
+}
