@@ -15,9 +15,11 @@ use Rattle.plugin_text.proofs.PartsLemmas.{parts_first, parts_whole, parts-appen
 use Rattle.point_lines.specs.declared.refusal.Refusal.{Refusal}
 use Rattle.point_lines.specs.Judged.{refusal_number}
 use Rattle.agent_app.specs.declared.converting.Converting.{Converting}
-use Rattle.agent_app.specs.Convert.{all_told, converted, ending_status, is_limit, output_of, point_rules, status_of, status_within, tells_all, Converts, EndsAsText, HasStatusCause, IsUnasked, TellsOutput}
+use Rattle.agent_core.specs.Calls.{Seen}
+use Rattle.agent_app.specs.Convert.{all_told, converted, ending_status, is_limit, output_of, point_rules, status_of, status_within, tells_all, Converts, EndsAsText, HasStatusCause, IsUnasked, LeavesDisk, TellsOutput}
 use Rattle.agent_app.specs.Converting.{Ends, EndsAs, EndsIn, HasConverted, HasRun, IsFinal, Overflows, Pauses, Takes, TellsLast}
 use Rattle.agent_app.specs.Reading.{Ending, Ends as IsOver, GoesOn, RefusedAt, Reading, reading}
+use Rattle.agent_app.proofs.LeavesLemmas.{leaves-both, leaves-none}
 use Rattle.agent_app.proofs.ConvertingLemmas.{both-none, later-unasked, no_memory, rose-sooner}
 use Rattle.agent_app.proofs.HasReadLemmas.{ending_within, line-onward, read-open, take-append_past, within-ended, within-limit}
 
@@ -181,13 +183,16 @@ parts-onward text front left behind whole =
           ∙ append_assoc front left (ahead.0 ∷ ahead.1) ∙ ap (λ (l : List (List ℕ)). front ++ l) some.2,
     )
 
-module _ {H : Type 0} (honest : Type 0) (past_of : H → List Event) (faults_of : H → ℕ) where
+module _ {H : Type 0} (honest : Type 0) (past_of : H → List Event) (faults_of disk_of : H → ℕ) where
+  abbrev seen : H → Seen
+  seen host = record { past = past_of host; disk_faults = disk_of host; tell_faults = faults_of host }
+
   -- what each call does
   abbrev pub converting_acts : Acts Converting H
-  converting_acts = acts_of (λ old host number line result new host'. Takes honest number line result old new (past_of host) (past_of host') (faults_of host) (faults_of host'))
-      (λ old host result new host'. Pauses honest result old new (past_of host) (past_of host') (faults_of host) (faults_of host'))
-      (λ old host lines rest status new host'. Ends honest lines rest status old new (past_of host) (past_of host') (faults_of host) (faults_of host'))
-      (λ old host number status new host'. Overflows honest number status old new (past_of host) (past_of host') (faults_of host) (faults_of host'))
+  converting_acts = acts_of (λ old host number line result new host'. Takes honest number line result old new (past_of host) (past_of host') (faults_of host) (faults_of host') × (host' ≡ host))
+      (λ old host result new host'. Pauses honest result old new (past_of host) (past_of host') (faults_of host) (faults_of host') × LeavesDisk honest (seen host) (seen host'))
+      (λ old host lines rest status new host'. Ends honest lines rest status old new (past_of host) (past_of host') (faults_of host) (faults_of host') × (host' ≡ host))
+      (λ old host number status new host'. Overflows honest number status old new (past_of host) (past_of host') (faults_of host) (faults_of host') × (host' ≡ host))
 
   module _ (start : Converting) (begin : H) (fresh : HasConverted start honest [] (past_of begin) (past_of begin) (faults_of begin) (faults_of begin)) where
     -- all lines of a chain were taken
@@ -195,9 +200,9 @@ module _ {H : Type 0} (honest : Type 0) (past_of : H → List Event) (faults_of 
         → HasConverted converting honest front (past_of begin) (past_of host) (faults_of begin) (faults_of host)
     chain-converted front converting host begins = fresh
     chain-converted front converting host (goes_on before line old new host' host'' chain takes) =
-        takes (past_of begin) (faults_of begin) before (chain-converted before old host' chain) refl
+        takes.0 (past_of begin) (faults_of begin) before (chain-converted before old host' chain) refl
     chain-converted front converting host (pauses before old new host' host'' chain takes) =
-        takes (past_of begin) (faults_of begin) before (chain-converted before old host' chain)
+        takes.0 (past_of begin) (faults_of begin) before (chain-converted before old host' chain)
 
     module _ (status : Status) (converting : Converting) (host : H) (left left' : Option (List ℕ)) (sf sf' : ℕ) (text : List ℕ) (took_bytes : TakesBytes left text left') (within : length text ≤ input_limit) where
       -- the run ended in the text, however that goes on
@@ -276,17 +281,42 @@ module _ {H : Type 0} (honest : Type 0) (past_of : H → List Event) (faults_of 
           → HasRun status honest (string_bytes converting.out) left left' (past_of begin) (past_of host) sf sf' (faults_of begin) (faults_of host)
       run-by (at_line front line next more old host' whole short fit chain takes) = run-stopped_at (λ ended behind.
           let on = line-onward text front line next more whole behind in
-          (front ++ line ∷ on.next ∷ on.more, on.whole, takes (past_of begin) (faults_of begin) front (chain-converted front old host' chain) refl ended on.next on.more))
+          (front ++ line ∷ on.next ∷ on.more, on.whole, takes.0 (past_of begin) (faults_of begin) front (chain-converted front old host' chain) refl ended on.next on.more))
       run-by (at_pause old host' took takes) = run-stopped_at (λ ended behind.
           let on = parts-onward text (lines text) [] behind (sym (append-nil (lines text))) in
-          (lines text ++ on.0 ∷ on.1, on.2, takes (past_of begin) (faults_of begin) (lines text) (chain-converted (lines text) old host' took.chain) ended on.0 on.1))
+          (lines text ++ on.0 ∷ on.1, on.2, takes.0 (past_of begin) (faults_of begin) (lines text) (chain-converted (lines text) old host' took.chain) ended on.0 on.1))
       run-by (at_long_line front long more old host' whole short over chain takes) = run-stopped_at (λ ended behind.
           let on = IsLongAfter-append text behind front (record { long = long; more = more; whole = whole; short = short; too_long = over }) in
-          (front ++ on.long ∷ on.more, on.whole, takes (past_of begin) (faults_of begin) front (chain-converted front old host' chain) refl ended on.long on.more on.too_long))
-      run-by (at_end old host' short nothing took ends) = run-ended old host' short nothing took ends
+          (front ++ on.long ∷ on.more, on.whole, takes.0 (past_of begin) (faults_of begin) front (chain-converted front old host' chain) refl ended on.long on.more on.too_long))
+      run-by (at_end old host' short nothing took ends) = run-ended old host' short nothing took ends.0
       run-by (at_fault is rose took) = run-open took (inl (is, rose))
       run-by (at_limit is full took) = run-open took (inr (is, full))
       run-by (at_want front is took) = run-stopped_at (λ ended behind.
           let on = parts-onward text front took.begins.left behind took.begins.whole in
           let has = chain-converted front converting host took.chain in
           (front ++ on.0 ∷ on.1, on.2, no_memory converting honest front (past_of begin) (past_of host) (faults_of begin) (faults_of host) has status (string_bytes converting.out) ended on.0 on.1 is))
+
+  -- ---- the disk
+
+  -- at no moment of a chain anything happened to a file
+  chain-leaves : (start : Converting) (begin : H) (front : List (List ℕ)) (converting : Converting) (host : H) → Chain converting_acts start begin front converting host → LeavesDisk honest (seen begin) (seen host)
+  chain-leaves start begin front converting host begins = leaves-none honest (seen begin)
+  chain-leaves start begin front converting host (goes_on before line old new host' host'' chain takes) =
+      subst (λ (h : H). LeavesDisk honest (seen begin) (seen h)) (sym takes.1) (chain-leaves start begin before old host' chain)
+  chain-leaves start begin front converting host (pauses before old new host' host'' chain takes) =
+      leaves-both honest (seen begin) (seen host') (seen host) (chain-leaves start begin before old host' chain) takes.1
+
+  -- nor of a whole run
+  pub run-leaves : (status : Status) (start : Converting) (begin : H) (text : List ℕ) (converting : Converting) (host : H) (left' : Option (List ℕ)) (source_rose : Type 0)
+      → Ended converting_acts status start begin text converting host left' source_rose → LeavesDisk honest (seen begin) (seen host)
+  run-leaves status start begin text converting host left' source_rose (at_line front line next more old host' whole short fit chain takes) =
+      subst (λ (h : H). LeavesDisk honest (seen begin) (seen h)) (sym takes.1) (chain-leaves start begin front old host' chain)
+  run-leaves status start begin text converting host left' source_rose (at_pause old host' took takes) =
+      leaves-both honest (seen begin) (seen host') (seen host) (chain-leaves start begin (lines text) old host' took.chain) takes.1
+  run-leaves status start begin text converting host left' source_rose (at_long_line front long more old host' whole short over chain takes) =
+      subst (λ (h : H). LeavesDisk honest (seen begin) (seen h)) (sym takes.1) (chain-leaves start begin front old host' chain)
+  run-leaves status start begin text converting host left' source_rose (at_end old host' short nothing took ends) =
+      subst (λ (h : H). LeavesDisk honest (seen begin) (seen h)) (sym ends.1) (chain-leaves start begin (lines text) old host' took.chain)
+  run-leaves status start begin text converting host left' source_rose (at_fault is rose took) = chain-leaves start begin (lines text) converting host took.chain
+  run-leaves status start begin text converting host left' source_rose (at_limit is full took) = chain-leaves start begin (lines text) converting host took.chain
+  run-leaves status start begin text converting host left' source_rose (at_want front is took) = chain-leaves start begin front converting host took.chain

@@ -3,6 +3,7 @@ mod ConvertLemmas
 mod ConvertingLemmas
 mod ExtendsLemmas
 mod HasReadLemmas
+mod LeavesLemmas
 mod NewLemmas
 mod NumberLemmas
 mod OpeningLemmas

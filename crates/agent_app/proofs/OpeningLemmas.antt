@@ -1,5 +1,6 @@
 -- What `run` promises: where the database was opened, and where it was not.
-use Rattle.std.proofs.Common.{◌≡◌, ◌⊎◌, inl, inr, ℕ, ◌≤◌, false, List, [], ◌++◌, length, Option, Some, None, IfSome, Ok, Err, refl, sym, ap, subst, ◌∙◌, append-nil, arith, true≢false}
+use Rattle.std.proofs.Common.{◌≡◌, ◌⊎◌, inl, inr, ℕ, ◌<◌, ◌≤◌, false, List, [], ◌++◌, length, Option, Some, None, IfSome, Ok, Err, true, refl, sym, ap, subst, ◌∙◌, append-nil, arith, true≢false}
+use Rattle.std.proofs.lemmas.Bool.{cases_eq}
 use Rattle.host_model.specs.declared.file.File.{File}
 use Rattle.host_model.specs.Cause.{Rose}
 use Rattle.host_model.specs.declared.status.Status.{Status}
@@ -14,7 +15,7 @@ use Rattle.history.specs.Registry.{Registry}
 use Rattle.collect_block.specs.Feed.{CountsFor, IsFeedOf}
 use Rattle.point_lines.specs.Judged.{every}
 use Rattle.entry_codec.specs.declared.entry.Settings.{Settings}
-use Rattle.line_stream.specs.Run.{Ran}
+use Rattle.line_stream.specs.Run.{input_limit, Ran}
 use Rattle.line_stream.proofs.RunLemmas.{rose-later, Takes-none}
 use Rattle.store_core.specs.Stands.{is_made}
 use Rattle.agent_core.specs.declared.fault.AgentFault.{AgentFault}
@@ -24,12 +25,12 @@ use Rattle.agent_core.specs.Calls.{Opens, Seen}
 use Rattle.agent_core.specs.Faults.{IsOpening}
 use Rattle.agent_core.specs.Kept.{StandsForHistory}
 use Rattle.agent_app.specs.declared.running.Running.{Running}
-use Rattle.agent_app.specs.Run.{is_opened, is_whole, Keeps, no_more, run_output, run_reading, run_rules, run_status, HasRunCause, Runs, RunsAll}
+use Rattle.agent_app.specs.Run.{ends_a_run, finds_none, is_opened, is_whole, Keeps, no_more, run_output, run_reading, run_rules, run_status, HasRunCause, Runs, RunsAll}
 use Rattle.agent_app.specs.Running.{opening_status, Counts, DiskRose, IsRunning, TellRose}
 use Rattle.agent_app.proofs.AckLemmas.{acked-nothing, acked-since, text-front}
 use Rattle.agent_core.proofs.Within.{within-of}
 use Rattle.agent_app.proofs.HasReadLemmas.{read-start}
-use Rattle.agent_app.proofs.RunLemmas.{EndsFor, cause-wider, run-counts, run-for, run-over, run_acts}
+use Rattle.agent_app.proofs.RunLemmas.{EndsFor, cause-wider, ends-otherwise, run-counts, run-for, run-over, run_acts}
 
 -- at each moment of the opening a stop leaves the history
 opening-stops : (set : Settings) (h0 : List Beat) (old new : List Event) → EveryDisk (StandsForHistory set h0) old → told new ≡ told old → Throughout (EveryDisk (IsDisk old)) old new → Throughout (EveryStop (Keeps set h0 h0 (told old))) old new
@@ -159,13 +160,19 @@ module _ (honest : Type 0) (host host' : Seen) (first : honest → IsDisk host.p
       apart : status.Memory ≡ status.ReadFault → ⊥
       apart e = cc
 
-  unused : (why : AgentFault) → opening_status why ≡ status.Usage → ⊥
-  unused fault.NotADatabase e = cc
-  unused fault.DiskFault e = cc
-  unused (fault.Damaged part) e = cc
-  unused other e = apart e
+  opening-statuses : (why : AgentFault) → (ends_a_run (opening_status why) ≡ true) ⊎ (finds_none (opening_status why) ≡ true)
+  opening-statuses fault.NotADatabase = inr refl
+  opening-statuses fault.DiskFault = inl refl
+  opening-statuses (fault.Damaged part) = inr refl
+  opening-statuses other = inl refl
+
+  full : (why : AgentFault) → opening_status why ≡ status.InputLimit → ⊥
+  full fault.NotADatabase e = cc
+  full fault.DiskFault e = cc
+  full (fault.Damaged part) e = cc
+  full other e = apart e
     where
-      apart : status.Memory ≡ status.Usage → ⊥
+      apart : status.Memory ≡ status.InputLimit → ⊥
       apart e = cc
 
   untold-yet : (why : AgentFault) → opening_status why ≡ status.TellFault → ⊥
@@ -203,13 +210,21 @@ module _ (honest : Type 0) (host host' : Seen) (first : honest → IsDisk host.p
     damaged_records = λ is h. opens.damaged (ap (λ (f : AgentFault). Err f) (damaged-by why 4 is)) h;
     damaged_notes = λ is h. opens.damaged_notes (ap (λ (f : AgentFault). Err f) (damaged-by why 5 is)) h;
     opened = λ is h. absurd (true≢false (sym is ∙ unopened-all why));
-    used = λ is. unused why is;
+    statuses = opening-statuses why;
+    input = record { taken = []; takes = Takes-none left; within = omega arith; limit = λ is. absurd (full why is); read = λ is. absurd (unread why is) };
+    leaves = λ _. record { source = (refl, refl); output = opens.output; tells = opens.tells; any_moment = opens.any_moment; same = opens.same };
     read_cause = record { later = omega arith; failed = λ is. absurd (unread why is) };
     tell_cause = record { later = omega (arith, opens.tells); failed = λ is. absurd (untold-yet why is) };
     disk_cause = record { later = opens.cause.later; failed = λ is. disk-failed why opens is };
   }
 
 -- ---- the database was opened
+-- no status is both of a run that opened its database and of one that found none
+found-one : (s : Status) → finds_none s ≡ true → ends_a_run s ≡ true → ⊥
+found-one status.NotADatabase none ends = true≢false (sym ends)
+found-one (status.Damaged part) none ends = true≢false (sym ends)
+found-one s none ends = true≢false (sym none)
+
 module _ {H : Type 0} (honest : Type 0) (seen : H → Seen) (host : Seen) (agent : AgentState) (middle : H) (opens : Opens honest host (Ok agent) (seen middle)) (first : honest → IsDisk host.past (reads_as host.past))
     (running : Running) (agent-is : running.agent ≡ agent) (feed-is : IsFeedOf running.feed every []) (feed-counts : (registry : Registry) → CountsFor running.feed registry) where
   begins-so : honest → (set : Settings) (h0 : List Beat) → EveryDisk (StandsForHistory set h0) host.past → IsRunning (seen middle).past running set h0 [] host.past
@@ -246,8 +261,22 @@ module _ {H : Type 0} (honest : Type 0) (seen : H → Seen) (host : Seen) (agent
     disk-sooner : DiskRose (seen middle) (seen host') → DiskRose host (seen host')
     disk-sooner = rose-later host.disk_faults (seen middle).disk_faults (seen host').disk_faults opens.cause.later counts.disk
 
-    for-all : EndsFor s (Rose faults faults') (TellRose (seen middle) (seen host')) (DiskRose (seen middle) (seen host'))
+    for-all : EndsFor s ran.text (Rose faults faults') (TellRose (seen middle) (seen host')) (DiskRose (seen middle) (seen host'))
     for-all = run-for honest seen s running middle ran.text running' host' left' (Rose faults faults') ran.ended
+
+    -- behind as many bytes as may be taken, no failure of the source is why
+    for-full : length ran.text ≡ input_limit → s ≡ status.ReadFault → ⊥
+    for-full full = (run-for honest seen s running middle ran.text running' host' left' ⊥ (ran.full full)).read
+
+    below : (length ran.text ≡ input_limit → ⊥) → length ran.text < input_limit
+    below never =
+        elim (cases_eq (length ran.text) input_limit) [
+          | inl full ↦ absurd (never full)
+          | inr other ↦ let within = ran.within in omega (arith, within, other)
+        ]
+
+    otherwise : (other : Status) → ends_a_run other ≡ false → s ≡ other → ⊥
+    otherwise = ends-otherwise s for-all.ends
 
     pub opened : RunsAll honest s left left' faults faults' host (seen host')
     opened = record {
@@ -270,14 +299,16 @@ module _ {H : Type 0} (honest : Type 0) (seen : H → Seen) (host : Seen) (agent
           let over = run-over honest seen h set h0 host.past s middle ran.text left' (Rose faults faults') ran.within running (begins-so h set h0 stands) running' host' ran.ended in
           complete-by left left' ran.text (λ text. (Rose faults faults' → ⊥) → (TellRose host (seen host') → ⊥) → (DiskRose host (seen host') → ⊥) → (s ≡ run_status h0 text) ⊎ (s ≡ status.Memory)) ran.takes
           (λ more is none_read none_told none_disk. over.whole more is none_read (λ rose. none_told (tells-sooner rose)) (λ rose. none_disk (disk-sooner rose)));
-      none = λ is h. absurd (for-all.made is);
+      none = λ is h. absurd (otherwise status.NotADatabase refl is);
       unmade = λ h unmade. absurd (true≢false (sym (opens.some h) ∙ unmade));
-      damaged = λ part is h set g stands. for-all.sound part is;
-      parts = λ part is. absurd (for-all.sound part is);
-      damaged_records = λ is h. absurd (for-all.sound 4 is);
-      damaged_notes = λ is h. absurd (for-all.sound 5 is);
+      damaged = λ part is h set g stands. otherwise (status.Damaged part) refl is;
+      parts = λ part is. absurd (otherwise (status.Damaged part) refl is);
+      damaged_records = λ is h. absurd (otherwise (status.Damaged 4) refl is);
+      damaged_notes = λ is h. absurd (otherwise (status.Damaged 5) refl is);
       opened = λ is h. opens.notes h;
-      used = λ is. for-all.used is;
+      statuses = inl for-all.ends;
+      input = record { taken = ran.text; takes = ran.takes; within = ran.within; limit = for-all.limit; read = λ is. below (λ full. for-full full is) };
+      leaves = λ none. absurd (found-one s none for-all.ends);
       read_cause = record { later = up; failed = for-all.read };
       tell_cause = record { later = all-counts.tells; failed = λ is. tells-sooner (for-all.tell is) };
       disk_cause = record { later = all-counts.disk; failed = λ is. disk-sooner (for-all.disk is) };

@@ -4,7 +4,6 @@ use Rattle.std.proofs.lemmas.List.{take_all, take-append-le}
 use Rattle.std.proofs.lemmas.Bool.Decides.{nat_tests}
 use Rattle.std.proofs.lemmas.List.Elements.{recursion_from_All}
 use Rattle.std.specs.List.{AllByRecursion, AllPass}
-use Rattle.host_model.specs.Cause.{Rose}
 use Rattle.host_model.specs.declared.status.Status.{Status}
 use Rattle.host_model.specs.declared.status.Status.TheVariants as status
 use Rattle.host_model.specs.Past.{Event}
@@ -23,7 +22,7 @@ use Rattle.agent_core.specs.Calls.{Seen}
 use Rattle.agent_app.specs.declared.running.Running.{Running}
 use Rattle.agent_app.specs.Convert.{all_told, ending_status}
 use Rattle.agent_app.specs.Reading.{Ending, GoesOn, Reading}
-use Rattle.agent_app.specs.Run.{run_reading, run_rules, run_status, HasRunCause}
+use Rattle.agent_app.specs.Run.{ends_a_run, run_reading, run_rules, run_status, HasRunCause}
 use Rattle.agent_app.specs.Running.{Counts, DiskRose, EndsRun, IsCausedBy, IsRunning, Overflows, Pauses, StopsIn, TakesLine, TellRose}
 use Rattle.agent_app.proofs.ExtendsLemmas.{extends-text}
 use Rattle.agent_app.proofs.HasReadLemmas.{line-onward, read-open, says-all, take-append_past}
@@ -105,38 +104,49 @@ not-ok : (s : Status) (r : Result (Unit {0}) Status) → r ≡ Err s → r ≡ O
 not-ok s r is e = cc
 
 -- why a run ended as it did, whatever history it is of
-pub record EndsFor (s : Status) (source_rose tell_rose disk_rose : Type 0) : Type 0 where
+pub record EndsFor (s : Status) (taken : List ℕ) (source_rose tell_rose disk_rose : Type 0) : Type 0 where
   pub read : s ≡ status.ReadFault → source_rose
   pub tell : s ≡ status.TellFault → tell_rose
   pub disk : s ≡ status.DiskFault → disk_rose
-  pub made : s ≡ status.NotADatabase → ⊥
-  pub sound : (part : ℕ) → s ≡ status.Damaged part → ⊥
-  pub used : s ≡ status.Usage → ⊥
+  pub limit : s ≡ status.InputLimit → length taken ≡ input_limit
+  pub ends : ends_a_run s ≡ true
 
-caused-for : (s : Status) (source_rose tell_rose disk_rose : Type 0) → IsCausedBy s tell_rose disk_rose → EndsFor s source_rose tell_rose disk_rose
-caused-for s source_rose tell_rose disk_rose caused =
+-- no such status is another
+module _ (s : Status) (ends : ends_a_run s ≡ true) where
+  pub ends-otherwise : (other : Status) → ends_a_run other ≡ false → s ≡ other → ⊥
+  ends-otherwise other none is = true≢false (sym ends ∙ ap ends_a_run is ∙ none)
+
+caused-ends : (s : Status) (tell_rose disk_rose : Type 0) → IsCausedBy s tell_rose disk_rose → ends_a_run s ≡ true
+caused-ends status.Ok tell_rose disk_rose caused = refl
+caused-ends (status.Refused line number) tell_rose disk_rose caused = refl
+caused-ends (status.Limit line number) tell_rose disk_rose caused = refl
+caused-ends status.TellFault tell_rose disk_rose caused = refl
+caused-ends status.DiskFault tell_rose disk_rose caused = refl
+caused-ends status.Memory tell_rose disk_rose caused = refl
+caused-ends s tell_rose disk_rose caused = absurd caused
+
+caused-for : (s : Status) (taken : List ℕ) (source_rose tell_rose disk_rose : Type 0) → IsCausedBy s tell_rose disk_rose → EndsFor s taken source_rose tell_rose disk_rose
+caused-for s taken source_rose tell_rose disk_rose caused =
     let by : (t : Status) → s ≡ t → IsCausedBy t tell_rose disk_rose = λ t is. subst (λ (a : Status). IsCausedBy a tell_rose disk_rose) is caused in
     record {
       read = λ is. absurd (by status.ReadFault is);
       tell = λ is. by status.TellFault is;
       disk = λ is. by status.DiskFault is;
-      made = λ is. by status.NotADatabase is;
-      sound = λ part is. by (status.Damaged part) is;
-      used = λ is. by status.Usage is;
+      limit = λ is. absurd (by status.InputLimit is);
+      ends = caused-ends s tell_rose disk_rose caused;
     }
 
-read-for : (s : Status) (source_rose tell_rose disk_rose : Type 0) → s ≡ status.ReadFault → source_rose → EndsFor s source_rose tell_rose disk_rose
-read-for s source_rose tell_rose disk_rose is rose = record {
+read-for : (s : Status) (taken : List ℕ) (source_rose tell_rose disk_rose : Type 0) → s ≡ status.ReadFault → source_rose → EndsFor s taken source_rose tell_rose disk_rose
+read-for s taken source_rose tell_rose disk_rose is rose = record {
   read = λ _. rose;
   tell = λ e. absurd (told (sym is ∙ e));
   disk = λ e. absurd (stored (sym is ∙ e));
-  made = λ e. none (sym is ∙ e);
-  sound = λ part e. broken part (sym is ∙ e);
-  used = λ e. unused (sym is ∙ e);
+  limit = λ e. absurd (full (sym is ∙ e));
+  ends = ap ends_a_run is;
 }
   where
-    unused : status.ReadFault ≡ status.Usage → ⊥
-    unused e = cc
+    full : status.ReadFault ≡ status.InputLimit → ⊥
+    full e = cc
 
     told : status.ReadFault ≡ status.TellFault → ⊥
     told e = cc
@@ -144,25 +154,15 @@ read-for s source_rose tell_rose disk_rose is rose = record {
     stored : status.ReadFault ≡ status.DiskFault → ⊥
     stored e = cc
 
-    none : status.ReadFault ≡ status.NotADatabase → ⊥
-    none e = cc
-
-    broken : (part : ℕ) → status.ReadFault ≡ status.Damaged part → ⊥
-    broken part e = cc
-
-limit-for : (s : Status) (source_rose tell_rose disk_rose : Type 0) → s ≡ status.InputLimit → EndsFor s source_rose tell_rose disk_rose
-limit-for s source_rose tell_rose disk_rose is = record {
+limit-for : (s : Status) (taken : List ℕ) (source_rose tell_rose disk_rose : Type 0) → s ≡ status.InputLimit → length taken ≡ input_limit → EndsFor s taken source_rose tell_rose disk_rose
+limit-for s taken source_rose tell_rose disk_rose is full = record {
   read = λ e. absurd (read_here (sym is ∙ e));
   tell = λ e. absurd (told (sym is ∙ e));
   disk = λ e. absurd (stored (sym is ∙ e));
-  made = λ e. none (sym is ∙ e);
-  sound = λ part e. broken part (sym is ∙ e);
-  used = λ e. unused (sym is ∙ e);
+  limit = λ _. full;
+  ends = ap ends_a_run is;
 }
   where
-    unused : status.InputLimit ≡ status.Usage → ⊥
-    unused e = cc
-
     read_here : status.InputLimit ≡ status.ReadFault → ⊥
     read_here e = cc
 
@@ -171,12 +171,6 @@ limit-for s source_rose tell_rose disk_rose is = record {
 
     stored : status.InputLimit ≡ status.DiskFault → ⊥
     stored e = cc
-
-    none : status.InputLimit ≡ status.NotADatabase → ⊥
-    none e = cc
-
-    broken : (part : ℕ) → status.InputLimit ≡ status.Damaged part → ⊥
-    broken part e = cc
 
 -- ---- a run
 module _ {H : Type 0} (honest : Type 0) (seen : H → Seen) where
@@ -335,29 +329,28 @@ module _ {H : Type 0} (honest : Type 0) (seen : H → Seen) where
   run-counts s running host text running'' host'' left source_rose (at_limit is full took) = chain-counts running host (lines text) running'' host'' took.chain
   run-counts s running host text running'' host'' left source_rose (at_want front is took) = chain-counts running host front running'' host'' took.chain
 
-  sooner-for : (s : Status) (source_rose : Type 0) (host middle host'' : H) → Counts (seen host) (seen middle) → Counts (seen middle) (seen host'') → IsCausedBy s (TellRose (seen middle) (seen host'')) (DiskRose (seen middle) (seen host''))
-      → EndsFor s source_rose (TellRose (seen host) (seen host'')) (DiskRose (seen host) (seen host''))
-  sooner-for s source_rose host middle host'' first second caused =
-      let own = caused-for s source_rose (TellRose (seen middle) (seen host'')) (DiskRose (seen middle) (seen host'')) caused in
+  sooner-for : (s : Status) (taken : List ℕ) (source_rose : Type 0) (host middle host'' : H) → Counts (seen host) (seen middle) → Counts (seen middle) (seen host'') → IsCausedBy s (TellRose (seen middle) (seen host'')) (DiskRose (seen middle) (seen host''))
+      → EndsFor s taken source_rose (TellRose (seen host) (seen host'')) (DiskRose (seen host) (seen host''))
+  sooner-for s taken source_rose host middle host'' first second caused =
+      let own = caused-for s taken source_rose (TellRose (seen middle) (seen host'')) (DiskRose (seen middle) (seen host'')) caused in
       record {
         read = own.read;
         tell = λ is. rose-later (seen host).tell_faults (seen middle).tell_faults (seen host'').tell_faults first.tells second.tells (own.tell is);
         disk = λ is. rose-later (seen host).disk_faults (seen middle).disk_faults (seen host'').disk_faults first.disk second.disk (own.disk is);
-        made = own.made;
-        sound = own.sound;
-        used = own.used;
+        limit = own.limit;
+        ends = own.ends;
       }
 
   pub run-for : (s : Status) (running : Running) (host : H) (text : List ℕ) (running'' : Running) (host'' : H) (left : Option (List ℕ)) (source_rose : Type 0) → Ended run_acts s running host text running'' host'' left source_rose
-      → EndsFor s source_rose (TellRose (seen host) (seen host'')) (DiskRose (seen host) (seen host''))
+      → EndsFor s text source_rose (TellRose (seen host) (seen host'')) (DiskRose (seen host) (seen host''))
   run-for s running host text running'' host'' left source_rose (at_line front line next more running' middle whole short_front short chain step) =
-      sooner-for s source_rose host middle host'' (chain-counts running host front running' middle chain) step.counts step.cause
+      sooner-for s text source_rose host middle host'' (chain-counts running host front running' middle chain) step.counts step.cause
   run-for s running host text running'' host'' left source_rose (at_pause running' middle took step) = absurd (not-ok s (Err s) refl step.0)
   run-for s running host text running'' host'' left source_rose (at_long_line front long more running' middle whole short over chain step) =
-      sooner-for s source_rose host middle host'' (chain-counts running host front running' middle chain) step.counts step.cause
+      sooner-for s text source_rose host middle host'' (chain-counts running host front running' middle chain) step.counts step.cause
   run-for s running host text running'' host'' left source_rose (at_end running' middle below nothing took step) =
-      sooner-for s source_rose host middle host'' (chain-counts running host (lines text) running' middle took.chain) step.counts step.cause
-  run-for s running host text running'' host'' left source_rose (at_fault is rose took) = read-for s source_rose (TellRose (seen host) (seen host'')) (DiskRose (seen host) (seen host'')) is rose
-  run-for s running host text running'' host'' left source_rose (at_limit is full took) = limit-for s source_rose (TellRose (seen host) (seen host'')) (DiskRose (seen host) (seen host'')) is
+      sooner-for s text source_rose host middle host'' (chain-counts running host (lines text) running' middle took.chain) step.counts step.cause
+  run-for s running host text running'' host'' left source_rose (at_fault is rose took) = read-for s text source_rose (TellRose (seen host) (seen host'')) (DiskRose (seen host) (seen host'')) is rose
+  run-for s running host text running'' host'' left source_rose (at_limit is full took) = limit-for s text source_rose (TellRose (seen host) (seen host'')) (DiskRose (seen host) (seen host'')) is full
   run-for s running host text running'' host'' left source_rose (at_want front is took) =
-      caused-for s source_rose (TellRose (seen host) (seen host'')) (DiskRose (seen host) (seen host'')) (subst (λ (a : Status). IsCausedBy a (TellRose (seen host) (seen host'')) (DiskRose (seen host) (seen host''))) (sym is) tt)
+      caused-for s text source_rose (TellRose (seen host) (seen host'')) (DiskRose (seen host) (seen host'')) (subst (λ (a : Status). IsCausedBy a (TellRose (seen host) (seen host'')) (DiskRose (seen host) (seen host''))) (sym is) tt)

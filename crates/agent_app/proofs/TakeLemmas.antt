@@ -22,9 +22,7 @@ use Rattle.plugin_text.specs.Lines.{fits, lines, parts, rest}
 use Rattle.point_lines.specs.declared.refusal.Refusal.{Refusal}
 use Rattle.point_lines.specs.declared.refusal.Refusal.TheVariants as refusal
 use Rattle.point_lines.specs.Judged.{every, refusal_number}
-use Rattle.point_lines.specs.Steps.{HasDivisor}
 use Rattle.point_lines.proofs.StepLemmas.{counts-at}
-use Rattle.beat_points.specs.Text.{HaveDivisors}
 use Rattle.collect_block.specs.declared.feed.Feed.{Feed}
 use Rattle.collect_block.specs.Feed.{Becomes, CountsFor, IsFeedOf}
 use Rattle.entry_codec.specs.declared.entry.Settings.{Settings}
@@ -89,10 +87,6 @@ module _ (h0 : List Beat) (read : List Line) (bytes : List ℕ) (said : Line) (i
 pub no-query : (said : Line) → ((text : List ℕ) → said ≡ line.Query text → ⊥) → is_query said ≡ false
 no-query (line.Query text) not = absurd (not text refl)
 no-query said not = refl
-
-pub divisors : (said : Line) → HasDivisor said → HaveDivisors (said ∷ [])
-divisors (line.Dimension def) has = (has, tt)
-divisors said has = tt
 
 disable-same : (h0 : List Beat) (read : List Line) (said : Line) → is_disable said ≡ true → history_at every h0 (said ∷ read) ≡ history_at every h0 read
 disable-same h0 read line.Disable is = refl

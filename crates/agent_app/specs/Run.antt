@@ -1,13 +1,13 @@
 -- A run that stores the beats of a text behind those of a history.
-use Rattle.std.specs.Prelude.{◌≡◌, ◌≢◌, ℕ, ◌+◌, ◌^◌, ◌<◌, ◌≤◌, Bool, true, false, nat_lt, List, [], ◌∷◌, ◌++◌, length, drop, take, All, ◌⊎◌, Option, IfSome, Result, Ok, Err, codes, decimal}
+use Rattle.std.specs.Prelude.{◌≡◌, ℕ, ◌+◌, ◌^◌, ◌<◌, ◌≤◌, Bool, true, false, nat_lt, List, [], ◌∷◌, ◌++◌, length, drop, take, All, ◌⊎◌, Option, IfSome, Result, Ok, Err, codes, decimal}
 use Rattle.std.specs.Option.{option_map_or}
 use Rattle.host_model.specs.declared.file.File.{File}
 use Rattle.host_model.specs.declared.status.Status.{Status}
-use Rattle.host_model.specs.declared.status.Status.TheVariants.{TellFault, DiskFault, ReadFault, NotADatabase, Damaged, Usage, Memory}
+use Rattle.host_model.specs.declared.status.Status.TheVariants.{Ok as Done, Refused, Limit, TellFault, DiskFault, ReadFault, InputLimit, NotADatabase, Damaged, Memory}
 use Rattle.host_model.specs.Cause.{HasCause, Rose}
 use Rattle.host_model.specs.Disks.{EveryDisk, reads_as}
 use Rattle.host_model.specs.Moments.{Throughout, EveryStop}
-use Rattle.host_model.specs.Past.{Event, told}
+use Rattle.host_model.specs.Past.{Event, told, IsDisk}
 use Rattle.host_model.specs.Source.{Takes}
 use Rattle.history.specs.declared.fault.BlockFault.{BlockFault}
 use Rattle.history.specs.declared.fault.BlockFault.TheVariants.{Unfinished}
@@ -136,6 +136,42 @@ pub record Runs (status : Status) (set : Settings) (h0 : List Beat) (left left' 
   pub output : TellsRun status (run_output h0 ended taken) old new
   pub cause : HasRunCause status ended (run_reading h0 ended taken).ending taken source_rose tell_rose disk_rose
 
+-- the statuses of a run that found its database and opened it
+abbrev pub ends_a_run : Status → Bool
+ends_a_run Done = true
+ends_a_run (Refused line number) = true
+ends_a_run (Limit line number) = true
+ends_a_run ReadFault = true
+ends_a_run TellFault = true
+ends_a_run DiskFault = true
+ends_a_run InputLimit = true
+ends_a_run Memory = true
+ends_a_run status = false
+
+-- the statuses of a run that found no database that can be opened
+abbrev pub finds_none : Status → Bool
+finds_none NotADatabase = true
+finds_none (Damaged part) = true
+finds_none status = false
+
+-- what was taken of the source, whatever the host tells: all that a run may take, where that is why it ended
+pub record TakesInput (status : Status) (left left' : Option (List ℕ)) : Type 0 where
+  pub taken : List ℕ
+  pub takes : Takes left taken left'
+  pub within : length taken ≤ input_limit
+  pub limit : status ≡ InputLimit → length taken ≡ input_limit
+  -- behind as many bytes as may be taken, no failure of the source ends the run
+  pub read : status ≡ ReadFault → length taken < input_limit
+
+-- the source, the output and the disk are as the run found them: at every moment a crash leaves what it might have
+-- left before, all files read as before, and nothing was told or taken
+pub record LeavesAll (honest : Type 0) (left left' : Option (List ℕ)) (source_faults source_faults' : ℕ) (host host' : Seen) : Type 0 where
+  pub source : (left' ≡ left) × (source_faults' ≡ source_faults)
+  pub output : honest → told host'.past ≡ told host.past
+  pub tells : host'.tell_faults ≡ host.tell_faults
+  pub any_moment : honest → Throughout (EveryDisk (IsDisk host.past)) host.past host'.past
+  pub same : honest → (file : File) → reads_as host'.past file ≡ reads_as host.past file
+
 -- the statuses at which the database was opened for sure
 abbrev pub is_opened : Status → Bool
 is_opened NotADatabase = false
@@ -165,7 +201,11 @@ pub record RunsAll (honest : Type 0) (status : Status) (left left' : Option (Lis
   pub damaged_records : status ≡ Damaged 4 → honest → IsDamaged (reads_as host.past)
   pub damaged_notes : status ≡ Damaged 5 → honest → HasNotes false (reads_as host.past)
   pub opened : is_opened status ≡ true → honest → HasNotes true (reads_as host.past)
-  pub used : status ≢ Usage
+  -- whatever the host tells, these are the statuses of a run, and no more is taken of the source than may be
+  pub statuses : (ends_a_run status ≡ true) ⊎ (finds_none status ≡ true)
+  pub input : TakesInput status left left'
+  -- a run that finds no database that can be opened leaves all as it found it
+  pub leaves : finds_none status ≡ true → LeavesAll honest left left' source_faults source_faults' host host'
   -- each part of the outside fails only where it counted a failure
   pub read_cause : HasCause source_faults source_faults' (status ≡ ReadFault)
   pub tell_cause : HasCause host.tell_faults host'.tell_faults (status ≡ TellFault)

@@ -5,7 +5,7 @@ ghost use Rattle.host_model.specs.Past.{told};
 ghost use Rattle.history.specs.declared.line.Line.{Line};
 ghost use Rattle.point_lines.specs.Reader.{IsReaderOf};
 ghost use Rattle.point_lines.specs.Told.{told_at_end};
-ghost use Rattle.agent_app.specs.Convert.{ending_line};
+ghost use Rattle.agent_app.specs.Convert.{ending_line, LeavesDisk};
 ghost use Rattle.agent_app.specs.Converting.{AddsEnding, Ends, IsAt, Overflows, Pauses, Takes, TellsFront};
 ghost use Rattle.agent_app.specs.Reading.{Ends as IsOver, RefusedAt};
 
@@ -34,6 +34,8 @@ pub(crate) fn tell_waiting<H: Host>(host: &mut H, out: &mut String) -> Result<()
     ensures torn { OnErr result (H.honest → TellsFront (string_bytes out.old) (H.past host.old) (H.past host.new)) }
     ensures cause { HasCause (H.tell_faults host.old) (H.tell_faults host.new) (IsErr result) }
     ensures silent { string_bytes out.old ≡ [] → host.new ≡ host.old }
+    ensures disk { LeavesDisk H.honest (record { past = H.past host.old; disk_faults = H.disk_faults host.old; tell_faults = H.tell_faults host.old })
+        (record { past = H.past host.new; disk_faults = H.disk_faults host.new; tell_faults = H.tell_faults host.new }) }
 {
     if !out.is_empty() {
         host.tell(out.as_bytes())?;
@@ -77,13 +79,14 @@ impl Converting {
 impl<H: Host> Taker<H> for Converting {
     ghost ready = { λ converting host number. IsAt converting number };
 
-    ghost takes = { λ old host number line result new host'. Takes H.honest number line result old new (H.past host) (H.past host') (H.tell_faults host) (H.tell_faults host') };
+    ghost takes = { λ old host number line result new host'. Takes H.honest number line result old new (H.past host) (H.past host') (H.tell_faults host) (H.tell_faults host') × (host' ≡ host) };
 
-    ghost pauses = { λ old host result new host'. Pauses H.honest result old new (H.past host) (H.past host') (H.tell_faults host) (H.tell_faults host') };
+    ghost pauses = { λ old host result new host'. Pauses H.honest result old new (H.past host) (H.past host') (H.tell_faults host) (H.tell_faults host')
+        × LeavesDisk H.honest (record { past = H.past host; disk_faults = H.disk_faults host; tell_faults = H.tell_faults host }) (record { past = H.past host'; disk_faults = H.disk_faults host'; tell_faults = H.tell_faults host' }) };
 
-    ghost ends = { λ old host lines rest status new host'. Ends H.honest lines rest status old new (H.past host) (H.past host') (H.tell_faults host) (H.tell_faults host') };
+    ghost ends = { λ old host lines rest status new host'. Ends H.honest lines rest status old new (H.past host) (H.past host') (H.tell_faults host) (H.tell_faults host') × (host' ≡ host) };
 
-    ghost overflows = { λ old host number status new host'. Overflows H.honest number status old new (H.past host) (H.past host') (H.tell_faults host) (H.tell_faults host') };
+    ghost overflows = { λ old host number status new host'. Overflows H.honest number status old new (H.past host) (H.past host') (H.tell_faults host) (H.tell_faults host') × (host' ≡ host) };
 
     fn take_line(&mut self, _host: &mut H, number: u64, line: &[u8]) -> Result<(), Status> {
         match self.reader.take_line(line, &mut self.out) {

@@ -9,7 +9,7 @@
 
 ghost use Rattle.std.specs.Prelude.{◌≡◌, ◌↔◌, None, Some};
 ghost use Rattle.agent_app.specs.Command.{command_of};
-ghost use Rattle.agent_app.specs.Convert.{Converts, EndsAsText};
+ghost use Rattle.agent_app.specs.Convert.{Converts, EndsAsText, LeavesDisk};
 ghost use Rattle.agent_app.specs.New.{Makes};
 ghost use Rattle.agent_app.specs.Run.{RunsAll};
 ghost use Rattle.entry_codec.specs.declared.entry.Settings.{Settings as ASettings};
@@ -61,6 +61,11 @@ pub fn agent_main<S: Source, H: Host>(
     ensures converts { command_of words.now ≡ Some Command.Convert →
         Converts result H.honest (S.left source.old) (S.left source.new) (H.past host.old) (H.past host.new)
         (S.faults source.old) (S.faults source.new) (H.tell_faults host.old) (H.tell_faults host.new) }
+
+    // It touches no file, whatever it tells and whatever fails.
+    ensures leaves_disk { command_of words.now ≡ Some Command.Convert →
+        LeavesDisk H.honest (record { past = H.past host.old; disk_faults = H.disk_faults host.old; tell_faults = H.tell_faults host.old })
+        (record { past = H.past host.new; disk_faults = H.disk_faults host.new; tell_faults = H.tell_faults host.new }) }
 
     // Where nothing outside fails, the status is that of the text, or there was no memory.
     ensures complete { command_of words.now ≡ Some Command.Convert →

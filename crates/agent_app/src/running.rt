@@ -5,7 +5,6 @@ ghost use Rattle.host_model.specs.Past.{Told, MayAdd};
 ghost use Rattle.plugin_text.specs.Answer.{IsFaultFor};
 ghost use Rattle.plugin_text.specs.Line.{line as line_of};
 ghost use Rattle.plugin_text.specs.Lines.{fits};
-ghost use Rattle.beat_points.specs.Text.{HaveDivisors};
 ghost use Rattle.history.specs.Limits.{keeps_limits};
 ghost use Rattle.history.specs.Registry.{Registry};
 ghost use Rattle.collect_block.specs.Feed.{CountsFor, IsFeedOf};
@@ -103,11 +102,10 @@ impl Running {
     }
 
     /// Takes a line that says this. `Err` is how the run ends.
-    fn take_said<H: Host>(&mut self, host: &mut H, number: u64, said: &Line) -> Result<(), Status>
+    fn take_said<H: Host>(&mut self, host: &mut H, number: u64, said: Line) -> Result<(), Status>
         requires ready { IsFit H.honest self.old (record { past = H.past host.old; disk_faults = H.disk_faults host.old; tell_faults = H.tell_faults host.old }) }
-        requires divisor { HaveDivisors (said.now ∷ []) }
-        requires limits { keeps_limits said.now ≡ true }
-        ensures takes { (bytes : List ℕ) → line_of bytes ≡ Ok said.now → fits bytes ≡ true
+        requires limits { keeps_limits said ≡ true }
+        ensures takes { (bytes : List ℕ) → line_of bytes ≡ Ok said → fits bytes ≡ true
             → TakesLine H.honest self.old (record { past = H.past host.old; disk_faults = H.disk_faults host.old; tell_faults = H.tell_faults host.old }) number bytes
             result self.new (record { past = H.past host.new; disk_faults = H.disk_faults host.new; tell_faults = H.tell_faults host.new }) }
         ensures ready { OnOk result (IsFit H.honest self.new (record { past = H.past host.new; disk_faults = H.disk_faults host.new; tell_faults = H.tell_faults host.new })) }
@@ -119,17 +117,16 @@ impl Running {
     }
 
     /// Takes a line that says this and is no question. `Err` is how the run ends.
-    fn take<H: Host>(&mut self, host: &mut H, number: u64, said: &Line) -> Result<(), Status>
+    fn take<H: Host>(&mut self, host: &mut H, number: u64, said: Line) -> Result<(), Status>
         requires ready { IsFit H.honest self.old (record { past = H.past host.old; disk_faults = H.disk_faults host.old; tell_faults = H.tell_faults host.old }) }
-        requires divisor { HaveDivisors (said.now ∷ []) }
-        requires limits { keeps_limits said.now ≡ true }
-        requires answer { is_query said.now ≡ false }
-        ensures takes { (bytes : List ℕ) → line_of bytes ≡ Ok said.now → fits bytes ≡ true
+        requires limits { keeps_limits said ≡ true }
+        requires answer { is_query said ≡ false }
+        ensures takes { (bytes : List ℕ) → line_of bytes ≡ Ok said → fits bytes ≡ true
             → TakesLine H.honest self.old (record { past = H.past host.old; disk_faults = H.disk_faults host.old; tell_faults = H.tell_faults host.old }) number bytes
             result self.new (record { past = H.past host.new; disk_faults = H.disk_faults host.new; tell_faults = H.tell_faults host.new }) }
         ensures ready { OnOk result (IsFit H.honest self.new (record { past = H.past host.new; disk_faults = H.disk_faults host.new; tell_faults = H.tell_faults host.new })) }
     {
-        match self.agent.line(host, &mut self.feed, said) {
+        match self.agent.take_line(host, &mut self.feed, said) {
             Ok(Said::Nothing) => Ok(()),
             // No question comes here.
             Ok(Said::Asked(_)) => Ok(()),
@@ -163,7 +160,7 @@ impl<H: Host> Taker<H> for Running {
 
     fn take_line(&mut self, host: &mut H, number: u64, line: &[u8]) -> Result<(), Status> {
         match read_line(self.alloc, line) {
-            Ok(said) => self.take_said(host, number, &said),
+            Ok(said) => self.take_said(host, number, said),
             Err(fault) => Err(self.refuse(host, number, fault)),
         }
     }

@@ -25,13 +25,12 @@ use Rattle.chart_registry.proofs.Applying.{all-put, any-put, any-put_all, has_ch
 use Rattle.chart_registry.proofs.Places.{list_any-position}
 use Rattle.chart_registry.proofs.RegistryLemmas.{or_false}
 use Rattle.chart_registry.proofs.RowsLemmas.{same_text, bytes_eq_same}
-use Rattle.beat_points.specs.Regular.{IsRegular}
+use Rattle.history.specs.Regular.{IsRegular}
 use Rattle.beat_points.specs.Text.{AreAccepted}
-use Rattle.beat_points.proofs.ApartLemmas.{same-parts}
-use Rattle.beat_points.proofs.CountLemmas.{one_if}
+use Rattle.chart_registry.proofs.ApartLemmas.{same-parts}
+use Rattle.chart_registry.proofs.Finding.{one_if, all-weaker}
+use Rattle.chart_registry.proofs.Growing.{same_dimension-alike}
 use Rattle.beat_points.proofs.FewLemmas.{count-put_all, count_of, few-known, few-room, HaveFew}
-use Rattle.beat_points.proofs.Growing.{same_dimension-alike}
-use Rattle.beat_points.proofs.OrderLemmas.{all-weaker}
 use Rattle.beat_points.proofs.TextLemmas.{text-regular}
 use Rattle.agent_core.specs.Rules.{beat_refusal, changes_grid, changes_grid_of, dimensions_with, fills_chart, is_too_long, lacks_chart, lacks_dimension, line_refusal, row_lacks_dimension, too_many_charts, too_many_dimensions, IsWithin}
 use Rattle.agent_core.proofs.Within.{count-cons, passed, within-counts}

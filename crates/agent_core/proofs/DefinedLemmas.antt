@@ -15,9 +15,9 @@ use Rattle.chart_registry.proofs.Applying.{has_chart-applied}
 use Rattle.chart_registry.proofs.Places.{list_any-position}
 use Rattle.chart_registry.proofs.RegistryLemmas.{or_false}
 use Rattle.chart_registry.proofs.RowsLemmas.{same_text, bytes_eq_same}
-use Rattle.beat_points.specs.Regular.{AreApart, IsRegular}
-use Rattle.beat_points.proofs.Growing.{same_dimension-alike}
-use Rattle.beat_points.proofs.OrderLemmas.{all-weaker}
+use Rattle.history.specs.Regular.{AreApart, IsRegular}
+use Rattle.chart_registry.proofs.Finding.{all-weaker}
+use Rattle.chart_registry.proofs.Growing.{same_dimension-alike}
 use Rattle.beat_entries.specs.Defined.{IsDefinedIn}
 use Rattle.agent_core.specs.Rules.{fills_chart, is_too_long, lacks_chart, lacks_dimension, row_lacks_dimension, too_many_dimensions, IsOpenBeat}
 use Rattle.agent_core.proofs.Lists.{any-put_all, apart-put_all, found-put_all, none-fails, none-passes, IsSameness}

@@ -1,5 +1,5 @@
 -- The beats that a feed closes may be handed in, and what a feed is after one line more.
-use Rattle.std.proofs.Common.{◌≡◌, ◌≢◌, ℕ, ◌==◌, ◌<◌, ◌≤◌, Bool, true, false, not, nat_le, ◌&&◌, List, [], ◌∷◌, ◌++◌, Option, Some, None, is_some, ℤ, pos, refl, sym, ap, ◌∙◌, subst, arith, if◌then◌else◌}
+use Rattle.std.proofs.Common.{◌≡◌, ◌≢◌, ℕ, ◌==◌, ◌<◌, ◌≤◌, Bool, true, false, not, nat_le, ◌&&◌, List, [], ◌∷◌, ◌++◌, Option, Some, None, is_some, ℤ, refl, sym, ap, ◌∙◌, subst, arith, if◌then◌else◌}
 use Rattle.std.specs.List.{list_any, AllByRecursion}
 use Rattle.std.specs.Option.{option_map_or}
 use Rattle.std.specs.Str.{bytes_eq}
@@ -21,18 +21,17 @@ use Rattle.history.specs.Looking.{beat, charts, dimensions, is_value, last_chart
 use Rattle.history.specs.Put.{put}
 use Rattle.history.specs.Refusal.{has_chart, has_row, refusal}
 use Rattle.history.specs.Registry.{Registry, same_chart, same_dimension}
+use Rattle.chart_registry.proofs.OpenLemmas.{charts-apart, dimensions-apart}
 use Rattle.chart_registry.proofs.RowsLemmas.{same_text, bytes_eq_same}
-use Rattle.beat_points.specs.Regular.{AreApart, same_row}
-use Rattle.beat_points.specs.Text.{HaveDivisors}
-use Rattle.beat_points.proofs.ApartLemmas.{apart-filter, apart-push}
+use Rattle.history.specs.Regular.{AreApart, same_row}
+use Rattle.chart_registry.proofs.ApartLemmas.{apart-filter, apart-push}
 use Rattle.collect_block.specs.declared.feed.Feed.{Feed}
 use Rattle.collect_block.specs.declared.step.Step.{Step}
 use Rattle.collect_block.specs.Feed.{step_of, Becomes, CountsAt, IsFeedOf}
 use Rattle.agent_core.specs.Fed.{OpenEachFirst, OpensFirst, IsFed}
 use Rattle.agent_core.specs.Rules.{IsOpenBeat}
 use Rattle.agent_core.specs.Steps.{IsOpenStep}
-use Rattle.agent_core.proofs.DefinedLemmas.{charts-sameness, dimensions-sameness}
-use Rattle.agent_core.proofs.HistoryLemmas.{passed, Divides}
+use Rattle.agent_core.proofs.HistoryLemmas.{passed}
 use Rattle.agent_core.proofs.Lists.{all-put, apart-put, IsSameness}
 
 -- ---- the charts and dimensions of the open beat
@@ -45,12 +44,6 @@ grid-of every def some = by (def.update_every == 0) refl
     by : (b : Bool) → (def.update_every == 0) ≡ b → HasGrid (if b then record def { update_every = every } else def)
     by true e = some
     by false e = let other : def.update_every ≢ 0 = eqb-false def.update_every 0 e in omega arith
-
-charts-apart : (every : ℕ) (past : List Line) → AreApart same_chart (charts every past)
-charts-apart every [] = tt
-charts-apart every (line.Moment moment ∷ past) = tt
-charts-apart every (line.Chart def ∷ past) = apart-put same_chart charts-sameness (charts every past) (with_grid every def) (charts-apart every past)
-charts-apart every (line ∷ past) = charts-apart every past
 
 charts-grids : (every : ℕ) (past : List Line) → 0 < every → AllByRecursion HasGrid (charts every past)
 charts-grids every [] some = tt
@@ -83,16 +76,6 @@ charts-limits every (line ∷ past) low limits = charts-limits every past low li
 abbrev with_dimension : DimDef → List OpenDim → Option (List ℕ) → List OpenDim
 with_dimension def ds chart = option_map_or (λ chart. put same_dimension ds (record { chart = chart; def = def })) chart ds
 
-dimension-apart : (def : DimDef) (ds : List OpenDim) (chart : Option (List ℕ)) → AreApart same_dimension ds → AreApart same_dimension (with_dimension def ds chart)
-dimension-apart def ds None apart = apart
-dimension-apart def ds (Some chart) apart = apart-put same_dimension dimensions-sameness ds (record { chart = chart; def = def }) apart
-
-dimensions-apart : (past : List Line) → AreApart same_dimension (dimensions past)
-dimensions-apart [] = tt
-dimensions-apart (line.Moment moment ∷ past) = tt
-dimensions-apart (line.Dimension def ∷ past) = dimension-apart def (dimensions past) (last_chart past) (dimensions-apart past)
-dimensions-apart (line ∷ past) = dimensions-apart past
-
 module _ (P : DimDef → Type 0) where
   abbrev OfDimension : OpenDim → Type 0
   OfDimension dimension = P dimension.def
@@ -101,15 +84,6 @@ module _ (P : DimDef → Type 0) where
   dimension-also : (def : DimDef) (ds : List OpenDim) (chart : Option (List ℕ)) → P def → AllByRecursion OfDimension ds → AllByRecursion OfDimension (with_dimension def ds chart)
   dimension-also def ds None here all = all
   dimension-also def ds (Some chart) here all = all-put same_dimension OfDimension ds (record { chart = chart; def = def }) all here
-
-abbrev HasDivisor : DimDef → Type 0
-HasDivisor def = def.divisor ≢ pos 0
-
-dimensions-divide : (past : List Line) → HaveDivisors past → AllByRecursion Divides (dimensions past)
-dimensions-divide [] divisors = tt
-dimensions-divide (line.Dimension def ∷ past) divisors = dimension-also HasDivisor def (dimensions past) (last_chart past) divisors.0 (dimensions-divide past divisors.1)
-dimensions-divide (line.Moment moment ∷ past) divisors = tt
-dimensions-divide (line ∷ past) divisors = dimensions-divide past divisors
 
 abbrev IsLimited : DimDef → Type 0
 IsLimited def = dimension_keeps_limits def ≡ true
@@ -195,7 +169,6 @@ fed-beat feed fed =
       apart_rows = rows-apart every past fed.blocks;
       apart_values = All-from_recursion IsApartRow (rows past) (rows-values past);
       grids = All-from_recursion HasGrid (charts every past) (charts-grids every past fed.feed_of.grid);
-      divisors = All-from_recursion Divides (dimensions past) (dimensions-divide past fed.divisors);
       chart_limits = All-from_recursion IsLimitedChart (charts every past) (charts-limits every past fed.grid_limit limits);
       dimension_limits = All-from_recursion (OfDimension IsLimited) (dimensions past) (dimensions-limits past limits);
     }
@@ -216,18 +189,13 @@ opens-first feed registry every past copies last (line.Begin chart) free =
     (passed (has_row (beat every past) chart) fault.SecondBlock None there.1).0
 opens-first feed registry every past copies last line free = tt
 
-divisors-more : (line : Line) (past : List Line) → HaveDivisors (line ∷ []) → HaveDivisors past → HaveDivisors (line ∷ past)
-divisors-more (line.Dimension def) past one more = (one.0, more)
-divisors-more line past one more = more
-
-pub fed-more : (feed feed' : Feed) (line : Line) (registry : Registry) (copies : Bool) (last : ℕ) → IsFed feed → HaveDivisors (line ∷ []) → KeepsLimits line → Becomes line feed feed'
+pub fed-more : (feed feed' : Feed) (line : Line) (registry : Registry) (copies : Bool) (last : ℕ) → IsFed feed → KeepsLimits line → Becomes line feed feed'
     → ((every : ℕ) (past : List Line) → IsFeedOf feed every past → CountsAt line feed registry → refusal registry every past copies last line ≡ None) → IsFed feed'
-fed-more feed feed' line registry copies last fed one here becomes free = record {
+fed-more feed feed' line registry copies last fed here becomes free = record {
   every = fed.every;
   past = line ∷ fed.past;
   feed_of = becomes fed.every fed.past fed.feed_of;
   grid_limit = fed.grid_limit;
   blocks = (opens-first feed registry fed.every fed.past copies last line (free fed.every fed.past fed.feed_of), fed.blocks);
-  divisors = divisors-more line fed.past one fed.divisors;
   limits = All-from_recursion KeepsLimits (line ∷ fed.past) (here, recursion_from_All KeepsLimits fed.past fed.limits);
 }

@@ -9,9 +9,9 @@ use Rattle.history.specs.declared.chart.ChartDef.{ChartDef}
 use Rattle.history.specs.declared.fault.BlockFault.TheVariants as fault
 use Rattle.history.specs.History.{Beat, child, collected, last, registry_of}
 use Rattle.history.specs.Registry.{Registry, is_chart}
-use Rattle.beat_points.specs.Regular.{IsRegular}
-use Rattle.beat_points.proofs.OrderLemmas.{all-weaker}
-use Rattle.beat_entries.specs.Alike.{AreOwned, MayFollow}
+use Rattle.history.specs.Regular.{IsRegular}
+use Rattle.chart_registry.proofs.Finding.{all-weaker}
+use Rattle.beat_entries.specs.Following.{AreOwned, MayFollow}
 use Rattle.beat_entries.proofs.Slots.{none-all}
 use Rattle.agent_core.specs.Kept.{Follows}
 use Rattle.agent_core.specs.Rules.{beat_refusal, changes_grid, changes_grid_of, lacks_chart, lacks_dimension, IsWithin}

@@ -1,24 +1,17 @@
 -- What holds of a history that a store keeps, and of a beat that may follow it.
-use Rattle.std.proofs.Common.{◌≡◌, ◌≢◌, ℕ, ◌<◌, Bool, true, false, not, nat_le, List, [], ◌∷◌, All, Option, Some, None, pos, refl, sym, ap, ◌∙◌, arith, if◌then◌else◌, is_some}
-use Rattle.std.specs.List.{AllByRecursion}
+use Rattle.std.proofs.Common.{◌≡◌, ℕ, ◌<◌, Bool, true, false, not, nat_le, List, [], ◌∷◌, Option, Some, None, refl, sym, arith, if◌then◌else◌, is_some}
 use Rattle.std.proofs.lemmas.Bool.{leb-false}
-use Rattle.std.proofs.lemmas.List.Elements.{All-from_recursion, recursion_from_All}
 use Rattle.std.proofs.lemmas.Option.{none-some}
 use Rattle.history.specs.declared.beat.OpenBeat.{OpenBeat}
-use Rattle.history.specs.declared.beat.OpenDim.{OpenDim}
-use Rattle.history.specs.declared.dimension.DimDef.{DimDef}
 use Rattle.history.specs.declared.fault.BlockFault.TheVariants.{NoChart, NoDimension, MomentOrder, MixedRoles, GridChanged, TooManyCharts, TooManyDimensions}
-use Rattle.history.specs.History.{Beat, collected, copied, health, missing, child, last, registry_of, Copy}
-use Rattle.history.specs.Registry.{Registry, same_dimension}
+use Rattle.history.specs.History.{Beat, collected, copied, health, missing, child, last, registry_of}
+use Rattle.history.specs.Registry.{Registry}
 use Rattle.beat_points.specs.Points.{IsBefore}
-use Rattle.beat_entries.specs.Copied.{IsUsualDimension}
 use Rattle.beat_points.proofs.LawLemmas.{before-collected, before-none}
-use Rattle.beat_points.proofs.OrderLemmas.{all-weaker}
 use Rattle.store_core.specs.declared.beat.Beat.{Beat as StoreBeat}
 use Rattle.agent_core.specs.Kept.{AreBeatsOf, Follows}
 use Rattle.agent_core.specs.Roles.{may_collect, role_of}
-use Rattle.agent_core.specs.Rules.{beat_refusal, changes_grid, lacks_chart, lacks_dimension, too_many_charts, too_many_dimensions, IsOpenBeat}
-use Rattle.agent_core.proofs.Lists.{all-put_all}
+use Rattle.agent_core.specs.Rules.{beat_refusal, changes_grid, lacks_chart, lacks_dimension, too_many_charts, too_many_dimensions}
 
 -- the tests that a beat passed
 pub record Passed (registry : Registry) (last moment : ℕ) (beat : OpenBeat) : Type 0 where
@@ -79,39 +72,3 @@ before-of (missing gap ∷ h) [] are moment less = absurd are
 before-of (missing gap ∷ h) (kept ∷ beats) are moment less =
     let first = are.0.later in
     before-of h beats are.1 moment (omega (arith, first, less))
-
--- no dimension divides by 0
-abbrev pub Divides : OpenDim → Type 0
-Divides dimension = dimension.def.divisor ≢ pos 0
-
-open-divides : (beat : OpenBeat) → IsOpenBeat beat → AllByRecursion Divides beat.dimensions
-open-divides beat is_open = recursion_from_All Divides beat.dimensions is_open.divisors
-
--- a usual dimension divides by 1
-usual-divides : (dimension : OpenDim) → IsUsualDimension dimension → Divides dimension
-usual-divides dimension usual e = one (sym (ap (λ (def : DimDef). def.divisor) usual) ∙ e)
-  where
-    one : pos 1 ≡ pos 0 → ⊥
-    one e = cc
-
-copy-divides : (copy : Copy) → All IsUsualDimension copy.dimensions → AllByRecursion Divides copy.dimensions
-copy-divides copy usual =
-    all-weaker IsUsualDimension Divides usual-divides copy.dimensions (recursion_from_All IsUsualDimension copy.dimensions usual)
-
-divides-of : (h : List Beat) (beats : List StoreBeat) → AreBeatsOf h beats → AllByRecursion Divides (registry_of h).dimensions
-divides-of [] beats are = tt
-divides-of (collected at beat ∷ h) [] are = absurd are
-divides-of (collected at beat ∷ h) (kept ∷ beats) are =
-    all-put_all same_dimension Divides (registry_of h).dimensions beat.dimensions (divides-of h beats are.1) (open-divides beat are.0.follows.is_open)
-divides-of (copied copy ∷ h) [] are = absurd are
-divides-of (copied copy ∷ h) (kept ∷ beats) are =
-    all-put_all same_dimension Divides (registry_of h).dimensions copy.dimensions (divides-of h beats are.1) (copy-divides copy are.0.follows.may.dimensions)
-divides-of (health text ∷ h) [] are = absurd are
-divides-of (health text ∷ h) (kept ∷ beats) are = divides-of h beats are.1
-divides-of (missing gap ∷ h) [] are = absurd are
-divides-of (missing gap ∷ h) (kept ∷ beats) are = divides-of h beats are.1
-
-pub divides-after : (h : List Beat) (beats : List StoreBeat) (moment : ℕ) (beat : OpenBeat) → AreBeatsOf h beats → IsOpenBeat beat → All Divides (registry_of (collected moment beat ∷ h)).dimensions
-divides-after h beats moment beat are is_open =
-    All-from_recursion Divides (registry_of (collected moment beat ∷ h)).dimensions
-    (all-put_all same_dimension Divides (registry_of h).dimensions beat.dimensions (divides-of h beats are) (open-divides beat is_open))

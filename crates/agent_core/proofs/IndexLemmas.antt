@@ -13,7 +13,7 @@ use Rattle.history.specs.Refusal.{is_new_dimension}
 use Rattle.history.specs.Registry.{Registry, is_dimension}
 use Rattle.chart_registry.proofs.RegistryLemmas.{or_false}
 use Rattle.chart_registry.proofs.RowsLemmas.{same_text}
-use Rattle.beat_points.specs.Regular.{AreApart}
+use Rattle.history.specs.Regular.{AreApart}
 use Rattle.agent_core.proofs.Lists.{apart-turned, IsSameness}
 
 -- ---- a list whose things stand apart, put one by one

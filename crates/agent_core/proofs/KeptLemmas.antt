@@ -1,5 +1,5 @@
 -- What is kept of a beat, and what a stop leaves of a history.
-use Rattle.std.proofs.Common.{◌≡◌, ℕ, ◌+◌, ◌⊎◌, inl, inr, All, List, ◌∷◌, length, map, Option, Some, None, sym, ap, ◌∙◌, subst, arith}
+use Rattle.std.proofs.Common.{◌≡◌, ℕ, ◌+◌, ◌⊎◌, inl, inr, List, ◌∷◌, length, map, Option, Some, None, refl, sym, ap, ◌∙◌, subst, arith}
 use Rattle.host_model.specs.declared.file.File.{File}
 use Rattle.host_model.specs.Past.{Event}
 use Rattle.host_model.specs.Disks.{EveryDisk}
@@ -8,12 +8,14 @@ use Rattle.host_model.proofs.DiskLemmas.{disks_weaker}
 use Rattle.algorithms.specs.declared.last.Last.{Last}
 use Rattle.history.specs.declared.beat.OpenBeat.{OpenBeat}
 use Rattle.history.specs.declared.fault.BlockFault.{BlockFault}
+use Rattle.history.specs.declared.numbered.NumberedBeat.{NumberedBeat}
 use Rattle.history.specs.History.{Beat, collected, registry_of}
 use Rattle.history.specs.Registry.{Registry, with_definitions}
 use Rattle.beat_points.specs.declared.series_word.SeriesWord.{SeriesWord}
 use Rattle.beat_points.specs.LastRows.{AreLastOf}
 use Rattle.beat_points.specs.Points.{beat_points, IsNext}
-use Rattle.beat_entries.specs.Entry.{entry_of}
+use Rattle.history.specs.Numbered.{numbered_beat}
+use Rattle.history.specs.Regular.{IsRegular}
 use Rattle.entry_codec.specs.declared.entry.Entry.TheVariants as entry
 use Rattle.entry_codec.specs.declared.entry.Settings.{Settings}
 use Rattle.entry_codec.specs.Entries.{HasSpelling}
@@ -24,8 +26,9 @@ use Rattle.store_core.specs.Store.{counted, raised, IsStoreOf, StoreState}
 use Rattle.store_core.proofs.StoreLemmas.{every_image_of}
 use Rattle.agent_core.specs.Agent.{AgentState, Holds, IsAgentOf}
 use Rattle.agent_core.specs.Kept.{kept_of, note_of, point_of, stored_points, AreBeatsOf, Follows, StandsForHistory, StandsForOneOf}
+use Rattle.agent_core.specs.Replay.{HasTakenRows}
 use Rattle.agent_core.specs.Rules.{beat_refusal, IsOpenBeat}
-use Rattle.agent_core.proofs.HistoryLemmas.{before-of, divides-after, follows-passed, Divides}
+use Rattle.agent_core.proofs.HistoryLemmas.{before-of, follows-passed}
 
 -- what is kept is put together of its parts
 pub kept-is : (registry : Registry) (lasts : List (Option Last)) (h : List Beat) (moment : ℕ) (beat : OpenBeat) (words : List SeriesWord) (points : List BeatPoint) (note : List ℕ) → IsNext registry lasts h moment beat
@@ -38,6 +41,12 @@ kept-is registry lasts h moment beat words points note next words_are points_are
     = λ i. record { moment = Some moment; points = stored i; note = note_is i } in
     let named : (r : Registry) → StoreBeat = λ r. record { moment = Some moment; points = stored_points r h moment beat; note = note_of r moment beat } in
     parts ∙ ap named next.registry_is
+
+-- the rows of the beat by number are taken, as those of the beat
+pub rows-taken : (registry : Registry) (lasts lasts' : List (Option Last)) (h : List Beat) (moment : ℕ) (beat : OpenBeat) (numbered : NumberedBeat) → numbered ≡ numbered_beat registry moment beat
+    → HasTakenRows registry lasts lasts' numbered → IsNext registry lasts h moment beat → IsRegular registry beat → AreLastOf lasts' (collected moment beat ∷ h)
+rows-taken registry lasts lasts' h moment beat numbered same taken next regular =
+    subst (HasTakenRows registry lasts lasts') same taken h beat next.lasts_are next.registry_is regular refl
 
 -- ---- the parts of an agent
 module _ (past : List Event) (store : StoreState) (registry : Registry) (lasts : List (Option Last)) (set : Settings) (h : List Beat) (holds : Holds past store registry lasts set h) where
@@ -54,7 +63,6 @@ module _ (past : List Event) (store : StoreState) (registry : Registry) (lasts :
           registry_is = same;
           lasts_are = holds.last_rows_are;
           before = before-of h holds.beats holds.are moment (follows-passed h moment beat follows).later;
-          divisors = subst (λ (r : Registry). All Divides r.dimensions) (sym same) (divides-after h holds.beats moment beat holds.are follows.is_open);
         }
 
     pub next-after : (registry' : Registry) → registry' ≡ with_definitions registry beat.charts beat.dimensions → IsNext registry' lasts h moment beat
@@ -67,10 +75,10 @@ module _ (past : List Event) (store : StoreState) (registry : Registry) (lasts :
 
     -- the entry is spelt by the registry with the beat's definitions
     pub spelt-after : (registry' : Registry) → registry' ≡ with_definitions registry beat.charts beat.dimensions
-        → HasSpelling (entry.Collected (entry_of registry' moment beat)) → HasSpelling (entry.Collected (entry_of (registry_of (collected moment beat ∷ h)) moment beat))
-    spelt-after registry' applied spelt = subst (λ (r : Registry). HasSpelling (entry.Collected (entry_of r moment beat))) (applied ∙ is_next.registry_is) spelt
+        → HasSpelling (entry.Collected (numbered_beat registry' moment beat)) → HasSpelling (entry.Collected (numbered_beat (registry_of (collected moment beat ∷ h)) moment beat))
+    spelt-after registry' applied spelt = subst (λ (r : Registry). HasSpelling (entry.Collected (numbered_beat r moment beat))) (applied ∙ is_next.registry_is) spelt
 
-    module _ (kept : StoreBeat) (is_kept : kept ≡ kept_of h moment beat) (spelt : HasSpelling (entry.Collected (entry_of (registry_of (collected moment beat ∷ h)) moment beat))) where
+    module _ (kept : StoreBeat) (is_kept : kept ≡ kept_of h moment beat) (spelt : HasSpelling (entry.Collected (numbered_beat (registry_of (collected moment beat ∷ h)) moment beat))) where
       pub kept-follows : AreBeatsOf (collected moment beat ∷ h) (kept ∷ holds.beats)
       kept-follows = (record { follows = follows; is_kept = is_kept; spelt = spelt }, holds.are)
 

@@ -5,7 +5,7 @@ use Rattle.std.proofs.lemmas.Bool.{not-false}
 use Rattle.history.specs.Put.{put, put_all}
 use Rattle.chart_registry.proofs.Applying.{any-put}
 use Rattle.chart_registry.proofs.RegistryLemmas.{or_false}
-use Rattle.beat_points.specs.Regular.{AreApart}
+use Rattle.history.specs.Regular.{AreApart}
 
 -- a list none of whose things fails a test
 pub none-fails : {A : Type 0} (q : A → Bool) (xs : List A) → list_any (λ x. not (q x)) xs ≡ false → AllByRecursion (λ x. q x ≡ true) xs

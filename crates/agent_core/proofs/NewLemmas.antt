@@ -8,7 +8,7 @@ use Rattle.host_model.proofs.DiskLemmas.{disks_weaker}
 use Rattle.algorithms.specs.declared.last.Last.{Last}
 use Rattle.history.specs.Registry.{empty, Registry, same_chart, same_dimension}
 use Rattle.beat_points.specs.LastRows.{AreLastOf}
-use Rattle.beat_points.specs.Regular.{AreApart}
+use Rattle.history.specs.Regular.{AreApart}
 use Rattle.entry_codec.specs.declared.entry.Settings.{Settings}
 use Rattle.store_core.specs.Stands.{StandsIfMade}
 use Rattle.store_core.specs.Store.{IsNew, IsReady, IsStoreOf, StoreState}

@@ -1,5 +1,5 @@
 -- A kept beat has an entry that goes on from what is before it, and leaves what the beat leaves.
-use Rattle.std.proofs.Common.{◌≡◌, ◌<◌, ◌⊎◌, inl, inr, lt-ltb, true, false, ◌&&◌, nat_lt, List, [], ◌∷◌, length, Option, Some, refl, sym, ap, ◌∙◌, subst, true≢false}
+use Rattle.std.proofs.Common.{◌≡◌, ◌<◌, ◌⊎◌, inl, inr, lt-ltb, true, false, ◌&&◌, nat_lt, List, [], ◌∷◌, length, map, Option, Some, refl, sym, ap, ◌∙◌, subst, true≢false}
 use Rattle.std.proofs.lemmas.Bool.{not-false}
 use Rattle.std.proofs.lemmas.List.Elements.{recursion_from_All}
 use Rattle.std.proofs.lemmas.Option.{same_Some}
@@ -7,16 +7,16 @@ use Rattle.algorithms.specs.declared.last.Last.{Last}
 use Rattle.history.specs.History.{Beat, collected, copied, health, missing, registry_of, Word}
 use Rattle.history.specs.Registry.{Registry, same_chart, same_dimension}
 use Rattle.beat_points.specs.LastRows.{AreLastOf}
-use Rattle.beat_points.specs.Regular.{AreApart}
-use Rattle.entry_codec.specs.declared.entry.Collected.{Collected}
+use Rattle.history.specs.Regular.{AreApart}
+use Rattle.history.specs.declared.numbered.NumberedBeat.{NumberedBeat}
 use Rattle.entry_codec.specs.declared.entry.Entry.{Entry}
 use Rattle.entry_codec.specs.declared.entry.Entry.TheVariants as entry
 use Rattle.entry_codec.specs.Entries.{entry_bytes, read_entry, HasSpelling}
 use Rattle.entry_codec.proofs.EntriesLaw.{reads_back}
 use Rattle.beat_entries.specs.Copied.{defined_by}
-use Rattle.beat_entries.specs.Entry.{entry_of}
-use Rattle.beat_entries.proofs.AlikeLemmas.{beats-alike, lasts-alike}
-use Rattle.beat_entries.proofs.CopiedLemmas.{all-mapped, copied-last, copied-next, copied-registry}
+use Rattle.beat_entries.specs.Next.{chart_def, dimension_back, with_charts, with_numbered}
+use Rattle.history.specs.Numbered.{numbered_beat}
+use Rattle.beat_entries.proofs.CopiedLemmas.{all-mapped, copied-next, copied-registry}
 use Rattle.beat_entries.proofs.DefinedLemmas.{chart-alike, chart-itself, dimension-alike, dimension-itself}
 use Rattle.beat_entries.proofs.FollowLemmas.{beat-goes-on, last-is}
 use Rattle.beat_entries.proofs.PutLemmas.{apart-put_all}
@@ -28,7 +28,7 @@ use Rattle.agent_core.specs.declared.left.Left.{Left}
 use Rattle.agent_core.specs.declared.left.Role.TheVariants.{Collects, Copies}
 use Rattle.agent_core.specs.Kept.{copied_entry, copied_point, gap_entry, AreBeatsOf, IsBeatOf}
 use Rattle.agent_core.specs.Notes.{beats_go_on, entry_goes_on, entry_in, left_by, left_of, moment_of, names_series, takes_note, with_entry, with_note}
-use Rattle.agent_core.specs.Replay.{ArePartsOf, HasRows, IsRestored}
+use Rattle.agent_core.specs.Replay.{ArePartsOf, HasRows}
 use Rattle.agent_core.specs.Roles.{may_collect, role_of}
 use Rattle.agent_core.proofs.FollowLemmas.{follows-may, follows-owned, follows-regular}
 use Rattle.agent_core.proofs.HistoryLemmas.{copies-of, follows-alone}
@@ -38,7 +38,7 @@ use Rattle.agent_core.proofs.Within.{within-of}
 
 -- the entry of a beat that follows a history
 abbrev pub entry_for : List Beat → Beat → Entry
-entry_for g (collected moment beat) = entry.Collected (entry_of (registry_of (collected moment beat ∷ g)) moment beat)
+entry_for g (collected moment beat) = entry.Collected (numbered_beat (registry_of (collected moment beat ∷ g)) moment beat)
 entry_for g (copied copy) = copied_entry g copy
 entry_for g (health text) = entry.Health text
 entry_for g (missing gap) = gap_entry gap
@@ -71,7 +71,7 @@ module _ (g : List Beat) (beats : List StoreBeat) (are : AreBeatsOf g beats) whe
   -- it leaves what the beat leaves
   left-after : (beat : Beat) (kept : StoreBeat) → IsBeatOf g beat kept → left_by (beat ∷ g) ≡ with_entry (left_by g) (entry_for g beat)
   left-after (collected moment beat) kept of =
-      let same = last-is g moment beat (follows-owned g moment beat of.follows) (follows-may g moment beat of.follows (within-of g beats are)) in
+      let same = last-is g moment beat (follows-owned g moment beat of.follows) in
       λ i. record { registry = same i; role = Collects }
   left-after (copied copy) kept of = λ i. record { registry = sym (copied-registry g copy of.follows.may) i; role = Copies }
   left-after (health text) kept of = refl
@@ -118,12 +118,9 @@ last-stays : (lasts lasts' : List (Option Last)) (g h : List Beat) → lasts' �
 last-stays lasts lasts' g h same carry was = subst (λ (l : List (Option Last)). AreLastOf l h) (sym same) (carry was)
 
 last-after : (g : List Beat) (beat : Beat) (kept : StoreBeat) (lasts lasts' : List (Option Last)) → IsBeatOf g beat kept → AreLastOf lasts g
-    → HasRows (registry_of g) (registry_of (beat ∷ g)) lasts lasts' (entry_for g beat) → AreLastOf lasts' (beat ∷ g)
-last-after g (collected moment beat) kept lasts lasts' of was rows =
-    let equal : registry_of (collected moment rows.beat ∷ g) ≡ registry_of (collected moment beat ∷ g) = sym rows.definitions in
-    let alike = beats-alike g moment beat rows.beat (follows-regular g moment beat of.follows) rows.of in
-    lasts-alike g moment beat rows.beat lasts' alike equal (rows.rows g was rows.definitions)
-last-after g (copied copy) kept lasts lasts' of was rows = copied-last g copy rows.beat lasts' rows.of (sym rows.definitions) (rows.rows g was rows.definitions)
+    → HasRows (registry_of (beat ∷ g)) lasts lasts' (entry_for g beat) → AreLastOf lasts' (beat ∷ g)
+last-after g (collected moment beat) kept lasts lasts' of was rows = rows g beat was refl (follows-regular g moment beat of.follows) refl
+last-after g (copied copy) kept lasts lasts' of was rows = rows g copy was refl
 last-after g (health text) kept lasts lasts' of was rows =
     last-stays lasts lasts' g (health text ∷ g) rows (λ was. record { rows = was.rows; within = was.within }) was
 last-after g (missing gap) kept lasts lasts' of was rows =
@@ -132,38 +129,38 @@ last-after g (missing gap) kept lasts lasts' of was rows =
 -- the parts of an agent are those of the history with the beat
 pub parts-after : (g : List Beat) (beats : List StoreBeat) (beat : Beat) (kept : StoreBeat) (left left' : Left) (lasts lasts' : List (Option Last)) (found : Entry)
     → AreBeatsOf g beats → IsBeatOf g beat kept → ArePartsOf left lasts g → entry_in kept ≡ Some found → left' ≡ with_note left kept
-    → HasRows left.registry left'.registry lasts lasts' found → ArePartsOf left' lasts' (beat ∷ g)
+    → HasRows left'.registry lasts lasts' found → ArePartsOf left' lasts' (beat ∷ g)
 parts-after g beats beat kept left left' lasts lasts' found are of parts has made rows =
     let is : left' ≡ left_by (beat ∷ g) = beat-leaves g beats are beat kept of left left' parts.left_is made in
     let same : found ≡ entry_for g beat = same_Some found (entry_for g beat) (sym has ∙ note-is g beat kept of) in
-    let now : HasRows (registry_of g) (registry_of (beat ∷ g)) lasts lasts' (entry_for g beat)
-    = subst (λ (l : Left). HasRows (registry_of g) l.registry lasts lasts' (entry_for g beat)) is
-    (subst (λ (l : Left). HasRows l.registry left'.registry lasts lasts' (entry_for g beat)) parts.left_is
-    (subst (λ (e : Entry). HasRows left.registry left'.registry lasts lasts' e) same rows)) in
+    let now : HasRows (registry_of (beat ∷ g)) lasts lasts' (entry_for g beat)
+    = subst (λ (l : Left). HasRows l.registry lasts lasts' (entry_for g beat)) is (subst (λ (e : Entry). HasRows left'.registry lasts lasts' e) same rows) in
     record { left_is = is; last_rows_are = last-after g beat kept lasts lasts' of parts.last_rows_are now }
 
 -- ---- what stays so of any entry
 
 -- each thing stands once in the registry
-once-after : (registry registry' : Registry) (lasts lasts' : List (Option Last)) (found : Collected) → IsRestored registry registry' lasts lasts' found
+once-after : (registry registry' : Registry) (found : NumberedBeat) → registry' ≡ with_numbered registry found
     → AreApart same_chart registry.charts → AreApart same_dimension registry.dimensions → AreApart same_chart registry'.charts × AreApart same_dimension registry'.dimensions
-once-after registry registry' lasts lasts' found rows charts dimensions = (
-  subst (λ (r : Registry). AreApart same_chart r.charts) (sym rows.definitions) (apart-put_all same_chart chart-itself chart-alike registry.charts rows.beat.charts charts),
-  subst (λ (r : Registry). AreApart same_dimension r.dimensions) (sym rows.definitions) (apart-put_all same_dimension dimension-itself dimension-alike registry.dimensions rows.beat.dimensions dimensions),
-)
+once-after registry registry' found made charts dimensions =
+    let middle = with_charts registry found.charts in (
+      subst (λ (r : Registry). AreApart same_chart r.charts) (sym made) (apart-put_all same_chart chart-itself chart-alike registry.charts (map chart_def found.charts) charts),
+      subst (λ (r : Registry). AreApart same_dimension r.dimensions) (sym made)
+      (apart-put_all same_dimension dimension-itself dimension-alike registry.dimensions (map (dimension_back middle) found.dimensions) dimensions),
+    )
 
 same-once : (left left' : Left) → left'.registry ≡ left.registry → AreApart same_chart left.registry.charts → AreApart same_dimension left.registry.dimensions
     → AreApart same_chart left'.registry.charts × AreApart same_dimension left'.registry.dimensions
 same-once left left' same charts dimensions =
     (subst (λ (r : Registry). AreApart same_chart r.charts) (sym same) charts, subst (λ (r : Registry). AreApart same_dimension r.dimensions) (sym same) dimensions)
 
-pub entry-once : (left left' : Left) (lasts lasts' : List (Option Last)) (found : Entry) → left' ≡ with_entry left found → HasRows left.registry left'.registry lasts lasts' found
+pub entry-once : (left left' : Left) (found : Entry) → left' ≡ with_entry left found
     → AreApart same_chart left.registry.charts → AreApart same_dimension left.registry.dimensions → AreApart same_chart left'.registry.charts × AreApart same_dimension left'.registry.dimensions
-entry-once left left' lasts lasts' (entry.Settings set) made rows charts dimensions = same-once left left' (ap (λ (l : Left). l.registry) made) charts dimensions
-entry-once left left' lasts lasts' (entry.Collected found) made rows charts dimensions = once-after left.registry left'.registry lasts lasts' found rows charts dimensions
-entry-once left left' lasts lasts' (entry.Copied found) made rows charts dimensions = once-after left.registry left'.registry lasts lasts' (defined_by found) rows charts dimensions
-entry-once left left' lasts lasts' (entry.Health text) made rows charts dimensions = same-once left left' (ap (λ (l : Left). l.registry) made) charts dimensions
-entry-once left left' lasts lasts' (entry.Gap gap) made rows charts dimensions = same-once left left' (ap (λ (l : Left). l.registry) made) charts dimensions
+entry-once left left' (entry.Settings set) made charts dimensions = same-once left left' (ap (λ (l : Left). l.registry) made) charts dimensions
+entry-once left left' (entry.Collected found) made charts dimensions = once-after left.registry left'.registry found (ap (λ (l : Left). l.registry) made) charts dimensions
+entry-once left left' (entry.Copied found) made charts dimensions = once-after left.registry left'.registry (defined_by found) (ap (λ (l : Left). l.registry) made) charts dimensions
+entry-once left left' (entry.Health text) made charts dimensions = same-once left left' (ap (λ (l : Left). l.registry) made) charts dimensions
+entry-once left left' (entry.Gap gap) made charts dimensions = same-once left left' (ap (λ (l : Left). l.registry) made) charts dimensions
 
 -- ---- the faults
 

@@ -25,16 +25,7 @@ use Rattle.agent_core.specs.Calls.{Beats, Lines, Seen}
 use Rattle.agent_core.specs.Faults.{cause_of, fault_after, IsRefusal, LeavesAll, ReopensWith}
 use Rattle.agent_core.specs.Kept.{StandsForHistory, StandsForOneOf}
 use Rattle.agent_core.specs.Rules.{beat_refusal, history_with, line_refusal}
-
--- the history after a call that stores a beat at Ok
-abbrev pub history_after : {T : Type 0} → Result T AgentFault → Beat → List Beat → List Beat
-history_after (Ok value) beat h = beat ∷ h
-history_after (Err fault) beat h = h
-
--- the history after a call that takes a line at Ok
-abbrev pub history_by : {T : Type 0} → Result T AgentFault → ℕ → List Line → Line → List Beat → List Beat
-history_by (Ok value) every past line h = history_with h every past line
-history_by (Err fault) every past line h = h
+use Rattle.agent_core.specs.Sound.{history_after, history_by}
 
 never : (agent : AgentState) (cause : Why) → agent.fault ≡ Some cause → agent.fault ≡ None → ⊥
 never agent cause now none = none-some cause (sym none ∙ now)

@@ -1,5 +1,5 @@
 -- What an agent does with each step of a feed, and with a line that leads to no step.
-use Rattle.std.proofs.Common.{◌≡◌, ◌≢◌, ◌⊎◌, ℕ, inl, inr, Bool, true, List, [], ◌∷◌, Option, Some, None, Result, Ok, Err, IfOk, OnOk, refl, sym, ap, ◌∙◌, subst, le_refl}
+use Rattle.std.proofs.Common.{◌≡◌, ◌≢◌, ◌⊎◌, ℕ, inl, inr, Bool, true, List, Option, Some, None, Result, Ok, Err, IfOk, OnOk, refl, sym, ap, ◌∙◌, subst, le_refl}
 use Rattle.std.specs.Option.{option_map_or}
 use Rattle.std.proofs.lemmas.Option.{none-some}
 use Rattle.host_model.specs.Disks.{EveryDisk}
@@ -13,7 +13,6 @@ use Rattle.history.specs.History.{Beat}
 use Rattle.history.specs.Limits.{keeps_limits}
 use Rattle.history.specs.Refusal.{refusal}
 use Rattle.history.specs.Registry.{Registry}
-use Rattle.beat_points.specs.Text.{HaveDivisors}
 use Rattle.collect_block.specs.declared.feed.Feed.{Feed}
 use Rattle.collect_block.specs.declared.step.Step.{Step}
 use Rattle.collect_block.specs.declared.step.Step.TheVariants as step
@@ -28,7 +27,7 @@ use Rattle.agent_core.specs.declared.reply.Reply.{Reply}
 use Rattle.agent_core.specs.declared.reply.Said.{Said}
 use Rattle.agent_core.specs.declared.reply.Said.TheVariants.{Stored}
 use Rattle.agent_core.specs.Agent.{AgentIsReady, AgentState, IsAgentOf}
-use Rattle.agent_core.specs.Calls.{Beats, Lines, Seen}
+use Rattle.agent_core.specs.Calls.{Beats, GivesAway, Lines, Seen}
 use Rattle.agent_core.specs.Fed.{IsFed}
 use Rattle.agent_core.specs.Faults.{fault_after, RefusedBy}
 use Rattle.agent_core.specs.Kept.{StandsForOneOf}
@@ -140,7 +139,7 @@ counts-or-quiet feed registry every past (Moment moment) = inl tt
 counts-or-quiet feed registry every past line = inr (λ has. has)
 
 -- ---- a line that the feed took
-module _ (honest : Type 0) (host host' : Seen) (agent agent' : AgentState) (feed feed' : Feed) (line : Line) (step : Step) (result : Result Said AgentFault) (fed : IsFed feed) (divisor : HaveDivisors (line ∷ [])) (limits : keeps_limits line ≡ true)
+module _ (honest : Type 0) (host host' : Seen) (agent agent' : AgentState) (feed feed' : Feed) (line : Line) (step : Step) (result : Result Said AgentFault) (fed : IsFed feed) (limits : keeps_limits line ≡ true)
     (free : (every : ℕ) (past : List Line) → IsFeedOf feed every past → CountsAt line feed agent.registry → refusal agent.registry every past agent.copies agent.last line ≡ None)
     (gives : (every : ℕ) (past : List Line) → IsFeedOf feed every past → step ≡ step_of every past line) (becomes : Becomes line feed feed')
     (counts : CountsFor feed agent.registry → CountsPast line feed' agent.registry) (took : Takes honest host agent step result host' agent') where
@@ -180,6 +179,17 @@ module _ (honest : Type 0) (host host' : Seen) (agent agent' : AgentState) (feed
       counts-past feed' agent.registry agent'.registry fed.every fed.past line
       (λ quiet. ap (λ (a : AgentState). a.registry) (took.same (λ has. quiet (subst HasBeat its has))).0) (counts before)
 
+  -- only a MOMENT that may stand there gives a beat away
+  gives-away : HasBeat (step_of fed.every fed.past line) → GivesAway agent feed line feed'
+  gives-away has =
+      let at = moment-of fed.every fed.past line has in
+      record {
+        moment = at.0;
+        is_moment = at.1;
+        stands = λ every past is_feed. free every past is_feed (subst (λ (l : Line). CountsAt l feed agent.registry) (sym at.1) tt);
+        gives = becomes;
+      }
+
   pub line-taken : Lines honest host agent feed line result host' agent' feed'
   line-taken = record {
     any_moment = moments;
@@ -191,8 +201,8 @@ module _ (honest : Type 0) (host host' : Seen) (agent agent' : AgentState) (feed
     refused = λ going every past is_feed at. subst (λ (r : Option BlockFault). RefusedBy r result) (reason every past is_feed at) took.refused;
     takes = always (Becomes line feed feed') result becomes;
     counts_on = always (CountsFor feed agent.registry → CountsFor feed' agent'.registry) result counts-on;
-    leaves = on_err _ _ result took.beats (λ has. inr (moment-of fed.every fed.past line (subst HasBeat its has), becomes));
-    fed = fed-more feed feed' line agent.registry agent.copies agent.last fed divisor limits becomes free;
+    leaves = on_err _ _ result took.beats (λ has. inr (gives-away (subst HasBeat its has)));
+    fed = fed-more feed feed' line agent.registry agent.copies agent.last fed limits becomes free;
     unchanged = took.unchanged;
     fault = took.fault;
     reopens = took.reopens;

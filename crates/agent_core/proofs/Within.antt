@@ -16,9 +16,9 @@ use Rattle.chart_registry.proofs.Applying.{same_chart-alike}
 use Rattle.chart_registry.proofs.RegistryLemmas.{or_false}
 use Rattle.chart_registry.proofs.RowsLemmas.{same_text}
 use Rattle.beat_points.specs.Text.{HasFew}
-use Rattle.beat_points.proofs.CountLemmas.{one_if}
+use Rattle.chart_registry.proofs.Finding.{one_if}
+use Rattle.chart_registry.proofs.Growing.{same_dimension-alike}
 use Rattle.beat_points.proofs.FewLemmas.{count-put_all, few-closed, HaveFew}
-use Rattle.beat_points.proofs.Growing.{same_dimension-alike}
 use Rattle.store_core.specs.declared.beat.Beat.{Beat as StoreBeat}
 use Rattle.agent_core.specs.Kept.{AreBeatsOf}
 use Rattle.agent_core.specs.Rules.{beat_refusal, changes_grid, dimensions_with, fills_chart, is_too_long, lacks_chart, lacks_dimension, too_many_charts, too_many_dimensions, IsWithin}

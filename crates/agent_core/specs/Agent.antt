@@ -6,7 +6,7 @@ use Rattle.algorithms.specs.declared.last.Last.{Last}
 use Rattle.history.specs.History.{Beat, child, last, registry_of}
 use Rattle.history.specs.Registry.{Registry, same_chart, same_dimension}
 use Rattle.beat_points.specs.LastRows.{AreLastOf}
-use Rattle.beat_points.specs.Regular.{AreApart}
+use Rattle.history.specs.Regular.{AreApart}
 use Rattle.entry_codec.specs.declared.entry.Settings.{Settings}
 use Rattle.store_core.specs.declared.beat.Beat.{Beat as StoreBeat}
 use Rattle.store_core.specs.declared.fault.Why.{Why}

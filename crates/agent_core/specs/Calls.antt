@@ -9,6 +9,7 @@ use Rattle.history.specs.declared.beat.OpenBeat.{OpenBeat}
 use Rattle.history.specs.declared.line.Line.{Line}
 use Rattle.history.specs.declared.line.Line.TheVariants.{Moment}
 use Rattle.history.specs.History.{Beat, collected}
+use Rattle.history.specs.Refusal.{refusal}
 use Rattle.collect_block.specs.declared.feed.Feed.{Feed}
 use Rattle.collect_block.specs.Feed.{IsFeedOf, Becomes, CountsAt, CountsFor}
 use Rattle.entry_codec.specs.declared.entry.Settings.{Settings}
@@ -107,6 +108,13 @@ pub record Opens (honest : Type 0) (host : Seen) (result : Result AgentState Age
   pub output : honest → told host'.past ≡ told host.past
   pub tells : host'.tell_faults ≡ host.tell_faults
 
+-- the line is a MOMENT that may stand where it does, and the feed gave its beat away
+pub record GivesAway (agent : AgentState) (feed : Feed) (line : Line) (feed' : Feed) : Type 0 where
+  pub moment : ℕ
+  pub is_moment : line ≡ Moment moment
+  pub stands : (every : ℕ) (past : List Line) → IsFeedOf feed every past → refusal agent.registry every past agent.copies agent.last line ≡ None
+  pub gives : Becomes line feed feed'
+
 -- `line` with this result left the host, the agent and the feed so
 pub record Lines (honest : Type 0) (host : Seen) (agent : AgentState) (feed : Feed) (line : Line) (result : Result Said AgentFault) (host' : Seen) (agent' : AgentState) (feed' : Feed) : Type 0 where
   -- at every moment a stop leaves the history, or, where nothing refuses the line, the history with its beat
@@ -121,11 +129,11 @@ pub record Lines (honest : Type 0) (host : Seen) (agent : AgentState) (feed : Fe
   -- it is refused exactly for the first reason against it
   pub refused : agent.fault ≡ None → (every : ℕ) (past : List Line) → IsFeedOf feed every past → CountsAt line feed agent.registry
       → RefusedBy (line_refusal agent.registry agent.copies agent.last every past line) result
-  -- the feed takes the line; where the beat of a MOMENT was not stored, it may have given that away
+  -- the feed takes the line; where a MOMENT may stand there and its beat was not stored, it gave that away
   pub takes : OnOk result (Becomes line feed feed')
   -- the feed counts on for the agent's registry
   pub counts_on : OnOk result (CountsFor feed agent.registry → CountsFor feed' agent'.registry)
-  pub leaves : OnErr result ((feed' ≡ feed) ⊎ (((moment : ℕ) × (line ≡ Moment moment)) × Becomes line feed feed'))
+  pub leaves : OnErr result ((feed' ≡ feed) ⊎ GivesAway agent feed line feed')
   pub fed : IsFed feed'
   -- a refusal, and Reopen, change nothing of the agent and the host
   pub unchanged : IfErr result (λ fault. LeavesAll fault → (agent' ≡ agent) × (host' ≡ host))

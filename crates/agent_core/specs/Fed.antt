@@ -6,7 +6,6 @@ use Rattle.history.specs.declared.line.Line.TheVariants.{Begin}
 use Rattle.history.specs.Limits.{keeps_limits}
 use Rattle.history.specs.Looking.{beat}
 use Rattle.history.specs.Refusal.{has_row}
-use Rattle.beat_points.specs.Text.{HaveDivisors}
 use Rattle.collect_block.specs.declared.feed.Feed.{Feed}
 use Rattle.collect_block.specs.Feed.{IsFeedOf}
 
@@ -21,13 +20,12 @@ OpenEachFirst every [] = Unit {0}
 OpenEachFirst every (line ∷ past) = OpensFirst every past line × OpenEachFirst every past
 
 -- The feed gives charts an update_every that keeps its limit, and has taken lines whose definitions keep theirs,
--- none of which opens a second block of a chart in its beat or defines a dimension that divides by 0. A new feed
--- with such an update_every is so, and a line that is refused is not taken.
+-- none of which opens a second block of a chart in its beat. A new feed with such an update_every is so, and a
+-- line that is refused is not taken.
 pub record IsFed (feed : Feed) : Type 0 where
   pub every : ℕ
   pub past : List Line
   pub feed_of : IsFeedOf feed every past
   pub grid_limit : every ≤ UPDATE_EVERY_LIMIT
   pub blocks : OpenEachFirst every past
-  pub divisors : HaveDivisors past
   pub limits : All (λ (line : Line). keeps_limits line ≡ true) past

@@ -16,7 +16,7 @@ use Rattle.entry_codec.specs.declared.entry.Entry.TheVariants as entry
 use Rattle.entry_codec.specs.declared.entry.Settings.{Settings}
 use Rattle.entry_codec.specs.Entries.{entry_bytes, HasSpelling}
 use Rattle.beat_entries.specs.Copied.{copied_entry_of, MayCopy}
-use Rattle.beat_entries.specs.Entry.{entry_of}
+use Rattle.history.specs.Numbered.{numbered_beat}
 use Rattle.store_core.specs.declared.beat.Beat.{Beat as StoreBeat}
 use Rattle.store_core.specs.declared.beat.BeatPoint.{BeatPoint}
 use Rattle.store_core.specs.Stands.{is_made, Stands}
@@ -39,7 +39,7 @@ stored_points registry h moment beat = map (point_of registry) (beat_points regi
 
 -- the entry of a beat, as bytes
 abbrev pub note_of : Registry → ℕ → OpenBeat → List ℕ
-note_of registry moment beat = entry_bytes (entry.Collected (entry_of registry moment beat))
+note_of registry moment beat = entry_bytes (entry.Collected (numbered_beat registry moment beat))
 
 -- what the store keeps of a beat that was collected after a history
 abbrev pub kept_of : List Beat → ℕ → OpenBeat → StoreBeat
@@ -57,7 +57,7 @@ pub record IsCollectedOf (h : List Beat) (moment : ℕ) (beat : OpenBeat) (kept 
   pub follows : Follows h moment beat
   pub is_kept : kept ≡ kept_of h moment beat
   -- the entry has a spelling
-  pub spelt : HasSpelling (entry.Collected (entry_of (registry_of (collected moment beat ∷ h)) moment beat))
+  pub spelt : HasSpelling (entry.Collected (numbered_beat (registry_of (collected moment beat ∷ h)) moment beat))
 
 -- ---- copies, gaps and configurations
 

@@ -10,4 +10,5 @@ pub mod Replies
 pub mod Roles
 pub mod Rules
 pub mod Said
+pub mod Sound
 pub mod Steps

@@ -12,7 +12,7 @@ use Rattle.entry_codec.specs.declared.entry.Settings.{Settings}
 use Rattle.entry_codec.specs.declared.fault.EntryFault.{EntryFault}
 use Rattle.entry_codec.specs.Entries.{read_entry}
 use Rattle.beat_entries.specs.Copied.{copied_goes_on, defined_by}
-use Rattle.beat_entries.specs.Restoring.{goes_on, is_number, restored}
+use Rattle.beat_entries.specs.Next.{goes_on, is_number, with_numbered}
 use Rattle.store_core.specs.declared.beat.Beat.{Beat as StoreBeat}
 use Rattle.store_core.specs.declared.beat.BeatPoint.{BeatPoint}
 use Rattle.store_core.specs.Stands.{Stands}
@@ -58,8 +58,8 @@ entry_goes_on left (entry.Gap gap) = may_copy left.role
 -- what is left once it is taken
 abbrev pub with_entry : Left → Entry → Left
 with_entry left (entry.Settings set) = left
-with_entry left (entry.Collected found) = record { registry = restored left.registry found; role = Collects }
-with_entry left (entry.Copied found) = record { registry = restored left.registry (defined_by found); role = Copies }
+with_entry left (entry.Collected found) = record { registry = with_numbered left.registry found; role = Collects }
+with_entry left (entry.Copied found) = record { registry = with_numbered left.registry (defined_by found); role = Copies }
 with_entry left (entry.Health text) = left
 with_entry left (entry.Gap gap) = record { registry = left.registry; role = Copies }
 

@@ -3,13 +3,12 @@ use Rattle.std.specs.Prelude.{◌≡◌, true, List, [], ◌∷◌, Option, None
 use Rattle.host_model.specs.Past.{Event}
 use Rattle.algorithms.specs.declared.last.Last.{Last}
 use Rattle.history.specs.declared.beat.OpenBeat.{OpenBeat}
-use Rattle.history.specs.History.{Beat, collected, registry_of}
-use Rattle.history.specs.Registry.{Registry, same_chart, same_dimension, with_definitions}
+use Rattle.history.specs.History.{Beat, collected, copied, registry_of, Copy}
+use Rattle.history.specs.Numbered.{numbered_beat}
+use Rattle.history.specs.Registry.{Registry, same_chart, same_dimension}
 use Rattle.beat_points.specs.LastRows.{AreLastOf}
-use Rattle.beat_points.specs.Regular.{AreApart}
-use Rattle.beat_entries.specs.Copied.{defined_by}
-use Rattle.beat_entries.specs.Restoring.{IsBeatOf as IsBeatOfEntry}
-use Rattle.entry_codec.specs.declared.entry.Collected.{Collected}
+use Rattle.history.specs.Regular.{AreApart, IsRegular}
+use Rattle.history.specs.declared.numbered.NumberedBeat.{NumberedBeat}
 use Rattle.entry_codec.specs.declared.entry.Entry.{Entry}
 use Rattle.entry_codec.specs.declared.entry.Entry.TheVariants as entry
 use Rattle.entry_codec.specs.declared.entry.Settings.{Settings}
@@ -34,20 +33,24 @@ fault_of fault = Memory
 
 -- ---- the parts that an entry leaves
 
--- a beat of the entry was restored, the registry took its definitions, and the last rows took its rows
-pub record IsRestored (registry registry' : Registry) (lasts lasts' : List (Option Last)) (found : Collected) : Type 0 where
-  pub beat : OpenBeat
-  pub definitions : registry' ≡ with_definitions registry beat.charts beat.dimensions
-  pub of : IsBeatOfEntry registry' found beat
-  pub rows : (g : List Beat) → AreLastOf lasts g → registry' ≡ registry_of (collected found.moment beat ∷ g) → AreLastOf lasts' (collected found.moment beat ∷ g)
+-- the last rows have taken the rows of this numbered beat
+abbrev pub HasTakenRows : Registry → List (Option Last) → List (Option Last) → NumberedBeat → Type 0
+HasTakenRows registry lasts lasts' beat =
+    (g : List Beat) (opened : OpenBeat) → AreLastOf lasts g → registry ≡ registry_of (collected beat.moment opened ∷ g) → IsRegular registry opened
+    → beat ≡ numbered_beat registry beat.moment opened → AreLastOf lasts' (collected beat.moment opened ∷ g)
 
--- the last rows are those after an entry: a copied beat has no rows, and configurations and gaps have nothing
-abbrev pub HasRows : Registry → Registry → List (Option Last) → List (Option Last) → Entry → Type 0
-HasRows registry registry' lasts lasts' (entry.Settings set) = lasts' ≡ lasts
-HasRows registry registry' lasts lasts' (entry.Collected found) = IsRestored registry registry' lasts lasts' found
-HasRows registry registry' lasts lasts' (entry.Copied found) = IsRestored registry registry' lasts lasts' (defined_by found)
-HasRows registry registry' lasts lasts' (entry.Health text) = lasts' ≡ lasts
-HasRows registry registry' lasts lasts' (entry.Gap gap) = lasts' ≡ lasts
+-- they are still those of a history with a copied beat, which has no rows
+abbrev pub HasRoom : Registry → List (Option Last) → List (Option Last) → Type 0
+HasRoom registry lasts lasts' =
+    (g : List Beat) (copy : Copy) → AreLastOf lasts g → registry ≡ registry_of (copied copy ∷ g) → AreLastOf lasts' (copied copy ∷ g)
+
+-- the last rows are those after an entry, which leaves this registry: configurations and gaps have nothing
+abbrev pub HasRows : Registry → List (Option Last) → List (Option Last) → Entry → Type 0
+HasRows registry lasts lasts' (entry.Settings set) = lasts' ≡ lasts
+HasRows registry lasts lasts' (entry.Collected found) = HasTakenRows registry lasts lasts' found
+HasRows registry lasts lasts' (entry.Copied found) = HasRoom registry lasts lasts'
+HasRows registry lasts lasts' (entry.Health text) = lasts' ≡ lasts
+HasRows registry lasts lasts' (entry.Gap gap) = lasts' ≡ lasts
 
 -- ---- the front of a history
 

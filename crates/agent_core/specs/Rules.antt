@@ -1,5 +1,5 @@
 -- Which beats a caller may hand in, and which of them a history refuses.
-use Rattle.std.specs.Prelude.{◌≡◌, ◌≢◌, ℕ, ◌+◌, ◌<◌, ◌≤◌, ◌==◌, Bool, true, false, not, ◌&&◌, ◌||◌, nat_le, nat_lt, List, ◌∷◌, length, count_by, find, pos, Option, Some, None, All, if◌then◌else◌}
+use Rattle.std.specs.Prelude.{◌≡◌, ℕ, ◌+◌, ◌<◌, ◌≤◌, ◌==◌, Bool, true, false, not, ◌&&◌, ◌||◌, nat_le, nat_lt, List, ◌∷◌, length, count_by, find, Option, Some, None, All, if◌then◌else◌}
 use Rattle.std.specs.List.{list_any}
 use Rattle.std.specs.Option.{option_map_or}
 use Rattle.history.specs.declared.beat.OpenBeat.{OpenBeat}
@@ -16,21 +16,20 @@ use Rattle.history.specs.Limits.{chart_keeps_limits, dimension_keeps_limits}
 use Rattle.history.specs.Looking.{beat as open_beat, same_value}
 use Rattle.history.specs.Refusal.{refusal, has_chart, has_dimension, is_new_chart, is_new_dimension, is_new_of, is_off_grid}
 use Rattle.history.specs.Registry.{Registry, is_chart, is_of, same_chart, same_dimension}
-use Rattle.beat_points.specs.Regular.{AreApart, same_row}
+use Rattle.history.specs.Regular.{AreApart, same_row}
 use Rattle.beat_points.specs.Text.{HasFew}
 use Rattle.store_core.specs.Store.{raised}
 
 -- ---- what a caller may hand in
 
 -- A beat has each definition once, at most one row for each chart, and in a row each dimension at most once.
--- Its charts have an update_every, no dimension divides by 0, and its definitions keep their limits.
+-- Its charts have an update_every, and its definitions keep their limits.
 pub record IsOpenBeat (beat : OpenBeat) : Type 0 where
   pub apart_charts : AreApart same_chart beat.charts
   pub apart_dimensions : AreApart same_dimension beat.dimensions
   pub apart_rows : AreApart same_row beat.rows
   pub apart_values : All (λ (row : OpenRow). AreApart same_value row.values) beat.rows
   pub grids : All (λ (def : ChartDef). 0 < def.update_every) beat.charts
-  pub divisors : All (λ (dimension : OpenDim). dimension.def.divisor ≢ pos 0) beat.dimensions
   pub chart_limits : All (λ (def : ChartDef). chart_keeps_limits def ≡ true) beat.charts
   pub dimension_limits : All (λ (dimension : OpenDim). dimension_keeps_limits dimension.def ≡ true) beat.dimensions
 

@@ -6,7 +6,6 @@ ghost use Rattle.host_model.specs.Cause.{HasCause};
 ghost use Rattle.host_model.specs.Moments.{Throughout};
 ghost use Rattle.history.specs.History.{Beat as HistoryBeat, collected};
 ghost use Rattle.history.specs.Limits.{keeps_limits};
-ghost use Rattle.beat_points.specs.Text.{HaveDivisors};
 ghost use Rattle.entry_codec.specs.declared.entry.Settings.{Settings as ASettings};
 ghost use Rattle.store_core.specs.declared.beat.Beat.{Beat as StoreBeat};
 ghost use Rattle.store_core.specs.FirstRecord.{InLimits};
@@ -229,7 +228,6 @@ impl Agent {
     ) -> Result<Said, AgentFault>
         requires ready { AgentIsReady H.honest (H.past host.old) self.old }
         requires fed { IsFed feed.old }
-        requires divisor { HaveDivisors (line.now ∷ []) }
         requires limits { keeps_limits line.now ≡ true }
         ensures { Lines H.honest (record { past = H.past host.old; disk_faults = H.disk_faults host.old; tell_faults = H.tell_faults host.old }) self.old feed.old
             line.now result (record { past = H.past host.new; disk_faults = H.disk_faults host.new; tell_faults = H.tell_faults host.new }) self.new feed.new }
@@ -245,6 +243,34 @@ impl Agent {
                     Err(AgentFault::Memory)
                 }
                 reason => Err(AgentFault::Refused(reason)),
+            },
+        }
+    }
+
+    /// The same of a line that is given away: its texts are kept and not copied.
+    pub fn take_line<H: Host>(
+        &mut self,
+        host: &mut H,
+        feed: &mut Feed,
+        line: Line,
+    ) -> Result<Said, AgentFault>
+        requires ready { AgentIsReady H.honest (H.past host.old) self.old }
+        requires fed { IsFed feed.old }
+        requires limits { keeps_limits line ≡ true }
+        ensures { Lines H.honest (record { past = H.past host.old; disk_faults = H.disk_faults host.old; tell_faults = H.tell_faults host.old }) self.old feed.old
+            line result (record { past = H.past host.new; disk_faults = H.disk_faults host.new; tell_faults = H.tell_faults host.new }) self.new feed.new }
+    {
+        if let Some(earlier) = self.fault {
+            return Err(AgentFault::Reopen(earlier));
+        }
+        match feed.take_line(&self.registry, self.last, self.copies, line) {
+            Ok(step) => self.take_step(host, step),
+            Err(fault) => match fault {
+                BlockFault::Memory => {
+                    self.fault = Some(Why::Memory);
+                    Err(AgentFault::Memory)
+                }
+                why => Err(AgentFault::Refused(why)),
             },
         }
     }

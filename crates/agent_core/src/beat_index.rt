@@ -3,7 +3,7 @@ ghost use Rattle.std.specs.List.{list_any};
 ghost use Rattle.std.specs.Option.{option_map};
 ghost use Rattle.history.specs.Refusal.{is_new_dimension};
 ghost use Rattle.history.specs.Registry.{is_chart, is_of, is_dimension, same_chart, same_dimension};
-ghost use Rattle.beat_points.specs.Regular.{AreApart};
+ghost use Rattle.history.specs.Regular.{AreApart};
 ghost use Rattle.agent_core.specs.Rules.{IsOpenBeat};
 
 use chart_registry::Registry;

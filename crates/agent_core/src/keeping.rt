@@ -1,20 +1,20 @@
 //! What a store keeps of a beat, and how it is added to a history.
 
-ghost use Rattle.std.specs.Prelude.{◌≡◌, ◌≤◌, ◌^◌, ◌∷◌, ◌⊎◌, ℕ, List, Some, None, false, length, All, IfOk, IfErr, OnOk, IsErrOf};
+ghost use Rattle.std.specs.Prelude.{◌≡◌, ◌≤◌, ◌^◌, [], ◌∷◌, ◌⊎◌, ℕ, List, Some, None, false, length, All, IfOk, IfErr, OnOk, IsErrOf};
 ghost use Rattle.host_model.specs.Past.{told};
 ghost use Rattle.host_model.specs.Disks.{EveryDisk};
 ghost use Rattle.host_model.specs.Cause.{HasCause};
 ghost use Rattle.host_model.specs.Moments.{Throughout};
-ghost use Rattle.history.specs.History.{Beat as HistoryBeat, collected, registry_of};
+ghost use Rattle.history.specs.declared.beat.OpenBeat.{OpenBeat as AnOpenBeat};
+ghost use Rattle.history.specs.History.{Beat as HistoryBeat, collected};
 ghost use Rattle.history.specs.Registry.{same_chart, same_dimension, with_definitions};
-ghost use Rattle.beat_points.specs.LastRows.{AreLastOf};
 ghost use Rattle.beat_points.specs.Points.{IsNext};
-ghost use Rattle.beat_points.specs.Regular.{AreApart, IsRegular};
+ghost use Rattle.history.specs.Regular.{AreApart, IsRegular};
 ghost use Rattle.beat_entries.specs.Defined.{IsDefinedIn};
-ghost use Rattle.beat_entries.specs.Entry.{entry_of};
+ghost use Rattle.history.specs.Numbered.{numbered_beat, IsThere};
 ghost use Rattle.entry_codec.specs.declared.entry.Entry.TheVariants as entry;
 ghost use Rattle.entry_codec.specs.declared.entry.Settings.{Settings as ASettings};
-ghost use Rattle.entry_codec.specs.Entries.{HasSpelling};
+ghost use Rattle.entry_codec.specs.Entries.{entry_bytes, HasSpelling};
 ghost use Rattle.store_core.specs.declared.beat.Beat.{Beat as StoreBeat};
 ghost use Rattle.store_core.specs.Beats.{beat_bytes, InForm};
 ghost use Rattle.store_core.specs.Records.{last_after};
@@ -22,60 +22,59 @@ ghost use Rattle.store_core.specs.Stands.{StandsAround};
 ghost use Rattle.store_core.specs.Store.{IsReady, IsReplayed, IsStoreOf};
 ghost use Rattle.agent_core.specs.Agent.{Holds};
 ghost use Rattle.agent_core.specs.Faults.{IsSpending};
-ghost use Rattle.agent_core.specs.Kept.{kept_of, note_of, Follows, StandsForHistory};
+ghost use Rattle.agent_core.specs.Kept.{kept_of, Follows, StandsForHistory};
+ghost use Rattle.agent_core.specs.Replay.{HasRoom, HasTakenRows};
 ghost use Rattle.agent_core.specs.Rules.{lacks_chart, lacks_dimension, too_many_dimensions, IsOpenBeat};
 
 use crate::fault::AgentFault;
 use crate::points::stored_points;
-use beat_entries::entry_of;
+use beat_entries::number_beat;
 use beat_points::LastRows;
 use chart_registry::Registry;
-use entry_codec::{Entry, write_entry};
-use history::OpenBeat;
+use entry_codec::write_collected;
+use history::{NumberedBeat, OpenBeat};
 use host_model::Host;
 use std::alloc::{AllocError, Global};
 use store_core::{Beat, ByteList, Store, StoreFault};
 
-/// The entry of a beat, as bytes.
-fn note_of(
-    alloc: Global,
-    registry: &Registry,
-    beat: &OpenBeat,
-    moment: u32,
-) -> Result<ByteList, AllocError>
-    requires regular { IsRegular registry.now beat.now }
-    requires defined { IsDefinedIn registry.now beat.now }
-    ensures note { IfOk result (λ note. note ≡ note_of registry.now moment beat.now) }
-    ensures spelt { OnOk result (HasSpelling (entry.Collected (entry_of registry.now moment beat.now))) }
+/// What a store keeps of a beat, and the beat by number.
+#[derive(Drop)]
+struct Kept {
+    beat: Beat,
+    numbered: NumberedBeat,
+}
+
+/// The entry of a numbered beat, as bytes.
+fn note_of(alloc: Global, numbered: &NumberedBeat) -> Result<ByteList, AllocError>
+    ensures note { IfOk result (λ note. note ≡ entry_bytes (entry.Collected numbered.now)) }
+    ensures spelt { OnOk result (HasSpelling (entry.Collected numbered.now)) }
 {
-    let entry = Entry::Collected(entry_of(alloc, registry, moment, beat)?);
-    match write_entry(alloc, &entry) {
+    match write_collected(alloc, numbered) {
         Ok(note) => Ok(note),
         Err(_) => Err(AllocError),
     }
 }
 
-/// What a store keeps of a beat, once the registry has its definitions.
-fn kept_of(
+/// What a store keeps of a numbered beat, whose definitions the registry has.
+fn stored_beat(
     alloc: Global,
     registry: &Registry,
     last_rows: &LastRows,
-    beat: &OpenBeat,
-    moment: u32,
+    numbered: &NumberedBeat,
 ) -> Result<Beat, AllocError>
-    requires regular { IsRegular registry.now beat.now }
-    requires defined { IsDefinedIn registry.now beat.now }
-    ensures kept { IfOk result (λ kept. (h : List HistoryBeat) → IsNext registry.now last_rows.now h moment beat.now → kept ≡ kept_of h moment beat.now) }
-    ensures spelt { OnOk result (HasSpelling (entry.Collected (entry_of registry.now moment beat.now))) }
-    ensures moment { IfOk result (λ kept. kept.moment ≡ Some moment) }
+    requires there { IsThere registry.now numbered.now }
+    ensures kept { IfOk result (λ kept. (h : List HistoryBeat) (opened : AnOpenBeat) → IsNext registry.now last_rows.now h numbered.now.moment opened
+        → numbered.now ≡ numbered_beat registry.now numbered.now.moment opened → kept ≡ kept_of h numbered.now.moment opened) }
+    ensures spelt { OnOk result (HasSpelling (entry.Collected numbered.now)) }
+    ensures moment { IfOk result (λ kept. kept.moment ≡ Some numbered.now.moment) }
 {
-    let Ok(words) = last_rows.points(alloc, registry, beat, moment) else {
+    let Ok(words) = last_rows.points(alloc, registry, numbered) else {
         return Err(AllocError);
     };
     let points = stored_points(alloc, registry, words.as_slice())?;
-    let note = note_of(alloc, registry, beat, moment)?;
+    let note = note_of(alloc, numbered)?;
     Ok(Beat {
-        moment: Some(moment),
+        moment: Some(numbered.moment),
         points,
         note,
     })
@@ -94,6 +93,29 @@ fn in_form(kept: Beat) -> Result<Beat, AllocError>
     }
 }
 
+/// What a store keeps of a beat, by number, once the registry has its definitions.
+fn kept_of(
+    alloc: Global,
+    registry: &Registry,
+    last_rows: &LastRows,
+    beat: &OpenBeat,
+    moment: u32,
+) -> Result<Kept, AllocError>
+    requires regular { IsRegular registry.now beat.now }
+    requires defined { IsDefinedIn registry.now beat.now }
+    ensures kept { IfOk result (λ kept. (h : List HistoryBeat) → IsNext registry.now last_rows.now h moment beat.now → kept.beat ≡ kept_of h moment beat.now) }
+    ensures numbered { IfOk result (λ kept. kept.numbered ≡ numbered_beat registry.now moment beat.now) }
+    ensures there { IfOk result (λ kept. IsThere registry.now kept.numbered) }
+    ensures spelt { OnOk result (HasSpelling (entry.Collected (numbered_beat registry.now moment beat.now))) }
+    ensures moment { IfOk result (λ kept. kept.beat.moment ≡ Some moment) }
+    ensures form { IfOk result (λ kept. InForm kept.beat) }
+    ensures size { IfOk result (λ kept. length (beat_bytes kept.beat) ≤ 2 ^ 26) }
+{
+    let numbered = number_beat(alloc, registry, moment, beat)?;
+    let beat = in_form(stored_beat(alloc, registry, last_rows, &numbered)?)?;
+    Ok(Kept { beat, numbered })
+}
+
 /// What a store keeps of a beat, whose definitions the registry takes. After an `Err` it may have taken a
 /// part of them.
 fn keep(
@@ -102,7 +124,7 @@ fn keep(
     last_rows: &LastRows,
     beat: &OpenBeat,
     moment: u32,
-) -> Result<Beat, AllocError>
+) -> Result<Kept, AllocError>
     requires is_open { IsOpenBeat beat.now }
     requires charts { AreApart same_chart registry.old.charts }
     requires dimensions { AreApart same_dimension registry.old.dimensions }
@@ -110,15 +132,17 @@ fn keep(
     requires has_dimensions { lacks_dimension registry.old beat.now ≡ false }
     requires few { too_many_dimensions registry.old beat.now ≡ false }
     ensures applied { OnOk result (registry.new ≡ with_definitions registry.old beat.now.charts beat.now.dimensions) }
-    ensures kept { IfOk result (λ kept. (h : List HistoryBeat) → IsNext registry.new last_rows.now h moment beat.now → kept ≡ kept_of h moment beat.now) }
-    ensures spelt { OnOk result (HasSpelling (entry.Collected (entry_of registry.new moment beat.now))) }
-    ensures moment { IfOk result (λ kept. kept.moment ≡ Some moment) }
-    ensures form { IfOk result InForm }
-    ensures size { IfOk result (λ kept. length (beat_bytes kept) ≤ 2 ^ 26) }
+    ensures kept { IfOk result (λ kept. (h : List HistoryBeat) → IsNext registry.new last_rows.now h moment beat.now → kept.beat ≡ kept_of h moment beat.now) }
+    ensures numbered { IfOk result (λ kept. kept.numbered ≡ numbered_beat registry.new moment beat.now) }
+    ensures there { IfOk result (λ kept. IsThere registry.new kept.numbered) }
+    ensures spelt { OnOk result (HasSpelling (entry.Collected (numbered_beat registry.new moment beat.now))) }
+    ensures moment { IfOk result (λ kept. kept.beat.moment ≡ Some moment) }
+    ensures form { IfOk result (λ kept. InForm kept.beat) }
+    ensures size { IfOk result (λ kept. length (beat_bytes kept.beat) ≤ 2 ^ 26) }
     ensures regular { OnOk result (IsRegular registry.new beat.now) }
 {
     match registry.apply(beat) {
-        Ok(()) => in_form(kept_of(alloc, registry, last_rows, beat, moment)?),
+        Ok(()) => kept_of(alloc, registry, last_rows, beat, moment),
         Err(_) => Err(AllocError),
     }
 }
@@ -151,19 +175,18 @@ fn commit<H: Host>(store: &mut Store, host: &mut H, kept: &Beat) -> Result<(), A
     }
 }
 
-/// Takes the rows of a beat as the last ones.
+/// Takes the rows of a numbered beat as the last ones.
 pub(crate) fn take_rows(
     last_rows: &mut LastRows,
     registry: &Registry,
-    beat: &OpenBeat,
-    moment: u32,
+    beat: &NumberedBeat,
 ) -> Result<(), AgentFault>
-    requires { IsRegular registry.now beat.now }
-    ensures taken { OnOk result ((h : List HistoryBeat) → AreLastOf last_rows.old h → registry.now ≡ registry_of (collected moment beat.now ∷ h)
-        → AreLastOf last_rows.new (collected moment beat.now ∷ h)) }
+    requires { IsThere registry.now beat.now }
+    ensures taken { OnOk result (HasTakenRows registry.now last_rows.old last_rows.new beat.now) }
+    ensures room { OnOk result (beat.now.rows ≡ [] → HasRoom registry.now last_rows.old last_rows.new) }
     ensures memory { IfErr result (λ fault. fault ≡ AgentFault.Memory) }
 {
-    match last_rows.apply(registry, beat, moment) {
+    match last_rows.apply(registry, beat) {
         Ok(()) => Ok(()),
         Err(_) => Err(AgentFault::Memory),
     }
@@ -208,6 +231,6 @@ pub(crate) fn add<H: Host>(
     let Ok(kept) = keep(alloc, registry, last_rows, beat, moment) else {
         return Err(AgentFault::Memory);
     };
-    commit(store, host, &kept)?;
-    take_rows(last_rows, registry, beat, moment)
+    commit(store, host, &kept.beat)?;
+    take_rows(last_rows, registry, &kept.numbered)
 }

@@ -1,16 +1,27 @@
-ghost use Rattle.std.specs.Prelude.{◌≡◌, ◌<◌, ℕ, Bool, true, false, List, ◌∷◌, None, is_some};
+ghost use Rattle.std.specs.Prelude.{◌≡◌, ℕ, Bool, true, false, List, ◌∷◌, None, is_some, Result};
 ghost use Rattle.host_model.specs.declared.file.File.{File as AFile};
 ghost use Rattle.history.specs.declared.line.Line.{Line};
 ghost use Rattle.history.specs.declared.line.Line.TheVariants.{Moment};
-ghost use Rattle.history.specs.History.{Beat, child, last, registry_of};
+ghost use Rattle.history.specs.History.{Beat, child, collected, last, registry_of};
+ghost use Rattle.history.specs.declared.beat.OpenBeat.{OpenBeat};
 ghost use Rattle.history.specs.Looking.{beat as open_beat};
 ghost use Rattle.history.specs.Read.{history_at, refusal_at};
 ghost use Rattle.beat_points.specs.Text.{AreAccepted};
 ghost use Rattle.entry_codec.specs.declared.entry.Settings.{Settings as ASettings};
 ghost use Rattle.store_core.specs.Stands.{is_made, IsDamaged};
+ghost use Rattle.collect_block.specs.declared.feed.Feed.{Feed};
+ghost use Rattle.collect_block.specs.Feed.{CountsAt, IsFeedOf};
+ghost use Rattle.agent_core.specs.declared.fault.AgentFault.{AgentFault};
+ghost use Rattle.agent_core.specs.declared.reply.Reply.{Reply};
+ghost use Rattle.agent_core.specs.declared.reply.Said.{Said};
+ghost use Rattle.agent_core.specs.Agent.{AgentState, IsSoundBy};
+ghost use Rattle.agent_core.specs.Calls.{Beats, Lines, Seen};
 ghost use Rattle.agent_core.specs.Kept.{StandsForHistory};
 ghost use Rattle.agent_core.specs.Notes.{HasNotes};
 ghost use Rattle.agent_core.specs.Rules.{beat_refusal, line_refusal, IsWithin};
+ghost use Rattle.agent_core.specs.Sound.{history_after, history_by};
+
+use host_model::Host;
 
 /// The laws of a text of accepted lines that follows a history, whose charts whose line leaves it open have
 /// this update_every: the beat that a MOMENT closes is not refused once more, so that a line is refused just
@@ -33,4 +44,18 @@ pub fn any_notes()
     ensures once { (disk : AFile → List ℕ) → HasNotes true disk → HasNotes false disk → ⊥ }
     ensures records { (goes : Bool) (disk : AFile → List ℕ) → HasNotes goes disk → IsDamaged disk → ⊥ }
     ensures made { (goes : Bool) (disk : AFile → List ℕ) → HasNotes goes disk → is_made disk ≡ true }
+{}
+
+/// The laws of an agent on an honest host that is sound by a history: it is of that history, or it was before a
+/// call of it was refused for the disk or for memory. Each `beat` and each `line` keeps it so, by what these
+/// calls promise: at `Ok` by the history with the beat, and else by the same. They do nothing.
+pub fn any_call<H: Host>()
+    ensures beat { H.honest → (host host' : Seen) (agent agent' : AgentState) (beat : OpenBeat) (moment : ℕ) (result : Result Reply AgentFault) (set : ASettings) (h : List Beat)
+        → Beats H.honest host agent beat moment result host' agent' → IsSoundBy host.past agent set h
+        → IsSoundBy host'.past agent' set (history_after result (collected moment beat) h) }
+    ensures line { H.honest → (host host' : Seen) (agent agent' : AgentState) (feed feed' : Feed) (line : Line) (result : Result Said AgentFault)
+        (set : ASettings) (h : List Beat) (every : ℕ) (past : List Line)
+        → IsFeedOf feed every past → CountsAt line feed agent.registry
+        → Lines H.honest host agent feed line result host' agent' feed' → IsSoundBy host.past agent set h
+        → IsSoundBy host'.past agent' set (history_by result every past line h) }
 {}

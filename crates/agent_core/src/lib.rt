@@ -33,7 +33,7 @@ mod reply;
 pub use agent::Agent;
 pub use entry_codec::{Settings, TierSettings};
 pub use fault::AgentFault;
-pub use law::{any_notes, any_text};
+pub use law::{any_call, any_notes, any_text};
 pub use reply::{Reply, Said, write_reply};
 pub use store_core::{Why, is_in_limits};
 

@@ -2,26 +2,26 @@
 
 ghost use Rattle.std.specs.Prelude.{◌≡◌, ◌⊎◌, ◌∷◌, List, Some, None, true, false, IfOk, IfErr, OnOk};
 ghost use Rattle.history.specs.History.{Beat as HistoryBeat};
-ghost use Rattle.history.specs.Registry.{same_chart, same_dimension, with_definitions};
-ghost use Rattle.beat_points.specs.Regular.{AreApart, IsRegular};
+ghost use Rattle.history.specs.Numbered.{IsThere};
+ghost use Rattle.history.specs.Registry.{same_chart, same_dimension};
+ghost use Rattle.history.specs.Regular.{AreApart};
 ghost use Rattle.beat_entries.specs.Copied.{copied_goes_on, defined_by};
-ghost use Rattle.beat_entries.specs.Restoring.{goes_on, restored, IsBeatOf as IsBeatOfEntry};
+ghost use Rattle.beat_entries.specs.Next.{goes_on, with_numbered};
 ghost use Rattle.beat_entries.specs.declared.refusal.EntryRefusal.TheVariants.{Memory as NoMemory, NotNext};
-ghost use Rattle.entry_codec.specs.Entries.{is_canonical, is_collected_canonical, is_copied_canonical};
 ghost use Rattle.store_core.specs.declared.beat.Beat.{Beat as StoreBeat};
 ghost use Rattle.agent_core.specs.Kept.{AreBeatsOf, IsBeatOf};
 ghost use Rattle.agent_core.specs.Notes.{entry_goes_on, entry_in, moment_of, names_series, takes_note, with_entry, with_note};
 ghost use Rattle.agent_core.specs.Roles.{may_copy};
-ghost use Rattle.agent_core.specs.Replay.{ArePartsOf, HasRows, IsRestored};
+ghost use Rattle.agent_core.specs.Replay.{ArePartsOf, HasRows};
 
 use crate::fault::AgentFault;
 use crate::keeping::take_rows;
 use crate::left::{Left, Role};
-use beat_entries::{EntryRefusal, restore, restore_copied};
+use beat_entries::{EntryRefusal, define, define_copied};
 use beat_points::LastRows;
 use chart_registry::Registry;
-use entry_codec::{Collected, Copied, Entry, EntryFault, read_entry};
-use history::OpenBeat;
+use entry_codec::{Copied, Entry, EntryFault, read_entry};
+use history::NumberedBeat;
 use std::alloc::Global;
 use store_core::{Beat, BeatPoint};
 
@@ -40,7 +40,6 @@ fn moment_of(entry: &Entry) -> Option<u32>
 /// The entry of a kept beat, with the beat's moment, or the database is damaged.
 fn entry_in(alloc: Global, kept: &Beat) -> Result<Entry, AgentFault>
     ensures found { IfOk result (λ entry. entry_in kept.now ≡ Some entry) }
-    ensures canonical { IfOk result (λ entry. is_canonical entry ≡ true) }
 
     // It is damaged only where there is no such entry.
     ensures refused { IfErr result (λ fault. fault ≡ AgentFault.Damaged 5 → entry_in kept.now ≡ None) }
@@ -71,40 +70,35 @@ fn fault_of(refusal: EntryRefusal) -> AgentFault
     }
 }
 
-/// The beat of an entry, once the registry has taken its definitions, or the database is damaged.
-fn beat_of(
-    alloc: Global,
-    registry: &mut Registry,
-    entry: &Collected,
-) -> Result<OpenBeat, AgentFault>
-    requires canonical { is_collected_canonical entry.now ≡ true }
-    ensures definitions { IfOk result (λ beat. registry.new ≡ with_definitions registry.old beat.charts beat.dimensions) }
-    ensures beat { IfOk result (IsBeatOfEntry registry.new entry.now) }
-    ensures regular { IfOk result (IsRegular registry.new) }
-    ensures restored { OnOk result (registry.new ≡ restored registry.old entry.now) }
+/// Takes what an entry defines, or the database is damaged.
+fn define_entry(registry: &mut Registry, entry: &NumberedBeat) -> Result<(), AgentFault>
+    ensures defined { OnOk result (registry.new ≡ with_numbered registry.old entry.now) }
+    ensures there { OnOk result (IsThere registry.new entry.now) }
     ensures next { OnOk result (goes_on registry.old entry.now ≡ true) }
     ensures refused { IfErr result (λ fault. fault ≡ AgentFault.Damaged 5 → goes_on registry.old entry.now ≡ false) }
     ensures faults { IfErr result (λ fault. (fault ≡ AgentFault.Memory) ⊎ (fault ≡ AgentFault.Damaged 5)) }
 {
-    match restore(alloc, registry, entry) {
-        Ok(beat) => Ok(beat),
+    match define(registry, entry) {
+        Ok(()) => Ok(()),
         Err(refusal) => Err(fault_of(refusal)),
     }
 }
 
-/// What the entry of a copied beat defines, as a beat without rows, once the registry has taken it, or the
-/// database is damaged.
-fn copied_of(alloc: Global, registry: &mut Registry, entry: &Copied) -> Result<OpenBeat, AgentFault>
-    requires canonical { is_copied_canonical entry.now ≡ true }
-    ensures definitions { IfOk result (λ beat. registry.new ≡ with_definitions registry.old beat.charts beat.dimensions) }
-    ensures beat { IfOk result (IsBeatOfEntry registry.new (defined_by entry.now)) }
-    ensures regular { IfOk result (IsRegular registry.new) }
-    ensures restored { OnOk result (registry.new ≡ restored registry.old (defined_by entry.now)) }
+/// Takes what the entry of a copied beat defines, and gives it as a beat without rows, or the database is
+/// damaged.
+fn define_copy(
+    alloc: Global,
+    registry: &mut Registry,
+    entry: &Copied,
+) -> Result<NumberedBeat, AgentFault>
+    ensures beat { IfOk result (λ beat. beat ≡ defined_by entry.now) }
+    ensures there { IfOk result (IsThere registry.new) }
+    ensures defined { OnOk result (registry.new ≡ with_numbered registry.old (defined_by entry.now)) }
     ensures next { OnOk result (copied_goes_on registry.old entry.now ≡ true) }
     ensures refused { IfErr result (λ fault. fault ≡ AgentFault.Damaged 5 → copied_goes_on registry.old entry.now ≡ false) }
     ensures faults { IfErr result (λ fault. (fault ≡ AgentFault.Memory) ⊎ (fault ≡ AgentFault.Damaged 5)) }
 {
-    match restore_copied(alloc, registry, entry) {
+    match define_copied(alloc, registry, entry) {
         Ok(beat) => Ok(beat),
         Err(refusal) => Err(fault_of(refusal)),
     }
@@ -112,14 +106,12 @@ fn copied_of(alloc: Global, registry: &mut Registry, entry: &Copied) -> Result<O
 
 /// Takes a collected beat: its definitions, and its rows as the last ones.
 fn take_collected(
-    alloc: Global,
     left: &mut Left,
     last_rows: &mut LastRows,
-    entry: &Collected,
+    entry: &NumberedBeat,
 ) -> Result<(), AgentFault>
-    requires canonical { is_collected_canonical entry.now ≡ true }
     ensures left { OnOk result (left.new ≡ with_entry left.old (Entry.Collected entry.now)) }
-    ensures rows { OnOk result (IsRestored left.old.registry left.new.registry last_rows.old last_rows.new entry.now) }
+    ensures rows { OnOk result (HasRows left.new.registry last_rows.old last_rows.new (Entry.Collected entry.now)) }
     ensures next { OnOk result (entry_goes_on left.old (Entry.Collected entry.now) ≡ true) }
     ensures broken { IfErr result (λ fault. fault ≡ AgentFault.Damaged 5 → entry_goes_on left.old (Entry.Collected entry.now) ≡ false) }
     ensures faults { IfErr result (λ fault. (fault ≡ AgentFault.Memory) ⊎ (fault ≡ AgentFault.Damaged 5)) }
@@ -127,8 +119,8 @@ fn take_collected(
     if !left.role.may_collect() {
         return Err(AgentFault::Damaged(5));
     }
-    let beat = beat_of(alloc, &mut left.registry, entry)?;
-    take_rows(last_rows, &left.registry, &beat, entry.moment)?;
+    define_entry(&mut left.registry, entry)?;
+    take_rows(last_rows, &left.registry, entry)?;
     left.role = Role::Collects;
     Ok(())
 }
@@ -140,9 +132,8 @@ fn take_copied(
     last_rows: &mut LastRows,
     entry: &Copied,
 ) -> Result<(), AgentFault>
-    requires canonical { is_copied_canonical entry.now ≡ true }
     ensures left { OnOk result (left.new ≡ with_entry left.old (Entry.Copied entry.now)) }
-    ensures rows { OnOk result (IsRestored left.old.registry left.new.registry last_rows.old last_rows.new (defined_by entry.now)) }
+    ensures rows { OnOk result (HasRows left.new.registry last_rows.old last_rows.new (Entry.Copied entry.now)) }
     ensures next { OnOk result (entry_goes_on left.old (Entry.Copied entry.now) ≡ true) }
     ensures broken { IfErr result (λ fault. fault ≡ AgentFault.Damaged 5 → entry_goes_on left.old (Entry.Copied entry.now) ≡ false) }
     ensures faults { IfErr result (λ fault. (fault ≡ AgentFault.Memory) ⊎ (fault ≡ AgentFault.Damaged 5)) }
@@ -150,8 +141,8 @@ fn take_copied(
     if !left.role.may_copy() {
         return Err(AgentFault::Damaged(5));
     }
-    let defined = copied_of(alloc, &mut left.registry, entry)?;
-    take_rows(last_rows, &left.registry, &defined, entry.moment)?;
+    let defined = define_copy(alloc, &mut left.registry, entry)?;
+    take_rows(last_rows, &left.registry, &defined)?;
     left.role = Role::Copies;
     Ok(())
 }
@@ -178,16 +169,15 @@ fn take_entry(
     last_rows: &mut LastRows,
     entry: &Entry,
 ) -> Result<(), AgentFault>
-    requires canonical { is_canonical entry.now ≡ true }
     ensures left { OnOk result (left.new ≡ with_entry left.old entry.now) }
-    ensures rows { OnOk result (HasRows left.old.registry left.new.registry last_rows.old last_rows.new entry.now) }
+    ensures rows { OnOk result (HasRows left.new.registry last_rows.old last_rows.new entry.now) }
     ensures next { OnOk result (entry_goes_on left.old entry.now ≡ true) }
     ensures broken { IfErr result (λ fault. fault ≡ AgentFault.Damaged 5 → entry_goes_on left.old entry.now ≡ false) }
     ensures faults { IfErr result (λ fault. (fault ≡ AgentFault.Memory) ⊎ (fault ≡ AgentFault.Damaged 5)) }
 {
     match entry {
         Entry::Settings(_) => Err(AgentFault::Damaged(5)),
-        Entry::Collected(found) => take_collected(alloc, left, last_rows, found),
+        Entry::Collected(found) => take_collected(left, last_rows, found),
         Entry::Copied(found) => take_copied(alloc, left, last_rows, found),
         Entry::Health(_) => Ok(()),
         Entry::Gap(_) => take_gap(left),

@@ -2,8 +2,7 @@ ghost use Rattle.std.specs.Prelude.{◌≡◌, ◌≢◌, ◌<◌, ◌∷◌, []
 ghost use Rattle.history.specs.Limits.{chart_keeps_limits, dimension_keeps_limits, keeps_limits};
 ghost use Rattle.history.specs.Looking.{same_value};
 ghost use Rattle.history.specs.Registry.{same_chart, same_dimension};
-ghost use Rattle.beat_points.specs.Regular.{AreApart, same_row};
-ghost use Rattle.beat_points.specs.Text.{HaveDivisors};
+ghost use Rattle.history.specs.Regular.{AreApart, same_row};
 ghost use Rattle.agent_core.specs.Agent.{AgentIsReady};
 ghost use Rattle.agent_core.specs.Fed.{IsFed};
 ghost use Rattle.agent_core.specs.Rules.{IsOpenBeat};
@@ -65,7 +64,6 @@ fn chart(alloc: Global, title: &str) -> Result<ChartDef, AllocError>
 
 fn dimension(alloc: Global, id: &str, algorithm: Algorithm) -> Result<DimDef, AllocError>
     ensures id { IfOk result (λ def. def.id ≡ id.now) }
-    ensures divisor { IfOk result (λ def. def.divisor ≡ pos 1) }
     ensures limits { IfOk result (λ def. dimension_keeps_limits def ≡ true) }
 {
     let def = DimDef {
@@ -85,28 +83,24 @@ fn dimension(alloc: Global, id: &str, algorithm: Algorithm) -> Result<DimDef, Al
 }
 
 fn chart_line(alloc: Global, title: &str) -> Result<Line, AllocError>
-    ensures divisor { IfOk result (λ line. HaveDivisors (line ∷ [])) }
     ensures limits { IfOk result (λ line. keeps_limits line ≡ true) }
 {
     Ok(Line::Chart(chart(alloc, title)?))
 }
 
 fn dimension_line(alloc: Global, id: &str, algorithm: Algorithm) -> Result<Line, AllocError>
-    ensures divisor { IfOk result (λ line. HaveDivisors (line ∷ [])) }
     ensures limits { IfOk result (λ line. keeps_limits line ≡ true) }
 {
     Ok(Line::Dimension(dimension(alloc, id, algorithm)?))
 }
 
 fn begin_line(alloc: Global) -> Result<Line, AllocError>
-    ensures divisor { IfOk result (λ line. HaveDivisors (line ∷ [])) }
     ensures limits { IfOk result (λ line. keeps_limits line ≡ true) }
 {
     Ok(Line::Begin(Text::from_str(alloc, "test.one")?))
 }
 
 fn set_line(alloc: Global, id: &str, value: i64) -> Result<Line, AllocError>
-    ensures divisor { IfOk result (λ line. HaveDivisors (line ∷ [])) }
     ensures limits { IfOk result (λ line. keeps_limits line ≡ true) }
 {
     Ok(Line::Set {
@@ -124,7 +118,6 @@ fn take<H: Host>(
 ) -> Result<Said, AgentFault>
     requires ready { AgentIsReady H.honest (H.past host.old) taking.old.agent }
     requires fed { IsFed taking.old.feed }
-    requires divisor { IfOk line (λ line. HaveDivisors (line ∷ [])) }
     requires limits { IfOk line (λ line. keeps_limits line ≡ true) }
     ensures ready { AgentIsReady H.honest (H.past host.new) taking.new.agent }
     ensures fed { IsFed taking.new.feed }
@@ -523,7 +516,6 @@ fn after_a_fault_it_must_be_opened_again(rt: HostRuntime) -> Result<(), Fail> {
 
 fn open_dimension(alloc: Global, id: &str) -> Result<OpenDim, AllocError>
     ensures id { IfOk result (λ dimension. dimension.def.id ≡ id.now) }
-    ensures divisor { IfOk result (λ dimension. dimension.def.divisor ≡ pos 1) }
     ensures limits { IfOk result (λ dimension. dimension_keeps_limits dimension.def ≡ true) }
 {
     Ok(OpenDim {
@@ -544,7 +536,6 @@ fn one_chart(alloc: Global) -> Result<ChartDefList, AllocError>
 
 fn two_dimensions(alloc: Global) -> Result<OpenDimList, AllocError>
     ensures apart { IfOk result (AreApart same_dimension) }
-    ensures divisors { IfOk result (All (λ dimension. dimension.def.divisor ≢ pos 0)) }
     ensures limits { IfOk result (All (λ dimension. dimension_keeps_limits dimension.def ≡ true)) }
 {
     let mut dimensions = OpenDimList::new(alloc);

@@ -3,7 +3,7 @@ use Rattle.std.specs.Prelude.{ℕ, zero, suc, ◌-◌, nat_lt, Bool, List, [], �
 use Rattle.history.specs.declared.row.Value.{Value}
 use Rattle.history.specs.declared.beat.OpenValue.{OpenValue}
 use Rattle.history.specs.declared.dimension.DimDef.{DimDef}
-use Rattle.history.specs.Points.{Before, Cell, Collected, one_for_zero}
+use Rattle.history.specs.Points.{Before, Cell, Collected, divisor_of, one_for_zero}
 use Rattle.algorithms.specs.declared.last.Last.{Last}
 
 -- a last row of a history
@@ -25,12 +25,6 @@ before_of update_every store_first moment (Some last) =
     then Some (record { value = last.value; seconds = moment - last.moment })
     else first_before update_every store_first
 before_of update_every store_first moment None = first_before update_every store_first
-
--- a divisor of 0 counts as 1
-abbrev pub divisor_of : ℤ → ℤ
-divisor_of (pos zero) = pos 1
-divisor_of (pos (suc n)) = pos (suc n)
-divisor_of (negsuc n) = negsuc n
 
 -- the cell of a value, with the last row and the definition of its dimension
 abbrev pub cell_of : ℕ → Bool → ℕ → Value → Option Last → DimDef → Cell

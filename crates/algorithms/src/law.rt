@@ -1,11 +1,10 @@
-ghost use Rattle.std.specs.Prelude.{◌≡◌, ◌≢◌, ℕ, ◌<◌, ◌≤◌, List, find, pos, Some, None, IfSome};
+ghost use Rattle.std.specs.Prelude.{◌≡◌, ℕ, ◌<◌, ◌≤◌, List, Some, None, IfSome};
 ghost use Rattle.std.specs.Option.{option_map};
 ghost use Rattle.history.specs.declared.beat.OpenDim.{OpenDim};
 ghost use Rattle.history.specs.declared.beat.OpenValue.{OpenValue};
 ghost use Rattle.history.specs.declared.chart.ChartDef.{ChartDef};
 ghost use Rattle.history.specs.History.{Beat};
 ghost use Rattle.history.specs.Points.{Collected, before_at, last_set, cell_of as history_cell};
-ghost use Rattle.history.specs.Registry.{Registry, is_dimension};
 ghost use Rattle.algorithms.specs.Cells.{before_of, cell_of, last_of, numbered};
 
 /// The laws of the last row of a dimension: what stands before a value is what the history says. It
@@ -19,14 +18,12 @@ pub fn any_last()
         → before_of chart.update_every chart.store_first moment None ≡ before_at chart moment None }
 {}
 
-/// The law of a value of a history: with the last row that the history has, and a divisor that is not
-/// 0, its cell is what the history says. It does nothing.
+/// The law of a value of a history: with the last row that the history has, its cell is what the history
+/// says. It does nothing.
 pub fn any_cell()
-    ensures { (registry : Registry) (h : List Beat) (chart : ChartDef) (moment series : ℕ) (value : OpenValue) (dimension : OpenDim)
-        → find (is_dimension chart.id value.id) registry.dimensions ≡ Some dimension
-        → dimension.def.divisor ≢ pos 0
-        → IfSome (last_set h chart.id value.id) (λ last. last.moment < moment)
-        → history_cell registry h chart moment value ≡ Some
-        (cell_of chart.update_every chart.store_first moment (numbered series value)
-        (option_map last_of (last_set h chart.id value.id)) dimension.def) }
+    ensures { (h : List Beat) (chart : ChartDef) (moment series : ℕ) (value : OpenValue) (dimension : OpenDim)
+        → IfSome (last_set h dimension.chart dimension.def.id) (λ last. last.moment < moment)
+        → history_cell h chart moment dimension value
+        ≡ cell_of chart.update_every chart.store_first moment (numbered series value)
+        (option_map last_of (last_set h dimension.chart dimension.def.id)) dimension.def }
 {}

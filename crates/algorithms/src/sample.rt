@@ -1,6 +1,7 @@
 ghost use Rattle.std.specs.Prelude.{◌≡◌, ℕ, ◌^◌, ◌≤◌, ◌+◌, ◌*◌, ℤ, pos, ◌-ℤ◌, unsigned_abs, IfSome};
 ghost use Rattle.history.specs.Points.{rise, difference, is_reset};
-ghost use Rattle.algorithms.specs.Cells.{first_before, before_of, cell_of, divisor_of};
+ghost use Rattle.algorithms.specs.Cells.{first_before, before_of, cell_of};
+ghost use Rattle.history.specs.Points.{divisor_of};
 ghost use Rattle.algorithms.specs.Samples.{before_at, cell_at};
 
 use crate::last::Last;

@@ -1,42 +1,31 @@
 -- The entry of a copied beat that may follow a history is that of a beat without rows that defines the same.
 use Rattle.std.proofs.Common.{◌≡◌, ℕ, ◌+◌, ◌<◌, ◌≤◌, Bool, true, false, ◌&&◌, lt-ltb, List, [], ◌∷◌, map, length, Option, Some, None, IsSome, All, refl, sym, ap, subst, ◌∙◌, if◌then◌else◌}
 use Rattle.std.specs.List.{find, list_any, list_all, filter_map, enumerate_from, AllByRecursion}
-use Rattle.std.specs.Option.{option_map, option_map_or}
+use Rattle.std.specs.Option.{option_map}
 use Rattle.std.specs.Str.{bytes_eq}
-use Rattle.std.proofs.lemmas.Bool.{and_parts}
 use Rattle.std.proofs.lemmas.List.Elements.{All-from_recursion, recursion_from_All}
 use Rattle.std.proofs.lemmas.Option.{same_Some}
-use Rattle.algorithms.specs.declared.last.Last.{Last}
-use Rattle.algorithms.specs.Cells.{last_of}
-use Rattle.entry_codec.specs.declared.charts.CopiedChart.{CopiedChart}
-use Rattle.entry_codec.specs.declared.charts.NumberedChart.{NumberedChart}
-use Rattle.entry_codec.specs.declared.dimensions.CopiedDimension.{CopiedDimension}
-use Rattle.entry_codec.specs.declared.dimensions.NumberedDimension.{NumberedDimension}
+use Rattle.history.specs.declared.numbered.NumberedChart.{NumberedChart}
+use Rattle.history.specs.declared.numbered.NumberedDimension.{NumberedDimension}
 use Rattle.entry_codec.specs.declared.entry.Copied.{Copied}
-use Rattle.entry_codec.specs.declared.words.CopiedWord.{CopiedWord}
-use Rattle.entry_codec.specs.Entries.{is_collected_canonical, is_copied_canonical, is_storage_number}
-use Rattle.entry_codec.specs.Lists.{is_ascending}
 use Rattle.history.specs.declared.beat.OpenBeat.{OpenBeat}
 use Rattle.history.specs.declared.beat.OpenDim.{OpenDim}
 use Rattle.history.specs.declared.beat.OpenRow.{OpenRow}
 use Rattle.history.specs.declared.beat.OpenValue.{OpenValue}
 use Rattle.history.specs.declared.chart.ChartDef.{ChartDef}
 use Rattle.history.specs.declared.row.Row.{Row}
-use Rattle.history.specs.History.{Beat, collected, copied, registry_of, Copy, Word}
+use Rattle.history.specs.History.{Beat, copied, registry_of, Copy, Word}
 use Rattle.history.specs.Looking.{same_value}
-use Rattle.history.specs.Points.{last_set, value_of}
-use Rattle.history.specs.Registry.{Registry, is_chart, is_dimension, chart_of, series_of, with_definitions}
-use Rattle.beat_points.specs.LastRows.{last_in, AreLastOf}
-use Rattle.beat_points.specs.Regular.{AreApart, IsRegular}
+use Rattle.history.specs.Registry.{Registry, is_chart, is_dimension, chart_of, series_of}
+use Rattle.history.specs.Regular.{AreApart, IsRegular}
 use Rattle.beat_entries.specs.Copied.{full_chart, full_dimension, defined_by, names_word, copied_goes_on, definitions_of, told_chart, told_dimension, told_word, copied_entry_of, usual_dimension, IsUsualChart, IsUsualDimension, MayCopy}
 use Rattle.beat_entries.specs.Defined.{IsDefinedIn}
-use Rattle.beat_entries.specs.Entry.{entry_charts, numbered_dimension, entry_dimensions, entry_values, entry_of}
-use Rattle.beat_entries.specs.Restoring.{goes_on, restored, AreOf, IsBeatOf, IsRowOf}
+use Rattle.history.specs.Numbered.{numbered_charts, numbered_dimension, numbered_dimensions, numbered_values, numbered_beat}
+use Rattle.beat_entries.specs.Next.{goes_on, with_numbered}
 use Rattle.beat_entries.proofs.DefinedLemmas.{beat-defined, chart-has, dimension-has}
 use Rattle.beat_entries.proofs.EntryLemmas.{if-some}
 use Rattle.beat_entries.proofs.FollowLemmas.{all-places, beat-goes-on, if-true, last-is}
 use Rattle.beat_entries.proofs.Gathering.{map-some}
-use Rattle.beat_entries.proofs.RestoringLemmas.{restored-is}
 use Rattle.beat_entries.proofs.Steps.{and-no}
 
 -- ---- mapped lists
@@ -67,7 +56,7 @@ module _ (r : Registry) (charts : List ChartDef) (dimensions : List OpenDim) whe
   without_rows = record { charts = charts; dimensions = dimensions; rows = [] }
 
   no-rows : (things : List ChartDef) (n : ℕ)
-      → filter_map {Y = Row} (λ (place : ℕ × ChartDef). option_map (λ (row : OpenRow). record { chart = place.0; values = entry_values r row }) (find (λ (row : OpenRow). bytes_eq place.1.id row.chart) []))
+      → filter_map {Y = Row} (λ (place : ℕ × ChartDef). option_map (λ (row : OpenRow). record { chart = place.0; values = numbered_values r row }) (find (λ (row : OpenRow). bytes_eq place.1.id row.chart) []))
       (enumerate_from n things) ≡ []
   no-rows [] n = refl
   no-rows (a ∷ things) n = no-rows things (n + 1)
@@ -82,7 +71,7 @@ module _ (r : Registry) (charts : List ChartDef) (dimensions : List OpenDim) whe
   }
 
   module _ (defined : IsDefinedIn r without_rows) where
-    charts-usual : All IsUsualChart charts → AllByRecursion IsUsualNumbered (entry_charts r without_rows)
+    charts-usual : All IsUsualChart charts → AllByRecursion IsUsualNumbered (numbered_charts r without_rows)
     charts-usual usual =
         all-places IsUsualNumbered (λ (place : ℕ × ChartDef). if list_any (is_chart place.1.id) charts then Some (record { number = place.0; def = place.1 }) else None) r.charts
         (λ m a c at e.
@@ -91,7 +80,7 @@ module _ (r : Registry) (charts : List ChartDef) (dimensions : List OpenDim) whe
         subst IsUsualNumbered (same_Some (record { number = m; def = a }) c (if-some any made c e))
         (chart-has r without_rows defined IsUsualChart usual m a at (if-true any made c e)))
 
-    dimensions-usual : All IsUsualDimension dimensions → AllByRecursion IsUsualSeries (entry_dimensions r without_rows)
+    dimensions-usual : All IsUsualDimension dimensions → AllByRecursion IsUsualSeries (numbered_dimensions r without_rows)
     dimensions-usual usual =
         all-places IsUsualSeries (λ (place : ℕ × OpenDim). if list_any (is_dimension place.1.chart place.1.def.id) dimensions then numbered_dimension r place.0 place.1 else None) r.dimensions
         (λ m a c at e.
@@ -117,15 +106,15 @@ module _ (h : List Beat) (copy : Copy) (may : MayCopy h copy) where
   defined : IsDefinedIn r beat
   defined = beat-defined h copy.moment beat may.owned
 
-  defined-is : defined_by entry ≡ entry_of r copy.moment beat
+  defined-is : defined_by entry ≡ numbered_beat r copy.moment beat
   defined-is =
-      let charts = charts-told (entry_charts r beat) (charts-usual r copy.charts copy.dimensions defined may.charts) in
-      let dimensions = dimensions-told (entry_dimensions r beat) (dimensions-usual r copy.charts copy.dimensions defined may.dimensions) in
+      let charts = charts-told (numbered_charts r beat) (charts-usual r copy.charts copy.dimensions defined may.charts) in
+      let dimensions = dimensions-told (numbered_dimensions r beat) (dimensions-usual r copy.charts copy.dimensions defined may.dimensions) in
       let rows = no-rows r copy.charts copy.dimensions r.charts 0 in
       λ i. record { moment = copy.moment; charts = charts i; dimensions = dimensions i; rows = sym rows i }
 
-  pub copied-registry : restored first (defined_by entry) ≡ r
-  copied-registry = ap (restored first) defined-is ∙ sym (last-is h copy.moment beat may.owned may.may)
+  pub copied-registry : with_numbered first (defined_by entry) ≡ r
+  copied-registry = ap (with_numbered first) defined-is ∙ sym (last-is h copy.moment beat may.owned)
 
   abbrev IsNamed : Word → Type 0
   IsNamed word = word.series < length r.dimensions
@@ -134,51 +123,15 @@ module _ (h : List Beat) (copy : Copy) (may : MayCopy h copy) where
   copied-next =
       let goes : goes_on first (defined_by entry) ≡ true
       = ap (goes_on first) defined-is ∙ beat-goes-on h copy.moment beat may.owned may.may (regular-without r copy.charts copy.dimensions) in
-      let words : list_all (names_word (restored first (defined_by entry))) entry.words ≡ true
+      let words : list_all (names_word (with_numbered first (defined_by entry))) entry.words ≡ true
       = ap (λ (s : Registry). list_all (names_word s) entry.words) copied-registry
       ∙ all-mapped IsNamed told_word (names_word r) (λ word below. lt-ltb word.series (length r.dimensions) below) copy.words (recursion_from_All IsNamed copy.words may.words) in
       λ i. goes i && words i
 
--- ---- the last rows
-of-nothing : {X Y : Type 0} (R : X → Y → Type 0) (ys : List Y) → AreOf R [] ys → ys ≡ []
-of-nothing R [] of = refl
-of-nothing R (y ∷ ys) of = absurd of
-
-pub copied-last : (h : List Beat) (copy : Copy) (like : OpenBeat) (lasts : List (Option Last))
-    → IsBeatOf (registry_of (copied copy ∷ h)) (defined_by (copied_entry_of (registry_of (copied copy ∷ h)) copy)) like
-    → registry_of (collected copy.moment like ∷ h) ≡ registry_of (copied copy ∷ h)
-    → AreLastOf lasts (collected copy.moment like ∷ h) → AreLastOf lasts (copied copy ∷ h)
-copied-last h copy like lasts of same last = record {
-  rows = λ chart id.
-      let none : value_of like chart id ≡ None
-      = ap (λ (rows : List OpenRow). value_of (record { charts = like.charts; dimensions = like.dimensions; rows = rows }) chart id) (of-nothing (IsRowOf (registry_of (copied copy ∷ h))) like.rows of.rows) in
-      ap (λ (r : Registry). last_in lasts (series_of r chart id)) (sym same) ∙ last.rows chart id
-      ∙ ap (λ (value : Option OpenValue). option_map last_of (option_map_or (λ (value : OpenValue). Some (record { moment = copy.moment; value = value.value })) value (last_set h chart id))) none;
-  within = subst (λ (r : Registry). length lasts ≤ length r.dimensions) same last.within;
-}
-
--- ---- an entry that is restored
-same-numbers : {X Y : Type 0} (full : X → Y) (key : X → ℕ) (full_key : Y → ℕ) → ((x : X) → full_key (full x) ≡ key x) → (xs : List X) → map full_key (map full xs) ≡ map key xs
-same-numbers full key full_key same [] = refl
-same-numbers full key full_key same (x ∷ xs) = λ i. same x i ∷ same-numbers full key full_key same xs i
-
-pub defined-canonical : (entry : Copied) → is_copied_canonical entry ≡ true → is_collected_canonical (defined_by entry) ≡ true
-unfolding is_copied_canonical is_collected_canonical
-defined-canonical entry canonical =
-    let chart_order = is_ascending (map (λ (chart : CopiedChart). chart.number) entry.charts) in
-    let dimension_order = is_ascending (map (λ (dimension : CopiedDimension). dimension.series) entry.dimensions) in
-    let word_order = is_ascending (map (λ (word : CopiedWord). word.series) entry.words) in
-    let all = and_parts (chart_order && dimension_order && word_order) (list_all is_storage_number entry.words) canonical in
-    let orders = and_parts chart_order dimension_order (and_parts (chart_order && dimension_order) word_order all.0).0 in
-    let charts : is_ascending (map (λ (chart : NumberedChart). chart.number) (map full_chart entry.charts)) ≡ true
-    = ap is_ascending (same-numbers full_chart (λ (chart : CopiedChart). chart.number) (λ (chart : NumberedChart). chart.number) (λ chart. refl) entry.charts) ∙ orders.0 in
-    let dimensions : is_ascending (map (λ (dimension : NumberedDimension). dimension.series) (map full_dimension entry.dimensions)) ≡ true
-    = ap is_ascending (same-numbers full_dimension (λ (dimension : CopiedDimension). dimension.series) (λ (dimension : NumberedDimension). dimension.series) (λ dimension. refl) entry.dimensions) ∙ orders.1 in
-    λ i. charts i && dimensions i && true && true
-
-module _ (first last : Registry) (entry : Copied) (beat : OpenBeat) (made : last ≡ with_definitions first beat.charts beat.dimensions) (of : IsBeatOf last (defined_by entry) beat) where
-  words-tested : list_all (names_word (restored first (defined_by entry))) entry.words ≡ list_all (names_word last) entry.words
-  words-tested = ap (λ (s : Registry). list_all (names_word s) entry.words) (sym (restored-is first last (defined_by entry) beat made of))
+-- ---- an entry that is defined
+module _ (first last : Registry) (entry : Copied) (made : last ≡ with_numbered first (defined_by entry)) where
+  words-tested : list_all (names_word (with_numbered first (defined_by entry))) entry.words ≡ list_all (names_word last) entry.words
+  words-tested = ap (λ (s : Registry). list_all (names_word s) entry.words) (sym made)
 
   pub words-there : goes_on first (defined_by entry) ≡ true → list_all (names_word last) entry.words ≡ true → copied_goes_on first entry ≡ true
   words-there goes there = λ i. goes i && (words-tested ∙ there) i

@@ -11,24 +11,22 @@ use Rattle.chart_registry.proofs.Applying.{has_chart-applied}
 use Rattle.chart_registry.proofs.Places.{list_any-position}
 use Rattle.chart_registry.proofs.RegistryLemmas.{chart_id-chart_of}
 use Rattle.chart_registry.proofs.RowsLemmas.{same_text, bytes_eq_same}
-use Rattle.entry_codec.specs.declared.dimensions.NumberedDimension.{NumberedDimension}
+use Rattle.history.specs.declared.numbered.NumberedDimension.{NumberedDimension}
 use Rattle.history.specs.declared.beat.OpenBeat.{OpenBeat}
 use Rattle.history.specs.declared.beat.OpenDim.{OpenDim}
 use Rattle.history.specs.declared.chart.ChartDef.{ChartDef}
 use Rattle.history.specs.History.{Beat, collected, copied, health, missing, registry_of}
-use Rattle.history.specs.Put.{put_all}
 use Rattle.history.specs.Refusal.{has_chart}
 use Rattle.history.specs.Registry.{Registry, is_chart, is_dimension, same_chart, same_dimension, chart_of}
-use Rattle.beat_points.specs.Regular.{AreApart}
-use Rattle.beat_points.proofs.ApartLemmas.{apart-registry, own-series}
-use Rattle.beat_points.proofs.CountLemmas.{found-passes}
-use Rattle.beat_points.proofs.OrderLemmas.{all-weaker}
-use Rattle.beat_entries.specs.Alike.{AreOwned}
+use Rattle.history.specs.Regular.{AreApart}
+use Rattle.chart_registry.proofs.ApartLemmas.{apart-registry, own-series}
+use Rattle.chart_registry.proofs.Finding.{found-passes, all-weaker}
+use Rattle.beat_entries.specs.Following.{AreOwned}
 use Rattle.beat_entries.specs.Defined.{IsDefinedIn}
-use Rattle.beat_entries.specs.Entry.{numbered_dimension, entry_of}
-use Rattle.beat_entries.specs.Restoring.{chart_def, dimension_back, IsBeatOf}
+use Rattle.history.specs.Numbered.{numbered_dimension}
+use Rattle.beat_entries.specs.Next.{chart_def, dimension_back}
 use Rattle.beat_entries.proofs.EntryLemmas.{any-find, at-found, own-chart}
-use Rattle.beat_entries.proofs.PutLemmas.{apart-put_all, put-found, put-again}
+use Rattle.beat_entries.proofs.PutLemmas.{apart-put_all, put-found}
 use Rattle.beat_entries.proofs.Slots.{found-all}
 
 -- ---- the same chart, the same dimension
@@ -162,19 +160,3 @@ module _ (registry : Registry) (dims : List OpenDim) (owners : AllByRecursion (�
           → map back (cons_option (if b then numbered_dimension registry n a else None) (filter_map pick (enumerate_from (n + 1) things))) ≡ cond b (a ∷ filter defined things) (filter defined things)
       by true e rest = one-back a n (filter_map pick (enumerate_from (n + 1) things)) e ∙ ap (λ (l : List OpenDim). a ∷ l) rest
       by false e rest = rest
-
--- a history with the beat that is restored has the same registry
-pub registry-alike : (h : List Beat) (moment : ℕ) (beat like : OpenBeat) → AreOwned (registry_of h) beat
-    → IsBeatOf (registry_of (collected moment beat ∷ h)) (entry_of (registry_of (collected moment beat ∷ h)) moment beat) like
-    → registry_of (collected moment like ∷ h) ≡ registry_of (collected moment beat ∷ h)
-registry-alike h moment beat like owned of =
-    let r = registry_of (collected moment beat ∷ h) in
-    let defined = beat-defined h moment beat owned in
-    let charts : put_all same_chart (registry_of h).charts like.charts ≡ r.charts
-    = ap (put_all same_chart (registry_of h).charts) (of.charts ∙ charts-back beat.charts r.charts 0)
-    ∙ put-again same_chart chart-itself chart-alike (registry_of h).charts beat.charts (apart-charts h) in
-    let owners = recursion_from_All (λ (dimension : OpenDim). IsSome (chart_of r dimension.chart)) beat.dimensions defined.owners in
-    let dimensions : put_all same_dimension (registry_of h).dimensions like.dimensions ≡ r.dimensions
-    = ap (put_all same_dimension (registry_of h).dimensions) (of.dimensions ∙ dimensions-back r beat.dimensions owners r.dimensions 0)
-    ∙ put-again same_dimension dimension-itself dimension-alike (registry_of h).dimensions beat.dimensions (apart-registry h) in
-    λ i. record { charts = charts i; dimensions = dimensions i }

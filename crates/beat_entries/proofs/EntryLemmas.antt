@@ -7,8 +7,8 @@ use Rattle.std.specs.Str.{bytes_eq}
 use Rattle.std.proofs.lemmas.Bool.{and_parts}
 use Rattle.std.proofs.lemmas.List.Elements.{recursion_from_All}
 use Rattle.std.proofs.lemmas.Option.{none-some, same_Some}
-use Rattle.entry_codec.specs.declared.charts.NumberedChart.{NumberedChart}
-use Rattle.entry_codec.specs.declared.dimensions.NumberedDimension.{NumberedDimension}
+use Rattle.history.specs.declared.numbered.NumberedChart.{NumberedChart}
+use Rattle.history.specs.declared.numbered.NumberedDimension.{NumberedDimension}
 use Rattle.history.specs.declared.row.Row.{Row}
 use Rattle.history.specs.declared.row.Value.{Value}
 use Rattle.entry_codec.specs.Entries.{are_values_ascending, is_collected_canonical}
@@ -24,12 +24,11 @@ use Rattle.chart_registry.proofs.Places.{IsFirst, position-first, find-position}
 use Rattle.chart_registry.proofs.RegistryLemmas.{or_false, chart_id-chart_of, chart_of-within, series_of-within}
 use Rattle.chart_registry.proofs.RowsLemmas.{same_text, bytes_eq_same}
 use Rattle.chart_registry.specs.Defining.{chart_id}
-use Rattle.beat_points.specs.Regular.{AreApart, same_row}
-use Rattle.beat_points.proofs.ApartLemmas.{own-series}
-use Rattle.beat_points.proofs.CountLemmas.{found-passes}
-use Rattle.beat_points.proofs.TakingLemmas.{one_series}
+use Rattle.history.specs.Regular.{AreApart, same_row}
+use Rattle.chart_registry.proofs.ApartLemmas.{own-series, one_series}
+use Rattle.chart_registry.proofs.Finding.{found-passes}
 use Rattle.beat_entries.specs.Defined.{IsDefinedIn}
-use Rattle.beat_entries.specs.Entry.{entry_charts, numbered_dimension, entry_dimensions, entry_value, entry_values, entry_rows, entry_of}
+use Rattle.history.specs.Numbered.{numbered_charts, numbered_dimension, numbered_dimensions, numbered_value, numbered_values, numbered_rows, numbered_beat}
 use Rattle.beat_entries.specs.Gathered.{chart_at, dimension_at, value_at, row_at}
 use Rattle.beat_entries.proofs.Ascending.{picked-ascending, all-picked}
 use Rattle.beat_entries.proofs.Gathering.{map-some, then-some, all-gathered, apart-gathered, find-gathered}
@@ -128,7 +127,7 @@ module _ (registry : Registry) (beat : OpenBeat) where
             numbered b id ∙ ap (λ (d : ChartDef). Some (record { number = n; def = d })) same
             ∙ ap (λ (b : Bool). if b then Some (record { number = n; def = a }) else None) (sym (any-find (is_chart a.id) beat.charts (Some b) e))
 
-    pub charts-are : (list : List NumberedChart) → IsPermutation (filter_map (chart_at registry) beat.charts) list → IsNonDecreasingBy chart_number list → list ≡ entry_charts registry beat
+    pub charts-are : (list : List NumberedChart) → IsPermutation (filter_map (chart_at registry) beat.charts) list → IsNonDecreasingBy chart_number list → list ≡ numbered_charts registry beat
     charts-are list same up =
         sorted-is chart_number (filter_map (chart_at registry) beat.charts) list
         (apart-gathered (chart_at registry) chart_number same_chart charts-alike beat.charts defined.apart_charts) same registry.charts chart_pick
@@ -207,7 +206,7 @@ module _ (registry : Registry) (beat : OpenBeat) where
             numbered b same ∙ ap (numbered_dimension registry n) equal
             ∙ ap (λ (b : Bool). if b then numbered_dimension registry n a else None) (sym (any-find (same_dimension a) beat.dimensions (Some b) e))
 
-    pub dimensions-are : (list : List NumberedDimension) → IsPermutation (filter_map (dimension_at registry) beat.dimensions) list → IsNonDecreasingBy dimension_number list → list ≡ entry_dimensions registry beat
+    pub dimensions-are : (list : List NumberedDimension) → IsPermutation (filter_map (dimension_at registry) beat.dimensions) list → IsNonDecreasingBy dimension_number list → list ≡ numbered_dimensions registry beat
     dimensions-are list same up =
         sorted-is dimension_number (filter_map (dimension_at registry) beat.dimensions) list
         (apart-gathered (dimension_at registry) dimension_number same_dimension dimensions-alike beat.dimensions defined.apart_dimensions) same registry.dimensions dimension_pick
@@ -223,7 +222,7 @@ module _ (registry : Registry) (row : OpenRow) where
   value_of value series = record { series = series; value = value.value; anomalous = value.anomalous }
 
   abbrev value_pick : ℕ × OpenDim → Option Value
-  value_pick place = entry_value row place.0 place.1
+  value_pick place = numbered_value row place.0 place.1
 
   abbrev item : OpenValue → Option Value
   item value = value_at registry row.chart value
@@ -269,7 +268,7 @@ module _ (registry : Registry) (row : OpenRow) where
             row.values (any-all row.values)
             ∙ ap (option_and_then item) (find-never row.values)
 
-    pub values-are : (list : List Value) → AreApart same_value row.values → IsPermutation (filter_map item row.values) list → IsNonDecreasingBy value_number list → list ≡ entry_values registry row
+    pub values-are : (list : List Value) → AreApart same_value row.values → IsPermutation (filter_map item row.values) list → IsNonDecreasingBy value_number list → list ≡ numbered_values registry row
     values-are list apart same up =
         sorted-is value_number (filter_map item row.values) list (apart-gathered item value_number same_value values-alike row.values apart) same registry.dimensions value_pick
         (all-gathered item (λ (c : Value). c.series < length registry.dimensions) (λ v c e. series_of-within registry row.chart v.id c.series (value-known v c e)) row.values) up value-picked
@@ -280,7 +279,7 @@ module _ (registry : Registry) (beat : OpenBeat) where
   row_number row = row.chart
 
   abbrev row_made : OpenRow → ℕ → Row
-  row_made row number = record { chart = number; values = entry_values registry row }
+  row_made row number = record { chart = number; values = numbered_values registry row }
 
   abbrev is_row : List ℕ → OpenRow → Bool
   is_row chart row = bytes_eq chart row.chart
@@ -320,7 +319,7 @@ module _ (registry : Registry) (beat : OpenBeat) where
         finish None e = refl
         finish (Some row) e = numbered row (found-passes (is_row a.id) beat.rows row e)
 
-    pub rows-are : (list : List Row) → AreApart same_row beat.rows → IsPermutation (filter_map (row_at registry) beat.rows) list → IsNonDecreasingBy row_number list → list ≡ entry_rows registry beat
+    pub rows-are : (list : List Row) → AreApart same_row beat.rows → IsPermutation (filter_map (row_at registry) beat.rows) list → IsNonDecreasingBy row_number list → list ≡ numbered_rows registry beat
     rows-are list apart same up =
         sorted-is row_number (filter_map (row_at registry) beat.rows) list (apart-gathered (row_at registry) row_number same_row rows-alike beat.rows apart) same registry.charts row_pick
         (all-gathered (row_at registry) (λ (c : Row). c.chart < length registry.charts) (λ row c e. chart_of-within registry row.chart c.chart (row-known row c e)) beat.rows) up row-picked
@@ -330,24 +329,24 @@ pub if-some : {X : Type 0} (b : Bool) (found : Option X) (x : X) → (if b then 
 if-some true found x e = e
 if-some false found x e = absurd (none-some x e)
 
-values-ascending : (registry : Registry) (row : OpenRow) (n : ℕ) → are_values_ascending (record { chart = n; values = entry_values registry row }) ≡ true
+values-ascending : (registry : Registry) (row : OpenRow) (n : ℕ) → are_values_ascending (record { chart = n; values = numbered_values registry row }) ≡ true
 values-ascending registry row n = picked-ascending (value_pick registry row) (value_number registry row) own registry.dimensions 0
   where
-    own : (m : ℕ) (a : OpenDim) (c : Value) → entry_value row m a ≡ Some c → m ≡ c.series
+    own : (m : ℕ) (a : OpenDim) (c : Value) → numbered_value row m a ≡ Some c → m ≡ c.series
     own m a c e =
         let inner : option_map (λ (value : OpenValue). value_of registry row value m) (find (is_value a.def.id) row.values) ≡ Some c
         = if-some (bytes_eq row.chart a.chart) (option_map (λ (value : OpenValue). value_of registry row value m) (find (is_value a.def.id) row.values)) c e in
         ap (λ (c : Value). c.series) (map-some (λ (value : OpenValue). value_of registry row value m) (find (is_value a.def.id) row.values) c inner).1.1
 
 module _ (registry : Registry) (beat : OpenBeat) where
-  charts-ascending : is_ascending (map (chart_number registry beat) (entry_charts registry beat)) ≡ true
+  charts-ascending : is_ascending (map (chart_number registry beat) (numbered_charts registry beat)) ≡ true
   charts-ascending = picked-ascending (chart_pick registry beat) (chart_number registry beat) own registry.charts 0
     where
       own : (n : ℕ) (a : ChartDef) (c : NumberedChart) → chart_pick registry beat (n, a) ≡ Some c → n ≡ c.number
       own n a c e =
           ap (λ (c : NumberedChart). c.number) (same_Some (record { number = n; def = a }) c (if-some (list_any (is_chart a.id) beat.charts) (Some (record { number = n; def = a })) c e))
 
-  dimensions-ascending : is_ascending (map (dimension_number registry beat) (entry_dimensions registry beat)) ≡ true
+  dimensions-ascending : is_ascending (map (dimension_number registry beat) (numbered_dimensions registry beat)) ≡ true
   dimensions-ascending = picked-ascending (dimension_pick registry beat) (dimension_number registry beat) own registry.dimensions 0
     where
       own : (n : ℕ) (a : OpenDim) (c : NumberedDimension) → dimension_pick registry beat (n, a) ≡ Some c → n ≡ c.series
@@ -355,13 +354,13 @@ module _ (registry : Registry) (beat : OpenBeat) where
           let inner : numbered_dimension registry n a ≡ Some c = if-some (list_any (is_dimension a.chart a.def.id) beat.dimensions) (numbered_dimension registry n a) c e in
           ap (λ (c : NumberedDimension). c.series) (map-some (λ (number : ℕ). dimension_of registry beat a number n) (chart_of registry a.chart) c inner).1.1
 
-  rows-ascending : is_ascending (map (row_number registry beat) (entry_rows registry beat)) ≡ true
+  rows-ascending : is_ascending (map (row_number registry beat) (numbered_rows registry beat)) ≡ true
   rows-ascending = picked-ascending (row_pick registry beat) (row_number registry beat) own registry.charts 0
     where
       own : (n : ℕ) (a : ChartDef) (c : Row) → row_pick registry beat (n, a) ≡ Some c → n ≡ c.chart
       own n a c e = ap (λ (c : Row). c.chart) (map-some (λ (row : OpenRow). row_made registry beat row n) (find (is_row registry beat a.id) beat.rows) c e).1.1
 
-  all-ascending : list_all are_values_ascending (entry_rows registry beat) ≡ true
+  all-ascending : list_all are_values_ascending (numbered_rows registry beat) ≡ true
   all-ascending = all-picked are_values_ascending (row_pick registry beat) own (enumerate_from 0 registry.charts)
     where
       own : (place : ℕ × ChartDef) (c : Row) → row_pick registry beat place ≡ Some c → are_values_ascending c ≡ true
@@ -369,6 +368,6 @@ module _ (registry : Registry) (beat : OpenBeat) where
           let made = map-some (λ (row : OpenRow). row_made registry beat row place.0) (find (is_row registry beat place.1.id) beat.rows) c e in
           subst (λ (c : Row). are_values_ascending c ≡ true) made.1.1 (values-ascending registry made.0 place.0)
 
-  pub entry-canonical : (moment : ℕ) → is_collected_canonical (entry_of registry moment beat) ≡ true
+  pub entry-canonical : (moment : ℕ) → is_collected_canonical (numbered_beat registry moment beat) ≡ true
   unfolding is_collected_canonical
   entry-canonical moment = λ i. charts-ascending i && dimensions-ascending i && rows-ascending i && all-ascending i

@@ -1,4 +1,4 @@
--- The whole entry of a beat that may follow goes on from what stands before it.
+-- A numbered beat that may follow goes on from what stands before it.
 use Rattle.std.proofs.Common.{◌≡◌, ℕ, zero, suc, ◌+◌, ◌<◌, ◌≤◌, Bool, true, false, cond, ◌&&◌, ◌||◌, List, [], ◌∷◌, map, filter, length, position, slice_get, Option, Some, None, IsSome, IfSome, refl, sym, ap, subst, ◌∙◌, arith, true≢false, add-zero, zero-add, lt-ltb, if◌then◌else◌}
 use Rattle.std.specs.List.{find, list_any, list_all, filter_map, cons_option, count_by, enumerate_from, AllByRecursion}
 use Rattle.std.specs.Option.{option_map, option_and_then}
@@ -10,8 +10,8 @@ use Rattle.std.proofs.lemmas.Option.{none-some, same_Some, slice_get_within}
 use Rattle.chart_registry.specs.Defining.{chart_id}
 use Rattle.chart_registry.proofs.RegistryLemmas.{or_false, chart_id-chart_of, chart_of-within}
 use Rattle.chart_registry.proofs.RowsLemmas.{same_text, bytes_eq_same}
-use Rattle.entry_codec.specs.declared.dimensions.NumberedDimension.{NumberedDimension}
-use Rattle.entry_codec.specs.declared.entry.Collected.{Collected}
+use Rattle.history.specs.declared.numbered.NumberedDimension.{NumberedDimension}
+use Rattle.history.specs.declared.numbered.NumberedBeat.{NumberedBeat}
 use Rattle.history.specs.declared.row.Row.{Row}
 use Rattle.history.specs.declared.row.Value.{Value}
 use Rattle.history.specs.declared.beat.OpenBeat.{OpenBeat}
@@ -24,13 +24,13 @@ use Rattle.history.specs.Limits.{chart_keeps_limits, dimension_keeps_limits}
 use Rattle.history.specs.Looking.{is_value}
 use Rattle.history.specs.Put.{put_all}
 use Rattle.history.specs.Registry.{Registry, is_chart, is_dimension, same_chart, same_dimension, chart_of}
-use Rattle.beat_points.specs.Regular.{AreApart, IsRegular}
-use Rattle.beat_points.proofs.ApartLemmas.{apart-registry, own-series}
-use Rattle.beat_points.proofs.CountLemmas.{found-passes, nat_eq_same, one_if}
-use Rattle.beat_entries.specs.Alike.{AreOwned, MayFollow}
+use Rattle.history.specs.Regular.{AreApart, IsRegular}
+use Rattle.chart_registry.proofs.ApartLemmas.{apart-registry, own-series}
+use Rattle.chart_registry.proofs.Finding.{found-passes, nat_eq_same, one_if}
+use Rattle.beat_entries.specs.Following.{AreOwned, MayFollow}
 use Rattle.beat_entries.specs.Defined.{IsDefinedIn}
-use Rattle.beat_entries.specs.Entry.{numbered_dimension, entry_value, entry_values, entry_of}
-use Rattle.beat_entries.specs.Restoring.{all_taken, chart_def, takes_chart, with_chart, dimension_back, takes_dimension, with_dimension, is_number, is_of_chart, takes_row, with_charts, with_dimensions, restored, goes_on}
+use Rattle.history.specs.Numbered.{numbered_dimension, numbered_value, numbered_values, numbered_rows, numbered_beat}
+use Rattle.beat_entries.specs.Next.{all_taken, chart_def, takes_chart, with_chart, dimension_back, takes_dimension, with_dimension, is_number, is_of_chart, takes_row, with_charts, with_dimensions, with_numbered, goes_on}
 use Rattle.beat_entries.proofs.DefinedLemmas.{chart-itself, chart-alike, dimension-itself, dimension-alike, apart-charts, beat-defined, chart-has, charts-back, dimension-has, dimensions-back}
 use Rattle.beat_entries.proofs.EntryLemmas.{own-chart, if-some}
 use Rattle.beat_entries.proofs.Gathering.{map-some}
@@ -109,7 +109,7 @@ module _ (chart : List ℕ) (v : OpenValue) (vs : List OpenValue) where
   made n value = record { series = n; value = value.value; anomalous = value.anomalous }
 
   abbrev picks : List OpenValue → ℕ → List OpenDim → List Value
-  picks values n ds = filter_map (λ (place : ℕ × OpenDim). entry_value (row_with chart values) place.0 place.1) (enumerate_from n ds)
+  picks values n ds = filter_map (λ (place : ℕ × OpenDim). numbered_value (row_with chart values) place.0 place.1) (enumerate_from n ds)
 
   turned-text : (a b : List ℕ) (c : Bool) → bytes_eq a b ≡ c → bytes_eq b a ≡ c
   turned-text a b true e = bytes_eq_same b a (sym (same_text a b e))
@@ -146,29 +146,67 @@ module _ (chart : List ℕ) (v : OpenValue) (vs : List OpenValue) where
           omega (arith, cons, step)
       by false e c f le = omega (arith, cons, le)
 
-values-none : (chart : List ℕ) (ds : List OpenDim) (n : ℕ) → length (filter_map (λ (place : ℕ × OpenDim). entry_value (row_with chart []) place.0 place.1) (enumerate_from n ds)) ≡ 0
+values-none : (chart : List ℕ) (ds : List OpenDim) (n : ℕ) → length (filter_map (λ (place : ℕ × OpenDim). numbered_value (row_with chart []) place.0 place.1) (enumerate_from n ds)) ≡ 0
 values-none chart [] n = refl
 values-none chart (d ∷ ds) n = by (bytes_eq chart d.chart) ∙ values-none chart ds (n + 1)
   where
-    by : (b : Bool) → length (cons_option (if b then None else None) (filter_map (λ (place : ℕ × OpenDim). entry_value (row_with chart []) place.0 place.1) (enumerate_from (n + 1) ds)))
-        ≡ length (filter_map (λ (place : ℕ × OpenDim). entry_value (row_with chart []) place.0 place.1) (enumerate_from (n + 1) ds))
+    by : (b : Bool) → length (cons_option (if b then None else None) (filter_map (λ (place : ℕ × OpenDim). numbered_value (row_with chart []) place.0 place.1) (enumerate_from (n + 1) ds)))
+        ≡ length (filter_map (λ (place : ℕ × OpenDim). numbered_value (row_with chart []) place.0 place.1) (enumerate_from (n + 1) ds))
     by true = refl
     by false = refl
 
-values-few : (r : Registry) → AreApart same_dimension r.dimensions → (chart : List ℕ) (values : List OpenValue) → length (entry_values r (row_with chart values)) ≤ length values
+values-few : (r : Registry) → AreApart same_dimension r.dimensions → (chart : List ℕ) (values : List OpenValue) → length (numbered_values r (row_with chart values)) ≤ length values
 values-few r apart chart [] = omega (arith, values-none chart r.dimensions 0)
 values-few r apart chart (v ∷ vs) = omega (arith, picks-more chart v vs r.dimensions 0, count-one chart v.id r.dimensions apart, values-few r apart chart vs)
 
--- ---- the entry
-module _ (h : List Beat) (moment : ℕ) (beat : OpenBeat) (owned : AreOwned (registry_of h) beat) (may : MayFollow (registry_of h) beat) where
+-- ---- the rows
+module _ (r : Registry) (beat : OpenBeat) (defined : IsDefinedIn r beat) (regular : IsRegular r beat) where
+  abbrev IsShort : OpenRow → Type 0
+  IsShort row = length row.values ≤ 1024
+
+  value-goes : (row : OpenRow) (n : ℕ) → chart_of r row.chart ≡ Some n → (m : ℕ) (d : OpenDim) (c : Value) → slice_get r.dimensions m ≡ Some d → numbered_value row m d ≡ Some c → is_of_chart r n c ≡ true
+  value-goes row n number m d c at e =
+      let same : row.chart ≡ d.chart
+      = same_text row.chart d.chart (if-true (bytes_eq row.chart d.chart) (option_map (λ (value : OpenValue). record { series = m; value = value.value; anomalous = value.anomalous }) (find (is_value d.def.id) row.values)) c e) in
+      let inner = if-some (bytes_eq row.chart d.chart) (option_map (λ (value : OpenValue). record { series = m; value = value.value; anomalous = value.anomalous }) (find (is_value d.def.id) row.values)) c e in
+      let series : m ≡ c.series
+      = ap (λ (c : Value). c.series) (map-some (λ (value : OpenValue). record { series = m; value = value.value; anomalous = value.anomalous }) (find (is_value d.def.id) row.values) c inner).1.1 in
+      ap (λ (k : ℕ). is_number n (option_and_then (λ (dimension : OpenDim). chart_of r dimension.chart) (slice_get r.dimensions k))) (sym series)
+      ∙ ap (λ (found : Option OpenDim). is_number n (option_and_then (λ (dimension : OpenDim). chart_of r dimension.chart) found)) at
+      ∙ ap (is_number n) (ap (chart_of r) (sym same) ∙ number) ∙ nat_eq_same n
+
+  row-goes : (n : ℕ) (a : ChartDef) (row : OpenRow) → slice_get r.charts n ≡ Some a → find (λ (row : OpenRow). bytes_eq a.id row.chart) beat.rows ≡ Some row
+      → takes_row r (record { chart = n; values = numbered_values r row }) ≡ true
+  row-goes n a row at e =
+      let same : a.id ≡ row.chart = same_text a.id row.chart (found-passes (λ (row : OpenRow). bytes_eq a.id row.chart) beat.rows row e) in
+      let number : chart_of r row.chart ≡ Some n = ap (chart_of r) (sym same) ∙ own-chart r n a defined.own_charts at in
+      let short : length row.values ≤ 1024 = found-all IsShort (λ (row : OpenRow). bytes_eq a.id row.chart) beat.rows row (recursion_from_All IsShort beat.rows regular.limit) e in
+      let few : length (numbered_values r row) ≤ length row.values = values-few r defined.own_dimensions row.chart row.values in
+      let within = lt-ltb n (length r.charts) (slice_get_within r.charts n a at) in
+      let limit = le-leb (length (numbered_values r row)) 1024 (omega (arith, few, short)) in
+      let values = each-tests (is_of_chart r n) (numbered_values r row)
+      (all-places (λ (c : Value). is_of_chart r n c ≡ true) (λ (place : ℕ × OpenDim). numbered_value row place.0 place.1) r.dimensions (value-goes row n number)) in
+      λ i. within i && limit i && values i
+
+  pub rows-go : list_all (takes_row r) (numbered_rows r beat) ≡ true
+  rows-go =
+      each-tests (takes_row r) (numbered_rows r beat)
+      (all-places (λ (c : Row). takes_row r c ≡ true)
+      (λ (place : ℕ × ChartDef). option_map (λ (row : OpenRow). record { chart = place.0; values = numbered_values r row }) (find (λ (row : OpenRow). bytes_eq place.1.id row.chart) beat.rows)) r.charts
+      (λ n a c at e.
+      let parts = map-some (λ (row : OpenRow). record { chart = n; values = numbered_values r row }) (find (λ (row : OpenRow). bytes_eq a.id row.chart) beat.rows) c e in
+      subst (λ (c : Row). takes_row r c ≡ true) parts.1.1 (row-goes n a parts.0 at parts.1.0)))
+
+-- ---- the whole beat
+module _ (h : List Beat) (moment : ℕ) (beat : OpenBeat) (owned : AreOwned (registry_of h) beat) where
   abbrev first : Registry
   first = registry_of h
 
   abbrev r : Registry
   r = registry_of (collected moment beat ∷ h)
 
-  abbrev entry : Collected
-  entry = entry_of r moment beat
+  abbrev entry : NumberedBeat
+  entry = numbered_beat r moment beat
 
   defined : IsDefinedIn r beat
   defined = beat-defined h moment beat owned
@@ -182,111 +220,73 @@ module _ (h : List Beat) (moment : ℕ) (beat : OpenBeat) (owned : AreOwned (reg
       (dimensions-back r beat.dimensions (recursion_from_All (λ (dimension : OpenDim). IsSome (chart_of r dimension.chart)) beat.dimensions defined.owners) r.dimensions 0)
       ∙ put-again same_dimension dimension-itself dimension-alike first.dimensions beat.dimensions (apart-registry h)
 
-  -- the charts
-  abbrev HasGrid : ChartDef → Type 0
-  HasGrid def = 0 < def.update_every
-
-  abbrev KeepsLimits : ChartDef → Type 0
-  KeepsLimits def = chart_keeps_limits def ≡ true
-
-  abbrev KeepsGrid : ChartDef → Type 0
-  KeepsGrid def = (old : ChartDef) → find (is_chart def.id) first.charts ≡ Some old → old.update_every ≡ def.update_every
-
-  chart-may : (m : ℕ) (a : ChartDef) → slice_get r.charts m ≡ Some a → list_any (is_chart a.id) beat.charts ≡ true → MayChart r.charts may.charts first.charts (record { number = m; def = a })
-  chart-may m a at any = record {
-    grid = chart-has r beat defined HasGrid may.grids m a at any;
-    limits = chart-has r beat defined KeepsLimits may.chart_limits m a at any;
-    number = own-chart r m a defined.own_charts at;
-    kept = chart-has r beat defined KeepsGrid may.kept m a at any;
-  }
-
-  charts-go : all_taken takes_chart with_chart first entry.charts ≡ true
-  charts-go =
-      charts-taken r.charts may.charts first entry.charts whole-charts
-      (subst (AreApart same_chart) (sym (charts-back beat.charts r.charts 0)) (apart-filter same_chart (λ (def : ChartDef). list_any (same_chart def) beat.charts) r.charts defined.own_charts))
-      (all-places (MayChart r.charts may.charts first.charts) (λ (place : ℕ × ChartDef). if list_any (is_chart place.1.id) beat.charts then Some (record { number = place.0; def = place.1 }) else None) r.charts
-      (λ m a c at e.
-      subst (MayChart r.charts may.charts first.charts) (same_Some (record { number = m; def = a }) c (if-some (list_any (is_chart a.id) beat.charts) (Some (record { number = m; def = a })) c e))
-      (chart-may m a at (if-true (list_any (is_chart a.id) beat.charts) (Some (record { number = m; def = a })) c e))))
-
-  -- the dimensions
   abbrev mid : Registry
   mid = record { charts = r.charts; dimensions = first.dimensions }
 
   mid-is : mid ≡ with_charts first entry.charts
   mid-is = λ i. record { charts = sym whole-charts i; dimensions = first.dimensions }
 
-  abbrev IsLimited : OpenDim → Type 0
-  IsLimited dimension = dimension_keeps_limits dimension.def ≡ true
-
-  dimension-may : (m : ℕ) (a : OpenDim) (c : NumberedDimension) → slice_get r.dimensions m ≡ Some a → IsLimited a → numbered_dimension r m a ≡ Some c
-      → MayDimension r.dimensions may.dimensions may.each mid c
-  dimension-may m a c at limits e =
-      let parts = map-some (λ (number : ℕ). record { series = m; chart = number; def = a.def }) (chart_of r a.chart) c e in
-      let id : chart_id r parts.0 ≡ a.chart = subst (λ (o : Option ℕ). IfSome o (λ n. chart_id r n ≡ a.chart)) parts.1.0 (chart_id-chart_of r a.chart) in
-      subst (MayDimension r.dimensions may.dimensions may.each mid) parts.1.1 (record {
-        chart = chart_of-within r a.chart parts.0 parts.1.0;
-        limits = limits;
-        number = ap (λ (chart : List ℕ). position (is_dimension chart a.def.id) r.dimensions) id ∙ own-series r m a defined.own_dimensions at;
-      })
-
-  dimensions-go : all_taken takes_dimension with_dimension (with_charts first entry.charts) entry.dimensions ≡ true
-  dimensions-go =
-      ap (λ (s : Registry). all_taken takes_dimension with_dimension s entry.dimensions) (sym mid-is)
-      ∙ dimensions-taken r.dimensions may.dimensions may.each mid entry.dimensions whole-dimensions
-      (all-places (MayDimension r.dimensions may.dimensions may.each mid)
-      (λ (place : ℕ × OpenDim). if list_any (is_dimension place.1.chart place.1.def.id) beat.dimensions then numbered_dimension r place.0 place.1 else None) r.dimensions
-      (λ m a c at e.
-      let any = list_any (is_dimension a.chart a.def.id) beat.dimensions in
-      let made = numbered_dimension r m a in
-      dimension-may m a c at (dimension-has r beat defined IsLimited may.dimension_limits m a at (if-true any made c e)) (if-some any made c e)))
-
-  pub last-is : r ≡ restored first entry
+  pub last-is : r ≡ with_numbered first entry
   last-is =
       (λ i. record { charts = r.charts; dimensions = sym whole-dimensions i })
       ∙ ap (λ (s : Registry). with_dimensions s entry.dimensions) mid-is
 
-  -- the rows
-  module _ (regular : IsRegular r beat) where
-    abbrev IsShort : OpenRow → Type 0
-    IsShort row = length row.values ≤ 1024
+  module _ (may : MayFollow (registry_of h) beat) where
+    -- the charts
+    abbrev HasGrid : ChartDef → Type 0
+    HasGrid def = 0 < def.update_every
 
-    value-goes : (row : OpenRow) (n : ℕ) → chart_of r row.chart ≡ Some n → (m : ℕ) (d : OpenDim) (c : Value) → slice_get r.dimensions m ≡ Some d → entry_value row m d ≡ Some c → is_of_chart r n c ≡ true
-    value-goes row n number m d c at e =
-        let same : row.chart ≡ d.chart
-        = same_text row.chart d.chart (if-true (bytes_eq row.chart d.chart) (option_map (λ (value : OpenValue). record { series = m; value = value.value; anomalous = value.anomalous }) (find (is_value d.def.id) row.values)) c e) in
-        let inner = if-some (bytes_eq row.chart d.chart) (option_map (λ (value : OpenValue). record { series = m; value = value.value; anomalous = value.anomalous }) (find (is_value d.def.id) row.values)) c e in
-        let series : m ≡ c.series
-        = ap (λ (c : Value). c.series) (map-some (λ (value : OpenValue). record { series = m; value = value.value; anomalous = value.anomalous }) (find (is_value d.def.id) row.values) c inner).1.1 in
-        ap (λ (k : ℕ). is_number n (option_and_then (λ (dimension : OpenDim). chart_of r dimension.chart) (slice_get r.dimensions k))) (sym series)
-        ∙ ap (λ (found : Option OpenDim). is_number n (option_and_then (λ (dimension : OpenDim). chart_of r dimension.chart) found)) at
-        ∙ ap (is_number n) (ap (chart_of r) (sym same) ∙ number) ∙ nat_eq_same n
+    abbrev KeepsLimits : ChartDef → Type 0
+    KeepsLimits def = chart_keeps_limits def ≡ true
 
-    row-goes : (n : ℕ) (a : ChartDef) (row : OpenRow) → slice_get r.charts n ≡ Some a → find (λ (row : OpenRow). bytes_eq a.id row.chart) beat.rows ≡ Some row
-        → takes_row r (record { chart = n; values = entry_values r row }) ≡ true
-    row-goes n a row at e =
-        let same : a.id ≡ row.chart = same_text a.id row.chart (found-passes (λ (row : OpenRow). bytes_eq a.id row.chart) beat.rows row e) in
-        let number : chart_of r row.chart ≡ Some n = ap (chart_of r) (sym same) ∙ own-chart r n a defined.own_charts at in
-        let short : length row.values ≤ 1024 = found-all IsShort (λ (row : OpenRow). bytes_eq a.id row.chart) beat.rows row (recursion_from_All IsShort beat.rows regular.limit) e in
-        let few : length (entry_values r row) ≤ length row.values = values-few r defined.own_dimensions row.chart row.values in
-        let within = lt-ltb n (length r.charts) (slice_get_within r.charts n a at) in
-        let limit = le-leb (length (entry_values r row)) 1024 (omega (arith, few, short)) in
-        let values = each-tests (is_of_chart r n) (entry_values r row)
-        (all-places (λ (c : Value). is_of_chart r n c ≡ true) (λ (place : ℕ × OpenDim). entry_value row place.0 place.1) r.dimensions (value-goes row n number)) in
-        λ i. within i && limit i && values i
+    abbrev KeepsGrid : ChartDef → Type 0
+    KeepsGrid def = (old : ChartDef) → find (is_chart def.id) first.charts ≡ Some old → old.update_every ≡ def.update_every
 
-    pub entry-goes-on : goes_on first entry ≡ true
-    entry-goes-on =
-        let rows : list_all (takes_row r) entry.rows ≡ true
-        = each-tests (takes_row r) entry.rows
-        (all-places (λ (c : Row). takes_row r c ≡ true)
-        (λ (place : ℕ × ChartDef). option_map (λ (row : OpenRow). record { chart = place.0; values = entry_values r row }) (find (λ (row : OpenRow). bytes_eq place.1.id row.chart) beat.rows)) r.charts
-        (λ n a c at e.
-        let parts = map-some (λ (row : OpenRow). record { chart = n; values = entry_values r row }) (find (λ (row : OpenRow). bytes_eq a.id row.chart) beat.rows) c e in
-        subst (λ (c : Row). takes_row r c ≡ true) parts.1.1 (row-goes n a parts.0 at parts.1.0))) in
-        let rows_too : list_all (takes_row (restored first entry)) entry.rows ≡ true = ap (λ (s : Registry). list_all (takes_row s) entry.rows) (sym last-is) ∙ rows in
-        λ i. charts-go i && (dimensions-go i && rows_too i)
+    chart-may : (m : ℕ) (a : ChartDef) → slice_get r.charts m ≡ Some a → list_any (is_chart a.id) beat.charts ≡ true → MayChart r.charts may.charts first.charts (record { number = m; def = a })
+    chart-may m a at any = record {
+      grid = chart-has r beat defined HasGrid may.grids m a at any;
+      limits = chart-has r beat defined KeepsLimits may.chart_limits m a at any;
+      number = own-chart r m a defined.own_charts at;
+      kept = chart-has r beat defined KeepsGrid may.kept m a at any;
+    }
 
-pub beat-goes-on : (h : List Beat) (moment : ℕ) (beat : OpenBeat) → AreOwned (registry_of h) beat → MayFollow (registry_of h) beat → IsRegular (registry_of (collected moment beat ∷ h)) beat
-    → goes_on (registry_of h) (entry_of (registry_of (collected moment beat ∷ h)) moment beat) ≡ true
-beat-goes-on h moment beat owned may regular = entry-goes-on h moment beat owned may regular
+    charts-go : all_taken takes_chart with_chart first entry.charts ≡ true
+    charts-go =
+        charts-taken r.charts may.charts first entry.charts whole-charts
+        (subst (AreApart same_chart) (sym (charts-back beat.charts r.charts 0)) (apart-filter same_chart (λ (def : ChartDef). list_any (same_chart def) beat.charts) r.charts defined.own_charts))
+        (all-places (MayChart r.charts may.charts first.charts) (λ (place : ℕ × ChartDef). if list_any (is_chart place.1.id) beat.charts then Some (record { number = place.0; def = place.1 }) else None) r.charts
+        (λ m a c at e.
+        subst (MayChart r.charts may.charts first.charts) (same_Some (record { number = m; def = a }) c (if-some (list_any (is_chart a.id) beat.charts) (Some (record { number = m; def = a })) c e))
+        (chart-may m a at (if-true (list_any (is_chart a.id) beat.charts) (Some (record { number = m; def = a })) c e))))
+
+    -- the dimensions
+    abbrev IsLimited : OpenDim → Type 0
+    IsLimited dimension = dimension_keeps_limits dimension.def ≡ true
+
+    dimension-may : (m : ℕ) (a : OpenDim) (c : NumberedDimension) → slice_get r.dimensions m ≡ Some a → IsLimited a → numbered_dimension r m a ≡ Some c
+        → MayDimension r.dimensions may.dimensions may.each mid c
+    dimension-may m a c at limits e =
+        let parts = map-some (λ (number : ℕ). record { series = m; chart = number; def = a.def }) (chart_of r a.chart) c e in
+        let id : chart_id r parts.0 ≡ a.chart = subst (λ (o : Option ℕ). IfSome o (λ n. chart_id r n ≡ a.chart)) parts.1.0 (chart_id-chart_of r a.chart) in
+        subst (MayDimension r.dimensions may.dimensions may.each mid) parts.1.1 (record {
+          chart = chart_of-within r a.chart parts.0 parts.1.0;
+          limits = limits;
+          number = ap (λ (chart : List ℕ). position (is_dimension chart a.def.id) r.dimensions) id ∙ own-series r m a defined.own_dimensions at;
+        })
+
+    dimensions-go : all_taken takes_dimension with_dimension (with_charts first entry.charts) entry.dimensions ≡ true
+    dimensions-go =
+        ap (λ (s : Registry). all_taken takes_dimension with_dimension s entry.dimensions) (sym mid-is)
+        ∙ dimensions-taken r.dimensions may.dimensions may.each mid entry.dimensions whole-dimensions
+        (all-places (MayDimension r.dimensions may.dimensions may.each mid)
+        (λ (place : ℕ × OpenDim). if list_any (is_dimension place.1.chart place.1.def.id) beat.dimensions then numbered_dimension r place.0 place.1 else None) r.dimensions
+        (λ m a c at e.
+        let any = list_any (is_dimension a.chart a.def.id) beat.dimensions in
+        let made = numbered_dimension r m a in
+        dimension-may m a c at (dimension-has r beat defined IsLimited may.dimension_limits m a at (if-true any made c e)) (if-some any made c e)))
+
+    pub beat-goes-on : IsRegular r beat → goes_on first entry ≡ true
+    beat-goes-on regular =
+        let rows : list_all (takes_row (with_numbered first entry)) entry.rows ≡ true
+        = ap (λ (s : Registry). list_all (takes_row s) entry.rows) (sym last-is) ∙ rows-go r beat defined regular in
+        λ i. charts-go i && (dimensions-go i && rows i)

@@ -6,8 +6,8 @@ use Rattle.std.proofs.lemmas.List.{take_more}
 use Rattle.std.proofs.lemmas.List.Elements.{filter_map-append}
 use Rattle.std.proofs.lemmas.Option.{none-some, same_Some}
 use Rattle.chart_registry.proofs.RegistryLemmas.{or_false}
-use Rattle.beat_points.specs.Regular.{AreApart}
-use Rattle.beat_points.proofs.CountLemmas.{nat_eq_other}
+use Rattle.history.specs.Regular.{AreApart}
+use Rattle.chart_registry.proofs.Finding.{nat_eq_other}
 use Rattle.beat_entries.proofs.Slots.{at, same_key, find-own, find-other}
 
 pub map-some : {A B : Type 0} (f : A → B) (found : Option A) (made : B) → option_map f found ≡ Some made → (a : A) × ((found ≡ Some a) × (f a ≡ made))

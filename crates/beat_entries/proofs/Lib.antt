@@ -1,13 +1,11 @@
-pub mod AlikeLemmas
 pub mod Ascending
 pub mod CopiedLemmas
 pub mod DefinedLemmas
+pub mod DefiningLemmas
 pub mod EntryLemmas
 pub mod FollowLemmas
 pub mod Gathering
 pub mod NextLemmas
 pub mod PutLemmas
-pub mod RestoringLemmas
-pub mod SingleLemmas
 pub mod Slots
 pub mod Steps

@@ -1,19 +1,19 @@
--- The entry of a beat that may follow a history goes on from the history's registry.
+-- The definitions of a numbered beat that may follow a history are taken by the history's registry.
 use Rattle.std.proofs.Common.{◌≡◌, ℕ, zero, suc, ◌+◌, ◌<◌, ◌≤◌, Bool, true, false, cond, ◌&&◌, ◌||◌, nat_eq, List, [], ◌∷◌, ◌++◌, map, length, position, slice_get, Option, Some, None, is_some, is_none, refl, sym, ap, ◌∙◌, arith, true≢false, lt-ltb, if◌then◌else◌}
 use Rattle.std.specs.List.{find, list_any, count_by, AllByRecursion}
 use Rattle.std.specs.Option.{option_and_then}
 use Rattle.std.specs.Str.{bytes_eq}
 use Rattle.std.proofs.lemmas.Bool.{lt-leb}
 use Rattle.std.proofs.lemmas.List.{length_push}
-use Rattle.std.proofs.lemmas.List.Sums.{sum_by-cons}
 use Rattle.std.proofs.lemmas.Option.{same_Some}
 use Rattle.chart_registry.specs.Defining.{chart_id, nothing_open}
 use Rattle.chart_registry.proofs.Applying.{any-put}
 use Rattle.chart_registry.proofs.Places.{IsFirst, first-from_position, position-first, put-absent, list_any-position, find-position, count_by-push}
+use Rattle.chart_registry.proofs.ReasonLemmas.{count-put_all, of-alike}
 use Rattle.chart_registry.proofs.RegistryLemmas.{chart_refusal-present, chart_refusal-absent, dimension_refusal-present, dimension_refusal-absent}
 use Rattle.chart_registry.proofs.RowsLemmas.{same_text, bytes_eq_same}
-use Rattle.entry_codec.specs.declared.charts.NumberedChart.{NumberedChart}
-use Rattle.entry_codec.specs.declared.dimensions.NumberedDimension.{NumberedDimension}
+use Rattle.history.specs.declared.numbered.NumberedChart.{NumberedChart}
+use Rattle.history.specs.declared.numbered.NumberedDimension.{NumberedDimension}
 use Rattle.history.specs.declared.beat.OpenDim.{OpenDim}
 use Rattle.history.specs.declared.chart.ChartDef.{ChartDef}
 use Rattle.history.specs.declared.fault.BlockFault.TheVariants as block
@@ -21,35 +21,26 @@ use Rattle.history.specs.Limits.{chart_keeps_limits, dimension_keeps_limits}
 use Rattle.history.specs.Put.{put, put_all}
 use Rattle.history.specs.Refusal.{chart_refusal, dimension_refusal, dimensions_full}
 use Rattle.history.specs.Registry.{Registry, is_chart, is_of, same_chart, same_dimension, chart_of, series_of}
-use Rattle.beat_points.specs.Regular.{AreApart}
-use Rattle.beat_points.proofs.CountLemmas.{nat_eq_same, one_if}
-use Rattle.beat_points.proofs.Growing.{length-put_all, same_dimension-alike}
-use Rattle.beat_entries.specs.Restoring.{all_taken, chart_def, is_number, with_chart, takes_chart, dimension_back, with_dimension, takes_dimension}
-use Rattle.beat_entries.proofs.AlikeLemmas.{first-at}
+use Rattle.history.specs.Regular.{AreApart}
+use Rattle.chart_registry.proofs.Finding.{nat_eq_same, all-weaker}
+use Rattle.chart_registry.proofs.Growing.{first-put, length-put_all, same_dimension-alike}
+use Rattle.beat_entries.specs.Next.{all_taken, chart_def, is_number, with_chart, takes_chart, dimension_back, with_dimension, takes_dimension}
 use Rattle.beat_entries.proofs.DefinedLemmas.{chart-itself, chart-alike, dimension-itself}
 use Rattle.beat_entries.proofs.PutLemmas.{turned, find-put}
 use Rattle.beat_entries.proofs.Slots.{all-both, none-all}
 use Rattle.beat_entries.proofs.Steps.{number-yes}
-use Rattle.beat_points.proofs.OrderLemmas.{all-weaker}
+
+-- ---- what stands at the first place
+first-at : {A : Type 0} (p : A → Bool) (xs : List A) (n : ℕ) → IsFirst p xs n → (a : A) × ((slice_get xs n ≡ Some a) × (p a ≡ true))
+first-at p [] n first = absurd first
+first-at p (x ∷ xs) zero first = (x, (refl, first))
+first-at p (x ∷ xs) (suc n) first = first-at p xs n first.1
 
 -- ---- what is put keeps its place, and there are no fewer
 module _ {A : Type 0} (same : A → A → Bool) (p : A → Bool) (alike : (x y : A) → same x y ≡ true → p x ≡ p y) where
-  first-put : (ys : List A) (x : A) (n : ℕ) → IsFirst p ys n → IsFirst p (put same ys x) n
-  first-put [] x n h = absurd h
-  first-put (y ∷ ys) x zero h = by (same x y) refl
-    where
-      by : (b : Bool) → same x y ≡ b → IsFirst p (if b then x ∷ ys else y ∷ put same ys x) zero
-      by true e = alike x y e ∙ h
-      by false e = h
-  first-put (y ∷ ys) x (suc n) h = by (same x y) refl (first-put ys x n h.1)
-    where
-      by : (b : Bool) → same x y ≡ b → IsFirst p (put same ys x) n → IsFirst p (if b then x ∷ ys else y ∷ put same ys x) (suc n)
-      by true e rest = (alike x y e ∙ h.0, h.1)
-      by false e rest = (h.0, rest)
-
   first-put_all : (ys xs : List A) (n : ℕ) → IsFirst p ys n → IsFirst p (put_all same ys xs) n
   first-put_all ys [] n h = h
-  first-put_all ys (x ∷ xs) n h = first-put_all (put same ys x) xs n (first-put ys x n h)
+  first-put_all ys (x ∷ xs) n h = first-put_all (put same ys x) xs n (first-put same p alike ys x n h)
 
   -- what was put has the number that it has at last
   number-kept : (ys xs last : List A) (x : A) (n : ℕ) → put_all same (put same ys x) xs ≡ last → p x ≡ true → position p last ≡ Some n → is_number n (position p (put same ys x)) ≡ true
@@ -68,20 +59,6 @@ module _ {A : Type 0} (same : A → A → Bool) (p : A → Bool) (alike : (x y :
           let at_last : position p last ≡ Some k
           = ap (position p) (sym whole) ∙ position-first p (put_all same (put same ys x) xs) k (first-put_all (put same ys x) xs k (first-from_position p (put same ys x) k e)) in
           number-yes n k (Some k) refl (same_Some k n (sym at_last ∙ number))
-
-  count-put : (ys : List A) (x : A) → count_by p ys ≤ count_by p (put same ys x)
-  count-put [] x = omega arith
-  count-put (y ∷ ys) x = by (same x y) refl (count-put ys x)
-    where
-      by : (b : Bool) → same x y ≡ b → count_by p ys ≤ count_by p (put same ys x) → count_by p (y ∷ ys) ≤ count_by p (if b then x ∷ ys else y ∷ put same ys x)
-      by true e le =
-          let alike_one : one_if (p x) ≡ one_if (p y) = ap one_if (alike x y e) in
-          omega (arith, alike_one, sum_by-cons (λ (z : A). cond (p z) 1 0) x ys, sum_by-cons (λ (z : A). cond (p z) 1 0) y ys)
-      by false e le = omega (arith, le, sum_by-cons (λ (z : A). cond (p z) 1 0) y (put same ys x), sum_by-cons (λ (z : A). cond (p z) 1 0) y ys)
-
-  count-put_all : (ys xs : List A) → count_by p ys ≤ count_by p (put_all same ys xs)
-  count-put_all ys [] = omega arith
-  count-put_all ys (x ∷ xs) = omega (arith, count-put ys x, count-put_all (put same ys x) xs)
 
 all-map : {A B : Type 0} (f : A → B) (P : B → Type 0) (xs : List A) → AllByRecursion P (map f xs) → AllByRecursion (λ (x : A). P (f x)) xs
 all-map f P [] all = tt
@@ -143,16 +120,6 @@ module _ (last : List OpenDim) (few : length last ≤ 65536) (each : (chart : Li
     pub chart : dimension.chart < length s.charts
     pub limits : dimension_keeps_limits dimension.def ≡ true
     pub number : position (same_dimension (dimension_back s dimension)) last ≡ Some dimension.series
-
-  of-alike : (chart : List ℕ) (x y : OpenDim) → same_dimension x y ≡ true → is_of chart x ≡ is_of chart y
-  of-alike chart x y e = ap (bytes_eq chart) (same_text x.chart y.chart (both x y e))
-    where
-      both : (x y : OpenDim) → same_dimension x y ≡ true → bytes_eq x.chart y.chart ≡ true
-      both x y e = by (bytes_eq x.chart y.chart) e
-        where
-          by : (b : Bool) → (b && bytes_eq x.def.id y.def.id) ≡ true → b ≡ true
-          by true e = refl
-          by false e = e
 
   not-full : (s : Registry) (dimension : NumberedDimension) (rest : List OpenDim) → put_all same_dimension (put same_dimension s.dimensions (dimension_back s dimension)) rest ≡ last
       → dimension_refusal s nothing_open (chart_id s dimension.chart) dimension.def ≡ None

@@ -4,10 +4,9 @@ use Rattle.std.proofs.Common.{◌≡◌, Bool, true, false, cond, ◌||◌, List
 use Rattle.std.specs.List.{find, list_any, AllByRecursion}
 use Rattle.std.specs.Option.{option_map_or}
 use Rattle.history.specs.Put.{put, put_all}
-use Rattle.chart_registry.proofs.Applying.{any-put}
-use Rattle.beat_points.specs.Regular.{AreApart}
-use Rattle.beat_points.proofs.OrderLemmas.{all-weaker}
-use Rattle.beat_points.proofs.TakingLemmas.{find-none}
+use Rattle.chart_registry.proofs.Applying.{any-put, all-put}
+use Rattle.history.specs.Regular.{AreApart}
+use Rattle.chart_registry.proofs.Finding.{all-weaker, find-none}
 use Rattle.beat_entries.proofs.Slots.{all-both, none-all}
 
 or-true : (b : Bool) → (b || true) ≡ true
@@ -100,14 +99,6 @@ module _ {A : Type 0} (same : A → A → Bool) (itself : (x : A) → same x x �
     all-weaker (λ (y : A). list_any (same y) xs ≡ true) (λ (y : A). list_any (same y) (x ∷ xs) ≡ true) (λ y e. ap (λ (b : Bool). same y x || b) e ∙ or-true (same y x)) xs (self-any xs),
   )
 
-  all-put : (P : A → Type 0) (ys : List A) (x : A) → P x → AllByRecursion P ys → AllByRecursion P (put same ys x)
-  all-put P [] x one all = (one, tt)
-  all-put P (y ∷ ys) x one all = by (same x y) (all-put P ys x one all.1)
-    where
-      by : (b : Bool) → AllByRecursion P (put same ys x) → AllByRecursion P (if b then x ∷ ys else y ∷ put same ys x)
-      by true rest = (one, all.1)
-      by false rest = (all.0, rest)
-
   module _ (put_there : A → Bool) where
     -- a list with things put: in each place the same thing, another only where it was put, and behind them
     -- what was put
@@ -121,7 +112,7 @@ module _ {A : Type 0} (same : A → A → Bool) (itself : (x : A) → same x x �
     extends-itself (c ∷ cs) = ((itself c, λ e. refl), extends-itself cs)
 
     extends-put : (cs ps : List A) (x : A) → put_there x ≡ true → Extends cs ps → Extends cs (put same ps x)
-    extends-put [] ps x there extends = all-put (λ (p : A). put_there p ≡ true) ps x there extends
+    extends-put [] ps x there extends = all-put same (λ (p : A). put_there p ≡ true) ps x extends there
     extends-put (c ∷ cs) [] x there extends = absurd extends
     extends-put (c ∷ cs) (p ∷ ps) x there extends = by (same x p) refl (extends-put cs ps x there extends.1)
       where

@@ -8,9 +8,8 @@ use Rattle.std.proofs.lemmas.List.Sorted.{All-permutation, IsPermutation-sym, su
 use Rattle.std.proofs.lemmas.List.Sums.{sum_by-cons}
 use Rattle.std.proofs.lemmas.Option.{none-some, same_Some}
 use Rattle.chart_registry.proofs.RegistryLemmas.{or_false}
-use Rattle.beat_points.specs.Regular.{AreApart}
-use Rattle.beat_points.proofs.CountLemmas.{found-passes, nat_eq_same, nat_eq_other}
-use Rattle.beat_points.proofs.OrderLemmas.{all-weaker}
+use Rattle.history.specs.Regular.{AreApart}
+use Rattle.chart_registry.proofs.Finding.{found-passes, nat_eq_same, nat_eq_other, all-weaker}
 
 -- ---- lists
 pub all-both : {X : Type 0} (P Q : X → Type 0) (xs : List X) → AllByRecursion P xs → AllByRecursion Q xs → AllByRecursion (λ (x : X). P x × Q x) xs

@@ -3,10 +3,10 @@
 use Rattle.std.specs.Prelude.{◌≡◌, ℕ, ◌<◌, Bool, false, ◌&&◌, nat_lt, List, [], ◌∷◌, length, map, pos, All}
 use Rattle.std.specs.List.{after_first, list_all}
 use Rattle.entry_codec.specs.declared.charts.CopiedChart.{CopiedChart}
-use Rattle.entry_codec.specs.declared.charts.NumberedChart.{NumberedChart}
+use Rattle.history.specs.declared.numbered.NumberedChart.{NumberedChart}
 use Rattle.entry_codec.specs.declared.dimensions.CopiedDimension.{CopiedDimension}
-use Rattle.entry_codec.specs.declared.dimensions.NumberedDimension.{NumberedDimension}
-use Rattle.entry_codec.specs.declared.entry.Collected.{Collected}
+use Rattle.history.specs.declared.numbered.NumberedDimension.{NumberedDimension}
+use Rattle.history.specs.declared.numbered.NumberedBeat.{NumberedBeat}
 use Rattle.entry_codec.specs.declared.entry.Copied.{Copied}
 use Rattle.entry_codec.specs.declared.words.CopiedWord.{CopiedWord}
 use Rattle.history.specs.declared.beat.OpenBeat.{OpenBeat}
@@ -19,9 +19,9 @@ use Rattle.history.specs.declared.dimension.DimDef.{DimDef}
 use Rattle.history.specs.History.{Beat, copied, registry_of, Copy, Word}
 use Rattle.history.specs.Limits.{is_dot}
 use Rattle.history.specs.Registry.{Registry}
-use Rattle.beat_entries.specs.Alike.{AreOwned, MayFollow}
-use Rattle.beat_entries.specs.Entry.{entry_charts, entry_dimensions}
-use Rattle.beat_entries.specs.Restoring.{goes_on, restored}
+use Rattle.beat_entries.specs.Following.{AreOwned, MayFollow}
+use Rattle.history.specs.Numbered.{numbered_charts, numbered_dimensions}
+use Rattle.beat_entries.specs.Next.{goes_on, with_numbered}
 
 -- ---- usual definitions
 
@@ -60,8 +60,8 @@ full_chart chart = record { number = chart.number; def = usual_chart chart.id ch
 abbrev pub full_dimension : CopiedDimension → NumberedDimension
 full_dimension dimension = record { series = dimension.series; chart = dimension.chart; def = usual_dimension dimension.id dimension.hidden }
 
--- the entry of a beat without rows that defines the same
-abbrev pub defined_by : Copied → Collected
+-- the numbered beat without rows that defines the same
+abbrev pub defined_by : Copied → NumberedBeat
 defined_by entry = record {
   moment = entry.moment;
   charts = map full_chart entry.charts;
@@ -75,7 +75,7 @@ names_word registry word = nat_lt word.series (length registry.dimensions)
 
 -- the entry goes on from what the registry has
 abbrev pub copied_goes_on : Registry → Copied → Bool
-copied_goes_on registry entry = goes_on registry (defined_by entry) && list_all (names_word (restored registry (defined_by entry))) entry.words
+copied_goes_on registry entry = goes_on registry (defined_by entry) && list_all (names_word (with_numbered registry (defined_by entry))) entry.words
 
 -- ---- the entry of a copied beat
 
@@ -97,8 +97,8 @@ abbrev pub copied_entry_of : Registry → Copy → Copied
 copied_entry_of registry copy = record {
   child = copy.child;
   moment = copy.moment;
-  charts = map told_chart (entry_charts registry (definitions_of copy));
-  dimensions = map told_dimension (entry_dimensions registry (definitions_of copy));
+  charts = map told_chart (numbered_charts registry (definitions_of copy));
+  dimensions = map told_dimension (numbered_dimensions registry (definitions_of copy));
   words = map told_word copy.words;
 }
 

@@ -3,7 +3,7 @@ use Rattle.history.specs.declared.beat.OpenBeat.{OpenBeat}
 use Rattle.history.specs.declared.beat.OpenDim.{OpenDim}
 use Rattle.history.specs.declared.chart.ChartDef.{ChartDef}
 use Rattle.history.specs.Registry.{Registry, is_chart, is_dimension, same_chart, same_dimension, chart_of}
-use Rattle.beat_points.specs.Regular.{AreApart}
+use Rattle.history.specs.Regular.{AreApart}
 
 -- The registry has each thing once, and what the beat defines as the beat defines it, which is each thing
 -- once too. The charts of the beat's dimensions are there.

@@ -1,6 +1,5 @@
-pub mod Alike
 pub mod Copied
 pub mod Defined
-pub mod Entry
+pub mod Following
 pub mod Gathered
-pub mod Restoring
+pub mod Next

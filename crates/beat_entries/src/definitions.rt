@@ -2,13 +2,14 @@ ghost use Rattle.std.specs.Prelude.{◌≡◌, ◌++◌, [], IfOk, OnOk, filter_
 ghost use Rattle.std.specs.List.{cons_option};
 ghost use Rattle.std.specs.List.Sorted.{IsPermutation, IsNonDecreasingBy};
 ghost use Rattle.beat_entries.specs.Defined.{IsDefinedIn};
-ghost use Rattle.beat_entries.specs.Entry.{entry_charts, entry_dimensions};
+ghost use Rattle.history.specs.Numbered.{numbered_charts, numbered_dimensions};
 ghost use Rattle.beat_entries.specs.Gathered.{chart_at, dimension_at};
 
 use chart_registry::Registry;
-use entry_codec::{ChartList, DimensionList, NumberedChart, NumberedDimension};
 use fixed_num::ListOf;
-use history::{ChartDef, OpenBeat, OpenDim};
+use history::{
+    ChartDef, ChartList, DimensionList, NumberedChart, NumberedDimension, OpenBeat, OpenDim,
+};
 use std::alloc::{AllocError, Global};
 
 /// A chart with its number.
@@ -30,7 +31,8 @@ fn push_chart(
     registry: &Registry,
     def: &ChartDef,
 ) -> Result<(), AllocError>
-    ensures { OnOk result (charts.new.items ≡ charts.old.items ++ cons_option (chart_at registry.now def.now) []) }
+    ensures { OnOk result (charts.new.items ≡ charts.old.items
+        ++ cons_option (chart_at registry.now def.now) []) }
 {
     if let Some(chart) = number_chart(registry, def)? {
         charts.push(chart)?;
@@ -45,7 +47,7 @@ fn gather_charts(
 ) -> Result<Vec<NumberedChart>, AllocError>
     ensures { IfOk result (λ charts. charts.items ≡ filter_map (chart_at registry.now) defs.now) }
 {
-    let mut charts = Vec::new(alloc);
+    let mut charts = Vec::with_capacity(alloc, defs.len())?;
     for def in defs {
         push_chart(&mut charts, registry, def)?;
     }
@@ -67,7 +69,7 @@ pub(crate) fn charts(
     beat: &OpenBeat,
 ) -> Result<ChartList, AllocError>
     requires { IsDefinedIn registry.now beat.now }
-    ensures { IfOk result (λ list. list ≡ entry_charts registry.now beat.now) }
+    ensures { IfOk result (λ list. list ≡ numbered_charts registry.now beat.now) }
 {
     sort_charts(gather_charts(alloc, registry, beat.charts.as_slice())?)
 }
@@ -98,7 +100,8 @@ fn push_dimension(
     registry: &Registry,
     dimension: &OpenDim,
 ) -> Result<(), AllocError>
-    ensures { OnOk result (dimensions.new.items ≡ dimensions.old.items ++ cons_option (dimension_at registry.now dimension.now) []) }
+    ensures { OnOk result (dimensions.new.items ≡ dimensions.old.items
+        ++ cons_option (dimension_at registry.now dimension.now) []) }
 {
     if let Some(numbered) = number_dimension(registry, dimension)? {
         dimensions.push(numbered)?;
@@ -111,9 +114,10 @@ fn gather_dimensions(
     registry: &Registry,
     defs: &[OpenDim],
 ) -> Result<Vec<NumberedDimension>, AllocError>
-    ensures { IfOk result (λ dimensions. dimensions.items ≡ filter_map (dimension_at registry.now) defs.now) }
+    ensures { IfOk result
+        (λ dimensions. dimensions.items ≡ filter_map (dimension_at registry.now) defs.now) }
 {
-    let mut dimensions = Vec::new(alloc);
+    let mut dimensions = Vec::with_capacity(alloc, defs.len())?;
     for dimension in defs {
         push_dimension(&mut dimensions, registry, dimension)?;
     }
@@ -135,7 +139,7 @@ pub(crate) fn dimensions(
     beat: &OpenBeat,
 ) -> Result<DimensionList, AllocError>
     requires { IsDefinedIn registry.now beat.now }
-    ensures { IfOk result (λ list. list ≡ entry_dimensions registry.now beat.now) }
+    ensures { IfOk result (λ list. list ≡ numbered_dimensions registry.now beat.now) }
 {
     sort_dimensions(gather_dimensions(alloc, registry, beat.dimensions.as_slice())?)
 }

@@ -1,30 +1,30 @@
-//! The entry that a journal keeps of a collected beat, and the beat that an entry was made of.
+//! A collected beat by number: made of a beat that names charts and dimensions by their ids, and defined in a
+//! registry when it is read again.
 //!
-//! A beat names charts and dimensions by their ids. Its entry has them by the numbers of a registry that has
-//! the beat's definitions already: its charts, dimensions and rows, and the values of each row, in the order
-//! of their numbers. `entry_of` is proved to give the entry of its definition, which goes once through the
-//! registry, while the code looks up by hashes and sorts what the beat says. An entry so made is in the one
-//! form that has a spelling.
+//! A beat names charts and dimensions by their ids. `number_beat` gives it by the numbers of a registry that
+//! has the beat's definitions already: its charts, dimensions and rows, and the values of each row, in the order
+//! of their numbers. It is proved to be its definition, which goes once through the registry, while the code
+//! looks up by hashes and sorts what the beat says. A beat so numbered is in the one form that has a spelling.
 //!
-//! The entry of a copied beat tells less of a definition: the rest is as usual. `restore_copied` gives what the
-//! beat defined as a beat without rows.
+//! `define` reads a numbered beat back: it defines what the beat defines, each under its number, and tests that
+//! the rows are of what is there. No id is looked up for a value, and no beat by ids is made again. The entry of
+//! a copied beat tells less of a definition: the rest is as usual, and `define_copied` fills it in.
 //!
-//! The crate stands on the numbers of `chart_registry`, on the entries of `entry_codec`, and on the regular
-//! beats of `beat_points`.
+//! The crate stands on the numbers of `chart_registry` and on the entries of `entry_codec`.
 #![tactic(auto)]
 
 mod copied;
+mod defining;
 mod definitions;
 mod entry;
 mod law;
 mod refusal;
-mod restoring;
 mod rows;
 mod usual;
 
-pub use copied::{any_copied, restore_copied};
-pub use entry::{entry_of, restore};
-pub use law::{any_alike, any_defined, any_next};
+pub use copied::{any_copied, define_copied};
+pub use entry::{define, number_beat};
+pub use law::{any_defined, any_next, any_numbered};
 pub use refusal::EntryRefusal;
 
 #[cfg(test)]

@@ -4,7 +4,7 @@ ghost use Rattle.beat_entries.specs.declared.refusal.EntryRefusal.TheVariants.{M
 use std::alloc::{AllocError, AllocFailed};
 use thiserror::Error;
 
-/// Why an entry gave no beat.
+/// Why a beat was not defined.
 #[derive(Clone, Copy, Debug, PartialEq, Eq, Error)]
 pub enum EntryRefusal {
     /// It does not go on from what the registry has.

@@ -5,9 +5,9 @@ ghost use Rattle.chart_registry.specs.Defining.{chart_id};
 ghost use Rattle.history.specs.Looking.{same_value};
 ghost use Rattle.history.specs.Registry.{chart_of, same_dimension};
 ghost use Rattle.history.specs.declared.beat.OpenRow.{OpenRow as Open};
-ghost use Rattle.beat_points.specs.Regular.{AreApart, IsRegular};
+ghost use Rattle.history.specs.Regular.{AreApart, IsRegular};
 ghost use Rattle.beat_entries.specs.Defined.{IsDefinedIn};
-ghost use Rattle.beat_entries.specs.Entry.{entry_values, entry_rows};
+ghost use Rattle.history.specs.Numbered.{numbered_values, numbered_rows};
 ghost use Rattle.beat_entries.specs.Gathered.{value_at, row_at};
 
 use chart_registry::Registry;
@@ -38,7 +38,8 @@ fn push_value(
     value: &OpenValue,
 ) -> Result<(), AllocError>
     requires { chart < length registry.now.charts }
-    ensures { OnOk result (values.new.items ≡ values.old.items ++ cons_option (value_at registry.now (chart_id registry.now chart) value.now) []) }
+    ensures { OnOk result (values.new.items ≡ values.old.items
+        ++ cons_option (value_at registry.now (chart_id registry.now chart) value.now) []) }
 {
     if let Some(numbered) = number_value(registry, chart, value) {
         values.push(numbered)?;
@@ -53,7 +54,8 @@ fn gather_values(
     given: &[OpenValue],
 ) -> Result<Vec<Value>, AllocError>
     requires { chart < length registry.now.charts }
-    ensures { IfOk result (λ values. values.items ≡ filter_map (value_at registry.now (chart_id registry.now chart)) given.now) }
+    ensures { IfOk result (λ values. values.items
+        ≡ filter_map (value_at registry.now (chart_id registry.now chart)) given.now) }
 {
     let mut values = Vec::with_capacity(alloc, given.len())?;
     for value in given {
@@ -95,7 +97,8 @@ fn push_row(
 ) -> Result<(), AllocError>
     requires own { AreApart same_dimension registry.now.dimensions }
     requires apart { AreApart same_value row.now.values }
-    ensures { OnOk result (rows.new.items ≡ rows.old.items ++ cons_option (row_at registry.now row.now) []) }
+    ensures { OnOk result (rows.new.items ≡ rows.old.items
+        ++ cons_option (row_at registry.now row.now) []) }
 {
     if let Some(numbered) = number_row(alloc, registry, row)? {
         rows.push(numbered)?;
@@ -135,7 +138,7 @@ pub(crate) fn rows(
 ) -> Result<RowList, AllocError>
     requires regular { IsRegular registry.now beat.now }
     requires defined { IsDefinedIn registry.now beat.now }
-    ensures { IfOk result (λ list. list ≡ entry_rows registry.now beat.now) }
+    ensures { IfOk result (λ list. list ≡ numbered_rows registry.now beat.now) }
 {
     sort_rows(gather_rows(alloc, registry, beat.rows.as_slice())?)
 }

@@ -1,9 +1,9 @@
-ghost use Rattle.std.specs.Prelude.{◌≡◌, ◌<◌, true, IfOk};
-ghost use Rattle.entry_codec.specs.Entries.{is_collected_canonical, is_copied_canonical};
+ghost use Rattle.std.specs.Prelude.{◌<◌};
 
 use super::*;
 use chart_registry::Registry;
-use entry_codec::{Collected, Copied, Entry, read_entry};
+use entry_codec::{Copied, Entry, read_entry};
+use history::NumberedBeat;
 use std::alloc::Global;
 use std::test::Fail;
 
@@ -11,9 +11,7 @@ use std::test::Fail;
 const ENTRY: &[u8; 122] =
     b"\x01\x3c\0\0\0\x01\0\0\0\0\0\0\0\x08\0test.one\x03\0one\x03\0One\x05\0units\x03\0one\x08\0test.one\0\xe8\x03\0\0\0\0\0\0\x01\0\0\0\0\x01\0\0\0\0\0\0\0\0\0\0\0\x01\0a\x01\0a\0\x01\0\0\0\x01\0\0\0\0\x01\0\0\0\0\0\0\0\x01\0\0\0\0\0\0\0\x2a\0\0\0\0\0\0\0\0";
 
-fn entry(alloc: Global, bytes: &[u8]) -> Result<Collected, Fail>
-    ensures { IfOk result (λ entry. is_collected_canonical entry ≡ true) }
-{
+fn entry(alloc: Global, bytes: &[u8]) -> Result<NumberedBeat, Fail> {
     match read_entry(alloc, bytes) {
         Ok(Entry::Collected(entry)) => Ok(entry),
         Ok(_) => Err(Fail::from("another entry")),
@@ -21,46 +19,36 @@ fn entry(alloc: Global, bytes: &[u8]) -> Result<Collected, Fail>
     }
 }
 
-/// The rows of an entry's beat by ids, or why it is not restored.
-fn rows(alloc: Global, registry: &mut Registry, bytes: &[u8]) -> Result<String, Fail> {
-    let entry = entry(alloc, bytes)?;
-    match restore(alloc, registry, &entry) {
-        Ok(beat) => Ok(format!(in alloc; "{:?}", beat.rows)?),
-        Err(refusal) => Ok(format!(in alloc; "{refusal:?}")?),
-    }
-}
-
 #[test]
-fn restores_the_rows_by_ids(rt: HostRuntime) -> Result<(), Fail> {
+fn defines_by_number(rt: HostRuntime) -> Result<(), Fail> {
     let mut registry = Registry::new(rt.alloc());
-    let text = rows(rt.alloc(), &mut registry, ENTRY.as_slice())?;
-    let value = r#"OpenValue { id: Text { string: "a" }, value: 42, anomalous: false }"#;
-    assert!(rt;
-        text.as_str()
-            .contains(r#"OpenRow { chart: Text { string: "test.one" }, "#)
-    );
-    assert!(rt; text.as_str().contains(value));
+    let beat = entry(rt.alloc(), ENTRY.as_slice())?;
+    assert_eq!(rt; define(&mut registry, &beat), Ok(()));
     assert_eq!(rt; registry.charts(), 1);
     assert_eq!(rt; registry.dimensions(), 1);
     Ok(())
 }
 
-/// What comes of the entry with another byte at this place.
-fn changed(alloc: Global, place: usize, byte: u8) -> Result<String, Fail>
+/// Why the entry with another byte at this place is not defined.
+fn changed(alloc: Global, place: usize, byte: u8) -> Result<Option<EntryRefusal>, Fail>
     requires { place < 122 }
 {
     let mut bytes = *ENTRY;
     bytes[place] = byte;
     let mut registry = Registry::new(alloc);
-    rows(alloc, &mut registry, bytes.as_slice())
+    let beat = entry(alloc, bytes.as_slice())?;
+    Ok(define(&mut registry, &beat).err())
 }
 
 #[test]
 fn a_definition_that_breaks_its_limits_is_not_next(rt: HostRuntime) -> Result<(), Fail> {
     // The dot of the chart's id, and the one byte of the dimension's.
-    assert_eq!(rt; changed(rt.alloc(), 19, b'_')?.as_str(), "NotNext");
-    assert_eq!(rt; changed(rt.alloc(), 83, b'\n')?.as_str(), "NotNext");
-    assert_ne!(rt; changed(rt.alloc(), 83, b'b')?.as_str(), "NotNext");
+    assert_eq!(rt; changed(rt.alloc(), 19, b'_')?, Some(EntryRefusal::NotNext));
+    assert_eq!(rt;
+        changed(rt.alloc(), 83, b'\n')?,
+        Some(EntryRefusal::NotNext)
+    );
+    assert_eq!(rt; changed(rt.alloc(), 83, b'b')?, None);
     Ok(())
 }
 
@@ -68,9 +56,7 @@ fn a_definition_that_breaks_its_limits_is_not_next(rt: HostRuntime) -> Result<()
 const COPY: &[u8; 73] =
     b"\x02\x07\0\0\0\0\0\0\0\x3c\0\0\0\x01\0\0\0\0\0\0\0\x08\0test.one\x08\0test.all\x05\0\0\0\x01\0\0\0\0\0\0\0\0\0\0\0\x01\0a\x01\x01\0\0\0\0\0\0\0\0\0\0\x01";
 
-fn copied_entry(alloc: Global, bytes: &[u8]) -> Result<Copied, Fail>
-    ensures { IfOk result (λ entry. is_copied_canonical entry ≡ true) }
-{
+fn copied_entry(alloc: Global, bytes: &[u8]) -> Result<Copied, Fail> {
     match read_entry(alloc, bytes) {
         Ok(Entry::Copied(entry)) => Ok(entry),
         Ok(_) => Err(Fail::from("another entry")),
@@ -78,17 +64,17 @@ fn copied_entry(alloc: Global, bytes: &[u8]) -> Result<Copied, Fail>
     }
 }
 
-/// What a copied entry defines, or why it is not restored.
+/// What a copied entry defines, or why it is not defined.
 fn definitions(alloc: Global, registry: &mut Registry, bytes: &[u8]) -> Result<String, Fail> {
     let entry = copied_entry(alloc, bytes)?;
-    match restore_copied(alloc, registry, &entry) {
+    match define_copied(alloc, registry, &entry) {
         Ok(beat) => Ok(format!(in alloc; "{:?} {:?}", beat.charts, beat.dimensions)?),
         Err(refusal) => Ok(format!(in alloc; "{refusal:?}")?),
     }
 }
 
 #[test]
-fn restores_usual_definitions(rt: HostRuntime) -> Result<(), Fail> {
+fn defines_the_usual(rt: HostRuntime) -> Result<(), Fail> {
     let mut registry = Registry::new(rt.alloc());
     let text = definitions(rt.alloc(), &mut registry, COPY.as_slice())?;
     let ids = r#"id: Text { string: "test.one" }, name: Text { string: "one" }, "#;

@@ -4,11 +4,12 @@ ghost use Rattle.std.specs.List.{after_first};
 ghost use Rattle.history.specs.Limits.{is_dot};
 ghost use Rattle.beat_entries.specs.Copied.{full_chart, full_dimension};
 
-use entry_codec::{
-    ChartList, CopiedChart, CopiedDimension, DimensionList, NumberedChart, NumberedDimension,
-};
+use entry_codec::{CopiedChart, CopiedDimension};
 use fixed_num::{ListOf, Text};
-use history::{Algorithm, ChartDef, ChartKind, DimDef, USUAL_PRIORITY};
+use history::{
+    Algorithm, ChartDef, ChartKind, ChartList, DimDef, DimensionList, NumberedChart,
+    NumberedDimension, USUAL_PRIORITY,
+};
 use std::alloc::{AllocError, Global};
 
 /// The part of a chart's id behind its first dot, or nothing where it has no dot.

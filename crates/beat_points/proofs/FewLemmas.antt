@@ -13,10 +13,10 @@ use Rattle.history.specs.Registry.{Registry, is_of, is_dimension, same_dimension
 use Rattle.chart_registry.proofs.Applying.{any-put}
 use Rattle.chart_registry.proofs.RegistryLemmas.{or_false}
 use Rattle.chart_registry.proofs.RowsLemmas.{same_text}
-use Rattle.beat_points.specs.Regular.{AreApart}
-use Rattle.beat_points.proofs.ApartLemmas.{same-parts}
-use Rattle.beat_points.proofs.CountLemmas.{one_if}
-use Rattle.beat_points.proofs.Growing.{same_dimension-alike}
+use Rattle.history.specs.Regular.{AreApart}
+use Rattle.chart_registry.proofs.ApartLemmas.{same-parts}
+use Rattle.chart_registry.proofs.Finding.{one_if}
+use Rattle.chart_registry.proofs.Growing.{same_dimension-alike}
 
 -- ---- lists of which one test passes at most where another does
 one_if-wider : (a b : Bool) → (a ≡ true → b ≡ true) → one_if a ≤ one_if b

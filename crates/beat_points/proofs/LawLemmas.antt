@@ -10,7 +10,7 @@ use Rattle.history.specs.History.{Beat, collected, registry_of}
 use Rattle.history.specs.Points.{Collected, Point, last_set, points, value_of, word_at}
 use Rattle.beat_points.specs.declared.series_word.SeriesWord.{SeriesWord}
 use Rattle.beat_points.specs.Points.{IsBefore, beat_points}
-use Rattle.beat_points.proofs.CountLemmas.{nat_eq_same, nat_eq_other}
+use Rattle.chart_registry.proofs.Finding.{nat_eq_same, nat_eq_other}
 use Rattle.beat_points.proofs.OrderLemmas.{place_pair}
 
 abbrev has : ℕ → SeriesWord → Bool

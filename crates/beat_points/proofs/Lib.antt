@@ -1,11 +1,12 @@
-pub mod ApartLemmas
 pub mod BeatLemmas
 pub mod CountLemmas
 pub mod FewLemmas
 pub mod Growing
+pub mod LastLemmas
 pub mod LawLemmas
 pub mod NumberedLemmas
 pub mod OrderLemmas
+pub mod RowLemmas
 pub mod Rows
 pub mod TakingLemmas
 pub mod TextLemmas

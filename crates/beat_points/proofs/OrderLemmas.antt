@@ -2,12 +2,18 @@
 use Rattle.std.proofs.Common.{◌≡◌, ℕ, zero, suc, ◌+◌, ◌<◌, ◌≤◌, Bool, true, false, cond, ◌&&◌, nat_eq, List, [], ◌∷◌, length, slice_get, Option, Some, None, inl, inr, refl, sym, ap, ◌∙◌, arith, add-zero}
 use Rattle.std.specs.List.{filter_map, cons_option, count_by, enumerate_from, AllByRecursion}
 use Rattle.std.specs.List.Sorted.{IsNonDecreasingBy}
-use Rattle.std.specs.Option.{option_map}
+use Rattle.std.specs.Option.{option_map, option_map_or}
 use Rattle.std.proofs.lemmas.Bool.{cases_eq, eqb-true}
 use Rattle.std.proofs.lemmas.List.Elements.{recursion_from_All}
 use Rattle.std.proofs.lemmas.List.Sums.{sum_by-cons}
+use Rattle.chart_registry.proofs.Finding.{all-weaker, one_if, nat_eq_same, nat_eq_other}
 use Rattle.beat_points.specs.declared.series_word.SeriesWord.{SeriesWord}
-use Rattle.beat_points.proofs.CountLemmas.{is_pair, is_word, one_if, nat_eq_same, nat_eq_other}
+
+abbrev pub is_pair : ℕ → ℕ → SeriesWord → Bool
+is_pair series word point = nat_eq point.series series && nat_eq point.word word
+
+abbrev pub is_word : ℕ → Option ℕ → Bool
+is_word word found = option_map_or (λ (w : ℕ). nat_eq w word) found false
 
 -- no series is below an earlier one
 abbrev pub Rises : List SeriesWord → Type 0
@@ -20,10 +26,6 @@ rises-from (x ∷ xs) up = (
   recursion_from_All (λ (y : SeriesWord). x.series ≤ y.series) xs (λ k d within. up zero (suc k) d (omega arith) (omega arith)),
   rises-from xs (λ i j d le within. up (suc i) (suc j) d (omega arith) (omega arith)),
 )
-
-pub all-weaker : {A : Type 0} (P Q : A → Type 0) → ((x : A) → P x → Q x) → (xs : List A) → AllByRecursion P xs → AllByRecursion Q xs
-all-weaker P Q weaker [] all = tt
-all-weaker P Q weaker (x ∷ xs) all = (weaker x all.0, all-weaker P Q weaker xs all.1)
 
 count-cons : (n w : ℕ) (x : SeriesWord) (xs : List SeriesWord) → count_by (is_pair n w) (x ∷ xs) ≡ one_if (is_pair n w x) + count_by (is_pair n w) xs
 count-cons n w x xs = sum_by-cons (λ (x : SeriesWord). cond (is_pair n w x) 1 0) x xs

@@ -1,5 +1,5 @@
 -- What the accepted lines of a text leave: of the history after them, and of the open beat and block.
-use Rattle.std.proofs.Common.{◌≡◌, ◌≢◌, ℕ, ◌+◌, ◌<◌, ◌≤◌, Bool, true, false, not, ◌||◌, nat_le, List, [], ◌∷◌, ◌++◌, length, All, Option, Some, None, IfSome, IsSome, is_some, is_none, ℤ, pos, refl, sym, ap, ◌∙◌, arith, true≢false, if◌then◌else◌}
+use Rattle.std.proofs.Common.{◌≡◌, ℕ, ◌+◌, ◌<◌, ◌≤◌, Bool, true, false, not, ◌||◌, nat_le, List, [], ◌∷◌, ◌++◌, length, All, Option, Some, None, IfSome, IsSome, is_some, is_none, ℤ, refl, sym, ap, ◌∙◌, arith, true≢false, if◌then◌else◌}
 use Rattle.std.specs.List.{count_by, filter, list_any, AllByRecursion}
 use Rattle.std.specs.Option.{option_map_or}
 use Rattle.std.specs.Str.{bytes_eq}
@@ -26,13 +26,13 @@ use Rattle.chart_registry.proofs.Places.{list_any-position}
 use Rattle.chart_registry.proofs.RegistryLemmas.{or_false}
 use Rattle.chart_registry.proofs.RowsLemmas.{same_text, bytes_eq_same}
 use Rattle.beat_points.specs.Points.{IsBefore}
-use Rattle.beat_points.specs.Regular.{AreApart, IsRegular, same_row}
-use Rattle.beat_points.specs.Text.{AreAccepted, HasFew, HaveDivisors}
-use Rattle.beat_points.proofs.ApartLemmas.{apart-filter, apart-push, apart-put}
+use Rattle.history.specs.Regular.{AreApart, IsRegular, same_row}
+use Rattle.beat_points.specs.Text.{AreAccepted, HasFew}
+use Rattle.chart_registry.proofs.ApartLemmas.{apart-filter, apart-push, apart-put}
+use Rattle.chart_registry.proofs.Finding.{all-weaker}
+use Rattle.chart_registry.proofs.Growing.{same_dimension-alike}
 use Rattle.beat_points.proofs.FewLemmas.{HaveFew, count_of, few-closed, few-known, few-room, values-few}
-use Rattle.beat_points.proofs.Growing.{same_dimension-alike}
 use Rattle.beat_points.proofs.LawLemmas.{before-collected}
-use Rattle.beat_points.proofs.OrderLemmas.{all-weaker}
 
 -- ---- what is not refused
 passed : {A : Type 0} (b : Bool) (x : A) (rest : Option A) → (if b then Some x else rest) ≡ None → (b ≡ false) × (rest ≡ None)
@@ -294,46 +294,3 @@ module _ (every : ℕ) (h : List Beat) where
 
   pub text-before : (past : List Line) (moment : ℕ) → ((later : ℕ) → last h < later → IsBefore h later) → AreAccepted every h (line.Moment moment ∷ past) → IsBefore (history_at every h past) moment
   text-before past moment before accepted = before-all past before accepted.1 moment (later-free past moment accepted)
-
-  -- ---- divisors
-  abbrev Divides : OpenDim → Type 0
-  Divides dimension = dimension.def.divisor ≢ pos 0
-
-  divides-last : (ds : List OpenDim) (def : DimDef) (chart : Option (List ℕ)) → def.divisor ≢ pos 0 → AllByRecursion Divides ds
-      → AllByRecursion Divides (option_map_or (λ chart. put same_dimension ds (record { chart = chart; def = def })) chart ds)
-  divides-last ds def None divides all = all
-  divides-last ds def (Some chart) divides all = all-put same_dimension Divides ds (record { chart = chart; def = def }) all divides
-
-  open-divide : (past : List Line) → HaveDivisors past → AllByRecursion Divides (dimensions past)
-  open-divide [] have = tt
-  open-divide (line.Moment moment ∷ past) have = tt
-  open-divide (line.Dimension def ∷ past) have = divides-last (dimensions past) def (last_chart past) have.0 (open-divide past have.1)
-  open-divide (line.Chart def ∷ past) have = open-divide past have
-  open-divide (line.Begin chart ∷ past) have = open-divide past have
-  open-divide (line.Set id value anomalous ∷ past) have = open-divide past have
-  open-divide (line.End ∷ past) have = open-divide past have
-  open-divide (line.Flush ∷ past) have = open-divide past have
-  open-divide (line.Disable ∷ past) have = open-divide past have
-  open-divide (line.Query text ∷ past) have = open-divide past have
-  open-divide (line.Skipped ∷ past) have = open-divide past have
-
-  divide-put_all : (ds xs : List OpenDim) → AllByRecursion Divides ds → AllByRecursion Divides xs → AllByRecursion Divides (put_all same_dimension ds xs)
-  divide-put_all ds [] all more = all
-  divide-put_all ds (x ∷ xs) all more = divide-put_all (put same_dimension ds x) xs (all-put same_dimension Divides ds x all more.0) more.1
-
-  all-divide : (past : List Line) → AllByRecursion Divides (registry_of h).dimensions → HaveDivisors past → AllByRecursion Divides (now past).dimensions
-  all-divide [] all have = all
-  all-divide (line.Moment moment ∷ past) all have = divide-put_all (now past).dimensions (dimensions past) (all-divide past all have) (open-divide past have)
-  all-divide (line.Dimension def ∷ past) all have = all-divide past all have.1
-  all-divide (line.Chart def ∷ past) all have = all-divide past all have
-  all-divide (line.Begin chart ∷ past) all have = all-divide past all have
-  all-divide (line.Set id value anomalous ∷ past) all have = all-divide past all have
-  all-divide (line.End ∷ past) all have = all-divide past all have
-  all-divide (line.Flush ∷ past) all have = all-divide past all have
-  all-divide (line.Disable ∷ past) all have = all-divide past all have
-  all-divide (line.Query text ∷ past) all have = all-divide past all have
-  all-divide (line.Skipped ∷ past) all have = all-divide past all have
-
-  pub text-divisors : (past : List Line) → All (λ (dimension : OpenDim). dimension.def.divisor ≢ pos 0) (registry_of h).dimensions → HaveDivisors past
-      → All (λ (dimension : OpenDim). dimension.def.divisor ≢ pos 0) (registry_of (history_at every h past)).dimensions
-  text-divisors past all have = All-from_recursion Divides (now past).dimensions (all-divide past (recursion_from_All Divides (registry_of h).dimensions all) have)

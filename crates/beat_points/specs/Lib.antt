@@ -1,5 +1,4 @@
 pub mod LastRows
 pub mod Numbered
 pub mod Points
-pub mod Regular
 pub mod Text

@@ -1,4 +1,4 @@
-use Rattle.std.specs.Prelude.{◌≡◌, ◌≢◌, ◌<◌, ℕ, List, ◌∷◌, filter_map, pos, Option, All, IfSome}
+use Rattle.std.specs.Prelude.{◌≡◌, ◌<◌, ℕ, List, ◌∷◌, filter_map, Option, IfSome}
 use Rattle.std.specs.List.{enumerate_from}
 use Rattle.std.specs.Option.{option_map}
 use Rattle.algorithms.specs.declared.last.Last.{Last}
@@ -22,9 +22,8 @@ abbrev pub IsBefore : List Beat → ℕ → Type 0
 IsBefore h moment = (chart id : List ℕ) → IfSome (last_set h chart id) (λ last. last.moment < moment)
 
 -- A beat at this moment follows a history with these last rows, and the registry has the definitions of
--- both; no divisor is 0.
+-- both.
 pub record IsNext (registry : Registry) (lasts : List (Option Last)) (h : List Beat) (moment : ℕ) (beat : OpenBeat) : Type 0 where
   pub registry_is : registry ≡ registry_of (collected moment beat ∷ h)
   pub lasts_are : AreLastOf lasts h
   pub before : IsBefore h moment
-  pub divisors : All (λ (dimension : OpenDim). dimension.def.divisor ≢ pos 0) registry.dimensions

@@ -1,6 +1,5 @@
-use Rattle.std.specs.Prelude.{◌≡◌, ◌≢◌, ◌≤◌, ℕ, List, [], ◌∷◌, count_by, pos, None}
+use Rattle.std.specs.Prelude.{◌≡◌, ◌≤◌, ℕ, List, [], ◌∷◌, count_by, None}
 use Rattle.history.specs.declared.line.Line.{Line}
-use Rattle.history.specs.declared.line.Line.TheVariants.{Dimension}
 use Rattle.history.specs.History.{Beat}
 use Rattle.history.specs.Read.{refusal_at}
 use Rattle.history.specs.Registry.{Registry, is_of}
@@ -13,9 +12,3 @@ AreAccepted every h (line ∷ past) = (refusal_at every h past line ≡ None) ×
 -- no chart has more dimensions than a chart may have
 abbrev pub HasFew : Registry → Type 0
 HasFew registry = (chart : List ℕ) → count_by (is_of chart) registry.dimensions ≤ 1024
-
--- no dimension that these lines define divides by 0
-abbrev pub HaveDivisors : List Line → Type 0
-HaveDivisors [] = Unit {0}
-HaveDivisors (Dimension def ∷ past) = (def.divisor ≢ pos 0) × HaveDivisors past
-HaveDivisors (line ∷ past) = HaveDivisors past

@@ -1,20 +1,14 @@
-ghost use Rattle.std.specs.Prelude.{◌≡◌, ◌<◌, ◌≤◌, ◌++◌, ◌∷◌, [], ℕ, List, length, All, IsSome, IfOk, OnOk};
+ghost use Rattle.std.specs.Prelude.{◌≡◌, ◌<◌, ◌≤◌, ◌++◌, length, All, IfOk, OnOk};
 ghost use Rattle.std.specs.List.Sorted.{IsPermutation, IsNonDecreasingBy};
-ghost use Rattle.history.specs.History.{Beat};
-ghost use Rattle.history.specs.Registry.{chart_of, series_of};
-ghost use Rattle.history.specs.declared.beat.OpenBeat.{OpenBeat};
-ghost use Rattle.history.specs.declared.beat.OpenRow.{OpenRow as Row};
-ghost use Rattle.history.specs.declared.beat.OpenValue.{OpenValue};
 ghost use Rattle.beat_points.specs.Numbered.{word_list, words_by, row_pairs, rows_pairs};
-ghost use Rattle.beat_points.specs.Points.{IsNext};
 
 use crate::fault::PointFault;
-use crate::numbered;
+use crate::samples;
 use crate::series_word::{SeriesWord, SeriesWordList};
-use algorithms::{Last, sample_words};
+use algorithms::{Last, Sample, sample_words};
 use chart_registry::Registry;
 use fixed_num::ListOf;
-use history::OpenRow;
+use history::{Row, Value};
 use std::alloc::Global;
 
 /// Adds the word of a series, if there is one.
@@ -30,54 +24,53 @@ fn push_word(points: &mut Vec<SeriesWord>, series: u32, word: Option<u32>) -> Re
     }
 }
 
-/// Adds the words of several series.
+/// Adds the words of a row's values.
 fn push_words(
     points: &mut Vec<SeriesWord>,
-    series: &[u32],
+    values: &[Value],
     words: &[Option<u32>],
 ) -> Result<(), PointFault>
-    requires { length words.now ≡ length series.now }
-    ensures { OnOk result (points.new.items ≡ points.old.items ++ words_by series.now words.now) }
+    requires { length words.now ≡ length values.now }
+    ensures { OnOk result (points.new.items ≡ points.old.items ++ words_by values.now words.now) }
 {
-    for (i, number) in series.iter().enumerate() {
-        push_word(points, *number, words[i])?;
+    for (i, value) in values.iter().enumerate() {
+        push_word(points, value.series, words[i])?;
     }
     Ok(())
 }
 
-/// Adds the words of a row.
+/// Adds the words of a row, with memory for its samples.
 fn push_row(
     alloc: Global,
     registry: &Registry,
     last: &[Option<Last>],
-    row: &OpenRow,
+    row: &Row,
     moment: u32,
+    samples: &mut Vec<Sample>,
     points: &mut Vec<SeriesWord>,
 ) -> Result<(), PointFault>
-    requires there { IsSome (chart_of registry.now row.now.chart) }
-    requires known { All (λ (value : OpenValue). IsSome (series_of registry.now row.now.chart value.id)) row.now.values }
+    requires chart { row.now.chart < length registry.now.charts }
+    requires dimensions { All (λ value.
+        value.series < length registry.now.dimensions) row.now.values }
     requires limit { length row.now.values ≤ 1024 }
-    ensures { OnOk result ((h : List Beat) (beat : OpenBeat) → IsNext registry.now last.now h moment beat
-        → points.new.items ≡ points.old.items ++ row_pairs registry.now h moment row.now) }
+    ensures { OnOk result (points.new.items
+        ≡ points.old.items ++ row_pairs registry.now last.now moment row.now) }
 {
-    if let Some(number) = registry.chart_of(row.chart.as_str()) {
-        let numbered = numbered::number_row(
-            alloc,
-            registry,
-            last,
-            number,
-            registry.chart(number),
-            moment,
-            row.values.as_slice(),
-        )?;
-        let words = sample_words(alloc, numbered.samples.as_slice())?;
-        push_words(points, numbered.series.as_slice(), words.as_slice())?;
-    }
-    Ok(())
+    let values = row.values.as_slice();
+    samples::sample_row(
+        samples,
+        registry,
+        last,
+        registry.chart(row.chart),
+        moment,
+        values,
+    )?;
+    let words = sample_words(alloc, samples.as_slice())?;
+    push_words(points, values, words.as_slice())
 }
 
 /// How many values rows have, for the room of a list.
-fn count_values(rows: &[OpenRow]) -> usize {
+fn count_values(rows: &[Row]) -> usize {
     let mut count = 0usize;
     for row in rows {
         count = count.saturating_add(row.values.len());
@@ -90,18 +83,28 @@ pub(crate) fn gather(
     alloc: Global,
     registry: &Registry,
     last: &[Option<Last>],
-    rows: &[OpenRow],
+    rows: &[Row],
     moment: u32,
 ) -> Result<Vec<SeriesWord>, PointFault>
-    requires there { All (λ (row : Row). IsSome (chart_of registry.now row.chart)) rows.now }
-    requires known { All (λ (row : Row). All (λ (value : OpenValue). IsSome (series_of registry.now row.chart value.id)) row.values) rows.now }
-    requires limit { All (λ (row : Row). length row.values ≤ 1024) rows.now }
-    ensures { IfOk result (λ points. (h : List Beat) (beat : OpenBeat) → IsNext registry.now last.now h moment beat
-        → points.items ≡ rows_pairs registry.now h moment rows.now) }
+    requires charts { All (λ row. row.chart < length registry.now.charts) rows.now }
+    requires dimensions { All (λ row.
+        All (λ value. value.series < length registry.now.dimensions) row.values) rows.now }
+    requires limit { All (λ row. length row.values ≤ 1024) rows.now }
+    ensures { IfOk result (λ points.
+        points.items ≡ rows_pairs registry.now last.now moment rows.now) }
 {
+    let mut samples = Vec::new(alloc);
     let mut points = Vec::with_capacity(alloc, count_values(rows))?;
     for row in rows {
-        push_row(alloc, registry, last, row, moment, &mut points)?;
+        push_row(
+            alloc,
+            registry,
+            last,
+            row,
+            moment,
+            &mut samples,
+            &mut points,
+        )?;
     }
     Ok(points)
 }

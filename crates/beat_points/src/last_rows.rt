@@ -1,15 +1,17 @@
-ghost use Rattle.std.specs.Prelude.{◌≡◌, ℕ, List, [], ◌∷◌, IfOk, OnOk, OnErr};
-ghost use Rattle.history.specs.History.{Beat, collected, registry_of};
+ghost use Rattle.std.specs.Prelude.{◌≡◌, List, [], ◌∷◌, IfOk, OnOk, OnErr};
+ghost use Rattle.history.specs.declared.beat.OpenBeat.{OpenBeat};
+ghost use Rattle.history.specs.History.{Beat, Copy, collected, copied, registry_of};
+ghost use Rattle.history.specs.Numbered.{numbered_beat, IsThere};
+ghost use Rattle.history.specs.Regular.{IsRegular};
 ghost use Rattle.beat_points.specs.LastRows.{AreLastOf};
 ghost use Rattle.beat_points.specs.Points.{IsNext, beat_points};
-ghost use Rattle.beat_points.specs.Regular.{IsRegular};
 
 use crate::fault::PointFault;
 use crate::series_word::SeriesWordList;
 use crate::{giving, taking};
 use algorithms::Last;
 use chart_registry::Registry;
-use history::OpenBeat;
+use history::NumberedBeat;
 use std::alloc::Global;
 use std::marker::Model;
 
@@ -39,44 +41,46 @@ impl LastRows {
         }
     }
 
-    /// The points that a beat gives that was collected at `moment`, with its definitions in the registry, by
-    /// ascending series. These are the last rows of the history before it.
+    /// The points that a beat gives, with its definitions in the registry, by ascending series. These are
+    /// the last rows of the history before it.
     pub fn points(
         &self,
         alloc: Global,
         registry: &Registry,
-        beat: &OpenBeat,
-        moment: u32,
+        beat: &NumberedBeat,
     ) -> Result<SeriesWordList, PointFault>
-        requires { IsRegular registry.now beat.now }
-        ensures { IfOk result (λ points. (h : List Beat) → IsNext registry.now self.now h moment beat.now
-            → points ≡ beat_points registry.now h moment beat.now) }
+        requires { IsThere registry.now beat.now }
+        ensures { IfOk result (λ points. (h : List Beat) (opened : OpenBeat)
+            → IsNext registry.now self.now h beat.now.moment opened
+            → beat.now ≡ numbered_beat registry.now beat.now.moment opened
+            → points ≡ beat_points registry.now h beat.now.moment opened) }
     {
         let points = giving::gather(
             alloc,
             registry,
             self.rows.as_slice(),
             beat.rows.as_slice(),
-            moment,
+            beat.moment,
         )?;
         giving::sorted(points)
     }
 
-    /// Takes the rows of a beat that was collected at `moment`, with its definitions in the registry.
-    /// After an `Err` all is as before.
-    pub fn apply(
-        &mut self,
-        registry: &Registry,
-        beat: &OpenBeat,
-        moment: u32,
-    ) -> Result<(), PointFault>
-        requires { IsRegular registry.now beat.now }
-        ensures ok { OnOk result ((h : List Beat) → AreLastOf self.old h → registry.now ≡ registry_of (collected moment beat.now ∷ h)
-            → AreLastOf self.new (collected moment beat.now ∷ h)) }
+    /// Takes the rows of a beat, with its definitions in the registry. A copied beat has no rows, and its
+    /// definitions want room. After an `Err` all is as before.
+    pub fn apply(&mut self, registry: &Registry, beat: &NumberedBeat) -> Result<(), PointFault>
+        requires { IsThere registry.now beat.now }
+        ensures ok { OnOk result ((h : List Beat) (opened : OpenBeat) → AreLastOf self.old h
+            → registry.now ≡ registry_of (collected beat.now.moment opened ∷ h)
+            → IsRegular registry.now opened
+            → beat.now ≡ numbered_beat registry.now beat.now.moment opened
+            → AreLastOf self.new (collected beat.now.moment opened ∷ h)) }
+        ensures copied { OnOk result ((h : List Beat) (copy : Copy) → AreLastOf self.old h
+            → registry.now ≡ registry_of (copied copy ∷ h) → beat.now.rows ≡ []
+            → AreLastOf self.new (copied copy ∷ h)) }
         ensures err { OnErr result (self.new ≡ self.old) }
     {
         taking::make_room(&mut self.rows, registry.dimensions() as usize)?;
-        taking::take_rows(&mut self.rows, registry, beat.rows.as_slice(), moment);
+        taking::take_rows(&mut self.rows, beat.rows.as_slice(), beat.moment);
         Ok(())
     }
 }

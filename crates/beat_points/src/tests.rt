@@ -1,10 +1,9 @@
-ghost use Rattle.std.specs.Prelude.{◌≡◌, ◌∷◌, [], IsTrue, IsSome, IfOk};
-ghost use Rattle.history.specs.Registry.{chart_of, series_of};
+ghost use Rattle.std.specs.Prelude.{◌≡◌, ◌∷◌, [], IfOk};
 
 use super::*;
 use chart_registry::Registry;
 use fixed_num::{ListOf, Text};
-use history::{Algorithm, ChartDef, ChartKind, DimDef, OpenBeat, OpenRow, OpenValue};
+use history::{Algorithm, ChartDef, ChartKind, DimDef, NumberedBeat, Row, Value};
 use std::alloc::{AllocError, Global};
 use std::process::Abort;
 use std::test::Fail;
@@ -46,38 +45,19 @@ fn define(alloc: Global, registry: &mut Registry, id: &str, multiplier: i32) -> 
     Ok(())
 }
 
-fn value_of(alloc: Global, id: &str, value: i64) -> Result<OpenValue, AllocError>
-    ensures { IfOk result (λ made. made.id ≡ id.now) }
-{
-    Ok(OpenValue {
-        id: Text::from_str(alloc, id)?,
-        value,
-        anomalous: false,
-    })
-}
-
-fn beat_of(alloc: Global, chart: Text, value: OpenValue) -> Result<OpenBeat, AllocError>
+fn beat_of(alloc: Global, moment: u32, chart: u32, value: Value) -> Result<NumberedBeat, AllocError>
     ensures { IfOk result (λ beat. beat.rows ≡ record { chart = chart; values = value ∷ [] } ∷ []) }
 {
     let mut values = ListOf::new(alloc);
     values.push(value)?;
     let mut rows = ListOf::new(alloc);
-    rows.push(OpenRow { chart, values })?;
-    Ok(OpenBeat {
+    rows.push(Row { chart, values })?;
+    Ok(NumberedBeat {
+        moment,
         charts: ListOf::new(alloc),
         dimensions: ListOf::new(alloc),
         rows,
     })
-}
-
-fn is_known(registry: &Registry, chart: &str, id: &str) -> bool
-    ensures chart { IsTrue result → IsSome (chart_of registry.now chart.now) }
-    ensures series { IsTrue result → IsSome (series_of registry.now chart.now id.now) }
-{
-    match registry.chart_of(chart) {
-        Some(number) => registry.series_of(number, id).is_some(),
-        None => false,
-    }
 }
 
 /// The points of a beat with one value, which is then taken.
@@ -85,17 +65,21 @@ fn step(
     alloc: Global,
     last: &mut LastRows,
     registry: &Registry,
-    id: &str,
+    series: u32,
     value: i64,
     moment: u32,
 ) -> Result<SeriesWordList, Fail> {
-    if !is_known(registry, CHART, id) {
+    if series >= registry.dimensions() {
         return Err(Fail::from("no such dimension"));
     }
-    let chart = Text::from_str(alloc, CHART)?;
-    let beat = beat_of(alloc, chart, value_of(alloc, id, value)?)?;
-    let points = last.points(alloc, registry, &beat, moment)?;
-    last.apply(registry, &beat, moment)?;
+    let value = Value {
+        series,
+        value,
+        anomalous: false,
+    };
+    let beat = beat_of(alloc, moment, registry.owner(series), value)?;
+    let points = last.points(alloc, registry, &beat)?;
+    last.apply(registry, &beat)?;
     Ok(points)
 }
 
@@ -109,17 +93,17 @@ fn a_counter_rises_and_is_reset(rt: HostRuntime) -> Result<(), Fail> {
     let mut registry = Registry::new(alloc);
     define(alloc, &mut registry, "a", 1)?;
     let mut last = LastRows::new(alloc);
-    let first = step(alloc, &mut last, &registry, "a", 100, 1)?;
+    let first = step(alloc, &mut last, &registry, 0, 100, 1)?;
     assert!(rt; first.is_empty());
     check(
         &rt,
-        step(alloc, &mut last, &registry, "a", 160, 2)?,
+        step(alloc, &mut last, &registry, 0, 160, 2)?,
         0,
         0x295B_8D80,
     );
     check(
         &rt,
-        step(alloc, &mut last, &registry, "a", 10, 3)?,
+        step(alloc, &mut last, &registry, 0, 10, 3)?,
         0,
         0x0300_0000,
     );
@@ -133,11 +117,11 @@ fn the_last_row_with_the_dimension_counts(rt: HostRuntime) -> Result<(), Fail> {
     define(alloc, &mut registry, "b", 1)?;
     define(alloc, &mut registry, "a", 1)?;
     let mut last = LastRows::new(alloc);
-    step(alloc, &mut last, &registry, "a", 100, 1)?;
-    step(alloc, &mut last, &registry, "b", 5, 2)?;
+    step(alloc, &mut last, &registry, 1, 100, 1)?;
+    step(alloc, &mut last, &registry, 0, 5, 2)?;
     check(
         &rt,
-        step(alloc, &mut last, &registry, "a", 160, 3)?,
+        step(alloc, &mut last, &registry, 1, 160, 3)?,
         1,
         0x292D_C6C0,
     );
@@ -150,11 +134,11 @@ fn a_new_definition_counts(rt: HostRuntime) -> Result<(), Fail> {
     let mut registry = Registry::new(alloc);
     define(alloc, &mut registry, "a", 1)?;
     let mut last = LastRows::new(alloc);
-    step(alloc, &mut last, &registry, "a", 100, 1)?;
+    step(alloc, &mut last, &registry, 0, 100, 1)?;
     define(alloc, &mut registry, "a", 2)?;
     check(
         &rt,
-        step(alloc, &mut last, &registry, "a", 160, 2)?,
+        step(alloc, &mut last, &registry, 0, 160, 2)?,
         0,
         0x29B7_1B00,
     );

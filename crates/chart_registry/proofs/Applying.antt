@@ -13,7 +13,7 @@ use Rattle.history.specs.Refusal.{has_chart}
 use Rattle.history.specs.Registry.{Registry, is_chart, same_chart, same_dimension, with_definitions}
 
 module _ {A : Type 0} (same : A → A → Bool) where
-  put_all-push : (xs ys : List A) (y : A) → put_all same xs (ys ++ y ∷ []) ≡ put same (put_all same xs ys) y
+  pub put_all-push : (xs ys : List A) (y : A) → put_all same xs (ys ++ y ∷ []) ≡ put same (put_all same xs ys) y
   put_all-push xs [] y = refl
   put_all-push xs (z ∷ ys) y = put_all-push (put same xs z) ys y
 

@@ -1,7 +1,12 @@
+pub mod ApartLemmas
 pub mod Applying
 pub mod ChartsLemmas
 pub mod DefiningLemmas
 pub mod DimensionsLemmas
+pub mod Finding
+pub mod Growing
+pub mod OpenLemmas
 pub mod Places
+pub mod ReasonLemmas
 pub mod RegistryLemmas
 pub mod RowsLemmas

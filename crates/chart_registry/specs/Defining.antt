@@ -1,9 +1,12 @@
-use Rattle.std.specs.Prelude.{◌≡◌, ℕ, List, [], Option, Some, None, slice_get}
+use Rattle.std.specs.Prelude.{◌≡◌, ℕ, ◌==◌, ◌<◌, Bool, true, not, ◌&&◌, ◌||◌, ◌⊎◌, List, [], length, count_by, Option, Some, None, slice_get}
+use Rattle.std.specs.List.{list_any}
 use Rattle.std.specs.Option.{option_map_or}
 use Rattle.history.specs.declared.beat.OpenBeat.{OpenBeat}
+use Rattle.history.specs.declared.beat.OpenDim.{OpenDim}
+use Rattle.history.specs.declared.chart.ChartDef.{ChartDef}
 use Rattle.history.specs.declared.fault.BlockFault.{BlockFault}
 use Rattle.history.specs.declared.fault.BlockFault.TheVariants as block
-use Rattle.history.specs.Registry.{Registry}
+use Rattle.history.specs.Registry.{Registry, is_of, same_chart, with_definitions}
 use Rattle.chart_registry.specs.declared.fault.RegistryFault.{RegistryFault}
 use Rattle.chart_registry.specs.declared.fault.RegistryFault.TheVariants.{GridChanged, TooManyCharts, TooManyDimensions, Memory}
 
@@ -22,3 +25,27 @@ RefusedBy reason GridChanged = reason ≡ Some block.GridChanged
 RefusedBy reason TooManyCharts = reason ≡ Some block.TooManyCharts
 RefusedBy reason TooManyDimensions = reason ≡ Some block.TooManyDimensions
 RefusedBy reason Memory = reason ≡ None
+
+-- a definition of the same chart with another update_every
+abbrev pub other_grid : ChartDef → ChartDef → Bool
+other_grid new old = same_chart new old && not (old.update_every == new.update_every)
+
+-- some chart of the beat has another update_every than that chart has in the registry or in the beat
+abbrev pub changes_grids : Registry → OpenBeat → Bool
+changes_grids registry beat =
+    list_any (λ (def : ChartDef). list_any (other_grid def) registry.charts || list_any (other_grid def) beat.charts) beat.charts
+
+-- A beat is refused with this fault for this reason: with its definitions there were more charts, more
+-- dimensions of a chart or more dimensions in all than there may be, or a chart changed its update_every.
+-- Memory needs no reason.
+abbrev pub IsReasonOf : Registry → OpenBeat → RegistryFault → Type 0
+IsReasonOf registry beat GridChanged = changes_grids registry beat ≡ true
+IsReasonOf registry beat TooManyCharts = 4096 < length (with_definitions registry beat.charts beat.dimensions).charts
+IsReasonOf registry beat TooManyDimensions =
+    (65536 < length (with_definitions registry beat.charts beat.dimensions).dimensions)
+    ⊎ ((chart : List ℕ) × (1024 < count_by (is_of chart) (with_definitions registry beat.charts beat.dimensions).dimensions))
+IsReasonOf registry beat Memory = Unit {0}
+
+-- a beat of these definitions alone
+abbrev pub defines : List ChartDef → List OpenDim → OpenBeat
+defines charts dimensions = record { charts = charts; dimensions = dimensions; rows = [] }

@@ -1,9 +1,9 @@
-ghost use Rattle.std.specs.Prelude.{◌≡◌, ℕ, ◌<◌, ◌≤◌, [], ◌∷◌, length, count_by, find, slice_get, Option, Some, None, true, false, All, is_some, IfOk, IfSome, IfNone, OnOk, OnErr, MatchResult};
+ghost use Rattle.std.specs.Prelude.{◌≡◌, ℕ, ◌<◌, ◌≤◌, [], ◌∷◌, length, count_by, find, slice_get, Option, Some, None, true, false, All, is_some, IfOk, IfErr, IfSome, IfNone, OnOk, OnErr, MatchResult};
 ghost use Rattle.std.specs.List.{list_any};
 ghost use Rattle.std.specs.Option.{option_and_then, option_map};
 ghost use Rattle.history.specs.Registry.{empty, is_chart, is_of, is_dimension, chart_of, series_of, with_definitions};
 ghost use Rattle.history.specs.Refusal.{has_chart, chart_refusal, dimension_refusal, dimensions_full};
-ghost use Rattle.chart_registry.specs.Defining.{nothing_open, chart_id, RefusedBy};
+ghost use Rattle.chart_registry.specs.Defining.{nothing_open, chart_id, defines, IsReasonOf, RefusedBy};
 
 use crate::charts::{self, Chart};
 use crate::dimensions::{self, Dimension};
@@ -186,12 +186,15 @@ impl Registry {
         }
     }
 
-    /// Takes the definitions of a beat, the charts first, each list in its order. After an `Err` it may
-    /// have taken a part of them.
+    /// Takes the definitions of a beat, the charts first, each list in its order. Each error but Memory is the
+    /// reason of one of the definitions. After an `Err` it may have taken a part of them.
     pub fn apply(&mut self, beat: &OpenBeat) -> Result<(), RegistryFault>
         requires grids { All (λ def. 0 < def.update_every) beat.now.charts }
-        requires owned { All (λ dimension. has_chart self.old beat.now dimension.chart ≡ true) beat.now.dimensions }
-        ensures ok { OnOk result (self.new ≡ with_definitions self.old beat.now.charts beat.now.dimensions) }
+        requires owned { All
+            (λ dimension. has_chart self.old beat.now dimension.chart ≡ true) beat.now.dimensions }
+        ensures ok { OnOk result
+            (self.new ≡ with_definitions self.old beat.now.charts beat.now.dimensions) }
+        ensures refused { IfErr result (IsReasonOf self.old beat.now) }
     {
         self.define_charts(beat.charts.as_slice())?;
         self.define_dimensions(beat.dimensions.as_slice())
@@ -199,7 +202,8 @@ impl Registry {
 
     fn define_charts(&mut self, charts: &[ChartDef]) -> Result<(), RegistryFault>
         requires { All (λ def. 0 < def.update_every) charts.now }
-        ensures { OnOk result (self.new ≡ with_definitions self.old charts.now []) }
+        ensures ok { OnOk result (self.new ≡ with_definitions self.old charts.now []) }
+        ensures refused { IfErr result (IsReasonOf self.old (defines charts.now [])) }
     {
         for def in charts {
             self.define_chart(def)?;
@@ -209,7 +213,8 @@ impl Registry {
 
     fn define_dimensions(&mut self, dimensions: &[OpenDim]) -> Result<(), RegistryFault>
         requires { All (λ dimension. list_any (is_chart dimension.chart) self.old.charts ≡ true) dimensions.now }
-        ensures { OnOk result (self.new ≡ with_definitions self.old [] dimensions.now) }
+        ensures ok { OnOk result (self.new ≡ with_definitions self.old [] dimensions.now) }
+        ensures refused { IfErr result (IsReasonOf self.old (defines [] dimensions.now)) }
     {
         for dimension in dimensions {
             self.define_owned(dimension)?;
@@ -220,7 +225,9 @@ impl Registry {
     // Defines a dimension of a chart that is there.
     fn define_owned(&mut self, dimension: &OpenDim) -> Result<(), RegistryFault>
         requires { list_any (is_chart dimension.now.chart) self.old.charts ≡ true }
-        ensures { OnOk result (self.new ≡ with_definitions self.old [] (dimension.now ∷ [])) }
+        ensures ok { OnOk result (self.new ≡ with_definitions self.old [] (dimension.now ∷ [])) }
+        ensures refused { IfErr result (RefusedBy
+            (dimension_refusal self.old nothing_open dimension.now.chart dimension.now.def)) }
     {
         if let Some(chart) = self.chart_of(dimension.chart.as_str()) {
             self.define_dimension(chart, &dimension.def)?;

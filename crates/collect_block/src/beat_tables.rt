@@ -13,7 +13,7 @@ use crate::chart_table::ChartTable;
 use crate::count_table::{CountTable, raised};
 use crate::dimension_table::DimensionTable;
 use crate::known::{
-    is_known_dimension, is_off, known_dimensions_of, known_update_every, new_charts,
+    is_known_dimension_at, is_off, known_dimensions_of, known_update_every, new_charts,
     new_dimensions, new_dimensions_of,
 };
 use crate::row_table::RowTable;
@@ -86,13 +86,29 @@ impl BeatTables {
     pub(crate) fn has_chart(&self, registry: &Registry, id: &str) -> bool
         ensures { result ≡ has_chart registry.now (beat_of self.now) id.now }
     {
-        self.update_every_of(registry, id).is_some()
+        match registry.chart_of(id) {
+            Some(_) => true,
+            None => self.charts.update_every_of(id).is_some(),
+        }
     }
 
     pub(crate) fn has_dimension(&self, registry: &Registry, chart: &str, id: &str) -> bool
         ensures { result ≡ has_dimension registry.now (beat_of self.now) chart.now id.now }
     {
-        is_known_dimension(registry, chart, id) || self.dimensions.has(chart, id)
+        self.has_dimension_at(registry, None, chart, id)
+    }
+
+    /// The same, where the registry may have the chart at this number, which spares looking for it.
+    pub(crate) fn has_dimension_at(
+        &self,
+        registry: &Registry,
+        number: Option<u32>,
+        chart: &str,
+        id: &str,
+    ) -> bool
+        ensures { result ≡ has_dimension registry.now (beat_of self.now) chart.now id.now }
+    {
+        is_known_dimension_at(registry, number, chart, id) || self.dimensions.has(chart, id)
     }
 
     /// Keeps a chart's definition, in the place of an earlier one of the same chart, and counts the chart

@@ -1,4 +1,4 @@
-ghost use Rattle.std.specs.Prelude.{◌≡◌, [], not, filter, position, OnOk, OnErr};
+ghost use Rattle.std.specs.Prelude.{◌≡◌, [], not, filter, position, IfOk, OnOk, OnErr};
 ghost use Rattle.history.specs.Looking.{is_value, same_value, set_value};
 ghost use Rattle.history.specs.Put.{put};
 ghost use Rattle.collect_block.specs.Marks.{mark_of, AreMarksOf};
@@ -29,29 +29,27 @@ impl Model for BlockValues {
 }
 
 impl BlockValues {
-    /// No values.
-    pub(crate) fn new(alloc: Global) -> BlockValues
-        ensures { result ≡ [] }
+    /// No values, and room for so many.
+    pub(crate) fn with_room(alloc: Global, room: usize) -> Result<BlockValues, AllocError>
+        ensures { IfOk result (λ block. block ≡ []) }
     {
-        BlockValues {
-            marks: Vec::new(alloc),
-            values: Vec::new(alloc),
-        }
+        let marks = Vec::with_capacity(alloc, room)?;
+        let values = Vec::with_capacity(alloc, room)?;
+        Ok(BlockValues { marks, values })
     }
 
     /// Sets a dimension, or leaves it not set where there is no value. After an `Err` all is as before.
     pub(crate) fn set(
         &mut self,
-        id: &Text,
+        id: Text,
         value: Option<i64>,
         anomalous: bool,
     ) -> Result<(), AllocError>
-        ensures ok { OnOk result (self.new ≡ set_value self.old id.now value anomalous) }
+        ensures ok { OnOk result (self.new ≡ set_value self.old id value anomalous) }
         ensures err { OnErr result (self.new ≡ self.old) }
     {
         match value {
             Some(value) => {
-                let id = id.clone()?;
                 let value = OpenValue {
                     id,
                     value,

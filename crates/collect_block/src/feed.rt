@@ -1,4 +1,4 @@
-ghost use Rattle.std.specs.Prelude.{◌≡◌, ◌<◌, ◌-◌, ◌^◌, ℕ, ℤ, Bool, Option, min, [], ◌∷◌, List, Some, None, true, false, MatchResult, IfOk, OnOk, OnErr, IsErrOf};
+ghost use Rattle.std.specs.Prelude.{◌≡◌, ◌<◌, ◌-◌, ◌^◌, ℕ, ℤ, Bool, Option, min, length, [], ◌∷◌, List, Some, None, true, false, MatchResult, IfSome, IfOk, OnOk, OnErr, IsErrOf};
 ghost use Rattle.history.specs.Looking.{with_grid};
 ghost use Rattle.history.specs.Refusal.{refusal, is_unfinished};
 ghost use Rattle.history.specs.Registry.{Registry as Definitions};
@@ -24,6 +24,9 @@ pub struct Feed {
     pub(crate) every: u32,
     pub(crate) chart: Option<Text>,
     pub(crate) block: Option<Block>,
+    // The number that the registry gave the chart of the last BEGIN: where a registry has that chart at
+    // it, the chart is not looked up for each SET.
+    pub(crate) number: Option<u32>,
     pub(crate) beat: BeatTables,
     pub(crate) skipped: u64,
 }
@@ -41,6 +44,7 @@ impl Feed {
             every,
             chart: None,
             block: None,
+            number: None,
             beat: BeatTables::new(alloc),
             skipped: 0,
         }
@@ -54,6 +58,37 @@ impl Feed {
     /// Whether there is room for a chart or a dimension is told rightly where `registry` has all charts and
     /// dimensions of those that the feed was handed since its beat was opened; else a definition may be
     /// taken for which there is none.
+    pub fn take_line(
+        &mut self,
+        registry: &Registry,
+        last: u32,
+        copies: bool,
+        line: Line,
+    ) -> Result<Step, BlockFault>
+        ensures refused { (every : ℕ) (past : List ALine) → IsFeedOf self.old every past
+            → CountsAt line self.old registry.now
+            → let reason = refusal registry.now every past copies last line in
+            MatchResult result (λ _. reason ≡ None) (RefusedBy reason) }
+        ensures short { (every : ℕ) (past : List ALine) → IsFeedOf self.old every past
+            → IsErrOf result BlockFault.Memory → ClosesNone line }
+        ensures gives { IfOk result (λ step. (every : ℕ) (past : List ALine)
+            → IsFeedOf self.old every past → step ≡ step_of every past line) }
+        ensures taken { OnOk result (Becomes line self.old self.new) }
+        ensures counts { OnOk result (CountsFor self.old registry.now
+            → CountsPast line self.new registry.now) }
+        ensures err { OnErr result (self.new ≡ self.old) }
+    {
+        match self.refusal(registry, last, copies, &line) {
+            Some(fault) => Err(fault),
+            None => match self.take(registry, line) {
+                Ok(step) => Ok(step),
+                Err(_) => Err(BlockFault::Memory),
+            },
+        }
+    }
+
+    /// Takes the next line of the text by `take_line`, and leaves it to the caller: what the feed keeps of
+    /// it is a copy. A line that is refused is not copied, nor is a MOMENT.
     pub fn line(
         &mut self,
         registry: &Registry,
@@ -71,7 +106,7 @@ impl Feed {
     {
         match self.refusal(registry, last, copies, line) {
             Some(fault) => Err(fault),
-            None => match self.take(registry, line) {
+            None => match self.take_copy(registry, line) {
                 Ok(step) => Ok(step),
                 Err(_) => Err(BlockFault::Memory),
             },
@@ -174,10 +209,14 @@ impl Feed {
     fn set_refusal(&self, registry: &Registry, id: &str) -> Option<BlockFault>
         ensures { (every : ℕ) (past : List ALine) (copies : Bool) (last : ℕ) (value : Option ℤ) (anomalous : Bool) → IsFeedOf self.now every past → result ≡ refusal registry.now every past copies last (line.Set id.now value anomalous) }
     {
-        match &self.block {
-            Some(block) if self.beat.has_dimension(registry, block.chart.as_str(), id) => None,
-            Some(_) => Some(BlockFault::NoDimension),
-            None => Some(BlockFault::NoBlock),
+        let Some(block) = &self.block else {
+            return Some(BlockFault::NoBlock);
+        };
+        let chart = block.chart.as_str();
+        if self.beat.has_dimension_at(registry, self.number, chart, id) {
+            None
+        } else {
+            Some(BlockFault::NoDimension)
         }
     }
 
@@ -214,25 +253,43 @@ impl Feed {
 
     // ---- what a line leaves, where it may stand here
 
-    fn take(&mut self, registry: &Registry, line: &Line) -> Result<Step, AllocError>
-        ensures gives { IfOk result (λ step. (every : ℕ) (past : List ALine) → IsFeedOf self.old every past → step ≡ step_of every past line.now) }
+    // The same for a line that stays the caller's.
+    fn take_copy(&mut self, registry: &Registry, line: &Line) -> Result<Step, AllocError>
+        ensures gives { IfOk result (λ step. (every : ℕ) (past : List ALine)
+            → IsFeedOf self.old every past → step ≡ step_of every past line.now) }
         ensures taken { OnOk result (Becomes line.now self.old self.new) }
-        ensures counts { OnOk result (CountsFor self.old registry.now → CountsPast line.now self.new registry.now) }
+        ensures counts { OnOk result (CountsFor self.old registry.now
+            → CountsPast line.now self.new registry.now) }
         ensures err { OnErr result (self.new ≡ self.old) }
         ensures short { OnErr result (ClosesNone line.now) }
     {
         match line {
-            Line::Moment(moment) => return Ok(self.close(*moment)),
-            Line::Query(text) => return Ok(Step::Query(text.clone()?)),
+            Line::Moment(moment) => Ok(self.close(*moment)),
+            _ => self.take(registry, line.clone()?),
+        }
+    }
+
+    fn take(&mut self, registry: &Registry, line: Line) -> Result<Step, AllocError>
+        ensures gives { IfOk result (λ step. (every : ℕ) (past : List ALine)
+            → IsFeedOf self.old every past → step ≡ step_of every past line) }
+        ensures taken { OnOk result (Becomes line self.old self.new) }
+        ensures counts { OnOk result (CountsFor self.old registry.now
+            → CountsPast line self.new registry.now) }
+        ensures err { OnErr result (self.new ≡ self.old) }
+        ensures short { OnErr result (ClosesNone line) }
+    {
+        match line {
+            Line::Moment(moment) => return Ok(self.close(moment)),
+            Line::Query(text) => return Ok(Step::Query(text)),
             Line::Disable => return Ok(Step::Disabled),
             Line::Chart(def) => self.define_chart(registry, def)?,
             Line::Dimension(def) => self.define_dimension(registry, def)?,
-            Line::Begin(chart) => self.begin(chart)?,
+            Line::Begin(chart) => self.begin(registry, chart)?,
             Line::Set {
                 id,
                 value,
                 anomalous,
-            } => self.set(id, *value, *anomalous)?,
+            } => self.set(id, value, anomalous)?,
             Line::End => self.end_block()?,
             Line::Flush => self.block = None,
             Line::Skipped => self.skipped = self.skipped.saturating_add(1),
@@ -248,21 +305,20 @@ impl Feed {
         Step::Beat(self.beat.close(), moment)
     }
 
-    fn define_chart(&mut self, registry: &Registry, def: &ChartDef) -> Result<(), AllocError>
-        ensures taken { OnOk result (Becomes (line.Chart def.now) self.old self.new) }
+    fn define_chart(&mut self, registry: &Registry, mut def: ChartDef) -> Result<(), AllocError>
+        ensures taken { OnOk result (Becomes (line.Chart def) self.old self.new) }
         ensures counts { OnOk result (CountsFor self.old registry.now → CountsFor self.new registry.now) }
         ensures err { OnErr result (self.new ≡ self.old) }
     {
         let id = def.id.clone()?;
-        let mut kept = def.clone()?;
-        kept.update_every = self.grid_of(def);
-        self.beat.define_chart(registry, kept)?;
+        def.update_every = self.grid_of(&def);
+        self.beat.define_chart(registry, def)?;
         self.chart = Some(id);
         Ok(())
     }
 
-    fn define_dimension(&mut self, registry: &Registry, def: &DimDef) -> Result<(), AllocError>
-        ensures taken { OnOk result (Becomes (line.Dimension def.now) self.old self.new) }
+    fn define_dimension(&mut self, registry: &Registry, def: DimDef) -> Result<(), AllocError>
+        ensures taken { OnOk result (Becomes (line.Dimension def) self.old self.new) }
         ensures counts { OnOk result (CountsFor self.old registry.now → CountsFor self.new registry.now) }
         ensures err { OnErr result (self.new ≡ self.old) }
     {
@@ -271,27 +327,41 @@ impl Feed {
         };
         let dimension = OpenDim {
             chart: chart.clone()?,
-            def: def.clone()?,
+            def,
         };
         self.beat.define_dimension(registry, dimension)
     }
 
-    fn begin(&mut self, chart: &Text) -> Result<(), AllocError>
-        ensures taken { OnOk result (Becomes (line.Begin chart.now) self.old self.new) }
-        ensures counts { OnOk result ((registry : Definitions) → CountsFor self.old registry → CountsFor self.new registry) }
+    fn begin(&mut self, registry: &Registry, chart: Text) -> Result<(), AllocError>
+        ensures taken { OnOk result (Becomes (line.Begin chart) self.old self.new) }
+        ensures counts { OnOk result ((registry : Definitions) → CountsFor self.old registry
+            → CountsFor self.new registry) }
         ensures err { OnErr result (self.new ≡ self.old) }
     {
-        let chart = chart.clone()?;
-        self.block = Some(Block {
-            chart,
-            values: BlockValues::new(self.alloc),
-        });
+        let number = registry.chart_of(chart.as_str());
+        let room = self.most_values(registry, number, chart.as_str());
+        let values = BlockValues::with_room(self.alloc, room)?;
+        self.block = Some(Block { chart, values });
+        self.number = number;
         Ok(())
     }
 
-    fn set(&mut self, id: &Text, value: Option<i64>, anomalous: bool) -> Result<(), AllocError>
-        ensures taken { OnOk result (Becomes (line.Set id.now value anomalous) self.old self.new) }
-        ensures counts { OnOk result ((registry : Definitions) → CountsFor self.old registry → CountsFor self.new registry) }
+    // How many dimensions of a chart a block may set, at most: room for so many is made at its BEGIN, so
+    // that no SET has to. A dimension that the registry has and the beat defines anew counts twice.
+    fn most_values(&self, registry: &Registry, number: Option<u32>, chart: &str) -> usize
+        requires { IfSome number (λ number. number < length registry.now.charts) }
+    {
+        let known = match number {
+            Some(number) => registry.dimensions_of(number) as usize,
+            None => 0,
+        };
+        known.saturating_add(self.beat.dimensions.count_of(chart))
+    }
+
+    fn set(&mut self, id: Text, value: Option<i64>, anomalous: bool) -> Result<(), AllocError>
+        ensures taken { OnOk result (Becomes (line.Set id value anomalous) self.old self.new) }
+        ensures counts { OnOk result ((registry : Definitions) → CountsFor self.old registry
+            → CountsFor self.new registry) }
         ensures err { OnErr result (self.new ≡ self.old) }
     {
         match &mut self.block {

@@ -9,13 +9,13 @@ fn takes_lines(rt: HostRuntime) -> Result<(), Fail> {
     let mut feed = Feed::new(rt.alloc(), 1);
     assert!(rt;
         matches!(
-            feed.line(&registry, 0, false, &Line::Skipped),
+            feed.take_line(&registry, 0, false, Line::Skipped),
             Ok(Step::Nothing)
         )
     );
     assert!(rt;
         matches!(
-            feed.line(&registry, 0, false, &Line::End),
+            feed.take_line(&registry, 0, false, Line::End),
             Err(BlockFault::NoBlock)
         )
     );

@@ -6,7 +6,7 @@ use Rattle.field_codec.specs.Reading.{ReadOf, read_as, read_passing, read_u8, re
 use Rattle.field_codec.specs.Spelling.{u8_bytes, u32_bytes, i64_bytes, flag_bytes, text_bytes}
 use Rattle.history.specs.declared.chart.ChartKind.{ChartKind}
 use Rattle.history.specs.declared.chart.ChartKind.TheVariants.{Line, Area, Stacked}
-use Rattle.entry_codec.specs.declared.charts.NumberedChart.{NumberedChart}
+use Rattle.history.specs.declared.numbered.NumberedChart.{NumberedChart}
 use Rattle.entry_codec.specs.declared.charts.CopiedChart.{CopiedChart}
 use Rattle.entry_codec.specs.Lists.{◌>>◌, IsText}
 

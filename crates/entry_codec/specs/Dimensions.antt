@@ -6,7 +6,7 @@ use Rattle.field_codec.specs.Reading.{ReadOf, read_as, read_passing, read_u8, re
 use Rattle.field_codec.specs.Spelling.{u8_bytes, u32_bytes, i32_bytes, flag_bytes, text_bytes}
 use Rattle.history.specs.declared.dimension.Algorithm.{Algorithm}
 use Rattle.history.specs.declared.dimension.Algorithm.TheVariants.{Absolute, Incremental, PercentageOfAbsoluteRow, PercentageOfIncrementalRow}
-use Rattle.entry_codec.specs.declared.dimensions.NumberedDimension.{NumberedDimension}
+use Rattle.history.specs.declared.numbered.NumberedDimension.{NumberedDimension}
 use Rattle.entry_codec.specs.declared.dimensions.CopiedDimension.{CopiedDimension}
 use Rattle.entry_codec.specs.Lists.{◌>>◌, IsText}
 

@@ -7,10 +7,10 @@ use Rattle.field_codec.specs.declared.fault.FieldFault.TheVariants as fields
 use Rattle.field_codec.specs.Reading.{ReadOf, read_as, read_passing, read_u8, read_u32, read_u64, read_bytes}
 use Rattle.field_codec.specs.Spelling.{u8_bytes, u32_bytes, u64_bytes, sized_bytes}
 use Rattle.entry_codec.specs.declared.charts.CopiedChart.{CopiedChart}
-use Rattle.entry_codec.specs.declared.charts.NumberedChart.{NumberedChart}
+use Rattle.history.specs.declared.numbered.NumberedChart.{NumberedChart}
 use Rattle.entry_codec.specs.declared.dimensions.CopiedDimension.{CopiedDimension}
-use Rattle.entry_codec.specs.declared.dimensions.NumberedDimension.{NumberedDimension}
-use Rattle.entry_codec.specs.declared.entry.Collected.{Collected}
+use Rattle.history.specs.declared.numbered.NumberedDimension.{NumberedDimension}
+use Rattle.history.specs.declared.numbered.NumberedBeat.{NumberedBeat}
 use Rattle.entry_codec.specs.declared.entry.Copied.{Copied}
 use Rattle.entry_codec.specs.declared.entry.Entry.{Entry}
 use Rattle.entry_codec.specs.declared.entry.Entry.TheVariants as entry
@@ -64,19 +64,19 @@ pub record IsSettings (s : Settings) : Type 0 where
 
 -- ---- a collected beat
 
-abbrev pub collected_of : ((ℕ × List NumberedChart) × List NumberedDimension) × List Row → Collected
+abbrev pub collected_of : ((ℕ × List NumberedChart) × List NumberedDimension) × List Row → NumberedBeat
 collected_of (((moment, charts), dimensions), rows) =
     record { moment = moment; charts = charts; dimensions = dimensions; rows = rows }
 
-unfoldable pub read_collected : List ℕ → ReadOf Collected
+unfoldable pub read_collected : List ℕ → ReadOf NumberedBeat
 read_collected bytes =
     read_as collected_of (read_u32 bytes >> read_list read_chart >> read_list read_dimension >> read_list read_row)
 
-unfoldable pub collected_bytes : Collected → List ℕ
+unfoldable pub collected_bytes : NumberedBeat → List ℕ
 collected_bytes c =
     u32_bytes c.moment ++ list_bytes chart_bytes c.charts ++ list_bytes dimension_bytes c.dimensions ++ list_bytes row_bytes c.rows
 
-pub record IsCollected (c : Collected) : Type 0 where
+pub record IsCollected (c : NumberedBeat) : Type 0 where
   pub moment : c.moment < 2 ^ 32
   pub charts : IsShortListOf IsChart c.charts
   pub dimensions : IsShortListOf IsDimension c.dimensions
@@ -86,7 +86,7 @@ abbrev pub are_values_ascending : Row → Bool
 are_values_ascending r = is_ascending (map (λ (v : Value). v.series) r.values)
 
 -- each list is in the order of its numbers, each number once
-unfoldable pub is_collected_canonical : Collected → Bool
+unfoldable pub is_collected_canonical : NumberedBeat → Bool
 is_collected_canonical c =
     is_ascending (map (λ (d : NumberedChart). d.number) c.charts)
     && is_ascending (map (λ (d : NumberedDimension). d.series) c.dimensions)

@@ -4,10 +4,10 @@ ghost use Rattle.std.specs.Prelude.{◌≡◌};
 ghost use Rattle.std.specs.List.{list_all};
 ghost use Rattle.entry_codec.specs.Entries.{are_values_ascending, is_canonical, is_collected_canonical, is_copied_canonical, is_storage_number};
 
-use crate::entry::{Collected, Copied, Entry};
+use crate::entry::{Copied, Entry};
 use crate::list;
 use crate::words::CopiedWord;
-use history::Row;
+use history::{NumberedBeat, Row};
 
 fn are_values_ascending(rows: &[Row]) -> bool
     ensures { result ≡ list_all are_values_ascending rows.now }
@@ -23,7 +23,7 @@ fn are_storage_numbers(words: &[CopiedWord]) -> bool
 }
 
 #[tactic(auto, unfolding(crate::specs::Entries::is_collected_canonical))]
-fn is_collected(collected: &Collected) -> bool
+pub(crate) fn is_collected(collected: &NumberedBeat) -> bool
     ensures { result ≡ is_collected_canonical collected.now }
 {
     if !list::is_ascending(collected.charts.as_slice()) {

@@ -4,21 +4,11 @@ use crate::list::Item;
 use crate::{kind, text};
 use field_codec::{FieldFault, Reader, Writer};
 use fixed_num::{ListOf, Text};
-use history::ChartDef;
+use history::{ChartDef, NumberedChart};
 use std::alloc::Global;
-
-/// Charts of an entry.
-pub type ChartList = ListOf<NumberedChart>;
 
 /// Charts of a copied beat.
 pub type CopiedChartList = ListOf<CopiedChart>;
-
-/// The definition of a chart, with the number that its registry gave it.
-#[derive(Debug, Drop)]
-pub struct NumberedChart {
-    pub number: u32,
-    pub def: ChartDef,
-}
 
 /// What a copy tells of a chart.
 #[derive(Debug, Drop)]

@@ -4,22 +4,11 @@ use crate::list::Item;
 use crate::{marks, text};
 use field_codec::{FieldFault, Reader, Writer};
 use fixed_num::{ListOf, Text};
-use history::DimDef;
+use history::{DimDef, NumberedDimension};
 use std::alloc::Global;
-
-/// Dimensions of an entry.
-pub type DimensionList = ListOf<NumberedDimension>;
 
 /// Dimensions of a copied beat.
 pub type CopiedDimensionList = ListOf<CopiedDimension>;
-
-/// The definition of a dimension, with the numbers that its registry gave it and its chart.
-#[derive(Debug, Drop)]
-pub struct NumberedDimension {
-    pub series: u32,
-    pub chart: u32,
-    pub def: DimDef,
-}
 
 /// What a copy tells of a dimension.
 #[derive(Debug, Drop)]

@@ -1,8 +1,8 @@
-use crate::charts::{ChartList, CopiedChartList};
-use crate::dimensions::{CopiedDimensionList, DimensionList};
+use crate::charts::CopiedChartList;
+use crate::dimensions::CopiedDimensionList;
 use crate::words::CopiedWordList;
 use field_codec::ByteList;
-use history::RowList;
+use history::NumberedBeat;
 
 /// How much a tier keeps.
 #[derive(Clone, Copy, Debug, PartialEq, Eq)]
@@ -21,15 +21,6 @@ pub struct Settings {
     pub tier0: TierSettings,
     pub tier1: TierSettings,
     pub tier2: TierSettings,
-}
-
-/// A beat that collectors told: what it defined, and the rows of its charts.
-#[derive(Debug, Drop)]
-pub struct Collected {
-    pub moment: u32,
-    pub charts: ChartList,
-    pub dimensions: DimensionList,
-    pub rows: RowList,
 }
 
 /// A beat that was copied from a child.
@@ -54,7 +45,8 @@ pub struct Gap {
 #[derive(Debug, Drop)]
 pub enum Entry {
     Settings(Settings),
-    Collected(Collected),
+    /// A beat that collectors told.
+    Collected(NumberedBeat),
     Copied(Copied),
     /// The state of alarms, as its own bytes.
     Health(ByteList),

@@ -29,14 +29,14 @@ mod text;
 mod words;
 mod writing;
 
-pub use charts::{ChartList, CopiedChart, CopiedChartList, NumberedChart};
-pub use dimensions::{CopiedDimension, CopiedDimensionList, DimensionList, NumberedDimension};
-pub use entry::{Collected, Copied, Entry, Gap, Settings, TierSettings};
+pub use charts::{CopiedChart, CopiedChartList};
+pub use dimensions::{CopiedDimension, CopiedDimensionList};
+pub use entry::{Copied, Entry, Gap, Settings, TierSettings};
 pub use fault::EntryFault;
 pub use law::every_entry;
 pub use reading::read_entry;
 pub use words::{CopiedWord, CopiedWordList};
-pub use writing::{has_spelling, write_entry};
+pub use writing::{has_spelling, write_collected, write_entry};
 
 #[cfg(test)]
 mod tests;

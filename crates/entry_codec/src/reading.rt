@@ -3,10 +3,11 @@ ghost use Rattle.field_codec.specs.Reading.{read_bytes};
 ghost use Rattle.entry_codec.specs.Entries.{entry_bytes, read_collected, read_copied, read_entry, read_fields, read_gap, read_kind_fields, read_settings, read_tier, read_version, HasSpelling, IsNoSpelling};
 ghost use Rattle.entry_codec.specs.Lists.{IsRefusal};
 
-use crate::entry::{Collected, Copied, Entry, Gap, Settings, TierSettings};
+use crate::entry::{Copied, Entry, Gap, Settings, TierSettings};
 use crate::fault::EntryFault;
 use crate::{canonical, list};
 use field_codec::{ByteList, FieldFault, Reader};
+use history::NumberedBeat;
 use std::alloc::Global;
 
 #[tactic(auto, unfolding(crate::specs::Entries::read_tier))]
@@ -50,7 +51,7 @@ fn take_settings(reader: &mut Reader<'_>) -> Result<Settings, FieldFault>
 }
 
 #[tactic(auto, unfolding(crate::specs::Entries::read_collected))]
-fn take_collected(alloc: Global, reader: &mut Reader<'_>) -> Result<Collected, FieldFault>
+fn take_collected(alloc: Global, reader: &mut Reader<'_>) -> Result<NumberedBeat, FieldFault>
     ensures taken { IfOk result (λ collected. read_collected reader.old ≡ Ok (collected, reader.new)) }
     ensures fault { IfErr result (IsRefusal (read_collected reader.old)) }
 {
@@ -58,7 +59,7 @@ fn take_collected(alloc: Global, reader: &mut Reader<'_>) -> Result<Collected, F
     let charts = list::take_list(alloc, reader)?;
     let dimensions = list::take_list(alloc, reader)?;
     let rows = list::take_list(alloc, reader)?;
-    Ok(Collected {
+    Ok(NumberedBeat {
         moment,
         charts,
         dimensions,

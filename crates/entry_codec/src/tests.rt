@@ -1,6 +1,8 @@
 use super::*;
 use fixed_num::{ListOf, Text};
-use history::{Algorithm, ChartDef, ChartKind, DimDef, Row, Value};
+use history::{
+    Algorithm, ChartDef, ChartKind, DimDef, NumberedBeat, NumberedChart, NumberedDimension, Row, Value,
+};
 use std::alloc::{AllocError, Global};
 use std::test::Fail;
 
@@ -64,7 +66,7 @@ fn row(alloc: Global) -> Result<Row, AllocError> {
 }
 
 fn beat(alloc: Global) -> Result<Entry, AllocError> {
-    Ok(Entry::Collected(Collected {
+    Ok(Entry::Collected(NumberedBeat {
         moment: 60,
         charts: list_of(alloc, chart(alloc)?)?,
         dimensions: list_of(alloc, dimension(alloc)?)?,

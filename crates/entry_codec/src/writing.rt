@@ -1,10 +1,12 @@
 ghost use Rattle.std.specs.Prelude.{◌≡◌, ◌<◌, ◌^◌, ◌++◌, ◌↔◌, length, Ok, Err, IsTrue, IfOk, OnOk, IsOkUnless};
 ghost use Rattle.entry_codec.specs.Entries.{collected_bytes, copied_bytes, entry_bytes, gap_bytes, read_entry, settings_bytes, tier_bytes, HasSpelling, IsCollected, IsCopied, IsGap, IsSettings, IsShort, IsTier};
+ghost use Rattle.entry_codec.specs.declared.entry.Entry.TheVariants as entry;
 
-use crate::entry::{Collected, Copied, Entry, Gap, Settings, TierSettings};
+use crate::entry::{Copied, Entry, Gap, Settings, TierSettings};
 use crate::fault::EntryFault;
 use crate::{canonical, list};
 use field_codec::{ByteList, FieldFault, Writer};
+use history::NumberedBeat;
 use std::alloc::Global;
 
 #[tactic(auto, unfolding(crate::specs::Entries::tier_bytes))]
@@ -29,7 +31,7 @@ fn put_settings(settings: &Settings, writer: &mut Writer) -> Result<(), FieldFau
 }
 
 #[tactic(auto, unfolding(crate::specs::Entries::collected_bytes))]
-fn put_collected(collected: &Collected, writer: &mut Writer) -> Result<(), FieldFault>
+fn put_collected(collected: &NumberedBeat, writer: &mut Writer) -> Result<(), FieldFault>
     requires { IsCollected collected.now }
     ensures put { OnOk result (writer.new ≡ writer.old ++ collected_bytes collected.now) }
     ensures memory { IsOkUnless result FieldFault.Memory }
@@ -109,7 +111,7 @@ fn is_settings(settings: &Settings) -> bool
     is_tier(&settings.tier0) && is_tier(&settings.tier1) && is_tier(&settings.tier2)
 }
 
-fn is_collected(collected: &Collected) -> bool
+fn is_collected(collected: &NumberedBeat) -> bool
     ensures { IsTrue result ↔ IsCollected collected.now }
 {
     let _moment = collected.moment;
@@ -163,6 +165,39 @@ fn write_short(alloc: Global, entry: &Entry) -> Result<ByteList, FieldFault>
     let mut writer = Writer::new(alloc);
     put_entry(entry, &mut writer)?;
     Ok(writer.into_bytes())
+}
+
+#[tactic(auto, unfolding(crate::specs::Entries::entry_bytes, field_codec::specs::Spelling::u8_bytes))]
+fn write_short_collected(alloc: Global, beat: &NumberedBeat) -> Result<ByteList, FieldFault>
+    requires { IsCollected beat.now }
+    ensures spelling { IfOk result (λ bytes. bytes ≡ entry_bytes (entry.Collected beat.now)) }
+    ensures memory { IsOkUnless result FieldFault.Memory }
+{
+    let mut writer = Writer::new(alloc);
+    writer.put_u8(1)?;
+    put_collected(beat, &mut writer)?;
+    Ok(writer.into_bytes())
+}
+
+/// Whether the entry of a numbered beat has a spelling.
+#[tactic(auto, unfolding(crate::specs::Entries::is_canonical))]
+fn has_collected_spelling(beat: &NumberedBeat) -> bool
+    ensures { IsTrue result ↔ HasSpelling (entry.Collected beat.now) }
+{
+    is_collected(beat) && canonical::is_collected(beat)
+}
+
+/// The one spelling of the entry of a numbered beat. `NotCanonical` where it has none.
+pub fn write_collected(alloc: Global, beat: &NumberedBeat) -> Result<ByteList, EntryFault>
+    ensures spelling { IfOk result (λ bytes. bytes ≡ entry_bytes (entry.Collected beat.now)) }
+    ensures written { OnOk result (HasSpelling (entry.Collected beat.now)) }
+    ensures refused { (result ≡ Err EntryFault.NotCanonical) ↔ (¬ (HasSpelling (entry.Collected beat.now))) }
+    ensures memory { HasSpelling (entry.Collected beat.now) → IsOkUnless result EntryFault.Memory }
+{
+    if !has_collected_spelling(beat) {
+        return Err(EntryFault::NotCanonical);
+    }
+    Ok(write_short_collected(alloc, beat)?)
 }
 
 /// The one spelling of an entry. `NotCanonical` where it has none.

@@ -1,8 +1,10 @@
 pub mod History
 pub mod Limits
 pub mod Looking
+pub mod Numbered
 pub mod Put
 pub mod Read
 pub mod Refusal
 pub mod Registry
+pub mod Regular
 pub mod Points

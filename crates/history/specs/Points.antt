@@ -12,7 +12,7 @@ use Rattle.history.specs.declared.dimension.Algorithm.{Algorithm}
 use Rattle.history.specs.declared.dimension.Algorithm.TheVariants.{Absolute, Incremental, PercentageOfAbsoluteRow, PercentageOfIncrementalRow}
 use Rattle.history.specs.History.{Beat, collected, copied, Copy, Word, registry_of}
 use Rattle.history.specs.Looking.{is_value}
-use Rattle.history.specs.Registry.{Registry, is_chart, is_dimension}
+use Rattle.history.specs.Registry.{Registry, is_chart, is_of}
 
 -- How a storage number is written is not said here: `sn` packs a fraction with the marks anomalous and reset.
 
@@ -102,22 +102,34 @@ abbrev pub before_at : ChartDef → ℕ → Option Collected → Option Before
 before_at chart moment (Some last) = Some (record { value = last.value; seconds = moment - last.moment })
 before_at chart moment None = if chart.store_first then Some (record { value = pos 0; seconds = one_for_zero chart.update_every }) else None
 
--- the cell of a value, where its dimension is defined
-abbrev pub cell_of : Registry → List Beat → ChartDef → ℕ → OpenValue → Option Cell
-cell_of registry h chart moment value =
-    option_map (λ (dimension : OpenDim). let def = dimension.def in record {
-      value = value.value;
-      anomalous = value.anomalous;
-      before = before_at chart moment (last_set h chart.id value.id);
-      algorithm = def.algorithm;
-      multiplier = def.multiplier;
-      divisor = def.divisor;
-      noreset = def.noreset;
-    }) (find (is_dimension chart.id value.id) registry.dimensions)
+-- a divisor of 0 counts as 1
+abbrev pub divisor_of : ℤ → ℤ
+divisor_of (pos zero) = pos 1
+divisor_of (pos (suc n)) = pos (suc n)
+divisor_of (negsuc n) = negsuc n
+
+-- the cell of a value of this dimension
+abbrev pub cell_of : List Beat → ChartDef → ℕ → OpenDim → OpenValue → Cell
+cell_of h chart moment dimension value = record {
+  value = value.value;
+  anomalous = value.anomalous;
+  before = before_at chart moment (last_set h dimension.chart dimension.def.id);
+  algorithm = dimension.def.algorithm;
+  multiplier = dimension.def.multiplier;
+  divisor = divisor_of dimension.def.divisor;
+  noreset = dimension.def.noreset;
+}
+
+-- the cell of a dimension in a row of its chart, where the row sets it
+abbrev pub cell_in : List Beat → ChartDef → ℕ → OpenRow → OpenDim → Option Cell
+cell_in h chart moment row dimension =
+    if is_of row.chart dimension
+    then option_map (cell_of h chart moment dimension) (find (is_value dimension.def.id) row.values)
+    else None
 
 -- the cells of a row, by the definitions in force at its beat
 abbrev pub cells_of : Registry → List Beat → ChartDef → ℕ → OpenRow → List Cell
-cells_of registry h chart moment row = filter_map (cell_of registry h chart moment) row.values
+cells_of registry h chart moment row = filter_map (cell_in h chart moment row) registry.dimensions
 
 -- a point: a moment and a storage number
 pub record Point : Type 0 where
@@ -131,10 +143,8 @@ module _ (sn : Frac → Bool → Bool → ℕ) where
       option_and_then (λ (chart : ChartDef).
       option_and_then (λ (row : OpenRow).
       let cells = cells_of registry h chart moment row in
-      option_and_then (λ (value : OpenValue).
       option_and_then (λ (cell : Cell). word_by sn cell.algorithm (total cells) (total_difference cells) cell)
-      (cell_of registry h chart moment value))
-      (find (is_value dimension.def.id) row.values))
+      (cell_in h chart moment row dimension))
       (row_of beat dimension.chart))
       (find (is_chart dimension.chart) registry.charts)
 

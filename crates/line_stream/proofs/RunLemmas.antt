@@ -243,6 +243,7 @@ module _ {T H : Type 0} (acts : Acts T H) where
     takes = Takes-append left middle right before.text step.bytes before.takes step.takes;
     within = step.within;
     ended = ended-later acts status start begin (before.text ++ step.bytes) taker' host' right (Rose sf' sf'') (Rose sf sf'') (rose-later sf sf' sf'' earlier later) step.ended;
+    full = step.full;
   }
 
   -- it took as much as it may
@@ -253,6 +254,7 @@ module _ {T H : Type 0} (acts : Acts T H) where
     takes = before.takes;
     within = omega (arith, before.spent);
     ended = at_limit refl (omega (arith, before.spent, none)) before.held.took;
+    full = λ taken. at_limit refl taken before.held.took;
   }
 
   -- there was no memory to begin
@@ -262,6 +264,7 @@ module _ {T H : Type 0} (acts : Acts T H) where
     takes = Takes-none left;
     within = omega arith;
     ended = at_want [] refl (record { begins = record { left = []; whole = refl; short = All-nil (λ (l : List ℕ). fits l ≡ true) }; chain = begins });
+    full = λ taken. absurd (omega (arith, taken));
   }
 
 -- a stream has handed over no more lines than bytes were taken
@@ -272,12 +275,13 @@ count-within acts start begin stream text taker host has within = omega (arith, 
 
 module _ {T H : Type 0} (acts : Acts T H) (start : T) (begin : H) (stream : Stream) (text : List ℕ) (taker : T) (host : H) (has : HasTaken acts stream start begin text taker host) where
   -- the source failed
-  pub fault-stops : (left left' : Option (List ℕ)) (source_rose : Type 0) → left' ≡ left → source_rose → length text ≤ input_limit → Stops acts ReadFault start begin text taker host left left' source_rose
+  pub fault-stops : (left left' : Option (List ℕ)) (source_rose : Type 0) → left' ≡ left → source_rose → length text < input_limit → Stops acts ReadFault start begin text taker host left left' source_rose
   fault-stops left left' source_rose same rose within = record {
     bytes = [];
     takes = subst (λ (l : Option (List ℕ)). Takes left [] l) (sym same) (Takes-none left);
     within = omega (arith, length-append text [], within);
     ended = subst (λ (all : List ℕ). Ended acts ReadFault start begin all taker host left' source_rose) (sym (append-nil text)) (at_fault refl rose has.took);
+    full = λ taken. absurd (omega (arith, length-append text [], within, taken));
   }
 
   -- the input ended
@@ -290,6 +294,7 @@ module _ {T H : Type 0} (acts : Acts T H) (start : T) (begin : H) (stream : Stre
     ended = subst (λ (all : List ℕ). Ended acts status start begin all new host' left' source_rose) (sym (append-nil text))
         (at_end taker host room nothing has.took
         (subst (λ (r : List ℕ). acts.ends taker host (length (lines text)) r status new host') (held_is ∙ has.rest_is) (subst (λ (n : ℕ). acts.ends taker host n held status new host') (counted ∙ has.count) ends)));
+    full = λ taken. absurd (omega (arith, length-append text [], room, taken));
   }
 
 -- the piece ended the run
@@ -300,6 +305,7 @@ piece-stops acts start begin status text bytes new host' left left' source_rose 
   takes = takes;
   within = omega (arith, length-append text bytes, within);
   ended = ended-later acts status start begin (text ++ bytes) new host' left' ⊥ source_rose (λ never. absurd never) ended;
+  full = λ _. ended;
 }
 
 -- the run goes on

@@ -50,6 +50,8 @@ pub record Ran {T H : Type 0} (acts : Acts T H) (status : Status) (taker : T) (h
   pub takes : Takes left text left'
   pub within : length text ≤ input_limit
   pub ended : Ended acts status taker host text taker' host' left' source_rose
+  -- behind as many bytes as may be taken, no failure of the source is why it ended
+  pub full : length text ≡ input_limit → Ended acts status taker host text taker' host' left' ⊥
 
 -- a run took so much of the source, and goes on
 pub record Running (Held : List ℕ → Type 0) (budget : ℕ) (left left' : Option (List ℕ)) : Type 0 where
@@ -71,3 +73,4 @@ pub record Stops {T H : Type 0} (acts : Acts T H) (status : Status) (taker : T) 
   pub takes : Takes left bytes left'
   pub within : length (text ++ bytes) ≤ input_limit
   pub ended : Ended acts status taker host (text ++ bytes) taker' host' left' source_rose
+  pub full : length (text ++ bytes) ≡ input_limit → Ended acts status taker host (text ++ bytes) taker' host' left' ⊥

@@ -8,7 +8,6 @@ ghost use Rattle.line_stream.specs.Run.{input_limit, Ended, Ran, Steps, Stops};
 ghost use Rattle.line_stream.specs.Stream.{HandsOver, HasTaken};
 
 use crate::taker::Taker;
-use fixed_num::ByteList;
 use host_model::{Host, Source, Status};
 use plugin_text::{LineFault, LineList, Splitter};
 use std::alloc::Global;
@@ -55,7 +54,7 @@ fn hand_over<H: Host, T: Taker<H>>(
     taker: &mut T,
     host: &mut H,
     count: &mut u64,
-    lines: &[ByteList],
+    lines: &LineList,
 ) -> Result<(), Status>
     requires ready { T.ready taker.old host.old (count.old + 1) }
     requires few { count.old + length lines.now ≤ 2 ^ 40 }
@@ -66,8 +65,8 @@ fn hand_over<H: Host, T: Taker<H>>(
     ensures count { OnOk result (count.new ≡ count.old + length lines.now) }
     ensures ready { OnOk result (T.ready taker.new host.new (count.new + 1)) }
 {
-    for line in lines {
-        hand_line(taker, host, count, line.as_slice())?;
+    for at in 0..lines.len() {
+        hand_line(taker, host, count, lines.line(at))?;
     }
     Ok(())
 }
@@ -102,11 +101,11 @@ impl Stream {
         self.lines.clear();
         match self.splitter.feed(piece, &mut self.lines) {
             Ok(()) => {
-                hand_over(taker, host, &mut self.count, self.lines.as_slice())?;
+                hand_over(taker, host, &mut self.count, &self.lines)?;
                 taker.pause(host)
             }
             Err(LineFault::LineTooLong) => {
-                hand_over(taker, host, &mut self.count, self.lines.as_slice())?;
+                hand_over(taker, host, &mut self.count, &self.lines)?;
                 Err(taker.overflow(host, self.count + 1))
             }
             // Of the other refusals a splitter has want of memory alone.
@@ -171,8 +170,9 @@ fn take_pieces<S: Source, H: Host, T: Taker<H>>(
 
 /// Takes a text from the source, hands its lines to the taker, and says how the run ended.
 ///
-/// No more than 2^40 bytes are taken. Where a line is too long nothing behind it is handed over. Want of memory
-/// may end the run at any place, with `Status::Memory`.
+/// No more than 2^40 bytes are taken. Where just so many were and none of them ended the run, the answer is
+/// `Status::InputLimit`, also where the source would fail next. Where a line is too long nothing behind it is
+/// handed over. Want of memory may end the run at any place, with `Status::Memory`.
 pub fn take_text<S: Source, H: Host, T: Taker<H>>(
     alloc: Global,
     taker: &mut T,

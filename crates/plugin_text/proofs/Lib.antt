@@ -3,6 +3,7 @@ pub mod DefinitionLemmas
 pub mod FieldsLemmas
 pub mod LimitLemmas
 pub mod LineLemmas
+pub mod LineListLemmas
 pub mod LongLemmas
 pub mod NumberLemmas
 pub mod OneLineLemmas

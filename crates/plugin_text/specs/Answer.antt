@@ -2,7 +2,7 @@ use Rattle.std.specs.Prelude.{◌≡◌, Bool, true, false, Result, Ok, Err, IsO
 use Rattle.history.specs.declared.line.Line.{Line}
 use Rattle.history.specs.declared.line.Line.TheVariants.{Chart, Dimension, Begin, Set, End, Flush, Disable, Moment, Query, Skipped}
 use Rattle.plugin_text.specs.declared.fault.LineFault.{LineFault}
-use Rattle.plugin_text.specs.declared.fault.LineFault.TheVariants.{LineTooLong, NotText, OpenQuote, MissingWord, LongId, BadNumber, Memory}
+use Rattle.plugin_text.specs.declared.fault.LineFault.TheVariants.{Memory}
 
 -- the first refusal, or else what comes next
 infixl 10 ◌>>=◌

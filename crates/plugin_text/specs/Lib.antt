@@ -7,6 +7,7 @@ pub mod Fields
 pub mod Id
 pub mod Keyword
 pub mod Line
+pub mod LineList
 pub mod Lines
 pub mod Number
 pub mod Splitter

@@ -1,13 +1,13 @@
 //! One piece of a stream, cut at its line feeds.
-ghost use Rattle.std.specs.Prelude.{◌≡◌, ◌<◌, ℕ, true, false, List, [], ◌∷◌, ◌++◌, length, IsErrOf, IfOk, IfErr, OnOk, OnErr, MatchOption, ◌+◌, ◌≤◌};
+ghost use Rattle.std.specs.Prelude.{◌≡◌, ◌<◌, ℕ, true, false, List, [], ◌∷◌, ◌++◌, length, IsErrOf, IfOk, IfErr, OnOk, OnErr, MatchOption};
 ghost use Rattle.plugin_text.specs.Fault.{EndsSplitting};
 ghost use Rattle.plugin_text.specs.Lines.{parts, lines, rest, fits, HasNoLongLine, IsLongAfter, BeginsWithLines, IsRest};
 
 use crate::fault::LineFault;
-use crate::splitter::{LINE_LIMIT, LineList};
+use crate::line_list::LineList;
+use crate::splitter::LINE_LIMIT;
 use fixed_num::ByteList;
 use memchr::memchr;
-use std::alloc::{AllocError, Global};
 
 /// What stands before the first line feed, and what stands after it.
 fn split_at_line_feed(text: &[u8]) -> Option<(&[u8], &[u8])>
@@ -18,24 +18,8 @@ fn split_at_line_feed(text: &[u8]) -> Option<(&[u8], &[u8])>
     Some((&text[..at], &text[at + 1..]))
 }
 
-/// The line that begins with `start` and ends with `end`.
-fn join(alloc: Global, start: &[u8], end: &[u8]) -> Result<ByteList, AllocError>
-    requires { length start.now + length end.now ≤ LINE_LIMIT }
-    ensures { IfOk result (λ line. line ≡ start.now ++ end.now) }
-{
-    let mut line = Vec::with_capacity(alloc, start.len() + end.len())?;
-    line.extend_from_slice(start)?;
-    line.extend_from_slice(end)?;
-    Ok(ByteList::from_vec(line))
-}
-
 /// Hands out the line that `held` begins and `end` ends. After an `Err` nothing has changed.
-fn hand_out(
-    alloc: Global,
-    held: &mut ByteList,
-    end: &[u8],
-    out: &mut LineList,
-) -> Result<(), LineFault>
+fn hand_out(held: &mut ByteList, end: &[u8], out: &mut LineList) -> Result<(), LineFault>
     requires { fits held.old ≡ true }
     ensures line { OnOk result (out.new ≡ out.old ++ (held.old ++ end.now) ∷ []) }
     ensures cleared { OnOk result (held.new ≡ []) }
@@ -47,8 +31,8 @@ fn hand_out(
     if held.len() + end.len() > LINE_LIMIT {
         return Err(LineFault::LineTooLong);
     }
-    let line = join(alloc, held.as_slice(), end).map_err(|_| LineFault::Memory)?;
-    out.push(line).map_err(|_| LineFault::Memory)?;
+    let pushed = out.push_joined(held.as_slice(), end);
+    pushed.map_err(|_| LineFault::Memory)?;
     held.clear();
     Ok(())
 }
@@ -69,12 +53,7 @@ fn keep(held: &mut ByteList, more: &[u8]) -> Result<(), LineFault>
 }
 
 /// Hands out the lines of `held` and `piece` together, and leaves their rest in `held`.
-pub fn cut_lines(
-    alloc: Global,
-    held: &mut ByteList,
-    piece: &[u8],
-    out: &mut LineList,
-) -> Result<(), LineFault>
+pub fn cut_lines(held: &mut ByteList, piece: &[u8], out: &mut LineList) -> Result<(), LineFault>
     requires { IsRest held.old }
     ensures lines { OnOk result (out.new ≡ out.old ++ lines (held.old ++ piece.now)) }
     ensures rest { OnOk result (held.new ≡ rest (held.old ++ piece.now)) }
@@ -88,7 +67,7 @@ pub fn cut_lines(
 {
     let mut ahead = piece;
     while let Some((end, left)) = split_at_line_feed(ahead) {
-        hand_out(alloc, held, end, out)?;
+        hand_out(held, end, out)?;
         ahead = left;
     }
     keep(held, ahead)

@@ -5,15 +5,13 @@ ghost use Rattle.plugin_text.specs.Lines.{parts, lines, rest, HasNoLongLine, IsL
 
 use crate::cut::cut_lines;
 use crate::fault::LineFault;
-use fixed_num::{ByteList, ListOf};
+use crate::line_list::LineList;
+use fixed_num::ByteList;
 use std::alloc::Global;
 use std::marker::Model;
 
 /// The most bytes that a line may have, without its line feed.
 pub const LINE_LIMIT: usize = 8192;
-
-/// Lines in their order, each without its line feed.
-pub type LineList = ListOf<ByteList>;
 
 /// Cuts a stream that comes in pieces into its lines.
 ///
@@ -21,7 +19,6 @@ pub type LineList = ListOf<ByteList>;
 /// keeps what follows the last line feed, which is never longer than a line may be.
 #[derive(Debug, Drop)]
 pub struct Splitter {
-    alloc: Global,
     rest: ByteList,
     refused: Option<LineFault>,
 }
@@ -44,7 +41,6 @@ impl Splitter {
         ensures open { result.refused ≡ None }
     {
         Splitter {
-            alloc,
             rest: ByteList::new(alloc),
             refused: None,
         }
@@ -82,7 +78,7 @@ impl Splitter {
         if let Some(fault) = self.refused {
             return Err(fault);
         }
-        let result = cut_lines(self.alloc, &mut self.rest, piece, out);
+        let result = cut_lines(&mut self.rest, piece, out);
         self.refused = result.err();
         result
     }
@@ -128,12 +124,15 @@ mod tests {
     }
 
     fn is_lines(lines: &LineList, wanted: &[&[u8]]) -> bool {
-        lines.len() == wanted.len()
-            && lines
-                .as_slice()
-                .iter()
-                .zip(wanted)
-                .all(|(line, want)| line.as_slice() == *want)
+        if lines.len() != wanted.len() {
+            return false;
+        }
+        for (at, want) in wanted.iter().enumerate() {
+            if lines.line(at) != *want {
+                return false;
+            }
+        }
+        true
     }
 
     #[test]

@@ -1,29 +1,38 @@
 -- What a MOMENT that may stand there closes.
-use Rattle.std.proofs.Common.{◌≡◌, ◌≢◌, ◌<◌, ℕ, true, false, true≢false, List, [], ◌∷◌, ◌++◌, All, Option, Result, Ok, Err, OnOk, is_err, pos, refl, sym, ap, subst, ◌∙◌, arith}
+use Rattle.std.proofs.Common.{◌≡◌, ◌<◌, ℕ, true, false, true≢false, List, [], ◌∷◌, ◌++◌, All, Option, Result, Ok, Err, OnOk, IfErr, is_err, refl, sym, ap, subst, ◌∙◌, arith}
 use Rattle.algorithms.specs.declared.last.Last.{Last}
 use Rattle.history.specs.declared.beat.OpenBeat.{OpenBeat}
 use Rattle.history.specs.declared.beat.OpenDim.{OpenDim}
 use Rattle.history.specs.declared.chart.ChartDef.{ChartDef}
 use Rattle.history.specs.declared.line.Line.{Line}
+use Rattle.history.specs.declared.numbered.NumberedBeat.{NumberedBeat}
 use Rattle.history.specs.declared.line.Line.TheVariants as line
 use Rattle.history.specs.History.{collected, registry_of}
 use Rattle.history.specs.Looking.{beat}
+use Rattle.history.specs.Numbered.{numbered_beat}
 use Rattle.history.specs.Refusal.{has_chart}
-use Rattle.history.specs.Registry.{Registry, with_definitions}
+use Rattle.history.specs.Registry.{Registry, same_chart, same_dimension, with_definitions}
 use Rattle.chart_registry.specs.Defining.{nothing_open}
 use Rattle.collect_block.specs.declared.step.Step.{Step}
 use Rattle.collect_block.specs.declared.step.Step.TheVariants as step
 use Rattle.collect_block.proofs.OpenLemmas.{grids, owners}
 use Rattle.beat_points.specs.LastRows.{AreLastOf}
 use Rattle.beat_points.specs.Points.{IsBefore, IsNext}
-use Rattle.beat_points.specs.Regular.{IsRegular}
+use Rattle.history.specs.Regular.{AreApart, IsRegular}
 use Rattle.beat_points.specs.Text.{AreAccepted, HasFew}
 use Rattle.point_lines.specs.declared.reader.Reader.{Reader}
+use Rattle.point_lines.specs.declared.stop.Stop.{Stop}
+use Rattle.point_lines.specs.declared.stop.Stop.TheVariants as stop
+use Rattle.point_lines.specs.Closing.{HasTaken, TellsOf}
 use Rattle.point_lines.specs.Judged.{every, history_of, placed}
-use Rattle.point_lines.specs.Reader.{IsReaderOf, Reads}
+use Rattle.point_lines.specs.Reader.{Reads, ReadsOr}
 use Rattle.point_lines.specs.Steps.{Stepped}
 use Rattle.point_lines.specs.Told.{beat_lines, told_at}
-use Rattle.beat_points.proofs.TextLemmas.{text-regular, text-before, text-divisors}
+use Rattle.beat_points.proofs.TextLemmas.{text-regular, text-before}
+use Rattle.chart_registry.proofs.OpenLemmas.{charts-apart, dimensions-apart}
+use Rattle.beat_entries.specs.Following.{AreOwned}
+use Rattle.beat_entries.specs.Defined.{IsDefinedIn}
+use Rattle.beat_entries.proofs.DefinedLemmas.{beat-defined}
 use Rattle.point_lines.proofs.StepLemmas.{placed-ok}
 
 pub on-ok : {T E P : Type 0} (r : Result T E) → is_err r ≡ false → OnOk r P → P
@@ -34,17 +43,11 @@ abbrev beat_in : Step → OpenBeat
 beat_in (step.Beat closed moment) = closed
 beat_in other = nothing_open
 
-abbrev HasSome : OpenDim → Type 0
-HasSome dimension = dimension.def.divisor ≢ pos 0
-
 few-none : HasFew (registry_of [])
 few-none chart = omega arith
 
 before-none : (later : ℕ) → 0 < later → IsBefore [] later
 before-none later above chart id = tt
-
-divisors-none : All HasSome (registry_of []).dimensions
-divisors-none k dimension below = absurd (omega arith)
 
 module _ (reader : Reader) (past : List Line) (closed : OpenBeat) (moment : ℕ)
     (stepped : Stepped reader past (line.Moment moment) (step.Beat closed moment)) where
@@ -59,6 +62,13 @@ module _ (reader : Reader) (past : List Line) (closed : OpenBeat) (moment : ℕ)
       subst (λ (registry : Registry). All (λ (dimension : OpenDim). has_chart registry closed dimension.chart ≡ true) closed.dimensions) (sym stepped.definitions)
       (subst (λ (closed : OpenBeat). All (λ (dimension : OpenDim). has_chart (registry_of (history_of past)) closed dimension.chart ≡ true) closed.dimensions) (sym closed-is)
       (owners every [] past))
+
+  closed-owned : AreOwned reader.registry closed
+  closed-owned = record {
+    charts = subst (λ (closed : OpenBeat). AreApart same_chart closed.charts) (sym closed-is) (charts-apart every past);
+    dimensions = subst (λ (closed : OpenBeat). AreApart same_dimension closed.dimensions) (sym closed-is) (dimensions-apart past);
+    owners = closed-owners;
+  }
 
   abbrev now : Registry
   now = registry_of (history_of (line.Moment moment ∷ past))
@@ -78,12 +88,16 @@ module _ (reader : Reader) (past : List Line) (closed : OpenBeat) (moment : ℕ)
         subst (λ (registry : Registry). IsRegular registry closed) (sym registry-is)
         (subst (IsRegular now) (sym closed-is) (text-regular every [] past moment few-none taken))
 
+    pub closed-defined : IsDefinedIn registry closed
+    closed-defined =
+        subst (λ (registry : Registry). IsDefinedIn registry closed) (sym closed-registry)
+        (beat-defined (history_of past) moment closed (subst (λ (registry : Registry). AreOwned registry closed) stepped.definitions closed-owned))
+
     pub closed-next : IsNext registry reader.last_rows (history_of past) moment closed
     closed-next = record {
       registry_is = closed-registry;
       lasts_are = stepped.rows;
       before = text-before every [] past moment before-none taken;
-      divisors = subst (λ (registry : Registry). All HasSome registry.dimensions) (sym registry-is) (text-divisors every [] (line.Moment moment ∷ past) divisors-none stepped.divisors);
     }
 
     closed-lines : beat_lines registry (history_of past) moment closed ≡ told_at past (line.Moment moment)
@@ -110,7 +124,24 @@ module _ (reader : Reader) (past : List Line) (closed : OpenBeat) (moment : ℕ)
           moment = refl;
           rows = subst (λ (closed : OpenBeat). AreLastOf rows (collected moment closed ∷ history_of past)) closed-is taken-rows;
           accepted = taken;
-          divisors = stepped.divisors;
         };
         added = added ∙ ap (λ more. out ++ more) closed-lines;
       }
+
+    -- once the beat by number was told and taken, the reader has read the MOMENT
+    module _ (numbered : NumberedBeat) (numbered-is : numbered ≡ numbered_beat registry moment closed) (out out' : List ℕ) (new : Reader) where
+      abbrev Whole : Type 0
+      Whole = new ≡ record reader { registry = registry; last_rows = new.last_rows; last = numbered.moment }
+
+      closed-whole : TellsOf registry reader.last_rows numbered out out' → HasTaken registry reader.last_rows new.last_rows numbered → Whole
+          → Reads new past (placed past (line.Moment moment)) out out'
+      closed-whole tells takes whole =
+          let added = subst (λ (n : NumberedBeat). TellsOf registry reader.last_rows n out out') numbered-is tells (history_of past) closed closed-next refl in
+          let rows = subst (λ (n : NumberedBeat). HasTaken registry reader.last_rows new.last_rows n) numbered-is takes (history_of past) closed stepped.rows closed-registry closed-regular refl in
+          let is : new ≡ closing new.last_rows out out' = whole ∙ ap (λ (n : NumberedBeat). record reader { registry = registry; last_rows = new.last_rows; last = n.moment }) numbered-is in
+          subst (λ (r : Reader). Reads r past (placed past (line.Moment moment)) out out') (sym is) (closed-reads new.last_rows out out' rows added)
+
+      pub closed-ends : (result : Result (Unit {0}) Stop) → OnOk result (TellsOf registry reader.last_rows numbered out out') → OnOk result (HasTaken registry reader.last_rows new.last_rows numbered)
+          → OnOk result Whole → IfErr result (λ why. why ≡ stop.Memory) → ReadsOr past (placed past (line.Moment moment)) result new out out'
+      closed-ends (Ok done) tells takes whole short = closed-whole tells takes whole
+      closed-ends (Err why) tells takes whole short = rw short tt

@@ -1,4 +1,3 @@
 pub mod CloseLemmas
-pub mod DivisorLemmas
 mod Rows
 pub mod StepLemmas

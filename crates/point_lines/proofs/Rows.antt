@@ -1,5 +1,5 @@
 -- The definitions of what is told, checked on single cases by computation.
-use Rattle.std.proofs.Common.{◌≡◌, ◌++◌, false, true, [], ◌∷◌, ℤ, codes, refl}
+use Rattle.std.proofs.Common.{◌≡◌, ◌++◌, true, [], ◌∷◌, ℤ, codes, refl}
 use Rattle.fixed_num.specs.UnitsText.{units_text}
 use Rattle.history.specs.declared.fault.BlockFault.TheVariants.{MomentOrder}
 use Rattle.history.specs.declared.line.Line.TheVariants.{Moment, Query, Skipped}

@@ -1,5 +1,5 @@
 -- What a line that was taken changes, and why one was not.
-use Rattle.std.proofs.Common.{◌≡◌, ◌≤◌, ℕ, ◌+◌, Bool, true, false, true≢false, List, [], ◌∷◌, ◌++◌, length, Option, Some, None, is_some, Result, Ok, Err, refl, sym, ap, subst, ◌∙◌, arith}
+use Rattle.std.proofs.Common.{◌≡◌, ◌≤◌, ℕ, ◌+◌, Bool, true, false, true≢false, List, [], ◌∷◌, ◌++◌, length, Option, None, is_some, Result, Ok, Err, refl, sym, ap, subst, ◌∙◌, arith}
 use Rattle.std.proofs.lemmas.List.{append-nil}
 use Rattle.std.specs.Option.{option_map_or}
 use Rattle.history.specs.declared.fault.BlockFault.{BlockFault}
@@ -15,7 +15,6 @@ use Rattle.plugin_text.specs.declared.fault.LineFault.{LineFault}
 use Rattle.plugin_text.specs.declared.fault.LineFault.TheVariants as fault
 use Rattle.plugin_text.specs.Line.{line as line_of}
 use Rattle.beat_points.specs.LastRows.{AreLastOf}
-use Rattle.beat_points.specs.Text.{AreAccepted, HaveDivisors}
 use Rattle.collect_block.specs.declared.feed.Feed.{Feed}
 use Rattle.collect_block.specs.declared.step.Step.{Step}
 use Rattle.collect_block.specs.declared.step.Step.TheVariants as step
@@ -26,7 +25,7 @@ use Rattle.point_lines.specs.declared.refusal.Refusal.TheVariants as refusal
 use Rattle.point_lines.specs.declared.stop.Stop.TheVariants as stop
 use Rattle.point_lines.specs.Judged.{every, history_of, placed, judged, judge}
 use Rattle.point_lines.specs.Reader.{IsReaderOf, Reads, StopsFor}
-use Rattle.point_lines.specs.Steps.{HasDivisor, Stepped, block_stop, line_stop, skips}
+use Rattle.point_lines.specs.Steps.{Stepped, block_stop, line_stop, skips}
 use Rattle.point_lines.specs.Told.{skipped, told_at}
 
 -- ---- the counts
@@ -54,18 +53,6 @@ skipped-more line.Disable past = omega arith
 skipped-more (line.Moment moment) past = omega arith
 skipped-more (line.Query text) past = refl
 skipped-more line.Skipped past = refl
-
-divisors-more : (past : List Line) (said : Line) → HasDivisor said → HaveDivisors past → HaveDivisors (said ∷ past)
-divisors-more past (line.Chart def) this rest = rest
-divisors-more past (line.Dimension def) this rest = (this, rest)
-divisors-more past (line.Begin chart) this rest = rest
-divisors-more past (line.Set id value anomalous) this rest = rest
-divisors-more past line.End this rest = rest
-divisors-more past line.Flush this rest = rest
-divisors-more past line.Disable this rest = rest
-divisors-more past (line.Moment moment) this rest = rest
-divisors-more past (line.Query text) this rest = rest
-divisors-more past line.Skipped this rest = rest
 
 -- ---- what a feed counts
 -- a feed that counts does so at each line
@@ -140,9 +127,9 @@ module _ (old : Reader) (past : List Line) (said : Line) (leads_to : Step) (feed
   abbrev counted : Reader
   counted = record old { lines = old.lines + 1; skipped = old.skipped + skips said; feed = feed }
 
-  pub count-steps : IsReaderOf old past → HasDivisor said → refusal_at every [] past said ≡ None → IsFeedOf feed every (said ∷ past) → CountsPast said feed old.registry → leads_to ≡ step_of every past said
+  pub count-steps : IsReaderOf old past → refusal_at every [] past said ≡ None → IsFeedOf feed every (said ∷ past) → CountsPast said feed old.registry → leads_to ≡ step_of every past said
       → Stepped counted past said leads_to
-  count-steps has divisor none fed counts step_is = record {
+  count-steps has none fed counts step_is = record {
     lines = omega (arith, has.lines);
     skips = ap (λ (n : ℕ). n + skips said) has.skips ∙ skipped-more said past;
     feed = fed;
@@ -151,8 +138,6 @@ module _ (old : Reader) (past : List Line) (said : Line) (leads_to : Step) (feed
     moment = has.moment;
     rows = has.rows;
     accepted = has.accepted;
-    divisors = has.divisors;
-    divisor = divisor;
     accepted_line = none;
     step_is = step_is;
   }
@@ -210,7 +195,6 @@ module _ (reader : Reader) (past : List Line) (said : Line) (leads_to : Step) (s
           moment = stepped.moment ∙ sym (ap last q.stays);
           rows = subst (AreLastOf reader.last_rows) (sym q.stays) stepped.rows;
           accepted = (stepped.accepted_line, stepped.accepted);
-          divisors = divisors-more past said stepped.divisor stepped.divisors;
         };
         added = sym (ap (λ more. out ++ more) q.tells ∙ append-nil out);
       }
@@ -229,7 +213,6 @@ reads-disable reader past out stepped = (
     moment = stepped.moment;
     rows = stepped.rows;
     accepted = (stepped.accepted_line, stepped.accepted);
-    divisors = stepped.divisors;
   },
 )
 

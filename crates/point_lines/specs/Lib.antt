@@ -1,3 +1,4 @@
+pub mod Closing
 pub mod Judged
 pub mod Reader
 pub mod Steps

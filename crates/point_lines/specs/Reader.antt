@@ -1,4 +1,4 @@
-use Rattle.std.specs.Prelude.{◌≡◌, ℕ, ◌<◌, ◌^◌, Bool, true, false, List, [], ◌∷◌, ◌++◌, length, Result, Ok, Err, MatchResult}
+use Rattle.std.specs.Prelude.{◌≡◌, ℕ, ◌<◌, ◌^◌, true, false, List, [], ◌∷◌, ◌++◌, length, Result, Ok, Err, MatchResult}
 use Rattle.history.specs.declared.line.Line.{Line}
 use Rattle.history.specs.declared.line.Line.TheVariants.{Disable}
 use Rattle.history.specs.declared.fault.BlockFault.TheVariants.{Unfinished}
@@ -6,7 +6,7 @@ use Rattle.history.specs.History.{last, registry_of}
 use Rattle.history.specs.Read.{is_disable}
 use Rattle.history.specs.Refusal.{is_unfinished}
 use Rattle.beat_points.specs.LastRows.{AreLastOf}
-use Rattle.beat_points.specs.Text.{AreAccepted, HaveDivisors}
+use Rattle.beat_points.specs.Text.{AreAccepted}
 use Rattle.collect_block.specs.Feed.{CountsFor, IsFeedOf}
 use Rattle.point_lines.specs.declared.reader.Reader.{Reader}
 use Rattle.point_lines.specs.declared.refusal.Refusal.{Refusal}
@@ -27,7 +27,6 @@ pub record IsReaderOf (reader : Reader) (past : List Line) : Type 0 where
   pub moment : reader.last ≡ last (history_of past)
   pub rows : AreLastOf reader.last_rows (history_of past)
   pub accepted : AreAccepted every [] past
-  pub divisors : HaveDivisors past
 
 -- the reader has read fewer than 2^63 lines
 abbrev pub HasRoom : Reader → Type 0

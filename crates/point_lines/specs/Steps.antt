@@ -1,15 +1,15 @@
 -- How a reader goes from a line to the next.
-use Rattle.std.specs.Prelude.{◌≡◌, ◌≢◌, ℕ, List, [], ◌∷◌, length, pos, Option, None, Result, Ok, Err}
+use Rattle.std.specs.Prelude.{◌≡◌, ℕ, Bool, true, false, List, [], ◌∷◌, length, None, Result}
 use Rattle.history.specs.declared.fault.BlockFault.{BlockFault}
 use Rattle.history.specs.declared.fault.BlockFault.TheVariants as block
 use Rattle.history.specs.declared.line.Line.{Line}
-use Rattle.history.specs.declared.line.Line.TheVariants.{Dimension, Query, Skipped}
+use Rattle.history.specs.declared.line.Line.TheVariants.{Query, Skipped}
 use Rattle.history.specs.History.{last, registry_of}
 use Rattle.history.specs.Read.{refusal_at}
 use Rattle.plugin_text.specs.declared.fault.LineFault.{LineFault}
 use Rattle.plugin_text.specs.declared.fault.LineFault.TheVariants as line
 use Rattle.beat_points.specs.LastRows.{AreLastOf}
-use Rattle.beat_points.specs.Text.{AreAccepted, HaveDivisors}
+use Rattle.beat_points.specs.Text.{AreAccepted}
 use Rattle.collect_block.specs.Feed.{CountsPast, IsFeedOf, step_of}
 use Rattle.collect_block.specs.declared.step.Step.{Step}
 use Rattle.point_lines.specs.declared.reader.Reader.{Reader}
@@ -36,10 +36,9 @@ skips Skipped = 1
 skips (Query text) = 1
 skips line = 0
 
--- the line is no definition of a dimension with a divisor of 0
-abbrev pub HasDivisor : Line → Type 0
-HasDivisor (Dimension def) = def.divisor ≢ pos 0
-HasDivisor line = Unit {0}
+abbrev pub one_if : Bool → ℕ
+one_if true = 1
+one_if false = 0
 
 -- a reader of these lines, which has counted one more that may stand there and leads to this step
 pub record Stepped (reader : Reader) (past : List Line) (said : Line) (step : Step) : Type 0 where
@@ -51,8 +50,6 @@ pub record Stepped (reader : Reader) (past : List Line) (said : Line) (step : St
   pub moment : reader.last ≡ last (history_of past)
   pub rows : AreLastOf reader.last_rows (history_of past)
   pub accepted : AreAccepted every [] past
-  pub divisors : HaveDivisors past
-  pub divisor : HasDivisor said
   pub accepted_line : refusal_at every [] past said ≡ None
   pub step_is : step ≡ step_of every past said
 

@@ -1,23 +1,23 @@
 ghost use Rattle.std.specs.Prelude.{◌≡◌, ◌+◌, ◌^◌, ◌<◌, ◌≤◌, ◌++◌, ℕ, List, [], ◌∷◌, length, string_bytes, IfOk, IfErr, OnOk};
 ghost use Rattle.history.specs.declared.line.Line.{Line as ALine};
 ghost use Rattle.history.specs.declared.line.Line.TheVariants as line;
-ghost use Rattle.history.specs.History.{Beat};
+ghost use Rattle.history.specs.Numbered.{IsThere};
 ghost use Rattle.collect_block.specs.declared.step.Step.TheVariants as step;
 ghost use Rattle.plugin_text.specs.Line.{line as line_of};
-ghost use Rattle.beat_points.specs.Points.{IsNext};
-ghost use Rattle.beat_points.specs.Regular.{IsRegular};
 ghost use Rattle.point_lines.specs.declared.stop.Stop.TheVariants as stop;
 ghost use Rattle.point_lines.specs.Reader.{IsReaderOf, HasRoom, ReadsOrStops, EndsOr};
-ghost use Rattle.point_lines.specs.Steps.{skips, HasDivisor, Stepped, StepsOr, TakesOr};
-ghost use Rattle.point_lines.specs.Told.{beat_lines, told_at_end};
+ghost use Rattle.point_lines.specs.Steps.{one_if, skips, Stepped, StepsOr, TakesOr};
+ghost use Rattle.point_lines.specs.Closing.{HasTaken, TellsOf};
+ghost use Rattle.point_lines.specs.Told.{told_at_end};
 
 use crate::refusal::Refusal;
 use crate::stop::{Stop, block_stop, line_stop};
 use crate::telling::push_points;
+use beat_entries::number_beat;
 use beat_points::LastRows;
 use chart_registry::Registry;
 use collect_block::{Feed, Step};
-use history::{Line, OpenBeat};
+use history::{Line, NumberedBeat, OpenBeat};
 use plugin_text::read_line;
 use std::alloc::{AllocError, Global};
 use std::fmt::Write;
@@ -35,6 +35,13 @@ pub struct Reader {
     pub(crate) registry: Registry,
     pub(crate) last_rows: LastRows,
     pub(crate) last: u32,
+}
+
+/// Whether a line is skipped: it says nothing to the agent, or asks for points.
+fn is_skipped(line: &Line) -> bool
+    ensures { one_if result ≡ skips line.now }
+{
+    matches!(line, Line::Skipped | Line::Query(_))
 }
 
 impl Reader {
@@ -69,7 +76,7 @@ impl Reader {
         ensures { ReadsOrStops self.old bytes.now result self.new (string_bytes out.old) (string_bytes out.new) }
     {
         match read_line(self.alloc, bytes) {
-            Ok(line) => self.take(&line, out),
+            Ok(line) => self.take(line, out),
             Err(fault) => Err(line_stop(fault)),
         }
     }
@@ -96,28 +103,28 @@ impl Reader {
     }
 
     // Reads a line that says this.
-    fn take(&mut self, line: &Line, out: &mut String) -> Result<(), Stop>
+    fn take(&mut self, line: Line, out: &mut String) -> Result<(), Stop>
         requires room { HasRoom self.old }
-        requires divisor { HasDivisor line.now }
-        ensures { TakesOr self.old line.now result self.new (string_bytes out.old) (string_bytes out.new) }
+        ensures { TakesOr self.old line result self.new (string_bytes out.old) (string_bytes out.new) }
     {
-        match self.feed.line(&self.registry, self.last, false, line) {
+        let skipped = is_skipped(&line);
+        match self.feed.take_line(&self.registry, self.last, false, line) {
             Ok(step) => {
-                self.count(line);
+                self.count(skipped);
                 self.take_step(step, out)
             }
             Err(fault) => Err(block_stop(fault)),
         }
     }
 
-    // Counts a line.
-    fn count(&mut self, line: &Line)
+    // Counts a line, and whether it says nothing to the agent.
+    fn count(&mut self, skipped: bool)
         requires lines { self.old.lines < 2 ^ 63 }
         requires skips { self.old.skipped < 2 ^ 63 }
-        ensures { self.new ≡ record self.old { lines = self.old.lines + 1; skipped = self.old.skipped + skips line.now } }
+        ensures { self.new ≡ record self.old { lines = self.old.lines + 1; skipped = self.old.skipped + one_if skipped } }
     {
         self.lines += 1;
-        if let Line::Skipped | Line::Query(_) = line {
+        if skipped {
             self.skipped += 1;
         }
     }
@@ -142,27 +149,39 @@ impl Reader {
         if self.registry.apply(beat).is_err() {
             return Err(Stop::Memory);
         }
-        if self.tell(beat, moment, out).is_err() {
+        match number_beat(self.alloc, &self.registry, moment, beat) {
+            Ok(numbered) => self.take_beat(&numbered, out),
+            Err(_) => Err(Stop::Memory),
+        }
+    }
+
+    // Takes a beat by number, whose definitions the registry has, and tells its points.
+    fn take_beat(&mut self, beat: &NumberedBeat, out: &mut String) -> Result<(), Stop>
+        requires { IsThere self.old.registry beat.now }
+        ensures told { OnOk result (TellsOf self.old.registry self.old.last_rows beat.now (string_bytes out.old) (string_bytes out.new)) }
+        ensures taken { OnOk result (HasTaken self.old.registry self.old.last_rows self.new.last_rows beat.now) }
+        ensures same { OnOk result (self.new ≡ record self.old { last_rows = self.new.last_rows; last = beat.now.moment }) }
+        ensures memory { IfErr result (λ fault. fault ≡ stop.Memory) }
+    {
+        if self.tell(beat, out).is_err() {
             return Err(Stop::Memory);
         }
-        if self.last_rows.apply(&self.registry, beat, moment).is_err() {
+        if self.last_rows.apply(&self.registry, beat).is_err() {
             return Err(Stop::Memory);
         }
-        self.last = moment;
+        self.last = beat.moment;
         Ok(())
     }
 
-    // Tells the points of a beat whose definitions the registry has.
-    fn tell(&self, beat: &OpenBeat, moment: u32, out: &mut String) -> Result<(), AllocError>
-        requires { IsRegular self.now.registry beat.now }
-        ensures { OnOk result ((h : List Beat) → IsNext self.now.registry self.now.last_rows h moment beat.now
-            → string_bytes out.new ≡ string_bytes out.old ++ beat_lines self.now.registry h moment beat.now) }
+    // Tells the points of a beat by number, whose definitions the registry has.
+    fn tell(&self, beat: &NumberedBeat, out: &mut String) -> Result<(), AllocError>
+        requires { IsThere self.now.registry beat.now }
+        ensures { OnOk result (TellsOf self.now.registry self.now.last_rows beat.now (string_bytes out.old) (string_bytes out.new)) }
     {
-        match self
-            .last_rows
-            .points(self.alloc, &self.registry, beat, moment)
-        {
-            Ok(points) => push_points(self.alloc, out, &self.registry, moment, points.as_slice()),
+        match self.last_rows.points(self.alloc, &self.registry, beat) {
+            Ok(points) => {
+                push_points(self.alloc, out, &self.registry, beat.moment, points.as_slice())
+            }
             Err(_) => Err(AllocError),
         }
     }

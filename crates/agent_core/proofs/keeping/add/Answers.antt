@@ -1,10 +1,10 @@
 use Rattle.std.proofs.Common.{◌≡◌, inl, sym, ap, ◌∙◌, subst}
 use Rattle.host_model.specs.Moments.{begins}
 use Rattle.history.specs.Registry.{Registry, same_chart, same_dimension}
-use Rattle.beat_points.specs.Regular.{AreApart}
+use Rattle.history.specs.Regular.{AreApart}
 use Rattle.store_core.specs.Records.{last_after}
 use Rattle.agent_core.proofs.DefinedLemmas.{charts-apart, dimensions-apart}
-use Rattle.agent_core.proofs.KeptLemmas.{climbs, holds-more, kept-after, next-after, spelt-after, stays}
+use Rattle.agent_core.proofs.KeptLemmas.{climbs, holds-more, kept-after, next-after, rows-taken, spelt-after, stays}
 use Rattle.agent_core.proofs.Outcomes.{always, on_ok}
 use Rattle.agent_core.proofs.keeping.add.Goals as goal
 
@@ -19,7 +19,7 @@ returns-in_err-commit-clause-any_moment g c true_host set h holds follows =
     let registry = c.args.registry.now in
     let lasts = c.args.last_rows.now in
     let beat = c.args.beat.now in
-    let kept = c.in-Ok.kept in
+    let kept = c.in-Ok.kept.beat in
     let is_kept = kept-after past store registry lasts set h holds c.args.moment beat follows kept c.keep.new.registry c.in-Ok.ensures.applied c.in-Ok.ensures.kept in
     let spelt = spelt-after past store registry lasts set h holds c.args.moment beat follows c.keep.new.registry c.in-Ok.ensures.applied c.in-Ok.ensures.spelt in
     climbs past store registry lasts set h holds c.args.moment beat follows kept is_kept spelt (g.H.Host.past c.commit.new.host) (c.commit.ensures.any_moment true_host set holds.beats holds.store_of)
@@ -31,7 +31,7 @@ returns-clause-any_moment g c true_host set h holds follows =
     let registry = c.args.registry.now in
     let lasts = c.args.last_rows.now in
     let beat = c.args.beat.now in
-    let kept = c.in-Ok.kept in
+    let kept = c.in-Ok.kept.beat in
     let is_kept = kept-after past store registry lasts set h holds c.args.moment beat follows kept c.keep.new.registry c.in-Ok.ensures.applied c.in-Ok.ensures.kept in
     let spelt = spelt-after past store registry lasts set h holds c.args.moment beat follows c.keep.new.registry c.in-Ok.ensures.applied c.in-Ok.ensures.spelt in
     climbs past store registry lasts set h holds c.args.moment beat follows kept is_kept spelt (g.H.Host.past c.commit.new.host) (c.commit.ensures.any_moment true_host set holds.beats holds.store_of)
@@ -43,14 +43,15 @@ returns-clause-done g c =
     let registry = c.args.registry.now in
     let lasts = c.args.last_rows.now in
     let beat = c.args.beat.now in
-    let kept = c.in-Ok.kept in
+    let kept = c.in-Ok.kept.beat in
     on_ok _ _ c.take_rows.result c.take_rows.ensures.taken (λ taken true_host set h holds follows.
     let applied = c.in-Ok.ensures.applied in
     let is_kept = kept-after past store registry lasts set h holds c.args.moment beat follows kept c.keep.new.registry applied c.in-Ok.ensures.kept in
     let spelt = spelt-after past store registry lasts set h holds c.args.moment beat follows c.keep.new.registry applied c.in-Ok.ensures.spelt in
     holds-more past store registry lasts set h holds c.args.moment beat follows kept is_kept spelt (g.H.Host.past c.commit.new.host) c.commit.new.store c.keep.new.registry c.take_rows.new.last_rows
     (c.in_ok-commit.ensures.stored true_host set holds.beats holds.store_of) applied
-    (let next = next-after past store registry lasts set h holds c.args.moment beat follows c.keep.new.registry applied in taken h next.lasts_are next.registry_is))
+    (let next = next-after past store registry lasts set h holds c.args.moment beat follows c.keep.new.registry applied in
+    rows-taken c.keep.new.registry lasts c.take_rows.new.last_rows h c.args.moment beat c.in-Ok.kept.numbered c.in-Ok.ensures.numbered taken next c.in-Ok.ensures.regular))
 
 pub returns-clause-last : goal.returns-clause-last
 returns-clause-last g c =

@@ -36,10 +36,8 @@ returns-then-names_series-clause-taken c g beats beat are of parts =
 
 pub returns-then-names_series-clause-charts : goal.returns-then-names_series-clause-charts
 returns-then-names_series-clause-charts c =
-    (entry-once c.args.left.now c.take_entry.new.left c.args.last_rows.now c.take_entry.new.last_rows c.in_ok-entry.entry c.in_ok-take_entry.ensures.left c.in_ok-take_entry.ensures.rows
-    c.requires.charts c.requires.dimensions).0
+    (entry-once c.args.left.now c.take_entry.new.left c.in_ok-entry.entry c.in_ok-take_entry.ensures.left c.requires.charts c.requires.dimensions).0
 
 pub returns-then-names_series-clause-dimensions : goal.returns-then-names_series-clause-dimensions
 returns-then-names_series-clause-dimensions c =
-    (entry-once c.args.left.now c.take_entry.new.left c.args.last_rows.now c.take_entry.new.last_rows c.in_ok-entry.entry c.in_ok-take_entry.ensures.left c.in_ok-take_entry.ensures.rows
-    c.requires.charts c.requires.dimensions).1
+    (entry-once c.args.left.now c.take_entry.new.left c.in_ok-entry.entry c.in_ok-take_entry.ensures.left c.requires.charts c.requires.dimensions).1

@@ -2,7 +2,7 @@ use Rattle.std.proofs.Common.{◌≡◌, List, None, length}
 use Rattle.host_model.specs.Past.{Event}
 use Rattle.history.specs.History.{Beat}
 use Rattle.history.specs.Registry.{same_chart, same_dimension}
-use Rattle.beat_points.specs.Regular.{AreApart}
+use Rattle.history.specs.Regular.{AreApart}
 use Rattle.entry_codec.specs.declared.entry.Settings.{Settings}
 use Rattle.store_core.specs.declared.beat.Beat.{Beat as StoreBeat}
 use Rattle.agent_core.specs.Replay.{HasTaken, IsReplaying}

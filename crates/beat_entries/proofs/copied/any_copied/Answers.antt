@@ -1,4 +1,4 @@
-use Rattle.beat_entries.proofs.CopiedLemmas.{copied-last, copied-next, copied-registry}
+use Rattle.beat_entries.proofs.CopiedLemmas.{copied-next, copied-registry}
 use Rattle.beat_entries.proofs.copied.any_copied.Goals as goal
 
 pub returns-clause-next : goal.returns-clause-next
@@ -6,6 +6,3 @@ returns-clause-next c = copied-next
 
 pub returns-clause-registry : goal.returns-clause-registry
 returns-clause-registry c = copied-registry
-
-pub returns-clause-last : goal.returns-clause-last
-returns-clause-last c = copied-last

@@ -1,7 +1,7 @@
 use Rattle.std.proofs.Common.{List, rules, sym, subst}
 use Rattle.std.specs.List.Sorted.{IsNonDecreasingBy}
 use Rattle.std.proofs.lemmas.List.Sorted.{IsNonDecreasingBy-from_sort_by_key}
-use Rattle.entry_codec.specs.declared.charts.NumberedChart.{NumberedChart}
+use Rattle.history.specs.declared.numbered.NumberedChart.{NumberedChart}
 use Rattle.beat_entries.proofs.definitions.sort_charts.Goals as goal
 
 pub returns-clause-rises : goal.returns-clause-rises

@@ -1,7 +1,7 @@
 use Rattle.std.proofs.Common.{List, rules, sym, subst}
 use Rattle.std.specs.List.Sorted.{IsNonDecreasingBy}
 use Rattle.std.proofs.lemmas.List.Sorted.{IsNonDecreasingBy-from_sort_by_key}
-use Rattle.entry_codec.specs.declared.dimensions.NumberedDimension.{NumberedDimension}
+use Rattle.history.specs.declared.numbered.NumberedDimension.{NumberedDimension}
 use Rattle.beat_entries.proofs.definitions.sort_dimensions.Goals as goal
 
 pub returns-clause-rises : goal.returns-clause-rises

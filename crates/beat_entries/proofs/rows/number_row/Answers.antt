@@ -5,7 +5,7 @@ use Rattle.std.specs.Option.{option_map}
 use Rattle.chart_registry.specs.Defining.{chart_id}
 use Rattle.history.specs.declared.row.Value.{Value}
 use Rattle.history.specs.Registry.{chart_of}
-use Rattle.beat_entries.specs.Entry.{entry_values}
+use Rattle.history.specs.Numbered.{numbered_values}
 use Rattle.beat_entries.specs.Gathered.{value_at, row_at}
 use Rattle.beat_entries.proofs.EntryLemmas.{values-are}
 use Rattle.beat_entries.proofs.rows.number_row.Goals as goal
@@ -21,8 +21,8 @@ returns-in_ok-values-in-Some-2 c =
     let found : chart_of registry row.chart ≡ Some number = ap (chart_of registry) (sym c.as_str.ensures) ∙ sym c.in-Some.ensures.value in
     let gathered : items ≡ filter_map (value_at registry row.chart) row.values
     = c.in_ok-values-in-Some.ensures ∙ ap (λ (chart : List ℕ). filter_map (value_at registry chart) c.as_slice.result.now) id ∙ ap (filter_map (value_at registry row.chart)) c.as_slice.ensures in
-    let values : list ≡ entry_values registry row
+    let values : list ≡ numbered_values registry row
     = values-are registry row c.requires.own list c.requires.apart (subst (λ (all : List Value). IsPermutation all list) gathered c.in_ok-values-in-Some-2.ensures.same) c.in_ok-values-in-Some-2.ensures.rises in
-    let made : Some (record { chart = number; values = entry_values registry row }) ≡ row_at registry row
-    = ap (option_map (λ (n : ℕ). record { chart = n; values = entry_values registry row })) (sym found) in
+    let made : Some (record { chart = number; values = numbered_values registry row }) ≡ row_at registry row
+    = ap (option_map (λ (n : ℕ). record { chart = n; values = numbered_values registry row })) (sym found) in
     ap (λ (values : List Value). Some (record { chart = number; values = values })) values ∙ made

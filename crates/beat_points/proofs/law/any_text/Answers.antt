@@ -1,4 +1,4 @@
-use Rattle.beat_points.proofs.TextLemmas.{text-regular, text-few, text-before, text-divisors}
+use Rattle.beat_points.proofs.TextLemmas.{text-regular, text-few, text-before}
 use Rattle.beat_points.proofs.law.any_text.Goals as goal
 
 pub returns-clause-regular : goal.returns-clause-regular
@@ -9,6 +9,3 @@ returns-clause-few c = text-few
 
 pub returns-clause-before : goal.returns-clause-before
 returns-clause-before c = text-before
-
-pub returns-clause-divisors : goal.returns-clause-divisors
-returns-clause-divisors c = text-divisors

@@ -1,5 +1,7 @@
-use Rattle.beat_points.proofs.TakingLemmas.{TakesRows}
+use Rattle.std.proofs.Common.{take}
+use Rattle.beat_points.specs.LastRows.{Takes}
+use Rattle.beat_points.specs.Numbered.{rows_values}
 use Rattle.beat_points.proofs.taking.take_rows.Given as goal
 
 abbrev pub invariant-loop-row : goal.invariant-loop-row
-invariant-loop-row l = TakesRows l.registry l.moment l.rows l.row-index l.initial.last l.last
+invariant-loop-row l = Takes l.moment (rows_values (take l.row-index l.rows)) l.initial.last l.last

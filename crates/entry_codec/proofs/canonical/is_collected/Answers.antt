@@ -1,7 +1,7 @@
 use Rattle.std.proofs.Common.{◌≡◌, true, map, sym, ap, ◌∙◌}
 use Rattle.std.specs.List.{list_all}
-use Rattle.entry_codec.specs.declared.charts.NumberedChart.{NumberedChart}
-use Rattle.entry_codec.specs.declared.dimensions.NumberedDimension.{NumberedDimension}
+use Rattle.history.specs.declared.numbered.NumberedChart.{NumberedChart}
+use Rattle.history.specs.declared.numbered.NumberedDimension.{NumberedDimension}
 use Rattle.history.specs.declared.row.Row.{Row}
 use Rattle.entry_codec.specs.Entries.{is_collected_canonical, are_values_ascending}
 use Rattle.entry_codec.specs.Lists.{is_ascending}

@@ -1,4 +1,4 @@
-use Rattle.std.proofs.Common.{◌≡◌, ◌∙◌, Ok, IfOk, IfErr, List, ℕ, Result, ap, subst}
+use Rattle.std.proofs.Common.{◌≡◌, ◌∙◌, Ok, IfOk, IfErr, Result, ap, subst}
 use Rattle.history.specs.declared.line.Line.{Line}
 use Rattle.plugin_text.specs.declared.fault.LineFault.{LineFault}
 use Rattle.plugin_text.specs.Answer.{IsFaultFor}

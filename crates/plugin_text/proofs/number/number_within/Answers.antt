@@ -1,4 +1,4 @@
-use Rattle.std.proofs.Common.{sym, ◌∙◌, ◌≡◌, ap, Ok, int_le, true, FitsSigned, w64, rules}
+use Rattle.std.proofs.Common.{sym, ◌∙◌, ◌≡◌, ap, Ok, int_le, true, FitsSigned, w64}
 use Rattle.std.proofs.lemmas.Int.{to_z-of_z}
 use Rattle.plugin_text.proofs.NumberLemmas.{number_within-is, number_within-none}
 use Rattle.plugin_text.proofs.number.number_within.Goals as goal

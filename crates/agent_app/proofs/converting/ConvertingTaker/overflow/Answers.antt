@@ -1,8 +1,12 @@
+use Rattle.std.proofs.Common.{refl}
 use Rattle.agent_app.proofs.ConvertingLemmas.{overflows-long}
 use Rattle.agent_app.proofs.converting.ConvertingTaker.overflow.Goals as goal
 
 pub returns : goal.returns
 returns g c = record {
-  overflows = λ begin faults front before at ended long more over.
-      overflows-long _ g.H.Host.honest front _ _ _ _ before _ c.args.number _ ended long more at over c.refuse.ensures;
+  overflows = (
+    (λ begin faults front before at ended long more over.
+        overflows-long _ g.H.Host.honest front _ _ _ _ before _ c.args.number _ ended long more at over c.refuse.ensures),
+    refl,
+  );
 }

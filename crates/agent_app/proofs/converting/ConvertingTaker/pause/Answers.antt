@@ -3,11 +3,17 @@ use Rattle.agent_app.proofs.ConvertingLemmas.{pauses-fault, pauses-told}
 use Rattle.agent_app.proofs.converting.ConvertingTaker.pause.Goals as goal
 
 pub returns-in-Ok-clause-pauses : goal.returns-in-Ok-clause-pauses
-returns-in-Ok-clause-pauses g c begin faults front before =
-    pauses-told _ g.H.Host.honest front _ _ _ _ before _ _ _ refl c.in-Ok.ensures.emptied c.in-Ok.ensures.told
-    (λ none. let same = c.tell_waiting.ensures.silent none in (ap g.H.Host.past same, ap g.H.Host.tell_faults same)) c.tell_waiting.ensures.cause.later
+returns-in-Ok-clause-pauses g c = (
+  (λ begin faults front before.
+      pauses-told _ g.H.Host.honest front _ _ _ _ before _ _ _ refl c.in-Ok.ensures.emptied c.in-Ok.ensures.told
+      (λ none. let same = c.tell_waiting.ensures.silent none in (ap g.H.Host.past same, ap g.H.Host.tell_faults same)) c.tell_waiting.ensures.cause.later),
+  c.tell_waiting.ensures.disk,
+)
 
 pub returns-in-Err-clause-pauses : goal.returns-in-Err-clause-pauses
-returns-in-Err-clause-pauses g c begin faults front before =
-    pauses-fault _ g.H.Host.honest front _ _ _ _ before _ _ _ c.in-Err.ensures.torn
-    (λ none. let same = c.tell_waiting.ensures.silent none in (ap g.H.Host.past same, ap g.H.Host.tell_faults same)) c.tell_waiting.ensures.cause.later (c.in-Err.ensures.cause.failed refl)
+returns-in-Err-clause-pauses g c = (
+  (λ begin faults front before.
+      pauses-fault _ g.H.Host.honest front _ _ _ _ before _ _ _ c.in-Err.ensures.torn
+      (λ none. let same = c.tell_waiting.ensures.silent none in (ap g.H.Host.past same, ap g.H.Host.tell_faults same)) c.tell_waiting.ensures.cause.later (c.in-Err.ensures.cause.failed refl)),
+  c.tell_waiting.ensures.disk,
+)

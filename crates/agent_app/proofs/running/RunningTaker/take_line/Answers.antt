@@ -1,12 +1,9 @@
 use Rattle.plugin_text.proofs.LimitLemmas.{limits-of}
-use Rattle.point_lines.proofs.DivisorLemmas.{divisor-of}
-use Rattle.agent_app.proofs.TakeLemmas.{divisors}
 use Rattle.agent_app.proofs.running.RunningTaker.take_line.Goals as goal
 
 pub take_said-requires : goal.take_said-requires
 take_said-requires g c = record {
   ready = c.requires.ready;
-  divisor = divisors c.in-Ok.said (divisor-of c.args.line.now c.in-Ok.said c.in-Ok.ensures.line);
   limits = limits-of c.args.line.now c.in-Ok.said c.requires.whole c.in-Ok.ensures.line;
 }
 

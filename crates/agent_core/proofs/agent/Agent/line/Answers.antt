@@ -26,7 +26,7 @@ returns-in-Ok g c =
     = subst (λ (a : AgentState). (every : ℕ) (past : List Line) → IsFeedOf feed every past → CountsAt line feed a.registry → refusal a.registry every past a.copies a.last line ≡ None) c.self.view_is c.in-Ok.ensures.refused in
     let counts : CountsFor feed agent.registry → CountsPast line c.line.new.self agent.registry
     = subst (λ (a : AgentState). CountsFor feed a.registry → CountsPast line c.line.new.self a.registry) c.self.view_is c.in-Ok.ensures.counts in
-    line-taken g.H.Host.honest host host' agent c.take_step.new.self feed c.line.new.self line c.in-Ok.step c.take_step.result c.requires.fed c.requires.divisor c.requires.limits
+    line-taken g.H.Host.honest host host' agent c.take_step.new.self feed c.line.new.self line c.in-Ok.step c.take_step.result c.requires.fed c.requires.limits
     free c.in-Ok.ensures.gives c.in-Ok.ensures.taken counts c.take_step.ensures
 
 abbrev failing : BlockFault → Result Step BlockFault

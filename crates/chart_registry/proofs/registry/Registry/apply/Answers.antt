@@ -1,9 +1,12 @@
-use Rattle.std.proofs.Common.{◌≡◌, ◌<◌, List, [], length, get_or, ap, ◌∙◌, subst}
+use Rattle.std.proofs.Common.{◌≡◌, ◌<◌, List, [], length, get_or, sym, ap, ◌∙◌, subst}
 use Rattle.std.specs.List.{list_any}
+use Rattle.std.proofs.lemmas.Result.{err_from_is_err_and, IfErr-weaker}
 use Rattle.history.specs.declared.beat.OpenDim.{OpenDim}
 use Rattle.history.specs.declared.chart.ChartDef.{ChartDef}
 use Rattle.history.specs.Registry.{Registry as Definitions, is_chart, with_definitions}
+use Rattle.chart_registry.specs.Defining.{defines, IsReasonOf}
 use Rattle.chart_registry.proofs.Applying.{has_chart-applied}
+use Rattle.chart_registry.proofs.ReasonLemmas.{charts-wider, dimensions-wider}
 use Rattle.chart_registry.proofs.registry.Registry.apply.Goals as goal
 
 pub define_dimensions-requires : goal.define_dimensions-requires
@@ -11,8 +14,26 @@ define_dimensions-requires c = λ k d within.
     let beat = c.args.beat.now in
     let here : get_or c.as_slice-2.result.now k d ≡ get_or beat.dimensions k d = ap (λ (dimensions : List OpenDim). get_or dimensions k d) c.as_slice-2.ensures in
     let made : c.define_charts.new.self ≡ with_definitions c.args.self.now beat.charts [] =
-    c.in_ok-define_charts.ensures ∙ ap (λ (charts : List ChartDef). with_definitions c.args.self.now charts []) c.as_slice.ensures in
+    c.in_ok-define_charts.ensures.ok ∙ ap (λ (charts : List ChartDef). with_definitions c.args.self.now charts []) c.as_slice.ensures in
     ap (λ (dimension : OpenDim). list_any (is_chart dimension.chart) c.define_charts.new.self.charts) here
     ∙ ap (λ (made : Definitions). list_any (is_chart (get_or beat.dimensions k d).chart) made.charts) made
     ∙ has_chart-applied c.args.self.now beat (get_or beat.dimensions k d).chart
     ∙ c.requires.owned k d (subst (λ (dimensions : List OpenDim). k < length dimensions) c.as_slice-2.ensures within)
+
+pub returns-in_err-define_charts-clause-refused : goal.returns-in_err-define_charts-clause-refused
+returns-in_err-define_charts-clause-refused c =
+    let registry = c.args.self.now in
+    let beat = c.args.beat.now in
+    let error = err_from_is_err_and c.from_residual.result c.from_residual.ensures.1 in
+    let reason = charts-wider registry beat c.as_slice.result.now c.as_slice.ensures _ c.in_err-define_charts.ensures.refused in
+    rw error.1 (subst (IsReasonOf registry beat) (sym error.2) reason)
+
+pub returns-clause-refused : goal.returns-clause-refused
+returns-clause-refused c =
+    let registry = c.args.self.now in
+    let beat = c.args.beat.now in
+    let made : c.define_charts.new.self ≡ with_definitions registry beat.charts [] =
+    c.in_ok-define_charts.ensures.ok ∙ ap (λ (charts : List ChartDef). with_definitions registry charts []) c.as_slice.ensures in
+    IfErr-weaker c.define_dimensions.result (IsReasonOf c.define_charts.new.self (defines [] c.as_slice-2.result.now)) (IsReasonOf registry beat)
+    (λ fault reason. dimensions-wider registry beat c.define_charts.new.self made fault
+    (subst (λ (dimensions : List OpenDim). IsReasonOf c.define_charts.new.self (defines [] dimensions) fault) c.as_slice-2.ensures reason)) c.define_dimensions.ensures.refused

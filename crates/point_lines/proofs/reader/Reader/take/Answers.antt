@@ -13,21 +13,21 @@ pub take_step-requires : goal.take_step-requires
 take_step-requires c =
     let past = c.requires.room.0 in
     let has = c.requires.room.1 in
-    let reason = sym (reason-is c.args.self.now past has c.args.line.now) ∙ c.in-Ok.ensures.refused every past has.feed (counts-at c.args.self.now.feed c.args.self.now.registry c.args.line.now has.counts) in (
+    let reason = sym (reason-is c.args.self.now past has c.args.line) ∙ c.in-Ok.ensures.refused every past has.feed (counts-at c.args.self.now.feed c.args.self.now.registry c.args.line has.counts) in (
       past,
-      c.args.line.now,
-      rw c.count.ensures (count-steps c.args.self.now past c.args.line.now c.in-Ok.step c.line.new.self has c.requires.divisor reason
+      c.args.line,
+      rw (c.count.ensures, c.is_skipped-skipped.ensures) (count-steps c.args.self.now past c.args.line c.in-Ok.step c.take_line.new.self has reason
           (c.in-Ok.ensures.taken every past has.feed) (c.in-Ok.ensures.counts has.counts) (c.in-Ok.ensures.gives every past has.feed)),
     )
 
 pub returns-in-Ok : goal.returns-in-Ok
 returns-in-Ok c past has =
-    let reason = sym (reason-is c.args.self.now past has c.args.line.now) ∙ c.in-Ok.ensures.refused every past has.feed (counts-at c.args.self.now.feed c.args.self.now.registry c.args.line.now has.counts) in
-    c.take_step.ensures c.args.line.now past (rw c.count.ensures (count-steps c.args.self.now past c.args.line.now c.in-Ok.step c.line.new.self has c.requires.divisor reason
+    let reason = sym (reason-is c.args.self.now past has c.args.line) ∙ c.in-Ok.ensures.refused every past has.feed (counts-at c.args.self.now.feed c.args.self.now.registry c.args.line has.counts) in
+    c.take_step.ensures c.args.line past (rw (c.count.ensures, c.is_skipped-skipped.ensures) (count-steps c.args.self.now past c.args.line c.in-Ok.step c.take_line.new.self has reason
     (c.in-Ok.ensures.taken every past has.feed) (c.in-Ok.ensures.counts has.counts) (c.in-Ok.ensures.gives every past has.feed)))
 
 pub returns-in-Err : goal.returns-in-Err
 returns-in-Err c past has =
     rw c.block_stop.ensures
-    (stops-block past c.args.line.now _ c.in-Err.fault _ (reason-is c.args.self.now past has c.args.line.now)
-    (c.in-Err.ensures.refused every past has.feed (counts-at c.args.self.now.feed c.args.self.now.registry c.args.line.now has.counts)) (string_bytes c.args.out.now))
+    (stops-block past c.args.line _ c.in-Err.fault _ (reason-is c.args.self.now past has c.args.line)
+    (c.in-Err.ensures.refused every past has.feed (counts-at c.args.self.now.feed c.args.self.now.registry c.args.line has.counts)) (string_bytes c.args.out.now))
