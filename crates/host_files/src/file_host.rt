@@ -1,44 +1,48 @@
-ghost use Rattle.std.specs.Prelude.{◌≡◌, ◌^◌, ◌-◌, ◌≤◌, [], IfOk};
+ghost use Rattle.std.specs.Prelude.{◌≡◌, ◌^◌, ◌-◌, ◌<◌, ◌≤◌, ◌↔◌, [], IfOk, IsSome};
 ghost use Rattle.host_model.specs.Calls.{raised};
 
 use crate::disk::Disk;
+use crate::disk_error::DiskError;
+use crate::faults::Faults;
+use crate::folder_lock::LockKind;
 use host_model::{Failed, File, Host};
 use std::alloc::{AllocError, Global};
 use std::fs::Files;
-use std::io;
 use std::io::{BufWriter, Write};
-use std::os::unix::fs::FileExt;
+use std::{fs, io};
 
 /// The files of one folder and a writer, which is standard output in the program. It tells nothing.
 #[derive(Drop)]
-pub struct FileHost<R: Files + Drop, W: Write + Drop> {
+pub struct FileHost<R: Files<File = fs::File> + Drop, W: Write + Drop> {
     disk: Disk<R>,
     output: BufWriter<W>,
-    /// A tell has failed: no other is sent, so that what was sent is a front of what was to be told.
-    closed: bool,
-    disk_faults: u64,
-    tell_faults: u64,
+    disk_faults: Faults<DiskError>,
+    tell_faults: Faults<io::Error>,
     reads: u64,
 }
 
-impl<R: Files + Drop, W: Write + Drop> FileHost<R, W>
-where
-    R::File: FileExt,
-{
-    /// The files of the current folder. No call has failed.
-    pub fn new(alloc: Global, system: R, output: W) -> Result<FileHost<R, W>, AllocError>
+impl<R: Files<File = fs::File> + Drop, W: Write + Drop> FileHost<R, W> {
+    /// The files of the current folder, whose lock the first call on the disk takes. No call has
+    /// failed.
+    pub fn new(
+        alloc: Global,
+        system: R,
+        lock: LockKind,
+        output: W,
+    ) -> Result<FileHost<R, W>, AllocError>
         ensures disk { IfOk result (λ host. ⟦<FileHost<R, W> as Host>⟧.disk_faults host ≡ 0) }
         ensures output { IfOk result (λ host. ⟦<FileHost<R, W> as Host>⟧.tell_faults host ≡ 0) }
         ensures reads { IfOk result (λ host. ⟦<FileHost<R, W> as Host>⟧.reads host ≡ 0) }
     {
-        FileHost::in_folder(alloc, system, ".", output)
+        FileHost::in_folder(alloc, system, ".", lock, output)
     }
 
-    /// The files of `folder`. No call has failed.
+    /// The files of `folder`, whose lock the first call on the disk takes. No call has failed.
     pub fn in_folder(
         alloc: Global,
         system: R,
         folder: &str,
+        lock: LockKind,
         output: W,
     ) -> Result<FileHost<R, W>, AllocError>
         ensures disk { IfOk result (λ host. ⟦<FileHost<R, W> as Host>⟧.disk_faults host ≡ 0) }
@@ -46,23 +50,36 @@ where
         ensures reads { IfOk result (λ host. ⟦<FileHost<R, W> as Host>⟧.reads host ≡ 0) }
     {
         Ok(FileHost {
-            disk: Disk::new(alloc, system, folder)?,
+            disk: Disk::new(alloc, system, folder, lock)?,
             output: BufWriter::new(alloc, output).map_err(|_| AllocError)?,
-            closed: false,
-            disk_faults: 0,
-            tell_faults: 0,
+            disk_faults: Faults::new(),
+            tell_faults: Faults::new(),
             reads: 0,
         })
     }
 
+    /// Why the first call on the disk that failed did.
+    pub fn disk_error(&self) -> Option<DiskError>
+        ensures { IsSome result ↔ (0 < ⟦<FileHost<R, W> as Host>⟧.disk_faults self.now) }
+    {
+        self.disk_faults.first()
+    }
+
+    /// Why the first call of `tell` that failed did.
+    pub fn tell_error(&self) -> Option<io::Error>
+        ensures { IsSome result ↔ (0 < ⟦<FileHost<R, W> as Host>⟧.tell_faults self.now) }
+    {
+        self.tell_faults.first()
+    }
+
     /// Counts a failed call on the disk.
-    fn fail_disk(&mut self) -> Failed
-        ensures count { self.new.disk_faults ≡ raised self.old.disk_faults }
-        ensures range { self.old.disk_faults ≤ 2 ^ 64 - 1 }
+    fn fail_disk(&mut self, reason: DiskError) -> Failed
+        ensures count { self.new.disk_faults.count ≡ raised self.old.disk_faults.count }
+        ensures range { self.old.disk_faults.count ≤ 2 ^ 64 - 1 }
         ensures output { self.new.tell_faults ≡ self.old.tell_faults }
         ensures reads { self.new.reads ≡ self.old.reads }
     {
-        self.disk_faults = self.disk_faults.saturating_add(1);
+        self.disk_faults.add(reason);
         Failed
     }
 }
@@ -73,24 +90,21 @@ fn send<W: Write>(output: &mut W, bytes: &[u8]) -> io::Result<()> {
     output.flush()
 }
 
-impl<R: Files + Drop, W: Write + Drop> Host for FileHost<R, W>
-where
-    R::File: FileExt,
-{
+impl<R: Files<File = fs::File> + Drop, W: Write + Drop> Host for FileHost<R, W> {
     ghost honest = { ⊥ };
 
     ghost past = { λ _. [] };
 
-    ghost disk_faults = { λ host. host.disk_faults };
+    ghost disk_faults = { λ host. host.disk_faults.count };
 
-    ghost tell_faults = { λ host. host.tell_faults };
+    ghost tell_faults = { λ host. host.tell_faults.count };
 
     ghost reads = { λ host. host.reads };
 
     fn len(&mut self, file: File) -> Result<u64, Failed> {
         match self.disk.len(file) {
             Ok(len) => Ok(len),
-            Err(_) => Err(self.fail_disk()),
+            Err(reason) => Err(self.fail_disk(reason)),
         }
     }
 
@@ -98,38 +112,44 @@ where
         self.reads = self.reads.saturating_add(1);
         match self.disk.read(file, at, into) {
             Ok(size) => Ok(size),
-            Err(_) => Err(self.fail_disk()),
+            Err(reason) => Err(self.fail_disk(reason)),
         }
     }
 
     fn write_at(&mut self, file: File, at: u64, bytes: &[u8]) -> Result<(), Failed> {
         match self.disk.write_at(file, at, bytes) {
             Ok(()) => Ok(()),
-            Err(_) => Err(self.fail_disk()),
+            Err(reason) => Err(self.fail_disk(reason)),
         }
     }
 
     fn cut(&mut self, file: File, len: u64) -> Result<(), Failed> {
         match self.disk.cut(file, len) {
             Ok(()) => Ok(()),
-            Err(_) => Err(self.fail_disk()),
+            Err(reason) => Err(self.fail_disk(reason)),
         }
     }
 
     fn sync(&mut self, file: File) -> Result<(), Failed> {
         match self.disk.sync(file) {
             Ok(()) => Ok(()),
-            Err(_) => Err(self.fail_disk()),
+            Err(reason) => Err(self.fail_disk(reason)),
         }
     }
 
     fn tell(&mut self, bytes: &[u8]) -> Result<(), Failed> {
-        if !self.closed && send(&mut self.output, bytes).is_ok() {
-            return Ok(());
+        let sent = match self.tell_faults.first() {
+            // A tell has failed: what was sent stays a front of what was to be told.
+            Some(reason) => Err(reason),
+            None => send(&mut self.output, bytes),
+        };
+        match sent {
+            Ok(()) => Ok(()),
+            Err(reason) => {
+                self.tell_faults.add(reason);
+                Err(Failed)
+            }
         }
-        self.closed = true;
-        self.tell_faults = self.tell_faults.saturating_add(1);
-        Err(Failed)
     }
 
     ghost reads_an_image = { λ host file honest. absurd honest };

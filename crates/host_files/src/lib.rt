@@ -1,13 +1,24 @@
 //! The real outside, as the agent sees it: files, standard output and standard input.
 //!
 //! Each object passes a call on to the operating system and counts the calls that fail; nothing is
-//! answered `Failed` that was not counted. None tells what it holds: what a real file keeps and what a
-//! real output takes is no matter of proof. They stand on std's files and streams.
+//! answered `Failed` that was not counted, and the first reason is kept for people to read. None tells
+//! what it holds: what a real file keeps and what a real output takes is no matter of proof. A folder's
+//! files are used under its lock alone, and none of them under a standard stream's descriptor. They
+//! stand on std's files and streams.
 #![tactic(auto)]
 
 mod disk;
+mod disk_error;
+mod faults;
 mod file_host;
+mod folder_lock;
+mod handles;
+mod regular;
+mod standard;
 mod stdin_source;
 
+pub use disk_error::DiskError;
 pub use file_host::FileHost;
+pub use folder_lock::LockKind;
+pub use standard::StandIns;
 pub use stdin_source::StdinSource;

@@ -1,5 +1,6 @@
-ghost use Rattle.std.specs.Prelude.{◌≡◌, ◌≤◌, length, IfOk, None};
+ghost use Rattle.std.specs.Prelude.{◌≡◌, ◌<◌, ◌≤◌, ◌↔◌, length, IfOk, IsSome, None};
 
+use crate::faults::Faults;
 use host_model::{Failed, Source};
 use std::io;
 use std::io::{ErrorKind, Read};
@@ -8,7 +9,7 @@ use std::io::{ErrorKind, Read};
 #[derive(Drop)]
 pub struct StdinSource<R> {
     reader: R,
-    faults: u64,
+    faults: Faults<io::Error>,
 }
 
 impl<R: Read + Drop> StdinSource<R> {
@@ -16,7 +17,17 @@ impl<R: Read + Drop> StdinSource<R> {
     pub fn new(reader: R) -> StdinSource<R>
         ensures { ⟦<StdinSource<R> as Source>⟧.faults result ≡ 0 }
     {
-        StdinSource { reader, faults: 0 }
+        StdinSource {
+            reader,
+            faults: Faults::new(),
+        }
+    }
+
+    /// Why the first call that failed did.
+    pub fn error(&self) -> Option<io::Error>
+        ensures { IsSome result ↔ (0 < ⟦<StdinSource<R> as Source>⟧.faults self.now) }
+    {
+        self.faults.first()
     }
 }
 
@@ -36,13 +47,13 @@ fn read_on<R: Read>(reader: &mut R, into: &mut [u8]) -> io::Result<usize>
 impl<R: Read + Drop> Source for StdinSource<R> {
     ghost left = { λ _. None };
 
-    ghost faults = { λ source. source.faults };
+    ghost faults = { λ source. source.faults.count };
 
     fn pull(&mut self, into: &mut [u8]) -> Result<usize, Failed> {
         match read_on(&mut self.reader, into) {
             Ok(taken) => Ok(taken),
-            Err(_) => {
-                self.faults = self.faults.saturating_add(1);
+            Err(reason) => {
+                self.faults.add(reason);
                 Err(Failed)
             }
         }

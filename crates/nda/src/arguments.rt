@@ -1,8 +1,10 @@
 //! The words of the command line.
 ghost use Rattle.std.specs.Prelude.{◌≡◌};
+ghost use Rattle.nda.specs.Lock.{lock_of};
 ghost use Rattle.nda.specs.Notice.{notice_of};
 
 use fixed_num::{Text, WordsList};
+use host_files::LockKind;
 use host_model::Status;
 use std::env;
 use std::io::ErrorKind;
@@ -22,6 +24,17 @@ pub fn notice_of(words: &WordsList) -> Option<Notice>
         [word] if word.as_str() == "--help" => Some(Notice::Help),
         [word] if word.as_str() == "--version" => Some(Notice::Version),
         _ => None,
+    }
+}
+
+/// Beside whom the command of these words may use the files of its folder. One that is not named here
+/// has them alone.
+pub fn lock_of(words: &WordsList) -> LockKind
+    ensures { result ≡ lock_of words.now }
+{
+    match words.as_slice() {
+        [command, ..] if command.as_str() == "convert" => LockKind::None,
+        _ => LockKind::Alone,
     }
 }
 

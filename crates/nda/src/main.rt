@@ -2,47 +2,61 @@
 //!
 //! It makes the list of words, and hands it with standard input, standard output and the files of the
 //! current folder to `agent_main`, whose contract says the rest. The status that comes back is the exit
-//! status.
+//! status; where it is not 0, a line on standard error says what happened and what is to be done.
 #![tactic(auto)]
 
 mod arguments;
+mod ending;
 mod forms;
+mod refusals;
 
 use agent_app::agent_main;
-use arguments::{Notice, notice_of, read_words};
+use arguments::{Notice, lock_of, notice_of, read_words};
+use ending::Ending;
 use fixed_num::WordsList;
 use forms::{FORMS, VERSION};
-use host_files::{FileHost, StdinSource};
+use host_files::{FileHost, StandIns, StdinSource};
 use host_model::Status;
 use std::io;
 use std::process::ExitCode;
 
 /// Runs the command over standard input and output, and the files of the current folder.
-fn run_command(rt: &HostRuntime, words: &WordsList) -> Status {
+fn run_command(rt: &HostRuntime, words: &WordsList) -> Ending {
     let alloc = rt.alloc();
     let mut source = StdinSource::new(rt.reader());
-    let Ok(mut host) = FileHost::new(alloc, *rt, io::writer(rt)) else {
-        return Status::Memory;
+    let Ok(mut host) = FileHost::new(alloc, *rt, lock_of(words), io::writer(rt)) else {
+        return Ending::of(Status::Memory);
     };
-    agent_main(alloc, words, &mut source, &mut host)
+    let status = agent_main(alloc, words, &mut source, &mut host);
+    Ending {
+        status,
+        input: source.error(),
+        output: host.tell_error(),
+        disk: host.disk_error(),
+    }
 }
 
 /// Prints what `--help` or `--version` asks for on standard output.
-fn inform(rt: &HostRuntime, wanted: Notice) -> Status {
+fn inform(rt: &HostRuntime, wanted: Notice) -> Ending {
     let text = match wanted {
         Notice::Help => FORMS,
         Notice::Version => VERSION,
     };
     match rt.println(text) {
-        Ok(()) => Status::Ok,
-        Err(_) => Status::TellFault,
+        Ok(()) => Ending::of(Status::Ok),
+        Err(error) => Ending {
+            status: Status::TellFault,
+            input: None,
+            output: Some(error),
+            disk: None,
+        },
     }
 }
 
-fn run(rt: &HostRuntime) -> Status {
+fn run(rt: &HostRuntime) -> Ending {
     let words = match read_words(rt) {
         Ok(words) => words,
-        Err(status) => return status,
+        Err(status) => return Ending::of(status),
     };
     match notice_of(&words) {
         Some(wanted) => inform(rt, wanted),
@@ -50,11 +64,21 @@ fn run(rt: &HostRuntime) -> Status {
     }
 }
 
-fn main(rt: HostRuntime) -> ExitCode {
-    let status = run(&rt);
-    if status == Status::Usage {
-        // Where even this fails, the exit status still tells.
+/// Says on standard error how a run ended that did not do all. Where even that fails, the exit status
+/// still tells.
+fn complain(rt: &HostRuntime, ending: &Ending) {
+    let _ = eprintln!(rt; "nda: {ending}");
+    if ending.status == Status::Usage {
         let _ = rt.eprintln(FORMS);
     }
-    ExitCode::from(status.number())
+}
+
+fn main(rt: HostRuntime) -> ExitCode {
+    // First, so that no file of the database is opened in the place of a standard stream.
+    let _stand_ins = StandIns::open(&rt);
+    let ending = run(&rt);
+    if ending.status != Status::Ok {
+        complain(&rt, &ending);
+    }
+    ExitCode::from(ending.status.number())
 }

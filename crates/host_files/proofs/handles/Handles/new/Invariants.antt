@@ -1,5 +1,5 @@
 use Rattle.std.proofs.Common.{◌≡◌, vec_len}
-use Rattle.host_files.proofs.disk.Disk.new.Given as goal
+use Rattle.host_files.proofs.handles.Handles.new.Given as goal
 
 abbrev pub invariant-loop : goal.invariant-loop
 invariant-loop g l = vec_len l.handles ≡ l.counter

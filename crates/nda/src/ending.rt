@@ -1,0 +1,138 @@
+//! What the program says on standard error where it ends with another status than 0.
+use crate::refusals::reason_of;
+use host_files::DiskError;
+use host_model::Status;
+use std::{fmt, io};
+
+/// How a run of the program ended, and why a call on the outside failed where one did. It prints as
+/// one line: what happened, and what is to be done.
+#[derive(Debug, Drop)]
+pub struct Ending {
+    pub status: Status,
+    /// Of standard input.
+    pub input: Option<io::Error>,
+    /// Of standard output.
+    pub output: Option<io::Error>,
+    pub disk: Option<DiskError>,
+}
+
+impl Ending {
+    /// An ending for which no call on the outside gave a reason.
+    pub fn of(status: Status) -> Ending {
+        Ending {
+            status,
+            input: None,
+            output: None,
+            disk: None,
+        }
+    }
+
+    fn write_event<W: fmt::Write>(&self, f: &mut fmt::Formatter<W>) -> fmt::Result {
+        match self.status {
+            Status::Refused(line, number) | Status::Limit(line, number) => {
+                let reason = reason_of(number);
+                write!(f, "line {line} is refused with {number}, {reason}")
+            }
+            Status::ReadFault => write_failure(f, "standard input cannot be read", &self.input),
+            Status::TellFault => write_failure(
+                f,
+                "standard output cannot be written",
+                &self.output,
+            ),
+            Status::DiskFault => write_disk(f, &self.disk),
+            Status::Damaged(part) => {
+                write!(
+                    f,
+                    "the database here is damaged, or none of this program: part {part}"
+                )
+            }
+            Status::PeerRefused(kind) => {
+                write!(f, "the other agent sent what cannot be taken: kind {kind}")
+            }
+            status => f.write_str(event_of(status)),
+        }
+    }
+
+    /// What is left, and what is to be done.
+    fn advice(&self) -> &'static str {
+        match self.status {
+            Status::Ok => "there is nothing to do",
+            Status::Usage => "use one of these forms",
+            Status::Refused(..) =>
+                "the beats before it stand; mend it, and give the text again from there",
+            Status::Limit(..) => "the beats before it stand; leave out what is too much",
+            Status::ReadFault => "the beats before stand; give the rest of the text again",
+            Status::TellFault => "more may be stored than was told; mend it, and run again",
+            Status::DiskFault => advice_on(&self.disk),
+            Status::LinkFault => "see that the other agent can be reached, and run again",
+            Status::NotADatabase => "make one by nda new, or go to its folder",
+            Status::Exists => "nothing was changed; nda run stores beats in it",
+            Status::Damaged(_) => "nothing was changed; go on from a copy, or in another folder",
+            Status::PeerRefused(_) => "nothing of that was taken; see which agent it is",
+            Status::LinkEnded => "what came before is stored; run again to go on from there",
+            Status::SpawnFault => "see that its program is there and may be run",
+            Status::Disabled => "what came before is stored; see what it says of itself",
+            Status::InputLimit =>
+                "the beats before stand; give the rest of the text to another run",
+            Status::Memory => "what was told as stored is kept; free some, and run again",
+        }
+    }
+}
+
+/// What happened, for each status that needs no more words.
+fn event_of(status: Status) -> &'static str {
+    match status {
+        Status::Usage => "the words of the command line are in no form",
+        Status::LinkFault => "the link to the other agent failed",
+        Status::NotADatabase => "there is no database in this folder",
+        Status::Exists => "there is a database in this folder already",
+        Status::LinkEnded => "the link ended before the other agent was done",
+        Status::SpawnFault => "the collector could not be started, read or waited for",
+        Status::Disabled => "the collector failed, or asked not to be started again",
+        Status::InputLimit => "2^40 bytes of input were taken, and no end had come",
+        Status::Memory => "there was no memory",
+        _ => "all was done",
+    }
+}
+
+/// What a disk that failed leaves, and what is to be done.
+fn advice_on(reason: &Option<DiskError>) -> &'static str {
+    match reason {
+        Some(DiskError::Taken) => "nothing was read or written; run again when it has ended",
+        Some(DiskError::Lock(_)) => "nothing was read or written; mend it, and run again",
+        Some(DiskError::Sync(..) | DiskError::Folder(_)) => {
+            "what was told as stored is kept; see to the disk, and mount it anew before the next run"
+        }
+        _ => "what was told as stored is kept; mend it, and run again",
+    }
+}
+
+/// Writes what failed, and the system's reason where it gave one.
+fn write_failure<W: fmt::Write>(
+    f: &mut fmt::Formatter<W>,
+    what: &str,
+    reason: &Option<io::Error>,
+) -> fmt::Result {
+    match reason {
+        Some(reason) => write!(f, "{what}: {reason}"),
+        None => f.write_str(what),
+    }
+}
+
+fn write_disk<W: fmt::Write>(f: &mut fmt::Formatter<W>, reason: &Option<DiskError>) -> fmt::Result {
+    match reason {
+        Some(reason) => write!(f, "the disk cannot be used: {reason}"),
+        None => f.write_str("the disk cannot be used"),
+    }
+}
+
+impl fmt::Display for Ending {
+    fn fmt<W: fmt::Write>(&self, f: &mut fmt::Formatter<W>) -> fmt::Result {
+        self.write_event(f)?;
+        let advice = self.advice();
+        write!(f, "; {advice}")
+    }
+}
+
+#[cfg(test)]
+mod tests;

@@ -1,0 +1,156 @@
+use super::*;
+use std::process::Abort;
+use std::test::Fail;
+
+/// Compares the line of an ending.
+fn assert_says<R: Abort + AllocGlobal>(rt: &R, ending: &Ending, line: &str) -> Result<(), Fail> {
+    let said = format!(in rt.alloc(); "{ending}")?;
+    assert_eq!(rt; said.as_str(), line);
+    Ok(())
+}
+
+#[test]
+fn each_status_of_an_input_has_its_line(rt: HostRuntime) -> Result<(), Fail> {
+    let table = [
+        (
+            Status::Usage,
+            "the words of the command line are in no form; use one of these forms",
+        ),
+        (
+            Status::Refused(12, 13),
+            "line 12 is refused with 13, a quote that is left open; the beats before it stand; mend it, and give the text again from there",
+        ),
+        (
+            Status::Limit(7, 32),
+            "line 7 is refused with 32, too many charts; the beats before it stand; leave out what is too much",
+        ),
+        (
+            Status::ReadFault,
+            "standard input cannot be read; the beats before stand; give the rest of the text again",
+        ),
+        (
+            Status::TellFault,
+            "standard output cannot be written; more may be stored than was told; mend it, and run again",
+        ),
+        (
+            Status::InputLimit,
+            "2^40 bytes of input were taken, and no end had come; the beats before stand; give the rest of the text to another run",
+        ),
+        (
+            Status::Memory,
+            "there was no memory; what was told as stored is kept; free some, and run again",
+        ),
+    ];
+    for (status, line) in table {
+        assert_says(&rt, &Ending::of(status), line)?;
+    }
+    Ok(())
+}
+
+#[test]
+fn each_status_of_a_folder_has_its_line(rt: HostRuntime) -> Result<(), Fail> {
+    let table = [
+        (
+            Status::DiskFault,
+            "the disk cannot be used; what was told as stored is kept; mend it, and run again",
+        ),
+        (
+            Status::NotADatabase,
+            "there is no database in this folder; make one by nda new, or go to its folder",
+        ),
+        (
+            Status::Exists,
+            "there is a database in this folder already; nothing was changed; nda run stores beats in it",
+        ),
+        (
+            Status::Damaged(4),
+            "the database here is damaged, or none of this program: part 4; nothing was changed; go on from a copy, or in another folder",
+        ),
+    ];
+    for (status, line) in table {
+        assert_says(&rt, &Ending::of(status), line)?;
+    }
+    Ok(())
+}
+
+#[test]
+fn each_status_of_a_peer_or_a_collector_has_its_line(rt: HostRuntime) -> Result<(), Fail> {
+    let table = [
+        (
+            Status::LinkFault,
+            "the link to the other agent failed; see that the other agent can be reached, and run again",
+        ),
+        (
+            Status::PeerRefused(3),
+            "the other agent sent what cannot be taken: kind 3; nothing of that was taken; see which agent it is",
+        ),
+        (
+            Status::LinkEnded,
+            "the link ended before the other agent was done; what came before is stored; run again to go on from there",
+        ),
+        (
+            Status::SpawnFault,
+            "the collector could not be started, read or waited for; see that its program is there and may be run",
+        ),
+        (
+            Status::Disabled,
+            "the collector failed, or asked not to be started again; what came before is stored; see what it says of itself",
+        ),
+    ];
+    for (status, line) in table {
+        assert_says(&rt, &Ending::of(status), line)?;
+    }
+    Ok(())
+}
+
+#[test]
+fn a_failure_has_the_reason_of_the_system(rt: HostRuntime) -> Result<(), Fail> {
+    let full = io::Error::from_raw_os_error(28);
+    let mut ending = Ending::of(Status::ReadFault);
+    ending.input = Some(io::Error::from_raw_os_error(21));
+    ending.output = Some(full);
+    assert_says(
+        &rt,
+        &ending,
+        "standard input cannot be read: Is a directory (os error 21); the beats before stand; give the rest of the text again",
+    )?;
+    ending.status = Status::TellFault;
+    assert_says(
+        &rt,
+        &ending,
+        "standard output cannot be written: No space left on device (os error 28); more may be stored than was told; mend it, and run again",
+    )
+}
+
+#[test]
+fn a_failure_of_the_disk_names_what_failed(rt: HostRuntime) -> Result<(), Fail> {
+    let reason = io::Error::from_raw_os_error(5);
+    let table = [
+        (
+            DiskError::Taken,
+            "the disk cannot be used: another program is at work in this folder and holds nda.lock; nothing was read or written; run again when it has ended",
+        ),
+        (
+            DiskError::Lock(reason),
+            "the disk cannot be used: nda.lock: Input/output error (os error 5); nothing was read or written; mend it, and run again",
+        ),
+        (
+            DiskError::File(2, reason),
+            "the disk cannot be used: nda.2: Input/output error (os error 5); what was told as stored is kept; mend it, and run again",
+        ),
+        (
+            DiskError::Sync(2, reason),
+            "the disk cannot be used: nda.2 could not be synced: Input/output error (os error 5); what was told as stored is kept; see to the disk, and mount it anew before the next run",
+        ),
+        (
+            DiskError::Folder(reason),
+            "the disk cannot be used: the folder could not be synced: Input/output error (os error 5); what was told as stored is kept; see to the disk, and mount it anew before the next run",
+        ),
+    ];
+    for (disk, line) in table {
+        let mut ending = Ending::of(Status::DiskFault);
+        ending.disk = Some(disk);
+        assert_says(&rt, &ending, line)?;
+    }
+    Ok(())
+}

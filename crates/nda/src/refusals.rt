@@ -1,0 +1,28 @@
+//! The refusals of a text, in words.
+
+/// Why a line is refused with this number.
+pub fn reason_of(number: u32) -> &'static str {
+    match number {
+        11 => "a line of more than 8,192 bytes",
+        12 => "a line that is no UTF-8",
+        13 => "a quote that is left open",
+        14 => "a word that is missing",
+        15 => "a word that is no number in its limits",
+        16 => "an id of more than 200 bytes",
+        21 => "a chart that was not defined",
+        22 => "a dimension that was not defined",
+        23 => "no block is open",
+        24 => "a block is open",
+        25 => "the chart has a row in this beat",
+        26 => "a moment that is no multiple of the update_every of a chart with a row",
+        27 =>
+            "a moment that is not above the last one, which standard output has behind the number",
+        28 => "the text ends behind it inside a beat, a block or a line",
+        29 => "the database has copies of a child, and collects none",
+        31 => "the chart has another update_every",
+        32 => "too many charts",
+        33 => "too many dimensions",
+        90 => "nothing answers questions yet",
+        _ => "as the table of refusals says",
+    }
+}
