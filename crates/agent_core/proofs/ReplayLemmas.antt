@@ -146,7 +146,7 @@ once-after registry registry' found made charts dimensions =
     let middle = with_charts registry found.charts in (
       subst (λ (r : Registry). AreApart same_chart r.charts) (sym made) (apart-put_all same_chart chart-itself chart-alike registry.charts (map chart_def found.charts) charts),
       subst (λ (r : Registry). AreApart same_dimension r.dimensions) (sym made)
-      (apart-put_all same_dimension dimension-itself dimension-alike registry.dimensions (map (dimension_back middle) found.dimensions) dimensions),
+          (apart-put_all same_dimension dimension-itself dimension-alike registry.dimensions (map (dimension_back middle) found.dimensions) dimensions),
     )
 
 same-once : (left left' : Left) → left'.registry ≡ left.registry → AreApart same_chart left.registry.charts → AreApart same_dimension left.registry.dimensions

@@ -1,7 +1,8 @@
 use super::*;
 use fixed_num::{ListOf, Text};
 use history::{
-    Algorithm, ChartDef, ChartKind, DimDef, NumberedBeat, NumberedChart, NumberedDimension, Row, Value,
+    Algorithm, ChartDef, ChartKind, DimDef, NumberedBeat, NumberedChart, NumberedDimension, Row,
+    Value,
 };
 use std::alloc::{AllocError, Global};
 use std::test::Fail;

@@ -180,7 +180,13 @@ impl Reader {
     {
         match self.last_rows.points(self.alloc, &self.registry, beat) {
             Ok(points) => {
-                push_points(self.alloc, out, &self.registry, beat.moment, points.as_slice())
+                push_points(
+                    self.alloc,
+                    out,
+                    &self.registry,
+                    beat.moment,
+                    points.as_slice(),
+                )
             }
             Err(_) => Err(AllocError),
         }
