@@ -74,7 +74,7 @@ fn a_page_outlives_its_pool_in_another_thread(rt: HostRuntime) -> Result<(), Fai
     pool.reserve(2)?;
     let mut page = taken(&mut pool)?;
     push(&mut page, 5);
-    drop(crossed(pool));
+    drop(pool);
     let page = crossed(page);
     assert_eq!(rt; page.as_slice(), [5].as_slice());
     Ok(())

@@ -33,7 +33,7 @@ use denote.Builtin.{RefMutOf}
 use denote.Follow.{follows, Part, lends_Part}
 use Rattle.page_pool.specs.Block.{with_value}
 use Rattle.std_alloc.proofs.VecSteps.Shapes.{after}
-use Rattle.page_pool.proofs.BlockSteps.Form.{Bk, args, X, R, B, D, τ, word, handle, owning}
+use Rattle.page_pool.proofs.BlockSteps.Form.{Bk, args, X, R, B, D, τ, word, handle}
 use Rattle.page_pool.proofs.BlockSteps.Steps.{block_opens, block_in}
 use contract.Running.{tables, tables_of}
 use denote.Triple.Carry.{spared}

@@ -2,7 +2,7 @@
 use Rattle.std.proofs.Common.{◌≡◌, ◌<◌, ℕ, List, [], ◌∷◌, ◌++◌, length, refl, sym, subst}
 use mir.Syntax.{impl, tnil, dnil}
 use mir.Raw.{raw as bare}
-use mir.Val.{Val, vptr, vunit}
+use mir.Val.{Val, vptr}
 use base.Logic.{SProp, ent, emp, id⊢, never, fst∗}
 use base.Fml.{ftrue, flft}
 use prog.Wp.{WpFn}
