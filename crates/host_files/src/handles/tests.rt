@@ -1,3 +1,5 @@
+ghost use Rattle.std.specs.Prelude.{◌≤◌, IfOk};
+
 use super::*;
 use std::cell::Cell;
 use std::test::Fail;
@@ -29,7 +31,8 @@ impl FileExt for Slow {
     fn read_at(&self, buf: &mut [u8], offset: u64) -> io::Result<usize> {
         let size = self.step(buf.len(), offset)?;
         for (place, byte) in buf.iter_mut().enumerate() {
-            *byte = b'a'.wrapping_add(offset.wrapping_add(place as u64) as u8);
+            let behind = offset.wrapping_add(place as u64) % 8;
+            *byte = b'a'.wrapping_add(behind as u8);
         }
         Ok(size)
     }
