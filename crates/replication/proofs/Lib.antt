@@ -1,0 +1,14 @@
+pub mod AboveLaws
+pub mod Copies
+pub mod FrontCode
+pub mod FrontLaws
+pub mod MarksCode
+pub mod MarksLaws
+pub mod NamesLaws
+pub mod Places
+pub mod PlacesCode
+pub mod PointsCode
+pub mod PointsLaws
+pub mod ScheduleCode
+pub mod Sizes
+pub mod WorldLaws

@@ -1,0 +1,142 @@
+-- What the calls of a schedule come to.
+use Rattle.std.proofs.Common.{◌≡◌, ℕ, zero, suc, ◌==◌, ◌+◌, ◌-◌, ◌<◌, ◌≤◌, Bool, true, false, eqb, ltb, List, [], ◌∷◌, ◌++◌, length, take, cond, ◌⊎◌, inl, inr, refl, sym, ap, subst, ◌∙◌, arith, Option, Some, None, slice_get}
+use Rattle.std.specs.Option.{option_map_or}
+use Rattle.std.proofs.Math.Seq.{take-nil}
+use Rattle.std.proofs.lemmas.Bool.{cases_lt, cases_Bool, cond-true, cond-false, lt-ltb, le-ltb, eqb-true, eq-eqb, ne_eqb}
+use Rattle.std.proofs.lemmas.List.{append-nil, take_all}
+use Rattle.replication.specs.declared.gap.Gap.{Gap}
+use Rattle.replication.specs.declared.message.Data.{Data}
+use Rattle.replication.specs.declared.named.NamedBeat.{NamedBeat}
+use Rattle.replication.specs.declared.step.Step.{Step}
+use Rattle.replication.specs.declared.step.Step.TheVariants.{Deliver}
+use Rattle.replication.specs.declared.step.World.{World}
+use Rattle.replication.specs.declared.verdict.Verdict.{Verdict}
+use Rattle.replication.specs.declared.verdict.Verdict.TheVariants.{Stored, Old, Ahead, WrongChild}
+use Rattle.replication.specs.Copies.{Message, gap_between, gap_of, end_of, first_beats, first_gaps, latest, last_with, IsTrueOf}
+use Rattle.replication.specs.Names.{named_moment, message_of}
+use Rattle.replication.specs.Verdict.{verdict_at, verdict_by}
+use Rattle.replication.specs.World.{with_gaps, with_first, kept_of, delivered, happens}
+
+-- ---- gaps
+gap_between-none : (prev from : ℕ) → from ≤ prev → gap_between prev from ≡ []
+gap_between-none prev from le = cond-false (ltb prev from) (record { from = prev; to = from } ∷ []) [] (le-ltb prev from le)
+
+gap_between-some : (prev from : ℕ) → prev < from → gap_between prev from ≡ record { from = prev; to = from } ∷ []
+gap_between-some prev from lt = cond-true (ltb prev from) (record { from = prev; to = from } ∷ []) [] (lt-ltb prev from lt)
+
+with_no-gaps : (w : World) → w ≡ with_gaps w []
+with_no-gaps w = λ i. record w { gaps = sym (append-nil w.gaps) i; last = w.last }
+
+pub no-gap : (w : World) (most prev from : ℕ) → from ≤ prev → w ≡ with_gaps w (take most (gap_between prev from))
+no-gap w most prev from le = with_no-gaps w ∙ ap (with_gaps w) (sym (ap (take most) (gap_between-none prev from le) ∙ take-nil most))
+
+pub no-gap-rest : (most prev from : ℕ) → from ≤ prev → most ≡ most - length (gap_between prev from)
+no-gap-rest most prev from le = omega (arith, ap length (gap_between-none prev from le))
+
+pub none-stored : (w : World) (most prev from : ℕ) → most ≡ 0 → w ≡ with_gaps w (take most (gap_between prev from))
+none-stored w most prev from none = with_no-gaps w ∙ ap (λ most. with_gaps w (take most (gap_between prev from))) (sym none)
+
+pub none-stored-rest : (most prev from : ℕ) → most ≡ 0 → 0 ≡ most - length (gap_between prev from)
+none-stored-rest most prev from none = omega arith
+
+take-one : {X : Type 0} (most : ℕ) (x : X) → 0 < most → take most (x ∷ []) ≡ x ∷ []
+take-one zero x lt = absurd (omega arith)
+take-one (suc most) x lt = ap (λ rest. x ∷ rest) (take-nil most)
+
+pub gap-stored : (most prev from : ℕ) → prev < from → 0 < most → take most (gap_between prev from) ≡ record { from = prev; to = from } ∷ []
+gap-stored most prev from lt some = ap (take most) (gap_between-some prev from lt) ∙ take-one most (record { from = prev; to = from }) some
+
+pub gap-stored-rest : (most prev from : ℕ) → prev < from → most - 1 ≡ most - length (gap_between prev from)
+gap-stored-rest most prev from lt = omega (arith, ap length (gap_between-some prev from lt))
+
+-- ---- verdicts
+verdict_at-stored : (last prev : ℕ) → verdict_at last prev ≡ Stored → (prev == last) ≡ true
+verdict_at-stored last prev is =
+    elim (cases_lt prev last) [
+      | inl below ↦ absurd (never-old (sym (cond-true (ltb prev last) Old _ (lt-ltb prev last below)) ∙ is))
+      | inr ge ↦ elim (cases_lt last prev) [
+        | inl past ↦ absurd (never-ahead (sym (cond-true (ltb last prev) Ahead Stored (lt-ltb last prev past)) ∙ sym (cond-false (ltb prev last) Old _ (le-ltb prev last ge)) ∙ is))
+        | inr le ↦ eq-eqb prev last (omega arith)
+      ]
+    ]
+  where
+    never-old : Old ≡ Stored → ⊥
+    never-old e = cc
+
+    never-ahead : Ahead ≡ Stored → ⊥
+    never-ahead e = cc
+
+verdict_at-same : (last prev : ℕ) → (prev == last) ≡ true → verdict_at last prev ≡ Stored
+verdict_at-same last prev same =
+    let is = eqb-true prev last same in
+    cond-false (ltb prev last) Old (cond (ltb last prev) Ahead Stored) (le-ltb prev last (omega arith)) ∙ cond-false (ltb last prev) Ahead Stored (le-ltb last prev (omega arith))
+
+-- a message of the parent's child is judged by where it begins
+verdict-own : (child : Option ℕ) (last prev came : ℕ) → ((child ≡ None) ⊎ (child ≡ Some 1)) → came ≡ 1 → verdict_by child last came prev ≡ verdict_at last prev
+verdict-own child last prev came (inl none) one = ap (λ child. verdict_by child last came prev) none
+verdict-own child last prev came (inr same) one =
+    ap (λ child. verdict_by child last came prev) same ∙ cond-true (1 == came) (verdict_at last prev) (WrongChild 1 came) (eq-eqb 1 came (sym one))
+
+-- it is stored exactly where it begins where the parent ends
+pub stored-same : (child : Option ℕ) (last prev came : ℕ) → ((child ≡ None) ⊎ (child ≡ Some 1)) → came ≡ 1 → verdict_by child last came prev ≡ Stored → true ≡ (prev == last)
+stored-same child last prev came own one is = sym (verdict_at-stored last prev (sym (verdict-own child last prev came own one) ∙ is))
+
+pub other-not : (child : Option ℕ) (last prev came : ℕ) (verdict : Verdict) → ((child ≡ None) ⊎ (child ≡ Some 1)) → came ≡ 1 → verdict_by child last came prev ≡ verdict → (verdict ≡ Stored → ⊥) → false ≡ (prev == last)
+other-not child last prev came verdict own one is never =
+    elim (cases_Bool (prev == last)) [
+      | inl same ↦ absurd (never (sym is ∙ verdict-own child last prev came own one ∙ verdict_at-same last prev same))
+      | inr other ↦ sym other
+    ]
+
+-- ---- deliveries
+delivers-none : (w : World) (place : ℕ) (keep : Option ℕ) → slice_get w.messages place ≡ None → w ≡ happens w (Deliver place keep)
+delivers-none w place keep none = sym (ap (λ (found : Option Data). option_map_or (λ (sent : Data). delivered w keep (message_of sent)) found w) none)
+
+delivers : (w : World) (place : ℕ) (keep : Option ℕ) (sent : Data) → slice_get w.messages place ≡ Some sent → happens w (Deliver place keep) ≡ delivered w keep (message_of sent)
+delivers w place keep sent found = ap (λ (found : Option Data). option_map_or (λ (sent : Data). delivered w keep (message_of sent)) found w) found
+
+pub delivers-nothing : (w : World) (place : ℕ) (keep : Option ℕ) → slice_get w.messages place ≡ None → w ≡ happens w (Deliver place keep)
+delivers-nothing = delivers-none
+
+pub delivers-other : (w : World) (place : ℕ) (keep : Option ℕ) (sent : Data) → slice_get w.messages place ≡ Some sent → (sent.prev == w.last) ≡ false → w ≡ happens w (Deliver place keep)
+delivers-other w place keep sent found other =
+    sym (delivers w place keep sent found ∙ cond-false (sent.prev == w.last) (with_first w (kept_of keep (message_of sent)) (message_of sent)) w other)
+
+pub delivers-own : (w : World) (place : ℕ) (keep : Option ℕ) (sent : Data) → slice_get w.messages place ≡ Some sent → (sent.prev == w.last) ≡ true
+    → with_first w (kept_of keep (message_of sent)) (message_of sent) ≡ happens w (Deliver place keep)
+delivers-own w place keep sent found same =
+    sym (delivers w place keep sent found ∙ cond-true (sent.prev == w.last) (with_first w (kept_of keep (message_of sent)) (message_of sent)) w same)
+
+-- all of a true message ends at its last moment
+pub all-stored : (floors : List ℕ) (child : List NamedBeat) (last : ℕ) (message : Message NamedBeat) → IsTrueOf named_moment floors child message → message.prev ≡ last
+    → last_with named_moment last (first_gaps (length message.beats + 1) message) (first_beats (length message.beats + 1) message) ≡ message.upto
+all-stored floors child last message truth prev =
+    elim (cases_lt message.prev message.from) [
+      | inl lt ↦
+          let gap : gap_of message ≡ record { from = message.prev; to = message.from } ∷ [] = gap_between-some message.prev message.from lt in
+          let one : take (length message.beats + 1) (gap_of message) ≡ record { from = message.prev; to = message.from } ∷ [] = ap (take (length message.beats + 1)) gap ∙ take-one (length message.beats + 1) (record { from = message.prev; to = message.from }) (omega arith) in
+          let all : take (length message.beats + 1 - length (gap_of message)) message.beats ≡ message.beats = take_all (length message.beats + 1 - length (gap_of message)) message.beats (omega (arith, ap length gap)) in
+          (λ i. latest named_moment (end_of last (one i)) (all i)) ∙ sym truth.upto
+      | inr ge ↦
+          let none : gap_of message ≡ [] = gap_between-none message.prev message.from ge in
+          let nothing : take (length message.beats + 1) (gap_of message) ≡ [] = ap (take (length message.beats + 1)) none ∙ take-nil (length message.beats + 1) in
+          let all : take (length message.beats + 1 - length (gap_of message)) message.beats ≡ message.beats = take_all (length message.beats + 1 - length (gap_of message)) message.beats (omega (arith, ap length none)) in
+          let from : last ≡ message.from = omega (arith, truth.from) in
+          (λ i. latest named_moment (end_of last (nothing i)) (all i)) ∙ ap (λ from. latest named_moment from message.beats) from ∙ sym truth.upto
+    ]
+
+-- what is stored of a message that begins where the copy ends
+pub stored-first : (w new : World) (place most : ℕ) (keep : Option ℕ) (sent : Data) (beats : List NamedBeat) → slice_get w.messages place ≡ Some sent → (sent.prev == w.last) ≡ true
+    → beats ≡ (message_of sent).beats → most ≡ kept_of keep (message_of sent)
+    → new ≡ with_first w most (record { prev = sent.prev; from = sent.from; upto = sent.upto; floor = sent.floor; beats = beats }) → new ≡ happens w (Deliver place keep)
+stored-first w new place most keep sent beats found own beats_are most_is stored =
+    stored ∙ (λ i. with_first w (most_is i) (record { prev = sent.prev; from = sent.from; upto = sent.upto; floor = sent.floor; beats = beats_are i })) ∙ delivers-own w place keep sent found own
+
+-- and where all of it is, the copy ends at its last moment
+pub stored-end : (w new : World) (most : ℕ) (sent : Data) (beats : List NamedBeat) → IsTrueOf named_moment w.floors w.beats (message_of sent) → (sent.prev == w.last) ≡ true
+    → beats ≡ (message_of sent).beats → most ≡ length beats + 1
+    → new ≡ with_first w most (record { prev = sent.prev; from = sent.from; upto = sent.upto; floor = sent.floor; beats = beats }) → sent.upto ≡ new.last
+stored-end w new most sent beats truth own beats_are most_is stored =
+    let all = all-stored w.floors w.beats w.last (message_of sent) truth (eqb-true sent.prev w.last own) in
+    let most_all : most ≡ length (message_of sent).beats + 1 = most_is ∙ ap (λ beats. length beats + 1) beats_are in
+    sym (ap (λ (w : World). w.last) (stored ∙ (λ i. with_first w (most_all i) (record { prev = sent.prev; from = sent.from; upto = sent.upto; floor = sent.floor; beats = beats_are i }))) ∙ all)

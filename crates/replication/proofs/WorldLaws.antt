@@ -1,0 +1,205 @@
+-- Each step leaves a sound world sound.
+use Rattle.std.proofs.Common.{◌≡◌, ℕ, zero, suc, ◌==◌, ◌+◌, ◌<◌, ◌≤◌, Bool, true, false, ◌&&◌, ltb, leb, eqb, List, [], ◌∷◌, ◌++◌, length, cond, ◌⊎◌, inl, inr, refl, sym, ap, subst, ◌∙◌, arith, Option, Some, None, slice_get, get_or, take, length-append}
+use Rattle.std.specs.declared.cmp.Ordering.{Ordering}
+use Rattle.std.specs.declared.cmp.Ordering.TheVariants.{Less, Equal, Greater}
+use Rattle.std.specs.List.{AllByRecursion, flat_map, list_any}
+use Rattle.std.specs.Ordering.{match_ordering}
+use Rattle.std.specs.Option.{option_map_or}
+use Rattle.std.proofs.lemmas.Bool.{cases_Bool, cond-true, cond-false, and_parts, ltb-true, eqb-true, eq-eqb, or_left, or_right}
+use Rattle.std.proofs.lemmas.List.{take_more}
+use Rattle.std.proofs.lemmas.List.Concat.{flat_map-append}
+use Rattle.std.proofs.lemmas.List.Sums.{sum_by-cons}
+use Rattle.replication.specs.declared.ask.Ask.{Ask as AnAsk}
+use Rattle.replication.specs.declared.message.Data.{Data}
+use Rattle.replication.specs.declared.named.NamedBeat.{NamedBeat}
+use Rattle.replication.specs.declared.named.NamedPoint.{NamedPoint}
+use Rattle.replication.specs.declared.step.Step.{Step}
+use Rattle.replication.specs.declared.step.Step.TheVariants.{ChildBeat, Ask, Answer, Deliver}
+use Rattle.replication.specs.declared.step.World.{World}
+use Rattle.replication.specs.Answer.{data_of}
+use Rattle.replication.specs.Copies.{had_floor, Message, first_beats, first_gaps, RisesFrom, latest, last_with, EndsBy, IsCopy, IsTrueOf}
+use Rattle.replication.specs.Names.{beat_moment, named_moment, named_beats, message_of}
+use Rattle.replication.specs.Points.{name_cmp, put, put_all, in_order, points_of, names_in, names_of, numbered_beat, numbered_beats}
+use Rattle.replication.specs.Sound.{IsTrueData, Sound}
+use Rattle.replication.specs.World.{start, floor_now, may_follow, with_beat, answer_in, told, with_first, kept_of, delivered, happens, run_from, run, step_points, points_in}
+use Rattle.replication.proofs.Copies.{all-append, all-map, keeps-copy, keeps-ends, keeps-within, ends-within, copy-later, true-later, rises-later, latest-later}
+use Rattle.replication.proofs.NamesLaws.{RisesFrom-map, answer-true, answer-child}
+use Rattle.replication.proofs.PointsLaws.{all-at, named_beats-numbered}
+
+pub starts-sound : Sound start
+starts-sound = record {
+  rises = tt;
+  within = omega arith;
+  ended = tt;
+  copies = record { beats = refl; ends = tt };
+  told = tt;
+  child = tt;
+}
+
+-- the moments by number are those by name
+pub numbered-rises : (names : List NamedPoint) (beats : List NamedBeat) → RisesFrom named_moment 0 beats → RisesFrom beat_moment 0 (numbered_beats names beats)
+numbered-rises names beats rises = RisesFrom-map named_moment beat_moment (numbered_beat names) (λ beat. refl) 0 beats rises
+
+-- the child gets a beat
+with_beat-sound : (w : World) (moment floor : ℕ) (points : List NamedPoint) → latest named_moment 0 w.beats < moment → Sound w → Sound (with_beat w moment floor points)
+with_beat-sound w moment floor points later sound =
+    let beat : NamedBeat = record { moment = moment; points = in_order points } in
+    record {
+      rises = rises-later named_moment 0 w.beats beat sound.rises later;
+      within = subst (λ end. w.last ≤ end) (sym (latest-later named_moment 0 w.beats beat)) (omega (arith, sound.within));
+      ended = sound.ended;
+      copies = copy-later named_moment w.floors w.beats w.held w.gaps w.last floor beat (omega (arith, sound.within)) sound.copies;
+      told = all-map (IsTrueData w.floors w.beats) (IsTrueData (w.floors ++ floor ∷ []) (w.beats ++ beat ∷ [])) w.messages
+          (λ sent truth. true-later named_moment w.floors w.beats floor beat (message_of sent) (omega (arith, ends-within named_moment 0 w.floors w.beats (message_of sent) sound.rises truth)) truth) sound.told;
+      child = sound.child;
+    }
+
+-- the floor now is one that the child had
+floor_now-had : (floors : List ℕ) → had_floor floors (floor_now 0 floors) ≡ true
+floor_now-had floors = elim (last-of 0 floors) [ inl none ↦ or_left _ _ (eq-eqb (floor_now 0 floors) 0 none) | inr some ↦ or_right _ _ some ]
+  where
+    last-of : (before : ℕ) (floors : List ℕ) → (floor_now before floors ≡ before) ⊎ (list_any (λ set. floor_now before floors == set) floors ≡ true)
+    last-of before [] = inl refl
+    last-of before (floor ∷ floors) =
+        elim (last-of floor floors) [
+          | inl same ↦ inr (or_left _ _ (eq-eqb (floor_now floor floors) floor same))
+          | inr later ↦ inr (or_right _ _ later)
+        ]
+
+-- the child answers
+told-sound : (w : World) (ask : AnAsk) → Sound w → Sound (told w ask)
+told-sound w ask sound =
+    by (data_of 1 (floor_now 0 w.floors) (names_of (names_in w.beats)) (numbered_beats (names_in w.beats) w.beats) ask) refl
+  where
+    by : (found : Option Data) → data_of 1 (floor_now 0 w.floors) (names_of (names_in w.beats)) (numbered_beats (names_in w.beats) w.beats) ask ≡ found
+        → Sound (option_map_or (λ (message : Data). record w { messages = w.messages ++ message ∷ [] }) found w)
+    by None is = sound
+    by (Some message) is = record {
+      rises = sound.rises;
+      within = sound.within;
+      ended = sound.ended;
+      copies = sound.copies;
+      told = all-append (IsTrueData w.floors w.beats) w.messages (message ∷ []) sound.told (
+        subst (λ beats. IsTrueData w.floors beats message) (named_beats-numbered w.beats)
+            (answer-true 1 (floor_now 0 w.floors) (names_of (names_in w.beats)) (numbered_beats (names_in w.beats) w.beats) ask w.floors message
+            (numbered-rises (names_in w.beats) w.beats sound.rises) (floor_now-had w.floors) is),
+        tt,
+      );
+      child = all-append (λ (sent : Data). sent.child ≡ 1) w.messages (message ∷ []) sound.child
+          (answer-child 1 (floor_now 0 w.floors) (names_of (names_in w.beats)) (numbered_beats (names_in w.beats) w.beats) ask message is, tt);
+    }
+
+-- the parent stores the first things of a message
+with_first-sound : (w : World) (n : ℕ) (message : Message NamedBeat) → IsTrueOf named_moment w.floors w.beats message → message.prev ≡ w.last → Sound w → Sound (with_first w n message)
+with_first-sound w n message truth prev sound = record {
+  rises = sound.rises;
+  within = keeps-within named_moment 0 w.floors w.beats w.last message n sound.rises sound.within truth prev;
+  ended = keeps-ends named_moment 0 w.floors w.beats w.gaps w.last message n sound.rises sound.ended truth prev;
+  copies = keeps-copy named_moment 0 w.floors w.beats w.held w.gaps w.last message n sound.rises sound.ended sound.copies truth prev;
+  told = sound.told;
+  child = sound.child;
+}
+
+delivered-sound : (w : World) (keep : Option ℕ) (message : Message NamedBeat) → IsTrueOf named_moment w.floors w.beats message → Sound w → Sound (delivered w keep message)
+delivered-sound w keep message truth sound =
+    elim (cases_Bool (message.prev == w.last)) [
+      | inl same ↦ subst Sound (sym (cond-true (message.prev == w.last) (with_first w (kept_of keep message) message) w same))
+          (with_first-sound w (kept_of keep message) message truth (eqb-true message.prev w.last same) sound)
+      | inr other ↦ subst Sound (sym (cond-false (message.prev == w.last) (with_first w (kept_of keep message) message) w other)) sound
+    ]
+
+pub happens-sound : (w : World) (step : Step) → Sound w → Sound (happens w step)
+happens-sound w (ChildBeat moment floor points kept) sound =
+    elim (cases_Bool (kept && may_follow w moment floor points)) [
+      | inl yes_ ↦ subst Sound (sym (cond-true (kept && may_follow w moment floor points) (with_beat w moment floor points) w yes_))
+          (with_beat-sound w moment floor points (ltb-true _ _ (and_parts (ltb (latest named_moment 0 w.beats) moment) _ (and_parts kept (may_follow w moment floor points) yes_).1).0) sound)
+      | inr no_ ↦ subst Sound (sym (cond-false (kept && may_follow w moment floor points) (with_beat w moment floor points) w no_)) sound
+    ]
+happens-sound w Ask sound = record { rises = sound.rises; within = sound.within; ended = sound.ended; copies = sound.copies; told = sound.told; child = sound.child }
+happens-sound w (Answer ask) sound = by (slice_get w.asks ask)
+  where
+    by : (found : Option AnAsk) → Sound (option_map_or (told w) found w)
+    by None = sound
+    by (Some ask) = told-sound w ask sound
+happens-sound w (Deliver message keep) sound = by (slice_get w.messages message) refl
+  where
+    by : (found : Option Data) → slice_get w.messages message ≡ found → Sound (option_map_or (λ (sent : Data). delivered w keep (message_of sent)) found w)
+    by None is = sound
+    by (Some sent) is = delivered-sound w keep (message_of sent) (all-at (IsTrueData w.floors w.beats) w.messages message sent sound.told is) sound
+
+pub run_from-more : (w : World) (steps : List Step) (step : Step) → run_from w (steps ++ step ∷ []) ≡ happens (run_from w steps) step
+run_from-more w [] step = refl
+run_from-more w (first ∷ steps) step = run_from-more (happens w first) steps step
+
+run_from-sound : (w : World) (steps : List Step) → Sound w → Sound (run_from w steps)
+run_from-sound w [] sound = sound
+run_from-sound w (step ∷ steps) sound = run_from-sound (happens w step) steps (happens-sound w step sound)
+
+pub run-next : (steps items : List Step) (i : ℕ) (x : Step) → items ≡ steps → i < length items → x ≡ get_or items i x → happens (run (take i steps)) x ≡ run (take (i + 1) steps)
+run-next steps items i x same lt at =
+    let within : i < length steps = omega (arith, ap length same) in
+    let here : x ≡ get_or steps i x = at ∙ ap (λ items. get_or items i x) same in
+    sym (ap run (take_more steps i x within ∙ ap (λ x. take i steps ++ x ∷ []) (sym here)) ∙ run_from-more start (take i steps) x)
+
+-- any steps lead to a sound world
+pub run-sound : (steps : List Step) → Sound (run steps)
+run-sound steps = run_from-sound start steps starts-sound
+
+-- ---- how many points the child has
+length-put : (point : NamedPoint) (ps : List NamedPoint) → length (put point ps) ≤ length ps + 1
+length-put point [] = omega arith
+length-put point (p ∷ ps) = by (name_cmp point p) (length-put point ps)
+  where
+    by : (o : Ordering) → length (put point ps) ≤ length ps + 1 → length (match_ordering o (point ∷ p ∷ ps) (point ∷ ps) (p ∷ put point ps)) ≤ length (p ∷ ps) + 1
+    by Less rest = omega arith
+    by Equal rest = omega arith
+    by Greater rest = omega arith
+
+length-put_all : (points ps : List NamedPoint) → length (put_all points ps) ≤ length points + length ps
+length-put_all points [] = omega arith
+length-put_all points (p ∷ ps) = omega (arith, length-put_all (put p points) ps, length-put p points)
+
+pub length-in_order : (points : List NamedPoint) → length (in_order points) ≤ length points
+length-in_order points = omega (arith, length-put_all [] points)
+
+told-beats : (w : World) (ask : AnAsk) → (told w ask).beats ≡ w.beats
+told-beats w ask = by (answer_in w ask)
+  where
+    by : (found : Option Data) → (option_map_or (λ (message : Data). record w { messages = w.messages ++ message ∷ [] }) found w).beats ≡ w.beats
+    by None = refl
+    by (Some message) = refl
+
+delivered-beats : (w : World) (keep : Option ℕ) (message : Message NamedBeat) → (delivered w keep message).beats ≡ w.beats
+delivered-beats w keep message = by (message.prev == w.last)
+  where
+    by : (same : Bool) → (cond same (with_first w (kept_of keep message) message) w).beats ≡ w.beats
+    by true = refl
+    by false = refl
+
+happens-points : (w : World) (step : Step) → length (points_of (happens w step).beats) ≤ length (points_of w.beats) + step_points step
+happens-points w (ChildBeat moment floor points kept) = by (kept && may_follow w moment floor points)
+  where
+    by : (follows : Bool) → length (points_of (cond follows (with_beat w moment floor points) w).beats) ≤ length (points_of w.beats) + length points
+    by true =
+        let beat : NamedBeat = record { moment = moment; points = in_order points } in
+        omega (arith, ap length (flat_map-append (λ (beat : NamedBeat). beat.points) w.beats (beat ∷ [])), length-append (points_of w.beats) (in_order points ++ []), length-append (in_order points) [], length-in_order points)
+    by false = omega arith
+happens-points w Ask = omega arith
+happens-points w (Answer ask) = by (slice_get w.asks ask)
+  where
+    by : (found : Option AnAsk) → length (points_of (option_map_or (told w) found w).beats) ≤ length (points_of w.beats) + 0
+    by None = omega arith
+    by (Some ask) = omega (arith, ap (λ beats. length (points_of beats)) (told-beats w ask))
+happens-points w (Deliver message keep) = by (slice_get w.messages message)
+  where
+    by : (found : Option Data) → length (points_of (option_map_or (λ (sent : Data). delivered w keep (message_of sent)) found w).beats) ≤ length (points_of w.beats) + 0
+    by None = omega arith
+    by (Some sent) = omega (arith, ap (λ beats. length (points_of beats)) (delivered-beats w keep (message_of sent)))
+
+run_from-points : (w : World) (steps : List Step) → length (points_of (run_from w steps).beats) ≤ length (points_of w.beats) + points_in steps
+run_from-points w [] = omega arith
+run_from-points w (step ∷ steps) = omega (arith, run_from-points (happens w step) steps, happens-points w step, sum_by-cons step_points step steps)
+
+-- no more than the steps have
+pub run-points : (steps : List Step) → length (points_of (run steps).beats) ≤ points_in steps
+run-points steps = omega (arith, run_from-points start steps)

@@ -1,0 +1,10 @@
+pub mod Answer
+pub mod Bytes
+pub mod Copies
+pub mod Marks
+pub mod Names
+pub mod Places
+pub mod Points
+pub mod Sound
+pub mod Verdict
+pub mod World

@@ -1,0 +1,59 @@
+ghost use Rattle.std.specs.Prelude.{◌≡◌, ◌≤◌, length, take, IfOk};
+ghost use Rattle.replication.specs.Answer.{AreNames, AreBeatsOf, data_of};
+ghost use Rattle.replication.specs.Copies.{RisesFrom};
+ghost use Rattle.replication.specs.Names.{beat_moment};
+
+use crate::above::beats_above;
+use crate::answer::data_with;
+use crate::ask::Ask;
+use crate::beats::{Beat, BeatList};
+use crate::fault::CopyFault;
+use crate::front::front_len;
+use crate::message::Data;
+use crate::names::Names;
+use std::alloc::Global;
+
+/// The first `count` beats.
+fn first_of(beats: &[Beat], count: usize) -> &[Beat]
+    requires { count ≤ length beats.now }
+    ensures { result.now ≡ take count beats.now }
+{
+    beats.split_at(count).0
+}
+
+/// The end of a copy that has the beats. It keeps nothing between two answers.
+#[derive(Clone, Copy, Debug, PartialEq, Eq)]
+pub struct Child;
+
+impl Child {
+    /// What a child answers to an `Ask`, from its floor, the names of its series and its beats with points:
+    /// the first beats above what was asked for and below what it has lost. They are the longest list of
+    /// such beats that has at most 64 beats and a frame's body of at most 2^20 bytes, but at least one. None
+    /// where it has no such beat, and where the `Ask` names another child. Beats are searched by halves.
+    pub fn answer(
+        alloc: Global,
+        child: u64,
+        floor: u32,
+        names: &Names,
+        beats: &BeatList,
+        ask: &Ask,
+    ) -> Result<Option<Data>, CopyFault>
+        requires names { AreNames names.now }
+        requires rises { RisesFrom beat_moment 0 beats.now }
+        requires series { AreBeatsOf (length names.now.dimensions) beats.now }
+        ensures { IfOk result (λ answer. answer ≡ data_of child floor names.now beats.now ask.now) }
+    {
+        if ask.child != child {
+            return Ok(None);
+        }
+        let kept = beats.as_slice();
+        let later = beats_above(kept, ask.last.max(floor.saturating_sub(1)));
+        if later.is_empty() {
+            return Ok(None);
+        }
+        let count = front_len(alloc, names, later)?;
+        let front = first_of(later, count);
+        let message = data_with(alloc, child, floor, ask.last, names, front)?;
+        Ok(Some(message))
+    }
+}

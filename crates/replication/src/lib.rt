@@ -1,0 +1,51 @@
+//! Copies of a history, over every schedule: what a parent asks, what its child answers, and what the parent
+//! keeps of it.
+//!
+//! A `Child` answers an `Ask` with a `Data`: the first of its beats above what was asked for, with the names
+//! of their series, as many as a frame may have. A `Parent` stores a `Data` that begins where its copy ends,
+//! and leaves any other. What the child has thrown away by then becomes a gap. Nothing here knows a network,
+//! a file or a clock: a message that is lost is one that never comes.
+//!
+//! Proved is, over any list of steps of fewer than 2^32 points, with losses, repeats, other orders and stops
+//! at either end, that the parent is a copy of the child (it holds exactly the child's beats up to its own end
+//! but those in its gaps, and each gap ends one below a floor that the child had), and that each message that
+//! was ever sent is true of the child (`laws::schedule`). The definitions are over beats of any kind that have
+//! a moment, so that they can serve whole histories. It stands on the spelling of fields of `field_codec`,
+//! which says how long a frame is, and on the lists of `fixed_num`.
+#![tactic(auto)]
+
+mod above;
+mod answer;
+mod ask;
+mod beats;
+mod child;
+mod fault;
+mod front;
+mod gap;
+pub mod laws;
+mod marks;
+mod meaning;
+mod message;
+mod named;
+mod names;
+mod parent;
+mod points;
+mod schedule;
+mod step;
+mod verdict;
+
+pub use answer::{BEAT_LIMIT, BODY_LIMIT};
+pub use ask::Ask;
+pub use beats::{Beat, BeatList, SeriesWord, SeriesWordList};
+pub use child::Child;
+pub use fault::CopyFault;
+pub use gap::{Gap, GapList};
+pub use message::Data;
+pub use named::{NamedBeat, NamedBeatList, NamedPoint, NamedPointList};
+pub use names::{ChartName, ChartNameList, DimName, DimNameList, Names};
+pub use parent::Parent;
+pub use step::{AskList, DataList, FloorList, Step, StepList, World};
+pub use verdict::Verdict;
+
+#[cfg(test)]
+mod tests;
