@@ -1,4 +1,5 @@
 ghost use Rattle.std.specs.Prelude.{ℕ, ◌<◌, ◌^◌, ◌≡◌, IsTrue};
+ghost use Rattle.replication.specs.Answer.{AreNames};
 ghost use Rattle.replication.specs.World.{step_points, points_in};
 
 use super::*;
@@ -8,7 +9,9 @@ use std::alloc::Global;
 use std::process::Abort;
 use std::test::Fail;
 
-fn no_names(alloc: Global) -> Names {
+fn no_names(alloc: Global) -> Names
+    ensures { AreNames result }
+{
     Names {
         charts: ChartNameList::new(alloc),
         dimensions: DimNameList::new(alloc),
@@ -281,10 +284,11 @@ fn same_points(a: &NamedBeat, b: &NamedBeat) -> bool {
 
 /// Whether the parent holds just what the plain words say.
 fn is_copy(world: &World) -> bool {
-    let mut held = world.held.as_slice().iter();
+    let held = world.held.as_slice();
+    let mut count = 0usize;
     for beat in world.beats.as_slice() {
         if beat.moment <= world.last && !is_in_gap(world, beat.moment) {
-            match held.next() {
+            match held.get(count) {
                 Some(other) => {
                     if !same_points(beat, other) {
                         return false;
@@ -292,9 +296,10 @@ fn is_copy(world: &World) -> bool {
                 }
                 None => return false,
             }
+            count = count.saturating_add(1);
         }
     }
-    held.next().is_none()
+    count == held.len()
 }
 
 /// Whether each gap ends one below a floor that the child had.
