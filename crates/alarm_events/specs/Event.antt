@@ -1,14 +1,11 @@
 -- The line that an event is told by.
-use Rattle.std.specs.Prelude.{ℕ, true, false, List, ◌++◌, codes, Option, Some, None, ℤ}
+use Rattle.std.specs.Prelude.{ℕ, true, false, List, ◌++◌, codes, Option, Some, None}
 use Rattle.std.specs.Fmt.{decimal}
 use Rattle.fixed_num.specs.UnitsText.{units_text}
 use Rattle.health_expr.specs.declared.value.Value.{Value}
 use Rattle.health_expr.specs.declared.value.Value.TheVariants.{Nan, Inf, Fixed}
 use Rattle.alarm_events.specs.declared.event.Event.{Event}
-use Rattle.alarm_events.specs.Status as of_status
-
-abbrev pub name_of : ℕ → List ℕ
-name_of = of_status.name_of
+use Rattle.alarm_events.specs.Status.{name}
 
 abbrev pub value_text : Value → List ℕ
 value_text Nan = codes "nan"
@@ -27,7 +24,7 @@ head_text event =
 
 -- the statuses before and after
 abbrev pub change_text : Event → List ℕ
-change_text event = name_of event.old ++ codes " " ++ name_of event.new ++ codes " "
+change_text event = name event.old ++ codes " " ++ name event.new ++ codes " "
 
 -- the value, and when it is due
 abbrev pub end_text : Event → List ℕ

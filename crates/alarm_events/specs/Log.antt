@@ -1,5 +1,5 @@
 -- The log of events: those that are shown, and how many came before them.
-use Rattle.std.specs.Prelude.{◌≡◌, ℕ, ◌+◌, ◌-◌, ◌^◌, ◌≤◌, min, List, [], ◌∷◌, ◌++◌, length}
+use Rattle.std.specs.Prelude.{ℕ, ◌+◌, ◌-◌, ◌^◌, min, List, [], ◌∷◌, ◌++◌, length}
 use Rattle.circular_buffer.specs.Buffer.{keep_last}
 use Rattle.alarm_events.specs.declared.event.Event.{Event}
 
@@ -21,13 +21,13 @@ pub record Shown : Type 0 where
 abbrev pub shown : List Event → Shown
 shown all = record { dropped = counted (length all - most_shown); events = keep_last most_shown all }
 
--- the log with one event more
-abbrev pub noted : Shown → Event → Shown
-noted log event = record {
-  dropped = counted (log.dropped + (length log.events + 1 - most_shown));
-  events = keep_last most_shown (log.events ++ event ∷ []);
-}
-
 -- the number of the next event
 abbrev pub next_id : Shown → ℕ
 next_id log = counted (log.dropped + length log.events + 1)
+
+-- the log with one event more, which has the next number
+abbrev pub noted : Shown → Event → Shown
+noted log event = record {
+  dropped = counted (log.dropped + (length log.events + 1 - most_shown));
+  events = keep_last most_shown (log.events ++ record event { id = next_id log } ∷ []);
+}

@@ -1,7 +1,5 @@
--- The six statuses: their numbers, their names, and what they are worth.
-use Rattle.std.specs.Prelude.{ℕ, ◌==◌, Bool, true, false, if◌then◌else◌, List, [], codes, Option, Some, None, ℤ, pos, ◌-ℤ◌, ◌*ℤ◌}
-use Rattle.std.specs.Option.{option_map_or}
-use Rattle.fixed_num.specs.Units.{one}
+-- The six statuses: their numbers and their names.
+use Rattle.std.specs.Prelude.{ℕ, ◌==◌, Bool, true, false, if◌then◌else◌, List, codes, Option, Some, None}
 use Rattle.alarm_events.specs.declared.status.Status.{Status}
 use Rattle.alarm_events.specs.declared.status.Status.TheVariants.{Removed, Undefined, Uninitialized, Clear, Warning, Critical}
 
@@ -32,19 +30,7 @@ name Clear = codes "CLEAR"
 name Warning = codes "WARNING"
 name Critical = codes "CRITICAL"
 
--- the name of the status that a number stands for, and none where it stands for no status
-abbrev pub name_of : ℕ → List ℕ
-name_of number = option_map_or name (status_of number) []
-
 abbrev pub is_raised : Status → Bool
 is_raised Warning = true
 is_raised Critical = true
 is_raised _ = false
-
-abbrev pub is_clear : Status → Bool
-is_clear Clear = true
-is_clear _ = false
-
--- what a status is worth in an expression, in ten-millionths: `$CLEAR` is 1
-abbrev pub status_units : Status → ℤ
-status_units status = (pos (number status) -ℤ pos 2) *ℤ pos one

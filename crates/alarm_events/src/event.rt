@@ -12,21 +12,21 @@ use std::fmt::Write;
 /// A status of an alarm that changed.
 #[derive(Debug, Drop)]
 pub struct Event {
-    /// The number of the event: 1 is that of the first.
+    /// The number of the event in its log: 1 is that of the first.
     pub id: u64,
-    /// When it was, in seconds.
+    /// The moment at which it was, in seconds.
     pub moment: u32,
     /// The id of the chart.
     pub chart: Text,
     /// The name of the alarm.
     pub alarm: Text,
-    /// The number of the status before.
-    pub old: u8,
-    /// The number of the status that came.
-    pub new: u8,
+    /// The status before.
+    pub old: Status,
+    /// The status that came.
+    pub new: Status,
     /// What the alarm is worth.
     pub value: Value,
-    /// The moment until which telling it is to wait, where it is to be told.
+    /// The moment in seconds until which telling it is to wait, where it is to be told.
     pub due: Option<u32>,
 }
 
@@ -76,19 +76,10 @@ fn due_text(alloc: Global, due: Option<u32>) -> Result<String, AlarmFault>
     }
 }
 
-/// The name of the status of a number, or the empty text where there is none.
-fn name_of(number: u8) -> &'static str
-    ensures { result.now ≡ spec.name_of number }
-{
-    match Status::of(number) {
-        Some(status) => status.name(),
-        None => "",
-    }
-}
-
 /// Adds the number of an event, its moment, its chart and its alarm.
 fn push_head(line: &mut String, event: &Event) -> Result<(), AllocError>
-    ensures { OnOk result (string_bytes line.new ≡ string_bytes line.old ++ spec.head_text event.now) }
+    ensures { OnOk result (string_bytes line.new
+        ≡ string_bytes line.old ++ spec.head_text event.now) }
 {
     let chart = event.chart.as_str();
     let alarm = event.alarm.as_str();
@@ -97,16 +88,18 @@ fn push_head(line: &mut String, event: &Event) -> Result<(), AllocError>
 
 /// Adds the statuses before and after.
 fn push_change(line: &mut String, event: &Event) -> Result<(), AllocError>
-    ensures { OnOk result (string_bytes line.new ≡ string_bytes line.old ++ spec.change_text event.now) }
+    ensures { OnOk result (string_bytes line.new
+        ≡ string_bytes line.old ++ spec.change_text event.now) }
 {
-    let old = name_of(event.old);
-    let new = name_of(event.new);
+    let old = event.old.name();
+    let new = event.new.name();
     write!(line, "{old} {new} ")
 }
 
 /// Adds the value, when the event is due, and the line's end.
 fn push_end(alloc: Global, line: &mut String, event: &Event) -> Result<(), AlarmFault>
-    ensures { OnOk result (string_bytes line.new ≡ string_bytes line.old ++ spec.end_text event.now) }
+    ensures { OnOk result (string_bytes line.new
+        ≡ string_bytes line.old ++ spec.end_text event.now) }
 {
     let value = value_text(alloc, event.value)?;
     let due = due_text(alloc, event.due)?;

@@ -7,12 +7,6 @@ use thiserror::Error;
 /// Why a call on alarms gave no answer.
 #[derive(Clone, Copy, Debug, PartialEq, Eq, Error)]
 pub enum AlarmFault {
-    /// Points could not be read. Who has them counted it.
-    #[error("the points could not be read")]
-    Disk,
-    /// Bytes are in no form of alarms.
-    #[error("bytes that are no alarms")]
-    BadBytes,
     /// There was no memory.
     #[error("out of memory")]
     Memory,

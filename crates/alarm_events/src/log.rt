@@ -50,7 +50,8 @@ fn copy_events(list: &mut EventList, events: &[Event]) -> Result<(), AlarmFault>
 }
 
 impl EventLog {
-    ghost use Rattle.alarm_events.specs.Log.{shown, noted, next_id};
+    ghost use Rattle.std.specs.Prelude.{◌+◌, length};
+    ghost use Rattle.alarm_events.specs.Log.{shown, noted, counted, next_id};
 
     /// The log of no event. It has room for all that it will show.
     pub fn new(alloc: Global) -> Result<EventLog, AlarmFault>
@@ -65,17 +66,22 @@ impl EventLog {
 
     /// The id of the event that comes next: 1 in an empty log. It stands still at 2^64 - 1.
     pub fn next_id(&self) -> u64
-        ensures { result ≡ next_id self.now }
+        ensures next { result ≡ next_id self.now }
+        ensures count { (all : List AnEvent) → self.now ≡ shown all
+            → result ≡ counted (length all + 1) }
     {
         let shown = self.shown.len() as u64;
         self.dropped.saturating_add(shown).saturating_add(1)
     }
 
-    /// Adds an event. Where 1,000 are shown, the earliest of them is dropped.
-    pub fn note(&mut self, event: Event)
+    /// Adds an event with the next id in place of its own. Where 1,000 are shown, the earliest of them is
+    /// dropped.
+    pub fn note(&mut self, mut event: Event)
         ensures noted { self.new ≡ noted self.old event }
-        ensures log { (all : List AnEvent) → self.old ≡ shown all → self.new ≡ shown (all ++ event ∷ []) }
+        ensures log { (all : List AnEvent) → self.old ≡ shown all
+            → self.new ≡ shown (all ++ record event { id = counted (length all + 1) } ∷ []) }
     {
+        event.id = self.next_id();
         if self.shown.push_back(event).is_some() {
             self.dropped = self.dropped.saturating_add(1);
         }

@@ -7,7 +7,8 @@ ghost use Rattle.alarm_events.specs.Status as spec;
 pub enum Status {
     /// It is not wanted any more, or is another alarm now.
     Removed,
-    /// Nothing can be said: its value is no number, or it neither warns nor is critical.
+    /// Nothing can be said: its value is nan or inf, or neither its `warn` nor its `crit` is there and worth a
+    /// number or inf.
     Undefined,
     /// It was not computed yet.
     Uninitialized,

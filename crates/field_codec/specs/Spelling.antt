@@ -2,6 +2,7 @@
 -- as its two's complement.
 use Rattle.std.specs.Prelude.{ℕ, ℤ, Bool, true, false, List, [], ◌∷◌, ◌++◌, length}
 use Rattle.std.specs.Int.{w32, w64, w128, cast_unsigned}
+use Rattle.std.specs.List.{flat_map}
 use Rattle.byteorder.specs.Endian.{little_bytes}
 
 unfoldable pub u8_bytes : ℕ → List ℕ
@@ -36,3 +37,7 @@ text_bytes text = u16_bytes (length text) ++ text
 -- four bytes of length, and the bytes
 unfoldable pub sized_bytes : List ℕ → List ℕ
 sized_bytes bytes = u32_bytes (length bytes) ++ bytes
+
+-- four bytes of how many items there are, and each of them
+unfoldable pub list_bytes : {X : Type 0} → (X → List ℕ) → List X → List ℕ
+list_bytes item_bytes items = u32_bytes (length items) ++ flat_map item_bytes items

@@ -26,7 +26,8 @@ pub struct Config {
 /// The configuration of a text that is not too long.
 fn read_text(alloc: Global, text: &[u8]) -> Result<Tally, ConfigFault>
     requires { length text.now ≤ TEXT_LIMIT }
-    ensures ok { IfOk result (λ tally. of_sections (sections (lines text.now)) ≡ Ok (tally_of tally)) }
+    ensures ok { IfOk result (λ tally. of_sections (sections (lines text.now))
+        ≡ Ok (tally_of tally)) }
     ensures fault { IfErr result (IsRefusalFor (of_sections (sections (lines text.now)))) }
 {
     let lines = cut_lines(alloc, text).map_err(|_| ConfigFault::Memory)?;
@@ -41,7 +42,8 @@ impl Config {
     /// too long is refused before all. `Memory` may come before any.
     #[tactic(auto, unfolding(crate::specs::Config::config_read))]
     pub fn read(alloc: Global, text: &[u8]) -> Result<Config, ConfigFault>
-        ensures config { IfOk result (λ config. config_read text.now ≡ Ok (configuration_of config)) }
+        ensures config { IfOk result
+            (λ config. config_read text.now ≡ Ok (configuration_of config)) }
         ensures refused { IfErr result (IsRefusalFor (config_read text.now)) }
     {
         if text.len() > TEXT_LIMIT {

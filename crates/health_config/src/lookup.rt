@@ -131,7 +131,8 @@ fn has_option(text: &str, option: &str) -> bool
 
 /// What stands behind the first `of` of a text.
 fn behind_of(text: &str) -> Option<&str>
-    ensures { option_map (λ dims. words false dims.now) result ≡ spec.behind_of (words false text.now) }
+    ensures { option_map (λ dims. words false dims.now) result
+        ≡ spec.behind_of (words false text.now) }
 {
     let mut ahead = text;
     while let Some((word, rest)) = first_word(false, ahead) {

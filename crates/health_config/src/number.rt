@@ -56,7 +56,8 @@ fn split_unit(body: &[u8]) -> (&[u8], u64)
 /// The number that digits are, or the largest of 64 bits where it is above that. `None` where a byte is
 /// no digit, or none is there.
 fn digits(bytes: &[u8]) -> Option<u64>
-    ensures { result ≡ (if is_numeral bytes.now then Some (min (digits_value 10 bytes.now) (2 ^ 64 - 1)) else None) }
+    ensures { result ≡ (if is_numeral bytes.now then Some
+        (min (digits_value 10 bytes.now) (2 ^ 64 - 1)) else None) }
 {
     if bytes.is_empty() {
         return None;

@@ -43,7 +43,8 @@ fn front_len(lines: &[Line]) -> usize
 /// that.
 fn first_entity(lines: &[Line]) -> Option<(bool, &Line, &[Line])>
     requires { (sections lines.now).front ≡ [] }
-    ensures { MatchOption result (lines.now ≡ []) (λ found. spec.IsFound lines.now found.0 found.1.now found.2.now) }
+    ensures { MatchOption result (lines.now ≡ [])
+        (λ found. spec.IsFound lines.now found.0 found.1.now found.2.now) }
 {
     let (head, behind) = lines.split_first()?;
     match begins(head.text.as_slice()) {
@@ -55,7 +56,8 @@ fn first_entity(lines: &[Line]) -> Option<(bool, &Line, &[Line])>
 /// Adds the alarm of an entity that gives one.
 fn push_alarm(alarms: &mut AlarmList, alarm: Option<Entity>) -> Result<(), ConfigFault>
     ensures ok { OnOk result
-        (map alarm_of alarms.new ≡ map alarm_of alarms.old ++ option_to_list (option_map alarm_of alarm)) }
+        (map alarm_of alarms.new ≡ map alarm_of alarms.old ++ option_to_list
+        (option_map alarm_of alarm)) }
     ensures memory { IfErr result (λ fault. fault ≡ ConfigFault.Memory) }
 {
     match alarm {
@@ -75,7 +77,8 @@ fn add_ended(
 ) -> Result<(), ConfigFault>
     requires { tally.old.skipped + draft.skipped < 2 ^ 64 }
     ensures ok { OnOk result
-        (spec.Adds (spec.ended line name template (draft_of draft)) (tally_of tally.old) (tally_of tally.new)) }
+        (spec.Adds (spec.ended line name template (draft_of draft)) (tally_of tally.old)
+        (tally_of tally.new)) }
     ensures skipped { OnOk result (tally.new.skipped ≡ tally.old.skipped + draft.skipped) }
     ensures fault { IfErr result (IsRefusalFor (spec.ended line name template (draft_of draft))) }
 {
@@ -98,7 +101,8 @@ fn add_entity(
     tally: &mut Tally,
 ) -> Result<(), ConfigFault>
     requires { tally.old.skipped + length body.now < 2 ^ 63 }
-    ensures ok { OnOk result (spec.Adds (spec.entity before (record { template = template; head = head.now; body = body.now }))
+    ensures ok { OnOk result (spec.Adds
+        (spec.entity before (record { template = template; head = head.now; body = body.now }))
         (tally_of tally.old) (tally_of tally.new)) }
     ensures few { OnOk result (before < 4096) }
     ensures skipped { OnOk result (tally.new.skipped ≤ tally.old.skipped + length body.now) }
@@ -154,7 +158,8 @@ fn read_entities(alloc: Global, skipped: u64, lines: &[Line]) -> Result<Tally, C
 /// The alarms of lines. Of several refusals the first is told.
 pub fn read_tally(alloc: Global, lines: &[Line]) -> Result<Tally, ConfigFault>
     requires { length lines.now < 2 ^ 62 }
-    ensures ok { IfOk result (λ tally. spec.of_sections (sections lines.now) ≡ Ok (tally_of tally)) }
+    ensures ok { IfOk result (λ tally. spec.of_sections (sections lines.now)
+        ≡ Ok (tally_of tally)) }
     ensures fault { IfErr result (IsRefusalFor (spec.of_sections (sections lines.now))) }
 {
     let (front, rest) = lines.split_at(front_len(lines));

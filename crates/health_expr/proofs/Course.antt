@@ -1,14 +1,14 @@
 -- What may follow the words of a text, by their kinds alone: an operand, or what may stand behind one.
-use Rattle.std.proofs.Common.{◌≡◌, ◌≢◌, ℕ, zero, suc, ◌-◌, List, [], ◌∷◌, ◌++◌, map, Option, Some, None, arith, sym, refl, ap, ◌∙◌, append_assoc}
+use Rattle.std.proofs.Common.{◌≡◌, ℕ, suc, List, [], ◌∷◌, ◌++◌, Option, Some, None, refl, ap, ◌∙◌}
 use Rattle.health_expr.specs.declared.operator.Prefix.{Prefix}
 use Rattle.health_expr.specs.declared.operator.Operator.{Operator}
 use Rattle.health_expr.specs.declared.word.Kind.{Kind}
-use Rattle.health_expr.specs.declared.word.Kind.TheVariants.{End, Number, Name, Nan, Infinity, Abs, Open, Close, Question, Colon, Not, Plus, Minus, Star, Slash, Or, And, Equal, NotEqual, Less, AtMost, Greater, AtLeast, Unknown}
+use Rattle.health_expr.specs.declared.word.Kind.TheVariants.{End, Number, Name, Nan, Infinity, Abs, Open, Close, Question, Colon, Not, Plus, Minus}
 use Rattle.health_expr.specs.Faults.{kinds, GoesOn}
 use Rattle.health_expr.specs.Grammar.{operator_of}
 use Rattle.health_expr.specs.Spelling.{Spelled, at, placed_in, prefix_of, Spells, number, nan, infinity, name, prefixed, enclosed, size, tighter, combined, chosen}
 use Rattle.health_expr.specs.Tree.{Tree}
-use Rattle.health_expr.specs.Words.{Placed}
+use Rattle.health_expr.proofs.Joined.{joined}
 
 -- what is open: a parenthesis, or a choice before its `:`
 pub data Frame : Type 0 where
@@ -128,10 +128,10 @@ spells-course _ _ _ _ (size levels word open_word close_word inner words kind op
     ∙ spells-course _ _ _ _ is (close_word.kind ∷ rest) (parenthesis ∷ around)
     ∙ ap (λ (k : Kind). course (k ∷ rest) (operated (parenthesis ∷ around))) closes
 spells-course _ _ _ _ (tighter loose levels inner words is) rest around = spells-course _ _ _ _ is rest around
-spells-course _ _ _ _ (combined levels word operator left right one two is_operator first second) rest around =
+spells-course _ _ _ _ (combined loose levels word operator left right one two joins first second) rest around =
     ap (λ (ks : List Kind). course ks (operand around)) (kinds-append one (at word levels ∷ two) rest)
     ∙ spells-course _ _ _ _ first (word.kind ∷ (kinds_of two ++ rest)) around
-    ∙ ap (λ (o : Option Operator). on (on_operated around word.kind o) (course (kinds_of two ++ rest))) is_operator
+    ∙ ap (λ (o : Option Operator). on (on_operated around word.kind o) (course (kinds_of two ++ rest))) (joined loose word.kind operator joins).0
     ∙ spells-course _ _ _ _ second rest around
 spells-course _ _ _ _ (chosen levels question colon condition if_true if_false one two three asks colons a b c) rest around =
     let after_colon : List Spelled = at colon levels ∷ three in

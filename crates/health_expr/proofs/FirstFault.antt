@@ -1,5 +1,5 @@
 -- Of a text only one thing can be told: the tree that it spells, or its first fault.
-use Rattle.std.proofs.Common.{◌≡◌, ◌≢◌, ◌<◌, ◌≤◌, ◌⊎◌, inl, inr, ℕ, zero, suc, List, [], ◌∷◌, ◌++◌, length, Option, Some, None, Result, Ok, Err, arith, subst, sym, refl, ap, ◌∙◌, append_assoc, append-nil, ℤ}
+use Rattle.std.proofs.Common.{◌≡◌, ◌≢◌, ◌<◌, ◌≤◌, ◌⊎◌, inl, inr, ℕ, suc, List, [], ◌∷◌, ◌++◌, length, Some, Result, Ok, Err, arith, subst, sym, refl, ap, ◌∙◌, append_assoc, append-nil, ℤ}
 use Rattle.std.specs.List.{AllByRecursion}
 use Rattle.std.specs.Prelude.{◌↔◌, IsErr, IsOk}
 use Rattle.fixed_num.specs.declared.units.NumberFault.{NumberFault}
@@ -15,6 +15,7 @@ use Rattle.health_expr.specs.Grammar.{operator_of, tree_read}
 use Rattle.health_expr.specs.Spelling.{Spelled, at, placed_in, levels_of, prefix_of, IsLow, Spells, number, nan, infinity, name, prefixed, enclosed, size, tighter, combined, chosen, IsSpelling}
 use Rattle.health_expr.specs.Tree.{Tree}
 use Rattle.health_expr.specs.Words.{Placed, end_at, words_of}
+use Rattle.health_expr.proofs.Joined.{joined}
 use Rattle.health_expr.proofs.Course.{kinds_of, kinds-append}
 use Rattle.health_expr.proofs.PlaceLevels.{same_levels}
 use Rattle.health_expr.proofs.SpelledBack.{low_front, spelled_back}
@@ -61,8 +62,8 @@ readable _ _ _ _ (size levels word open_word close_word inner words kind opens c
   ),
 )
 readable _ _ _ _ (tighter loose levels inner words is) = readable _ _ _ _ is
-readable _ _ _ _ (combined levels word operator left right one two is_operator first second) =
-    readable-append one (at word levels ∷ two) (readable _ _ _ _ first) (operator_readable (at word levels) operator is_operator, readable _ _ _ _ second)
+readable _ _ _ _ (combined loose levels word operator left right one two joins first second) =
+    readable-append one (at word levels ∷ two) (readable _ _ _ _ first) (operator_readable (at word levels) operator (joined loose word.kind operator joins).0, readable _ _ _ _ second)
 readable _ _ _ _ (chosen levels question colon condition if_true if_false one two three asks colons a b c) =
     readable-append one (at question levels ∷ (two ++ at colon levels ∷ three)) (readable _ _ _ _ a) (
       other_kind (at question levels) Question asks (λ e. cc),
@@ -239,7 +240,7 @@ fault_at text NumberTooWide is = record {
   behind = is.splits.behind;
   words = is.splits.words;
   begun = reached_begun is.before is.word.kind is.levels is.fits;
-  why = (is.levels, is.fits, is.low, is.number, is.wide);
+  why = (is.levels, is.fits, is.low, is.number, subst (λ (r : Result ℤ NumberFault). IsErr r) (sym is.wide) refl);
 }
 fault_at text Memory is = absurd is
 

@@ -2,6 +2,8 @@ pub mod Boundaries
 pub mod Course
 pub mod FirstFault
 pub mod GrammarLemmas
+pub mod Joined
+pub mod Numerals
 pub mod PlaceLevels
 pub mod Rereads
 pub mod Rewords

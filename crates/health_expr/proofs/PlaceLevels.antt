@@ -1,13 +1,14 @@
 -- How many levels hold a place hangs on the words up to it alone.
-use Rattle.std.proofs.Common.{◌≡◌, ◌≢◌, ◌≤◌, ℕ, zero, suc, ◌+◌, ◌-◌, List, [], ◌∷◌, ◌++◌, length, map, Option, Some, None, arith, subst, sym, refl, ap, ◌∙◌, append-nil}
+use Rattle.std.proofs.Common.{◌≡◌, ◌≤◌, ℕ, suc, List, [], ◌∷◌, ◌++◌, length, Option, Some, None, arith, sym, refl, ap, ◌∙◌}
 use Rattle.health_expr.specs.declared.operator.Prefix.{Prefix}
 use Rattle.health_expr.specs.declared.operator.Operator.{Operator}
 use Rattle.health_expr.specs.declared.word.Kind.{Kind}
-use Rattle.health_expr.specs.declared.word.Kind.TheVariants.{End, Number, Name, Nan, Infinity, Abs, Open, Close, Question, Colon, Not, Plus, Minus, Star, Slash, Or, And, Equal, NotEqual, Less, AtMost, Greater, AtLeast, Unknown}
-use Rattle.health_expr.specs.Grammar.{looseness, operator_of}
+use Rattle.health_expr.specs.declared.word.Kind.TheVariants.{Number, Name, Nan, Infinity, Abs, Open, Close, Question, Colon, Not, Plus, Minus}
+use Rattle.health_expr.specs.Grammar.{operator_of}
 use Rattle.health_expr.specs.Spelling.{Spelled, at, levels_of, prefix_of, Spells, number, nan, infinity, name, prefixed, enclosed, size, tighter, combined, chosen}
 use Rattle.health_expr.specs.Tree.{Tree}
 use Rattle.health_expr.specs.Words.{Placed}
+use Rattle.health_expr.proofs.Joined.{joined}
 use Rattle.health_expr.proofs.Course.{kinds_of, kinds-append}
 use Rattle.health_expr.proofs.Rereads.{looseness_bounds}
 
@@ -146,17 +147,18 @@ tells _ _ _ _ (tighter loose levels inner words is) =
       as_row = λ low outer rest. same.as_row (omega arith) outer rest;
       as_whole = same.as_whole;
     }
-tells _ _ _ _ (combined levels word operator left right one two is_operator first second) =
+tells _ _ _ _ (combined loose levels word operator left right one two joins first second) =
+    let is = joined loose word.kind operator joins in
     let bounds = looseness_bounds operator in
-    let some = bounds.0 in
-    let most = bounds.1 in
+    let some : 1 ≤ loose = omega (arith, bounds.0, is.1) in
+    let most : loose ≤ 6 = omega (arith, bounds.1, is.1) in
     let on_left = tells _ _ _ _ first in
     let on_right = tells _ _ _ _ second in
     let row : (outer : List Around) (rest : List Kind) → places (kinds_of (one ++ at word levels ∷ two) ++ rest) (operand levels levels outer) ≡ levels_of (one ++ at word levels ∷ two) ++ places rest (operated levels outer) =
     λ outer rest.
     ap (λ (ks : List Kind). places ks (operand levels levels outer)) (kinds-append one (at word levels ∷ two) rest)
     ∙ on_left.as_row most outer (word.kind ∷ (kinds_of two ++ rest))
-    ∙ ap (λ (o : Option Operator). levels_of one ++ then (on_operated levels outer word.kind o) (kinds_of two ++ rest)) is_operator
+    ∙ ap (λ (o : Option Operator). levels_of one ++ then (on_operated levels outer word.kind o) (kinds_of two ++ rest)) is.0
     ∙ ap (λ (more : List ℕ). levels_of one ++ levels ∷ more) (on_right.as_row (omega arith) outer rest)
     ∙ sym (levels-append one (at word levels ∷ two) (places rest (operated levels outer))) in
     record {

@@ -5,7 +5,6 @@ use Rattle.std.proofs.lemmas.List.{length-append}
 use Rattle.std.specs.List.{AllByRecursion}
 use denote.Enum.Bare.{sameb, same_true}
 use Rattle.fixed_num.specs.declared.units.NumberFault.{NumberFault}
-use Rattle.fixed_num.specs.UnitsText.{units_read}
 use Rattle.health_expr.specs.contracts.word.Kind.{the_type}
 use Rattle.health_expr.specs.declared.fault.ExprFault.TheVariants.{TooDeep}
 use Rattle.health_expr.specs.declared.operator.Prefix.{Prefix}
@@ -17,7 +16,8 @@ use Rattle.health_expr.specs.Grammar.{looseness, operator_of, Outcome, Reader, �
 use Rattle.health_expr.specs.Spelling.{Spelled, at, placed_in, prefix_of, IsLow, Spells, number, nan, infinity, name, prefixed, enclosed, size, tighter, combined, chosen, IsSpelling}
 use Rattle.health_expr.specs.Tree as tree
 use Rattle.health_expr.specs.Tree.{Tree}
-use Rattle.health_expr.specs.Words.{Placed, end_at, words_of, first, after, sees}
+use Rattle.health_expr.specs.Words.{Placed, end_at, first, after, sees}
+use Rattle.health_expr.proofs.Joined.{joined}
 use Rattle.health_expr.proofs.GrammarLemmas.{operand_more, expression_more, row_none, row_suc, steps_end, steps_more, choice_alone, choice_more}
 use Rattle.health_expr.proofs.Rereads.{looseness_bounds, this_looseness, other_looseness}
 use Rattle.health_expr.proofs.Spellings.{IsQuiet, words-append}
@@ -333,17 +333,18 @@ backs _ _ _ _ (tighter loose levels inner words is) low =
       left_of = λ k h most. same.left_of k (omega arith) most;
       whole_of = same.whole_of;
     }
-backs _ _ _ _ (combined levels word operator left right one two is_operator first_is second_is) low =
+backs _ _ _ _ (combined loose levels word operator left right one two joins first_is second_is) low =
+    let is = joined loose word.kind operator joins in
     let bounds = looseness_bounds operator in
-    let some = bounds.0 in
-    let most = bounds.1 in
-    let k : ℕ = looseness operator - 1 in
-    let loose : looseness operator ≡ suc k = omega arith in
+    let some : 1 ≤ loose = omega (arith, bounds.0, is.1) in
+    let most : loose ≤ 6 = omega (arith, bounds.1, is.1) in
+    let k : ℕ = loose - 1 in
+    let next : loose ≡ suc k = omega arith in
     let behind = low_back one (at word levels ∷ two) low in
     let on_left = backs _ _ _ _ first_is (low_front one (at word levels ∷ two) low) in
     let on_right = backs _ _ _ _ second_is behind.1 in
-    subst (λ (l : ℕ). Backs l levels (one ++ at word levels ∷ two) (tree.combined operator left right)) (sym loose)
-    (combined_back levels word operator left right one two k is_operator loose behind.0 (on_left.left_of k (omega arith) (omega arith)) (on_right.row_of k (omega arith) (omega arith)))
+    subst (λ (l : ℕ). Backs l levels (one ++ at word levels ∷ two) (tree.combined operator left right)) (sym next)
+    (combined_back levels word operator left right one two k is.0 (is.1 ∙ next) behind.0 (on_left.left_of k (omega arith) (omega arith)) (on_right.row_of k (omega arith) (omega arith)))
 backs _ _ _ _ (chosen levels question colon condition if_true if_false one two three asks colons a b c) low =
     let after_colon : List Spelled = at colon levels ∷ three in
     let behind = low_back one (at question levels ∷ (two ++ after_colon)) low in

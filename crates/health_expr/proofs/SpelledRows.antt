@@ -1,6 +1,6 @@
 -- Rows of operators, choices, and expressions of every depth: what is read is a spelling, and what is
 -- refused begins none.
-use Rattle.std.proofs.Common.{◌≡◌, ◌≢◌, ◌==◌, ◌<◌, ◌≤◌, ℕ, zero, suc, ◌+◌, ◌-◌, Bool, true, false, cond, List, [], ◌∷◌, ◌++◌, length, Option, Some, None, Result, Ok, Err, arith, subst, sym, refl, ap, ◌∙◌, append_assoc, append-nil}
+use Rattle.std.proofs.Common.{◌≡◌, ◌≢◌, ◌==◌, ◌<◌, ◌≤◌, ℕ, zero, suc, ◌+◌, ◌-◌, Bool, true, false, cond, List, [], ◌∷◌, ◌++◌, length, Option, Some, None, Ok, Err, arith, subst, sym, refl, ap, ◌∙◌, append_assoc, append-nil}
 use Rattle.std.proofs.lemmas.Bool.Decides.{nat_tests}
 use Rattle.std.proofs.lemmas.List.{length-append}
 use Rattle.std.specs.List.{AllByRecursion}
@@ -15,11 +15,12 @@ use Rattle.health_expr.specs.Spelling.{Spelled, at, placed_in, Spells, IsLow}
 use Rattle.health_expr.specs.Tree as tree
 use Rattle.health_expr.specs.Tree.{Tree}
 use Rattle.health_expr.specs.Words.{Placed, first, after, sees}
+use Rattle.health_expr.proofs.Joined.{joins}
 use Rattle.health_expr.proofs.Course as go
 use Rattle.health_expr.proofs.Course.{Frame, State, course, kinds_of, kinds-append, spells-course}
 use Rattle.health_expr.proofs.GrammarLemmas.{expression_suc}
 use Rattle.health_expr.proofs.Rereads.{looseness_bounds}
-use Rattle.health_expr.proofs.Spellings.{ahead, seen, unseen, Starts, IsQuiet, Reading, Stops, Sound, low-append, words-append, stops_behind, starts_up, starts_seven, starts_combined, starts_second, starts_third, starts_read, blocked_sound, sound_up, mark_choice, stuck_behind_expression, operand_sound}
+use Rattle.health_expr.proofs.Spellings.{ahead, seen, unseen, Starts, IsQuiet, Reading, Stops, Sound, low-append, words-append, stops_behind, starts_seven, starts_combined, starts_second, starts_third, starts_read, blocked_sound, sound_up, mark_choice, stuck_behind_expression, operand_sound}
 
 -- ---- the next operator
 
@@ -66,7 +67,7 @@ combine : (n levels : ℕ) (word : Placed) (operator : Operator) (left right : T
 combine n levels word operator left right one two is loose first_is second_is =
     let less : n ≡ looseness operator - 1 = omega arith in
     subst (λ (l : ℕ). Spells l levels (tree.combined operator left right) (one ++ at word levels ∷ two)) loose
-    (spell.combined levels word operator left right one two is (subst (λ (l : ℕ). Spells l levels left one) (sym loose) first_is) (subst (λ (l : ℕ). Spells l levels right two) less second_is))
+    (spell.combined (looseness operator) levels word operator left right one two (joins word.kind operator is) (subst (λ (l : ℕ). Spells l levels left one) (sym loose) first_is) (subst (λ (l : ℕ). Spells l levels right two) less second_is))
 
 starts_combine : (n levels : ℕ) (word : Placed) (operator : Operator) (left : Tree) (one front : List Spelled) → operator_of word.kind ≡ Some operator → looseness operator ≡ suc n
     → Spells (suc n) levels left one → Starts n levels front → Starts (suc n) levels ((one ++ at word levels ∷ []) ++ front)

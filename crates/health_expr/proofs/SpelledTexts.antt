@@ -1,6 +1,6 @@
 -- A text that is read spells its tree, and a text that is refused has the fault that is told.
-use Rattle.std.proofs.Common.{◌≡◌, ◌≢◌, ◌==◌, ◌&&◌, ◌<◌, ◌≤◌, ℕ, zero, suc, ◌+◌, ◌-◌, Bool, true, false, cond, List, [], ◌∷◌, ◌++◌, length, get_or, take, drop, position, Option, Some, None, Result, Ok, Err, arith, subst, sym, refl, ap, ◌∙◌, append_assoc, append-nil, add-zero}
-use Rattle.std.proofs.lemmas.Bool.Decides.{nat_tests}
+use Rattle.std.proofs.Common.{◌≡◌, ◌≢◌, ◌==◌, ◌&&◌, ℕ, zero, suc, ◌+◌, ◌-◌, Bool, true, false, cond, List, [], ◌∷◌, ◌++◌, length, take, drop, position, Option, Some, None, Result, Ok, Err, arith, subst, sym, refl, ap, ◌∙◌, append_assoc, append-nil, add-zero}
+use Rattle.std.proofs.lemmas.Bool.{cond_both}
 use Rattle.std.specs.Char.{is_ascii_digit}
 use Rattle.std.specs.List.{AllByRecursion, prefix_len}
 use Rattle.std.specs.Prelude.{slice_index, codes, IfOk}
@@ -10,19 +10,21 @@ use Rattle.health_expr.specs.declared.expr.Expr.{Expr}
 use Rattle.health_expr.specs.declared.fault.ExprFault.{ExprFault}
 use Rattle.health_expr.specs.declared.fault.ExprFault.TheVariants.{Syntax, TooDeep, NumberTooWide, Memory}
 use Rattle.health_expr.specs.declared.word.Kind.{Kind}
-use Rattle.health_expr.specs.declared.word.Kind.TheVariants.{End, Number, Name, Nan, Infinity, Abs, Open, Close, Question, Colon, Not, Plus, Minus, Star, Slash, Or, And, Equal, NotEqual, Less, AtMost, Greater, AtLeast, Unknown}
-use Rattle.health_expr.specs.Cut.{Cut, is_letter, is_brace, number as number_cut, keyword, single, mark, unknown, braced, named, dollar, letters, marked, first_word}
-use Rattle.health_expr.specs.Faults.{kinds, GoesOn, IsBegun, Reaches, Splits, IsMisfit, IsTooDeep, IsTooWide}
+use Rattle.health_expr.specs.declared.word.Kind.TheVariants.{End, Number}
+use Rattle.health_expr.specs.Cut.{Cut, is_letter, is_brace, keyword, single, mark, braced, dollar, letters, marked, first_word}
+use Rattle.health_expr.specs.Faults.{kinds, Reaches, IsMisfit, IsTooDeep, IsTooWide}
 use Rattle.health_expr.specs.Grammar.{Outcome, expression, whole, tree_read}
 use Rattle.health_expr.specs.Reads.{ReadsAll, Fails}
-use Rattle.health_expr.specs.Spelling.{Spelled, at, placed_in, Spells, IsLow, IsSpelling}
+use Rattle.health_expr.specs.Spelling.{Spelled, placed_in, Spells, IsLow, IsSpelling}
 use Rattle.health_expr.specs.Tree.{Tree}
 use Rattle.health_expr.specs.TreeOf.{tree_of}
 use Rattle.health_expr.specs.Words.{Placed, end_at, placed, words_from, words_of, first, after, sees}
 use Rattle.health_expr.proofs.Course as go
 use Rattle.health_expr.proofs.Course.{State, course, kinds_of, kinds-append, spells-course, never_begun}
+use Rattle.health_expr.proofs.Numerals.{IsOnlyTooWide, number_only_wide}
 use Rattle.health_expr.proofs.Rewords.{first_cons}
-use Rattle.health_expr.proofs.Spellings.{ahead, seen, unseen, Starts, Reading, Next, Stops, Sound, mark_whole, stuck_behind_expression}
+use Rattle.health_expr.proofs.WordsLemmas.{first_passes}
+use Rattle.health_expr.proofs.Spellings.{ahead, seen, unseen, Starts, Reading, Stops, Sound, mark_whole, stuck_behind_expression}
 use Rattle.health_expr.proofs.SpelledRows.{expression_sound}
 
 -- ---- no word of a spelling is the end
@@ -68,21 +70,25 @@ pick : {X : Type 0} (Q : X → Type 0) (b : Bool) (x y : X) → Q x → Q y → 
 pick Q true x y p q = p
 pick Q false x y p q = q
 
-keyword_none : (bytes : List ℕ) → keyword bytes ≢ End
+-- neither the end nor a number
+abbrev IsMark : Kind → Type 0
+IsMark kind = (kind ≢ End) × (kind ≢ Number)
+
+keyword_none : (bytes : List ℕ) → IsMark (keyword bytes)
 keyword_none bytes =
-    let Q : Kind → Type 0 = λ kind. kind ≢ End in
-    pick Q (bytes_eq bytes (codes "nan")) _ _ (λ e. cc) (pick Q (bytes_eq bytes (codes "inf")) _ _ (λ e. cc) (pick Q (bytes_eq bytes (codes "abs")) _ _ (λ e. cc) (pick Q (bytes_eq bytes (codes "NOT")) _ _ (λ e. cc) (pick Q (bytes_eq bytes (codes "AND")) _ _ (λ e. cc) (pick Q (bytes_eq bytes (codes "OR")) _ _ (λ e. cc) (λ e. cc))))))
+    let Q : Kind → Type 0 = λ kind. IsMark kind in
+    pick Q (bytes_eq bytes (codes "nan")) _ _ (λ e. cc, λ e. cc) (pick Q (bytes_eq bytes (codes "inf")) _ _ (λ e. cc, λ e. cc) (pick Q (bytes_eq bytes (codes "abs")) _ _ (λ e. cc, λ e. cc) (pick Q (bytes_eq bytes (codes "NOT")) _ _ (λ e. cc, λ e. cc) (pick Q (bytes_eq bytes (codes "AND")) _ _ (λ e. cc, λ e. cc) (pick Q (bytes_eq bytes (codes "OR")) _ _ (λ e. cc, λ e. cc) (λ e. cc, λ e. cc))))))
 
 abbrev IsOther : Kind × ℕ → Type 0
-IsOther found = found.0 ≢ End
+IsOther found = IsMark found.0
 
 single_none : (all b : ℕ) → IsOther (single all b)
 single_none all b =
-    pick IsOther (b == 40) _ _ (λ e. cc) (pick IsOther (b == 41) _ _ (λ e. cc) (pick IsOther (b == 63) _ _ (λ e. cc) (pick IsOther (b == 58) _ _ (λ e. cc) (pick IsOther (b == 33) _ _ (λ e. cc) (pick IsOther (b == 43) _ _ (λ e. cc) (pick IsOther (b == 45) _ _ (λ e. cc) (pick IsOther (b == 42) _ _ (λ e. cc) (pick IsOther (b == 47) _ _ (λ e. cc) (pick IsOther (b == 60) _ _ (λ e. cc) (pick IsOther (b == 62) _ _ (λ e. cc) (λ e. cc)))))))))))
+    pick IsOther (b == 40) _ _ (λ e. cc, λ e. cc) (pick IsOther (b == 41) _ _ (λ e. cc, λ e. cc) (pick IsOther (b == 63) _ _ (λ e. cc, λ e. cc) (pick IsOther (b == 58) _ _ (λ e. cc, λ e. cc) (pick IsOther (b == 33) _ _ (λ e. cc, λ e. cc) (pick IsOther (b == 43) _ _ (λ e. cc, λ e. cc) (pick IsOther (b == 45) _ _ (λ e. cc, λ e. cc) (pick IsOther (b == 42) _ _ (λ e. cc, λ e. cc) (pick IsOther (b == 47) _ _ (λ e. cc, λ e. cc) (pick IsOther (b == 60) _ _ (λ e. cc, λ e. cc) (pick IsOther (b == 62) _ _ (λ e. cc, λ e. cc) (λ e. cc, λ e. cc)))))))))))
 
 mark_none : (all b c : ℕ) → IsOther (mark all b c)
 mark_none all b c =
-    pick IsOther (b == 124 && c == 124) _ _ (λ e. cc) (pick IsOther (b == 38 && c == 38) _ _ (λ e. cc) (pick IsOther (b == 61 && c == 61) _ _ (λ e. cc) (pick IsOther (b == 33 && c == 61) _ _ (λ e. cc) (pick IsOther (b == 60 && c == 62) _ _ (λ e. cc) (pick IsOther (b == 60 && c == 61) _ _ (λ e. cc) (pick IsOther (b == 62 && c == 61) _ _ (λ e. cc) (single_none all b)))))))
+    pick IsOther (b == 124 && c == 124) _ _ (λ e. cc, λ e. cc) (pick IsOther (b == 38 && c == 38) _ _ (λ e. cc, λ e. cc) (pick IsOther (b == 61 && c == 61) _ _ (λ e. cc, λ e. cc) (pick IsOther (b == 33 && c == 61) _ _ (λ e. cc, λ e. cc) (pick IsOther (b == 60 && c == 62) _ _ (λ e. cc, λ e. cc) (pick IsOther (b == 60 && c == 61) _ _ (λ e. cc, λ e. cc) (pick IsOther (b == 62 && c == 61) _ _ (λ e. cc, λ e. cc) (single_none all b)))))))
 
 abbrev IsNoEnd : Cut → Type 0
 IsNoEnd cut = cut.kind ≢ End
@@ -101,7 +107,54 @@ first_word_none byte text =
     subst IsNoEnd (sym (first_cons byte text))
     (pick IsNoEnd (is_ascii_digit byte) _ _ (λ e. cc)
     (pick IsNoEnd (byte == 36) _ _ (dollar_none all)
-    (pick IsNoEnd (is_letter byte) _ _ (keyword_none (take (prefix_len is_letter all) all)) (mark_none (length all) byte (slice_index all 1)))))
+    (pick IsNoEnd (is_letter byte) _ _ (keyword_none (take (prefix_len is_letter all) all)).0 (mark_none (length all) byte (slice_index all 1)).0)))
+
+-- a word that is a number is refused only as too wide
+abbrev IsNumberCut : Cut → Type 0
+IsNumberCut cut = cut.kind ≡ Number → IsOnlyTooWide cut.said
+
+no_number : (cut : Cut) → cut.kind ≢ Number → IsNumberCut cut
+no_number cut other is = absurd (other is)
+
+braced_number : (text : List ℕ) (end : Option ℕ) → (braced text end).kind ≢ Number
+braced_number text None = λ e. cc
+braced_number text (Some end) = λ e. cc
+
+dollar_number : (text : List ℕ) → IsNumberCut (dollar text)
+dollar_number text =
+    let Q : Cut → Type 0 = λ cut. cut.kind ≢ Number in
+    no_number (dollar text)
+    (pick Q (slice_index text 1 == 123) _ _ (braced_number text (position is_brace (drop 2 text))) (pick Q (prefix_len is_letter (drop 1 text) == 0) _ _ (λ e. cc) (λ e. cc)))
+
+first_word_number : (byte : ℕ) (text : List ℕ) → IsNumberCut (first_word (byte ∷ text))
+first_word_number byte text =
+    let all : List ℕ = byte ∷ text in
+    subst IsNumberCut (sym (first_cons byte text))
+    (cond_both (is_ascii_digit byte) _ _ IsNumberCut (λ digit is. number_only_wide all (first_passes is_ascii_digit all (omega arith) digit))
+    (λ none. pick IsNumberCut (byte == 36) _ _ (dollar_number all)
+    (pick IsNumberCut (is_letter byte) _ _ (no_number (letters all) (keyword_none (take (prefix_len is_letter all) all)).1)
+    (no_number (marked (mark (length all) byte (slice_index all 1))) (mark_none (length all) byte (slice_index all 1)).1))))
+
+abbrev IsNumberWord : Placed → Type 0
+IsNumberWord word = word.kind ≡ Number → IsOnlyTooWide word.said
+
+number_words : (left place : ℕ) (text : List ℕ) → AllByRecursion IsNumberWord (words_from left place text)
+number_words left place [] = (λ is. absurd (end_other is), tt)
+  where
+    end_other : End ≡ Number → ⊥
+    end_other e = cc
+number_words (suc left) place (byte ∷ text) = number_words left (suc place) text
+number_words zero place (byte ∷ text) =
+    pick (AllByRecursion IsNumberWord) (is_blank byte) _ _ (number_words zero (suc place) text)
+    (first_word_number byte text, number_words ((first_word (byte ∷ text)).len - 1) (suc place) text)
+
+number_word : (text : List ℕ) (before : List Placed) (word : Placed) (behind : List Placed) → words_of text ≡ before ++ word ∷ behind → IsNumberWord word
+unfolding words_of
+number_word text before word behind is = here before (subst (AllByRecursion IsNumberWord) is (number_words 0 0 text))
+  where
+    here : (before : List Placed) → AllByRecursion IsNumberWord (before ++ word ∷ behind) → IsNumberWord word
+    here [] all = all.0
+    here (first ∷ before) all = here before all.1
 
 -- words, and the end behind them
 record Ended (words : List Placed) (end : Placed) : Type 0 where
@@ -226,7 +279,7 @@ stopped text NumberTooWide stops =
       fits = reaches text 0 stops.front stops.next stops.rest cause.spelled cause.word stops.starts stops.low cause.next_is cause.kind;
       low = cause.holds.0;
       number = cause.holds.1;
-      wide = cause.holds.2;
+      wide = number_word text (placed_in stops.front) cause.word cause.behind (stops.words_are ∙ ap (λ (rest : List Placed). placed_in stops.front ++ rest) cause.rest_is) cause.holds.1 cause.holds.2;
     }
 stopped text Memory stops = stops.cause
 

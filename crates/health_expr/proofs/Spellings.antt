@@ -1,5 +1,5 @@
 -- What the grammar reads is a spelling, and what it refuses begins none.
-use Rattle.std.proofs.Common.{◌≡◌, ◌≢◌, ◌==◌, ◌<◌, ◌≤◌, ℕ, zero, suc, ◌+◌, ◌-◌, Bool, true, false, cond, List, [], ◌∷◌, ◌++◌, length, map, Option, Some, None, Result, Ok, Err, arith, rules, subst, sym, refl, ap, ◌∙◌, ℤ, pos, lit≤, lit<, append_assoc, append-nil}
+use Rattle.std.proofs.Common.{◌≡◌, ◌≢◌, ◌==◌, ◌<◌, ◌≤◌, ℕ, suc, ◌+◌, ◌-◌, Bool, true, false, cond, List, [], ◌∷◌, ◌++◌, Option, Some, None, Result, Ok, Err, arith, rules, subst, sym, refl, ap, ◌∙◌, ℤ, pos, append_assoc, append-nil}
 use Rattle.std.proofs.lemmas.Bool.Decides.{nat_tests}
 use Rattle.std.specs.Prelude.{IsErr, ⊤}
 use Rattle.std.specs.List.{AllByRecursion}
@@ -14,16 +14,16 @@ use Rattle.health_expr.specs.declared.operator.Prefix.{Prefix}
 use Rattle.health_expr.specs.declared.operator.Prefix.TheVariants as prefix
 use Rattle.health_expr.specs.declared.operator.Operator.{Operator}
 use Rattle.health_expr.specs.declared.word.Kind.{Kind}
-use Rattle.health_expr.specs.declared.word.Kind.TheVariants.{End, Number, Name, Nan, Infinity, Abs, Open, Close, Question, Colon, Not, Plus, Minus, Star, Slash, Or, And, Equal, NotEqual, Less, AtMost, Greater, AtLeast, Unknown}
-use Rattle.health_expr.specs.Grammar.{looseness, operator_of, begins_operand, Outcome, Reader, ◌>>=◌, misfit, behind, blocked, number_by, parenthesized, with_prefix, operand_by, operand_at, operand, if_loose, operator_at, step, steps, row, chosen_by, choice, expression}
+use Rattle.health_expr.specs.declared.word.Kind.TheVariants.{End, Number, Name, Nan, Infinity, Abs, Open, Close, Question, Colon, Not, Plus, Minus}
+use Rattle.health_expr.specs.Grammar.{looseness, operator_of, begins_operand, Outcome, ◌>>=◌, misfit, behind, blocked, number_by, parenthesized, with_prefix, operand_by, operand_at, operand, expression}
 use Rattle.health_expr.specs.Spelling as spell
 use Rattle.health_expr.specs.Spelling.{Spelled, at, placed_in, prefix_of, Spells, IsLow}
 use Rattle.health_expr.specs.Tree as tree
 use Rattle.health_expr.specs.Tree.{Tree}
 use Rattle.health_expr.specs.Words.{Placed, first, after, sees}
+use Rattle.health_expr.proofs.Joined.{joins}
 use Rattle.health_expr.proofs.Course as go
 use Rattle.health_expr.proofs.Course.{Frame, State, course, kinds_of, kinds-append, spells-course, prefix_goes_on}
-use Rattle.health_expr.proofs.GrammarLemmas.{expression_suc}
 use Rattle.health_expr.proofs.Rereads.{looseness_bounds}
 
 -- ---- words ahead
@@ -210,7 +210,7 @@ starts_combined levels word op left one front kind first_is starts = record {
   inner = tree.combined op left starts.inner;
   more = starts.more;
   spells = subst (λ (ss : List Spelled). Spells (looseness op) levels (tree.combined op left starts.inner) ss) (regroup one front starts.more (at word levels))
-      (spell.combined levels word op left starts.inner one (front ++ starts.more) kind first_is starts.spells);
+      (spell.combined (looseness op) levels word op left starts.inner one (front ++ starts.more) (joins word.kind op kind) first_is starts.spells);
 }
 
 pub starts_second : (levels : ℕ) (word : Placed) (condition : Tree) (one front : List Spelled)

@@ -27,7 +27,7 @@ either : {X : Type 0} (P : X → Type 0) (b : Bool) (x y : X) → (b ≡ true �
 either P true x y p q = p refl
 either P false x y p q = q refl
 
-first_passes : (test : ℕ → Bool) (text : List ℕ) → 0 < length text → test (slice_index text 0) ≡ true → 1 ≤ prefix_len test text
+pub first_passes : (test : ℕ → Bool) (text : List ℕ) → 0 < length text → test (slice_index text 0) ≡ true → 1 ≤ prefix_len test text
 first_passes test [] some e = absurd (omega arith)
 first_passes test (byte ∷ text) some e = subst (λ (b : Bool). 1 ≤ cond b (1 + prefix_len test text) 0) (sym e) (omega arith)
 

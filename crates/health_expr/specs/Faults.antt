@@ -1,6 +1,7 @@
 -- The first fault of a text, by what may follow the words before it.
-use Rattle.std.specs.Prelude.{◌≡◌, ℕ, ◌<◌, ◌≤◌, List, [], ◌∷◌, ◌++◌, map, IsErr}
+use Rattle.std.specs.Prelude.{◌≡◌, ℕ, ◌<◌, ◌≤◌, List, [], ◌∷◌, ◌++◌, map, Err}
 use Rattle.std.specs.List.{AllByRecursion}
+use Rattle.fixed_num.specs.declared.units.NumberFault.TheVariants.{TooWide}
 use Rattle.fixed_num.specs.UnitsText.{units_read}
 use Rattle.health_expr.specs.declared.word.Kind.{Kind}
 use Rattle.health_expr.specs.declared.word.Kind.TheVariants.{End, Number}
@@ -66,8 +67,8 @@ pub record IsTooDeep (text : List ℕ) : Type 0 where
   pub fits : Reaches before word.kind levels
   pub deep : 64 < levels
 
--- a number fits that is not one of the language, at a place that is not too deep; the words before it
--- have no fault
+-- a number fits that has more than seven decimals or is past the limit, at a place that is not too deep; the
+-- words before it have no fault
 pub record IsTooWide (text : List ℕ) : Type 0 where
   pub before : List Placed
   pub word : Placed
@@ -76,4 +77,4 @@ pub record IsTooWide (text : List ℕ) : Type 0 where
   pub fits : Reaches before word.kind levels
   pub low : levels ≤ 64
   pub number : word.kind ≡ Number
-  pub wide : IsErr (units_read word.said)
+  pub wide : units_read word.said ≡ Err TooWide

@@ -6,8 +6,8 @@ use Rattle.health_expr.specs.declared.operator.Prefix.{Prefix}
 use Rattle.health_expr.specs.declared.operator.Prefix.TheVariants as prefix
 use Rattle.health_expr.specs.declared.operator.Operator.{Operator}
 use Rattle.health_expr.specs.declared.word.Kind.{Kind}
-use Rattle.health_expr.specs.declared.word.Kind.TheVariants.{Number, Name, Nan, Infinity, Abs, Open, Close, Question, Colon, Not, Plus, Minus}
-use Rattle.health_expr.specs.Grammar.{looseness, operator_of}
+use Rattle.health_expr.specs.declared.operator.Operator.TheVariants as operator
+use Rattle.health_expr.specs.declared.word.Kind.TheVariants.{Number, Name, Nan, Infinity, Abs, Open, Close, Question, Colon, Not, Plus, Minus, Star, Slash, Or, And, Equal, NotEqual, Less, AtMost, Greater, AtLeast}
 use Rattle.health_expr.specs.Tree as tree
 use Rattle.health_expr.specs.Tree.{Tree}
 use Rattle.health_expr.specs.Words.{Placed, end_at, words_of}
@@ -32,6 +32,22 @@ prefix_of Not = Some prefix.Not
 prefix_of Minus = Some prefix.Minus
 prefix_of Plus = Some prefix.Plus
 prefix_of _ = None
+
+-- The word that joins two operands is this operator, and so loosely it binds them: products the tightest,
+-- then sums, orders, equality, `and`, and `or`.
+pub data Joins : ℕ → Kind → Operator → Type 0 where
+  times : Joins 1 Star operator.Multiply
+  over : Joins 1 Slash operator.Divide
+  plus : Joins 2 Plus operator.Add
+  minus : Joins 2 Minus operator.Subtract
+  less : Joins 3 Less operator.Less
+  at_most : Joins 3 AtMost operator.AtMost
+  greater : Joins 3 Greater operator.Greater
+  at_least : Joins 3 AtLeast operator.AtLeast
+  equal : Joins 4 Equal operator.Equal
+  not_equal : Joins 4 NotEqual operator.NotEqual
+  and_also : Joins 5 And operator.And
+  or_else : Joins 6 Or operator.Or
 
 -- These words spell this tree, where so many levels hold them all. The first number says which
 -- operators may stand bare: those of this looseness or less. 0 is the place of an operand, and 7 that
@@ -60,9 +76,9 @@ pub data Spells : ℕ → ℕ → Tree → List Spelled → Type 0 where
   tighter : (loose levels : ℕ) (inner : Tree) (words : List Spelled)
       → Spells loose levels inner words → Spells (suc loose) levels inner words
   -- a sum is a sum, `+` or `-`, and a product; and so the operators of each looseness
-  combined : (levels : ℕ) (word : Placed) (operator : Operator) (left right : Tree) (one two : List Spelled)
-      → operator_of word.kind ≡ Some operator → Spells (looseness operator) levels left one → Spells (looseness operator - 1) levels right two
-      → Spells (looseness operator) levels (tree.combined operator left right) (one ++ at word levels ∷ two)
+  combined : (loose levels : ℕ) (word : Placed) (operator : Operator) (left right : Tree) (one two : List Spelled)
+      → Joins loose word.kind operator → Spells loose levels left one → Spells (loose - 1) levels right two
+      → Spells loose levels (tree.combined operator left right) (one ++ at word levels ∷ two)
   -- a condition with no bare choice, `?`, an expression, `:`, and an expression
   chosen : (levels : ℕ) (question colon : Placed) (condition first second : Tree) (one two three : List Spelled)
       → question.kind ≡ Question → colon.kind ≡ Colon

@@ -1,13 +1,13 @@
 -- Copies stay copies, and what was true of a child stays true, over beats of any kind.
-use Rattle.std.proofs.Common.{◌≡◌, ℕ, zero, suc, ◌==◌, ◌+◌, ◌-◌, ◌<◌, ◌≤◌, Bool, true, false, not, ◌&&◌, ◌||◌, ltb, leb, eqb, max, List, [], ◌∷◌, ◌++◌, length, take, cond, ◌⊎◌, inl, inr, refl, sym, ap, subst, ◌∙◌, arith, append_assoc, Option, Some, None, slice_get}
-use Rattle.std.specs.List.{AllByRecursion, filter, list_any}
+use Rattle.std.proofs.Common.{◌≡◌, ℕ, zero, suc, ◌==◌, ◌+◌, ◌-◌, ◌<◌, ◌≤◌, Bool, true, false, not, ◌&&◌, ◌||◌, ltb, leb, max, List, [], ◌∷◌, ◌++◌, length, take, inl, inr, refl, sym, ap, subst, ◌∙◌, arith, Some, None, slice_get}
+use Rattle.std.specs.List.{AllByRecursion, list_any}
 use Rattle.std.proofs.Math.Seq.{take-nil}
 use Rattle.std.proofs.lemmas.List.{append-nil, take-take}
 use Rattle.std.proofs.lemmas.List.Elements.{filter-append}
 use Rattle.std.proofs.lemmas.List.Folds.{list_any-append}
-use Rattle.std.proofs.lemmas.Bool.{cases_lt, cases_Bool, cond-true, cond-false, and_from, and_left, and_right, le-leb, lt-leb, lt-ltb, le-ltb, ltb-true, ltb-false, or_from, or_left, or_right, or_cases, eq-eqb}
+use Rattle.std.proofs.lemmas.Bool.{cases_lt, cases_Bool, cond-true, cond-false, and_from, and_left, and_right, le-leb, lt-leb, lt-ltb, le-ltb, or_from, or_left, or_right, or_cases}
 use Rattle.replication.specs.declared.gap.Gap.{Gap}
-use Rattle.replication.specs.Copies.{is_in, is_outside, EndsBy, end_of, had_floor, Message, gap_of, first_gaps, first_beats, RisesFrom, latest, last_with, up_to, above, between, copy, IsCopy, IsTrueOf}
+use Rattle.replication.specs.Copies.{is_in, is_outside, EndsBy, had_floor, Message, gap_of, first_gaps, first_beats, RisesFrom, latest, last_with, up_to, above, between, IsCopy, IsTrueOf}
 
 -- some front of the list
 abbrev pub IsFrontOf : {B : Type 0} → List B → List B → Type 0
@@ -67,10 +67,6 @@ had_floor-more floors set floor had =
       | inl none ↦ or_left _ _ none
       | inr one ↦ or_right _ _ (list_any-append (λ one. floor == one) floors (set ∷ []) ∙ or_left _ _ one)
     ]
-
-pub had_floor-last : (floors : List ℕ) (set : ℕ) → had_floor (floors ++ set ∷ []) set ≡ true
-had_floor-last floors set =
-    or_right _ _ (list_any-append (λ one. set == one) floors (set ∷ []) ∙ or_right _ _ (or_left _ _ (eq-eqb set set refl)))
 
 -- ---- the first things of a message
 at-none : {B : Type 0} (P : List Gap → List B → Type 0) (n : ℕ) (gaps : List Gap) (all : List B) → gaps ≡ [] → ((m : ℕ) → P [] (take m all)) → P (take n gaps) (take (n - length gaps) all)

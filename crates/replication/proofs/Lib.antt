@@ -5,6 +5,7 @@ pub mod FrontLaws
 pub mod MarksCode
 pub mod MarksLaws
 pub mod NamesLaws
+pub mod OrderLaws
 pub mod Places
 pub mod PlacesCode
 pub mod PointsCode
@@ -12,3 +13,4 @@ pub mod PointsLaws
 pub mod ScheduleCode
 pub mod Sizes
 pub mod WorldLaws
+pub mod Wholes

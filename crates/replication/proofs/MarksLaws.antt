@@ -1,6 +1,6 @@
 -- What one more word marks and takes, and that more words take no less.
-use Rattle.std.proofs.Common.{◌≡◌, ℕ, zero, suc, ◌==◌, ◌+◌, ◌*◌, ◌<◌, ◌≤◌, Bool, true, false, ◌||◌, not, List, [], ◌∷◌, ◌++◌, length, map, cond, ◌⊎◌, inl, inr, refl, sym, ap, subst, ◌∙◌, arith, zero-add, Option, Some, None, slice_get, get_or, set, replicate, length-append}
-use Rattle.std.specs.List.{AllByRecursion, flat_map, list_any, sum_by}
+use Rattle.std.proofs.Common.{◌≡◌, ℕ, ◌==◌, ◌+◌, ◌*◌, ◌<◌, ◌≤◌, Bool, true, false, ◌||◌, List, [], ◌∷◌, ◌++◌, length, map, cond, inl, inr, refl, sym, ap, ◌∙◌, arith, Option, Some, slice_get, get_or, set, replicate, length-append}
+use Rattle.std.specs.List.{list_any, sum_by}
 use Rattle.std.specs.Option.{option_map_or}
 use Rattle.std.proofs.Math.ListN.{length-set}
 use Rattle.std.proofs.lemmas.Bool.{cases_Bool, cases_eq, cond-true, cond-false, or_left, or_right, ne_eqb, eq-eqb}
@@ -9,12 +9,11 @@ use Rattle.std.proofs.lemmas.List.Folds.{list_any-append}
 use Rattle.std.proofs.lemmas.List.Sums.{sum_by-cons}
 use Rattle.replication.specs.declared.beats.Beat.{Beat}
 use Rattle.replication.specs.declared.beats.SeriesWord.{SeriesWord}
-use Rattle.replication.specs.declared.message.Data.{Data}
 use Rattle.replication.specs.declared.names.ChartName.{ChartName}
 use Rattle.replication.specs.declared.names.DimName.{DimName}
 use Rattle.replication.specs.declared.names.Names.{Names}
 use Rattle.replication.specs.Answer.{data_with}
-use Rattle.replication.specs.Bytes.{data_bytes, chart_size, dimension_size, beat_size, data_size}
+use Rattle.replication.specs.Bytes.{data_bytes, chart_size, dimension_size, beat_size}
 use Rattle.replication.specs.Marks.{AreMarks, words_size}
 use Rattle.replication.specs.Names.{words_of, uses, is_of_chart, uses_chart, placed_dimension, placed_word, placed_beat}
 use Rattle.replication.specs.Places.{select}

@@ -1,6 +1,6 @@
 -- What a Data says by names is what the beats say from which it is made.
-use Rattle.std.proofs.Common.{◌≡◌, ℕ, zero, suc, ◌==◌, ◌+◌, ◌-◌, ◌<◌, ◌≤◌, Bool, true, false, ◌||◌, eqb, ltb, max, List, [], ◌∷◌, ◌++◌, length, take, map, cond, ◌⊎◌, inl, inr, refl, sym, ap, subst, ◌∙◌, arith, Option, Some, None, slice_get, append_assoc}
-use Rattle.std.specs.List.{AllByRecursion, filter, filter_map, flat_map, list_any, cons_option}
+use Rattle.std.proofs.Common.{◌≡◌, ℕ, suc, ◌==◌, ◌+◌, ◌-◌, Bool, true, false, ltb, max, List, [], ◌∷◌, ◌++◌, take, map, inl, inr, refl, sym, ap, subst, ◌∙◌, arith, Option, Some, None, slice_get, append_assoc}
+use Rattle.std.specs.List.{AllByRecursion, filter_map, list_any, cons_option}
 use Rattle.std.specs.Option.{option_map, option_map_or, option_and_then}
 use Rattle.std.proofs.lemmas.Bool.{cases_Bool, cases_lt, cond-true, cond-false, or_left, or_right, eq-eqb, lt-ltb, le-ltb}
 use Rattle.std.proofs.lemmas.List.{take-map}
@@ -10,16 +10,14 @@ use Rattle.replication.specs.declared.ask.Ask.{Ask}
 use Rattle.replication.specs.declared.beats.Beat.{Beat}
 use Rattle.replication.specs.declared.beats.SeriesWord.{SeriesWord}
 use Rattle.replication.specs.declared.message.Data.{Data}
-use Rattle.replication.specs.declared.named.NamedBeat.{NamedBeat}
-use Rattle.replication.specs.declared.named.NamedPoint.{NamedPoint}
 use Rattle.replication.specs.declared.names.ChartName.{ChartName}
 use Rattle.replication.specs.declared.names.DimName.{DimName}
 use Rattle.replication.specs.declared.names.Names.{Names}
 use Rattle.replication.specs.Answer.{from_of, data_with, longest, front, with_front, data_of}
-use Rattle.replication.specs.Copies.{had_floor, Message, RisesFrom, latest, above, IsTrueOf}
+use Rattle.replication.specs.Copies.{had_floor, RisesFrom, latest, above, IsTrueOf}
 use Rattle.replication.specs.Names.{beat_moment, named_moment, point_of, named_point, named_beat, named_beats, message_of, words_of, uses, is_of_chart, uses_chart, placed_dimension, used_names, placed_word, placed_beat}
 use Rattle.replication.specs.Places.{select, place}
-use Rattle.replication.proofs.Copies.{front-true, all-append, all-map}
+use Rattle.replication.proofs.Copies.{front-true}
 use Rattle.replication.proofs.Places.{select-place}
 
 -- ---- beats of one kind seen as another
@@ -70,7 +68,7 @@ IsUsed names words word = (uses words word.series ≡ true) × ((dimension : Dim
 any-at : {X : Type 0} (p : X → Bool) (before : List X) (x : X) (after : List X) → p x ≡ true → list_any p (before ++ x ∷ after) ≡ true
 any-at p before x after passes = list_any-append p before (x ∷ after) ∙ or_right _ _ (or_left _ _ passes)
 
-all-used : (names : Names) (words before after : List SeriesWord) → words ≡ before ++ after → AllByRecursion (IsUsed names words) after
+pub all-used : (names : Names) (words before after : List SeriesWord) → words ≡ before ++ after → AllByRecursion (IsUsed names words) after
 all-used names words before [] is = tt
 all-used names words before (word ∷ after) is = (
   subst (λ words. IsUsed names words word) (sym is) (

@@ -1,7 +1,7 @@
 -- A step of the loop that works out new places.
-use Rattle.std.proofs.Common.{◌≡◌, ℕ, zero, suc, ◌+◌, ◌<◌, ◌≤◌, Bool, false, List, [], ◌∷◌, ◌++◌, length, get_or, cond, ◌⊎◌, inl, inr, refl, sym, ap, subst, ◌∙◌, arith}
+use Rattle.std.proofs.Common.{◌≡◌, ℕ, zero, suc, ◌+◌, ◌<◌, ◌≤◌, Bool, false, List, [], ◌∷◌, ◌++◌, length, get_or, cond, ◌⊎◌, inl, inr, refl, sym, ap, ◌∙◌, arith}
 use Rattle.replication.specs.Marks.{AreMarks}
-use Rattle.replication.specs.Places.{count_from, place}
+use Rattle.replication.specs.Places.{place}
 use Rattle.replication.proofs.Places.{count_from-more}
 
 -- what stands in a list with one more at its end

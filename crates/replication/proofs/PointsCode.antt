@@ -1,13 +1,13 @@
 -- Steps of the loops over points.
-use Rattle.std.proofs.Common.{◌≡◌, ℕ, zero, suc, ◌+◌, ◌<◌, ◌≤◌, Bool, true, false, ltb, List, [], ◌∷◌, ◌++◌, length, take, drop, get_or, set, not, cond, ◌⊎◌, inl, inr, refl, sym, ap, subst, ◌∙◌, arith, append_assoc, add-one, drop-cons, length-append, Option, Some, None, slice_get}
+use Rattle.std.proofs.Common.{◌≡◌, ℕ, suc, ◌+◌, ◌<◌, ◌≤◌, Bool, false, List, [], ◌∷◌, ◌++◌, length, take, drop, get_or, set, not, inl, inr, refl, sym, ap, ◌∙◌, arith, append_assoc, add-one, drop-cons, length-append, Option, Some, None}
 use Rattle.std.specs.declared.cmp.Ordering.{Ordering}
 use Rattle.std.specs.declared.cmp.Ordering.TheVariants.{Less, Equal, Greater}
-use Rattle.std.specs.List.{cons_option, filter_map, find, flat_map, insert, list_any, position_or_len}
+use Rattle.std.specs.List.{cons_option, filter_map, find, insert, list_any, position_or_len}
 use Rattle.std.specs.Ordering.{match_ordering}
 use Rattle.std.specs.Option.{option_to_list}
 use Rattle.std.specs.Str.{bytes_eq}
-use Rattle.std.proofs.lemmas.Bool.{cases_lt, cases_Bool, cond-true, cond-false, or_parts}
-use Rattle.std.proofs.lemmas.List.{append-nil, set_split, take_all, take_more}
+use Rattle.std.proofs.lemmas.Bool.{cases_Bool, cond-true, cond-false, or_parts}
+use Rattle.std.proofs.lemmas.List.{set_split, take_more}
 use Rattle.std.proofs.lemmas.List.Folds.{find_at}
 use Rattle.std.proofs.lemmas.List.Sums.{prefix_len-le-length}
 use Rattle.std.proofs.lemmas.Option.{slice_get_within}

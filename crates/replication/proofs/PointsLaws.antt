@@ -1,9 +1,9 @@
 -- Names that are numbered say the points again.
-use Rattle.std.proofs.Common.{◌≡◌, ℕ, zero, suc, ◌==◌, ◌+◌, ◌<◌, ◌≤◌, Bool, true, false, ◌||◌, List, [], ◌∷◌, ◌++◌, length, map, cond, ◌⊎◌, inl, inr, refl, sym, ap, subst, ◌∙◌, arith, Option, Some, None, slice_get, is_eq, nat_cmp}
+use Rattle.std.proofs.Common.{◌≡◌, ℕ, zero, suc, ◌<◌, Bool, true, false, ◌||◌, List, [], ◌∷◌, ◌++◌, length, map, ◌⊎◌, inl, inr, refl, sym, ap, subst, ◌∙◌, arith, Some, slice_get, is_eq, nat_cmp}
 use Rattle.std.specs.declared.cmp.Ordering.{Ordering}
 use Rattle.std.specs.declared.cmp.Ordering.TheVariants.{Less, Equal, Greater}
 use Rattle.std.specs.Cmp.Lexicographic.{slice_cmp}
-use Rattle.std.specs.List.{AllByRecursion, filter_map, find, flat_map, list_any, cons_option, position_or_len}
+use Rattle.std.specs.List.{AllByRecursion, filter_map, find, list_any, cons_option, position_or_len}
 use Rattle.std.specs.Option.{option_map, option_and_then}
 use Rattle.std.specs.Ordering.{ordering_then, match_ordering}
 use Rattle.std.specs.Str.{bytes_eq}
@@ -13,17 +13,13 @@ use Rattle.std.proofs.lemmas.List.Folds.{list_any-append, find_at}
 use Rattle.std.proofs.lemmas.Map.Text.{is_eq-slice_cmp}
 use Rattle.std.proofs.lemmas.Option.{slice_get-map, slice_get_within}
 use Rattle.std.proofs.lemmas.Slice.Eq.{bytes_eq-Decides}
-use Rattle.replication.specs.declared.beats.Beat.{Beat}
-use Rattle.replication.specs.declared.beats.SeriesWord.{SeriesWord}
 use Rattle.replication.specs.declared.named.NamedBeat.{NamedBeat}
 use Rattle.replication.specs.declared.named.NamedPoint.{NamedPoint}
 use Rattle.replication.specs.declared.names.ChartName.{ChartName}
 use Rattle.replication.specs.declared.names.DimName.{DimName}
-use Rattle.replication.specs.declared.names.Names.{Names}
 use Rattle.replication.specs.Answer.{AreNames, AreOfSeries, AreBeatsOf}
-use Rattle.replication.specs.Names.{point_of, named_point, named_beat, named_beats}
-use Rattle.replication.specs.Points.{name_cmp, has_name_of, put, put_all, in_order, points_of, names_in, with_id, with_ids, charts_of, plain_chart, plain_dimension, names_of, numbered_point, numbered_beat, numbered_beats}
-use Rattle.replication.proofs.Copies.{all-map}
+use Rattle.replication.specs.Names.{point_of, named_point, named_beats}
+use Rattle.replication.specs.Points.{name_cmp, has_name_of, put, put_all, points_of, names_in, with_id, with_ids, charts_of, plain_chart, plain_dimension, names_of, numbered_point, numbered_beats}
 use Rattle.replication.proofs.NamesLaws.{all-split}
 
 -- ---- what is found in a list

@@ -1,13 +1,11 @@
 -- What the calls of a schedule come to.
-use Rattle.std.proofs.Common.{◌≡◌, ℕ, zero, suc, ◌==◌, ◌+◌, ◌-◌, ◌<◌, ◌≤◌, Bool, true, false, eqb, ltb, List, [], ◌∷◌, ◌++◌, length, take, cond, ◌⊎◌, inl, inr, refl, sym, ap, subst, ◌∙◌, arith, Option, Some, None, slice_get}
+use Rattle.std.proofs.Common.{◌≡◌, ℕ, zero, suc, ◌==◌, ◌+◌, ◌-◌, ◌<◌, ◌≤◌, true, false, ltb, List, [], ◌∷◌, length, take, cond, ◌⊎◌, inl, inr, sym, ap, ◌∙◌, arith, Option, Some, None, slice_get}
 use Rattle.std.specs.Option.{option_map_or}
 use Rattle.std.proofs.Math.Seq.{take-nil}
 use Rattle.std.proofs.lemmas.Bool.{cases_lt, cases_Bool, cond-true, cond-false, lt-ltb, le-ltb, eqb-true, eq-eqb, ne_eqb}
 use Rattle.std.proofs.lemmas.List.{append-nil, take_all}
-use Rattle.replication.specs.declared.gap.Gap.{Gap}
 use Rattle.replication.specs.declared.message.Data.{Data}
 use Rattle.replication.specs.declared.named.NamedBeat.{NamedBeat}
-use Rattle.replication.specs.declared.step.Step.{Step}
 use Rattle.replication.specs.declared.step.Step.TheVariants.{Deliver}
 use Rattle.replication.specs.declared.step.World.{World}
 use Rattle.replication.specs.declared.verdict.Verdict.{Verdict}
@@ -89,14 +87,11 @@ other-not child last prev came verdict own one is never =
     ]
 
 -- ---- deliveries
-delivers-none : (w : World) (place : ℕ) (keep : Option ℕ) → slice_get w.messages place ≡ None → w ≡ happens w (Deliver place keep)
-delivers-none w place keep none = sym (ap (λ (found : Option Data). option_map_or (λ (sent : Data). delivered w keep (message_of sent)) found w) none)
+pub delivers-nothing : (w : World) (place : ℕ) (keep : Option ℕ) → slice_get w.messages place ≡ None → w ≡ happens w (Deliver place keep)
+delivers-nothing w place keep none = sym (ap (λ (found : Option Data). option_map_or (λ (sent : Data). delivered w keep (message_of sent)) found w) none)
 
 delivers : (w : World) (place : ℕ) (keep : Option ℕ) (sent : Data) → slice_get w.messages place ≡ Some sent → happens w (Deliver place keep) ≡ delivered w keep (message_of sent)
 delivers w place keep sent found = ap (λ (found : Option Data). option_map_or (λ (sent : Data). delivered w keep (message_of sent)) found w) found
-
-pub delivers-nothing : (w : World) (place : ℕ) (keep : Option ℕ) → slice_get w.messages place ≡ None → w ≡ happens w (Deliver place keep)
-delivers-nothing = delivers-none
 
 pub delivers-other : (w : World) (place : ℕ) (keep : Option ℕ) (sent : Data) → slice_get w.messages place ≡ Some sent → (sent.prev == w.last) ≡ false → w ≡ happens w (Deliver place keep)
 delivers-other w place keep sent found other =
@@ -140,3 +135,7 @@ stored-end w new most sent beats truth own beats_are most_is stored =
     let all = all-stored w.floors w.beats w.last (message_of sent) truth (eqb-true sent.prev w.last own) in
     let most_all : most ≡ length (message_of sent).beats + 1 = most_is ∙ ap (λ beats. length beats + 1) beats_are in
     sym (ap (λ (w : World). w.last) (stored ∙ (λ i. with_first w (most_all i) (record { prev = sent.prev; from = sent.from; upto = sent.upto; floor = sent.floor; beats = beats_are i }))) ∙ all)
+
+-- a parent that has something is of child 1
+pub of-one : (last : ℕ) (child : Option ℕ) → 0 < last → child ≡ Some 1 → child ≡ cond (last == 0) None (Some 1)
+of-one last child some is = is ∙ sym (cond-false (last == 0) None (Some 1) (ne_eqb last 0 (λ e. omega (arith, e, some))))

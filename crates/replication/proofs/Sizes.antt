@@ -1,15 +1,15 @@
 -- How long the parts of a frame's body are.
-use Rattle.std.proofs.Common.{◌≡◌, ℕ, Bool, true, false, ◌+◌, ◌*◌, List, [], ◌∷◌, ◌++◌, length, arith, refl, ap, ◌∙◌, length-append}
+use Rattle.std.proofs.Common.{◌≡◌, ℕ, Bool, true, false, ◌+◌, ◌*◌, List, [], ◌∷◌, ◌++◌, length, arith, refl, length-append}
 use Rattle.std.specs.List.{flat_map, sum_by}
 use Rattle.std.proofs.lemmas.List.Concat.{length-flat_map}
 use Rattle.std.proofs.lemmas.List.Sums.{sum_by-cons}
-use Rattle.field_codec.specs.Spelling.{u8_bytes, u16_bytes, u32_bytes, u64_bytes, flag_bytes, text_bytes}
+use Rattle.field_codec.specs.Spelling.{u8_bytes, u16_bytes, u32_bytes, u64_bytes, flag_bytes, text_bytes, list_bytes}
 use Rattle.replication.specs.declared.beats.Beat.{Beat}
 use Rattle.replication.specs.declared.beats.SeriesWord.{SeriesWord}
 use Rattle.replication.specs.declared.message.Data.{Data}
 use Rattle.replication.specs.declared.names.ChartName.{ChartName}
 use Rattle.replication.specs.declared.names.DimName.{DimName}
-use Rattle.replication.specs.Bytes.{list_bytes, chart_bytes, dimension_bytes, word_bytes, beat_bytes, names_bytes, data_fields, data_bytes, chart_size, dimension_size, beat_size, data_size}
+use Rattle.replication.specs.Bytes.{chart_bytes, dimension_bytes, word_bytes, beat_bytes, names_bytes, data_fields, data_bytes, chart_size, dimension_size, beat_size, data_size}
 
 length-u32_bytes : (n : ℕ) → length (u32_bytes n) ≡ 4
 unfolding u32_bytes

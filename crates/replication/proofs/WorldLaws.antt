@@ -1,12 +1,12 @@
 -- Each step leaves a sound world sound.
-use Rattle.std.proofs.Common.{◌≡◌, ℕ, zero, suc, ◌==◌, ◌+◌, ◌<◌, ◌≤◌, Bool, true, false, ◌&&◌, ltb, leb, eqb, List, [], ◌∷◌, ◌++◌, length, cond, ◌⊎◌, inl, inr, refl, sym, ap, subst, ◌∙◌, arith, Option, Some, None, slice_get, get_or, take, length-append}
+use Rattle.std.proofs.Common.{◌≡◌, ℕ, ◌==◌, ◌+◌, ◌<◌, ◌≤◌, Bool, true, false, ◌&&◌, ltb, List, [], ◌∷◌, ◌++◌, length, cond, ◌⊎◌, inl, inr, refl, sym, ap, subst, ◌∙◌, arith, Option, Some, None, slice_get, get_or, take, length-append}
 use Rattle.std.specs.declared.cmp.Ordering.{Ordering}
 use Rattle.std.specs.declared.cmp.Ordering.TheVariants.{Less, Equal, Greater}
-use Rattle.std.specs.List.{AllByRecursion, flat_map, list_any}
+use Rattle.std.specs.List.{list_any}
 use Rattle.std.specs.Ordering.{match_ordering}
 use Rattle.std.specs.Option.{option_map_or}
 use Rattle.std.proofs.lemmas.Bool.{cases_Bool, cond-true, cond-false, and_parts, ltb-true, eqb-true, eq-eqb, or_left, or_right}
-use Rattle.std.proofs.lemmas.List.{take_more}
+use Rattle.std.proofs.lemmas.List.{length-map, take_more}
 use Rattle.std.proofs.lemmas.List.Concat.{flat_map-append}
 use Rattle.std.proofs.lemmas.List.Sums.{sum_by-cons}
 use Rattle.replication.specs.declared.ask.Ask.{Ask as AnAsk}
@@ -16,19 +16,21 @@ use Rattle.replication.specs.declared.named.NamedPoint.{NamedPoint}
 use Rattle.replication.specs.declared.step.Step.{Step}
 use Rattle.replication.specs.declared.step.Step.TheVariants.{ChildBeat, Ask, Answer, Deliver}
 use Rattle.replication.specs.declared.step.World.{World}
-use Rattle.replication.specs.Answer.{data_of}
-use Rattle.replication.specs.Copies.{had_floor, Message, first_beats, first_gaps, RisesFrom, latest, last_with, EndsBy, IsCopy, IsTrueOf}
-use Rattle.replication.specs.Names.{beat_moment, named_moment, named_beats, message_of}
-use Rattle.replication.specs.Points.{name_cmp, put, put_all, in_order, points_of, names_in, names_of, numbered_beat, numbered_beats}
-use Rattle.replication.specs.Sound.{IsTrueData, Sound}
+use Rattle.replication.specs.Answer.{HaveWords, data_of}
+use Rattle.replication.specs.Copies.{had_floor, Message, RisesFrom, latest, IsTrueOf}
+use Rattle.replication.specs.Names.{beat_moment, named_moment, message_of}
+use Rattle.replication.specs.Points.{name_cmp, put, put_all, in_order, points_of, names_in, names_of, numbered_point, numbered_beat, numbered_beats}
+use Rattle.replication.specs.Sound.{IsTrueData, HavePoints, Sound}
 use Rattle.replication.specs.World.{start, floor_now, may_follow, with_beat, answer_in, told, with_first, kept_of, delivered, happens, run_from, run, step_points, points_in}
 use Rattle.replication.proofs.Copies.{all-append, all-map, keeps-copy, keeps-ends, keeps-within, ends-within, copy-later, true-later, rises-later, latest-later}
 use Rattle.replication.proofs.NamesLaws.{RisesFrom-map, answer-true, answer-child}
-use Rattle.replication.proofs.PointsLaws.{all-at, named_beats-numbered}
+use Rattle.replication.proofs.Wholes.{answer-whole}
+use Rattle.replication.proofs.PointsLaws.{all-at, named_beats-numbered, names_of-AreNames, numbered_beats-AreBeatsOf}
 
 pub starts-sound : Sound start
 starts-sound = record {
   rises = tt;
+  points = tt;
   within = omega arith;
   ended = tt;
   copies = record { beats = refl; ends = tt };
@@ -40,17 +42,44 @@ starts-sound = record {
 pub numbered-rises : (names : List NamedPoint) (beats : List NamedBeat) → RisesFrom named_moment 0 beats → RisesFrom beat_moment 0 (numbered_beats names beats)
 numbered-rises names beats rises = RisesFrom-map named_moment beat_moment (numbered_beat names) (λ beat. refl) 0 beats rises
 
+-- a beat with points has words by number
+pub numbered_beats-HaveWords : (names : List NamedPoint) (beats : List NamedBeat) → HavePoints beats → HaveWords (numbered_beats names beats)
+numbered_beats-HaveWords names [] have = tt
+numbered_beats-HaveWords names (beat ∷ beats) have = (subst (λ n. 0 < n) (sym (length-map beat.points (numbered_point names))) have.0, numbered_beats-HaveWords names beats have.1)
+
+-- points in order are some, where there are some
+some-put : (point : NamedPoint) (ps : List NamedPoint) → 0 < length (put point ps)
+some-put point [] = omega arith
+some-put point (p ∷ ps) = by (name_cmp point p)
+  where
+    by : (o : Ordering) → 0 < length (match_ordering o (point ∷ p ∷ ps) (point ∷ ps) (p ∷ put point ps))
+    by Less = omega arith
+    by Equal = omega arith
+    by Greater = omega arith
+
+some-put_all : (points ps : List NamedPoint) → 0 < length points → 0 < length (put_all points ps)
+some-put_all points [] some = some
+some-put_all points (p ∷ ps) some = some-put_all (put p points) ps (some-put p points)
+
+some-in_order : (points : List NamedPoint) → 0 < length points → 0 < length (in_order points)
+some-in_order [] some = some
+some-in_order (p ∷ ps) some = some-put_all (p ∷ []) ps (omega arith)
+
 -- the child gets a beat
-with_beat-sound : (w : World) (moment floor : ℕ) (points : List NamedPoint) → latest named_moment 0 w.beats < moment → Sound w → Sound (with_beat w moment floor points)
-with_beat-sound w moment floor points later sound =
+with_beat-sound : (w : World) (moment floor : ℕ) (points : List NamedPoint) → latest named_moment 0 w.beats < moment → 0 < length points → Sound w → Sound (with_beat w moment floor points)
+with_beat-sound w moment floor points later some sound =
     let beat : NamedBeat = record { moment = moment; points = in_order points } in
     record {
       rises = rises-later named_moment 0 w.beats beat sound.rises later;
+      points = all-append (λ (beat : NamedBeat). 0 < length beat.points) w.beats (beat ∷ []) sound.points (some-in_order points some, tt);
       within = subst (λ end. w.last ≤ end) (sym (latest-later named_moment 0 w.beats beat)) (omega (arith, sound.within));
       ended = sound.ended;
       copies = copy-later named_moment w.floors w.beats w.held w.gaps w.last floor beat (omega (arith, sound.within)) sound.copies;
       told = all-map (IsTrueData w.floors w.beats) (IsTrueData (w.floors ++ floor ∷ []) (w.beats ++ beat ∷ [])) w.messages
-          (λ sent truth. true-later named_moment w.floors w.beats floor beat (message_of sent) (omega (arith, ends-within named_moment 0 w.floors w.beats (message_of sent) sound.rises truth)) truth) sound.told;
+          (λ sent truth. record {
+            says = true-later named_moment w.floors w.beats floor beat (message_of sent) (omega (arith, ends-within named_moment 0 w.floors w.beats (message_of sent) sound.rises truth.says)) truth.says;
+            whole = truth.whole;
+          }) sound.told;
       child = sound.child;
     }
 
@@ -76,13 +105,18 @@ told-sound w ask sound =
     by None is = sound
     by (Some message) is = record {
       rises = sound.rises;
+      points = sound.points;
       within = sound.within;
       ended = sound.ended;
       copies = sound.copies;
       told = all-append (IsTrueData w.floors w.beats) w.messages (message ∷ []) sound.told (
-        subst (λ beats. IsTrueData w.floors beats message) (named_beats-numbered w.beats)
-            (answer-true 1 (floor_now 0 w.floors) (names_of (names_in w.beats)) (numbered_beats (names_in w.beats) w.beats) ask w.floors message
-            (numbered-rises (names_in w.beats) w.beats sound.rises) (floor_now-had w.floors) is),
+        record {
+          says = subst (λ beats. IsTrueOf named_moment w.floors beats (message_of message)) (named_beats-numbered w.beats)
+              (answer-true 1 (floor_now 0 w.floors) (names_of (names_in w.beats)) (numbered_beats (names_in w.beats) w.beats) ask w.floors message
+              (numbered-rises (names_in w.beats) w.beats sound.rises) (floor_now-had w.floors) is);
+          whole = answer-whole 1 (floor_now 0 w.floors) (names_of (names_in w.beats)) (numbered_beats (names_in w.beats) w.beats) ask message
+              (names_of-AreNames (names_in w.beats)) (numbered_beats-AreBeatsOf w.beats) (numbered_beats-HaveWords (names_in w.beats) w.beats sound.points) is;
+        },
         tt,
       );
       child = all-append (λ (sent : Data). sent.child ≡ 1) w.messages (message ∷ []) sound.child
@@ -93,6 +127,7 @@ told-sound w ask sound =
 with_first-sound : (w : World) (n : ℕ) (message : Message NamedBeat) → IsTrueOf named_moment w.floors w.beats message → message.prev ≡ w.last → Sound w → Sound (with_first w n message)
 with_first-sound w n message truth prev sound = record {
   rises = sound.rises;
+  points = sound.points;
   within = keeps-within named_moment 0 w.floors w.beats w.last message n sound.rises sound.within truth prev;
   ended = keeps-ends named_moment 0 w.floors w.beats w.gaps w.last message n sound.rises sound.ended truth prev;
   copies = keeps-copy named_moment 0 w.floors w.beats w.held w.gaps w.last message n sound.rises sound.ended sound.copies truth prev;
@@ -112,10 +147,11 @@ pub happens-sound : (w : World) (step : Step) → Sound w → Sound (happens w s
 happens-sound w (ChildBeat moment floor points kept) sound =
     elim (cases_Bool (kept && may_follow w moment floor points)) [
       | inl yes_ ↦ subst Sound (sym (cond-true (kept && may_follow w moment floor points) (with_beat w moment floor points) w yes_))
-          (with_beat-sound w moment floor points (ltb-true _ _ (and_parts (ltb (latest named_moment 0 w.beats) moment) _ (and_parts kept (may_follow w moment floor points) yes_).1).0) sound)
+          (let parts = and_parts (ltb (latest named_moment 0 w.beats) moment) _ (and_parts kept (may_follow w moment floor points) yes_).1 in
+          with_beat-sound w moment floor points (ltb-true _ _ parts.0) (ltb-true _ _ (and_parts (ltb 0 (length points)) _ parts.1).0) sound)
       | inr no_ ↦ subst Sound (sym (cond-false (kept && may_follow w moment floor points) (with_beat w moment floor points) w no_)) sound
     ]
-happens-sound w Ask sound = record { rises = sound.rises; within = sound.within; ended = sound.ended; copies = sound.copies; told = sound.told; child = sound.child }
+happens-sound w Ask sound = record { rises = sound.rises; points = sound.points; within = sound.within; ended = sound.ended; copies = sound.copies; told = sound.told; child = sound.child }
 happens-sound w (Answer ask) sound = by (slice_get w.asks ask)
   where
     by : (found : Option AnAsk) → Sound (option_map_or (told w) found w)
@@ -125,7 +161,7 @@ happens-sound w (Deliver message keep) sound = by (slice_get w.messages message)
   where
     by : (found : Option Data) → slice_get w.messages message ≡ found → Sound (option_map_or (λ (sent : Data). delivered w keep (message_of sent)) found w)
     by None is = sound
-    by (Some sent) is = delivered-sound w keep (message_of sent) (all-at (IsTrueData w.floors w.beats) w.messages message sent sound.told is) sound
+    by (Some sent) is = delivered-sound w keep (message_of sent) (all-at (IsTrueData w.floors w.beats) w.messages message sent sound.told is).says sound
 
 pub run_from-more : (w : World) (steps : List Step) (step : Step) → run_from w (steps ++ step ∷ []) ≡ happens (run_from w steps) step
 run_from-more w [] step = refl

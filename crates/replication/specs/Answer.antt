@@ -1,7 +1,6 @@
 -- The Data that a child answers to an Ask.
-use Rattle.std.specs.Prelude.{ℕ, zero, suc, ◌==◌, ◌-◌, ◌<◌, nat_le, max, List, [], ◌∷◌, length, take, map, Option, Some, None, if◌then◌else◌}
+use Rattle.std.specs.Prelude.{ℕ, zero, suc, ◌==◌, ◌-◌, ◌^◌, ◌<◌, nat_le, max, List, [], ◌∷◌, length, take, map, Option, Some, None, if◌then◌else◌}
 use Rattle.std.specs.List.{AllByRecursion}
-use Rattle.replication.specs.declared.answer.TheConstants.{BEAT_LIMIT, BODY_LIMIT}
 use Rattle.replication.specs.declared.ask.Ask.{Ask}
 use Rattle.replication.specs.declared.beats.Beat.{Beat}
 use Rattle.replication.specs.declared.beats.SeriesWord.{SeriesWord}
@@ -28,14 +27,14 @@ data_with child floor prev names beats = record {
   beats = map (placed_beat (uses (words_of beats))) beats;
 }
 
--- how many beats, at most n, the longest front has whose Data's body has at most BODY_LIMIT bytes
+-- how many beats, at most n, the longest front has whose Data's body has at most 2^20 bytes
 unfoldable pub longest : (List Beat → Data) → List Beat → ℕ → ℕ
 longest make beats zero = 0
-longest make beats (suc n) = if nat_le (length (data_bytes (make (take (suc n) beats)))) BODY_LIMIT then suc n else longest make beats n
+longest make beats (suc n) = if nat_le (length (data_bytes (make (take (suc n) beats)))) (2 ^ 20) then suc n else longest make beats n
 
--- the longest front with at most BEAT_LIMIT beats and BODY_LIMIT bytes, but at least one beat
+-- the longest front with at most 64 beats and 2^20 bytes, but at least one beat
 abbrev pub front : (List Beat → Data) → List Beat → List Beat
-front make beats = take (max 1 (longest make beats BEAT_LIMIT)) beats
+front make beats = take (max 1 (longest make beats 64)) beats
 
 -- the Data with that front, if there is a beat
 abbrev pub with_front : (List Beat → Data) → List Beat → Option Data
@@ -60,3 +59,12 @@ AreOfSeries series words = AllByRecursion (λ (word : SeriesWord). word.series <
 
 abbrev pub AreBeatsOf : ℕ → List Beat → Type 0
 AreBeatsOf series beats = AllByRecursion (λ (beat : Beat). AreOfSeries series beat.words) beats
+
+abbrev pub HaveWords : List Beat → Type 0
+HaveWords beats = AllByRecursion (λ (beat : Beat). 0 < length beat.words) beats
+
+-- each dimension has its chart among the names, each word is of a dimension among them, and each beat has a word
+pub record IsWhole (sent : Data) : Type 0 where
+  pub names : AreNames sent.names
+  pub series : AreBeatsOf (length sent.names.dimensions) sent.beats
+  pub words : HaveWords sent.beats

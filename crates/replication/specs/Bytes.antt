@@ -1,7 +1,6 @@
 -- How a `Data` is spelt in a frame, and how many bytes this takes.
 use Rattle.std.specs.Prelude.{ℕ, ◌+◌, ◌*◌, List, ◌++◌, length, sum_by}
-use Rattle.std.specs.List.{flat_map}
-use Rattle.field_codec.specs.Spelling.{u8_bytes, u32_bytes, u64_bytes, flag_bytes, text_bytes}
+use Rattle.field_codec.specs.Spelling.{u8_bytes, u32_bytes, u64_bytes, flag_bytes, text_bytes, list_bytes}
 use Rattle.replication.specs.declared.beats.Beat.{Beat}
 use Rattle.replication.specs.declared.beats.SeriesWord.{SeriesWord}
 use Rattle.replication.specs.declared.message.Data.{Data}
@@ -12,10 +11,6 @@ use Rattle.replication.specs.declared.names.Names.{Names}
 -- the kind byte of a frame that is a Data
 abbrev pub data_kind : ℕ
 data_kind = 3
-
--- the count of the items, and each of them
-unfoldable pub list_bytes : {X : Type 0} → (X → List ℕ) → List X → List ℕ
-list_bytes item_bytes items = u32_bytes (length items) ++ flat_map item_bytes items
 
 unfoldable pub chart_bytes : ChartName → List ℕ
 chart_bytes chart = text_bytes chart.id ++ (text_bytes chart.context ++ u32_bytes chart.update_every)

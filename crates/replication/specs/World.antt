@@ -1,8 +1,8 @@
 -- A child, a parent, and all messages ever sent between them. A message that is lost is one that is never
 -- delivered; any may be delivered again, and in any order.
-use Rattle.std.specs.Prelude.{ℕ, ◌==◌, ◌+◌, Bool, ◌&&◌, nat_lt, nat_le, List, [], ◌∷◌, ◌++◌, length, slice_get, Option, Some, None, if◌then◌else◌}
+use Rattle.std.specs.Prelude.{ℕ, ◌==◌, ◌+◌, Bool, ◌&&◌, nat_lt, nat_le, List, [], ◌∷◌, ◌++◌, length, slice_get, Option, if◌then◌else◌}
 use Rattle.std.specs.List.{sum_by}
-use Rattle.std.specs.Option.{option_map_or, option_and_then}
+use Rattle.std.specs.Option.{option_map_or}
 use Rattle.replication.specs.declared.ask.Ask.{Ask as AnAsk}
 use Rattle.replication.specs.declared.gap.Gap.{Gap}
 use Rattle.replication.specs.declared.message.Data.{Data}
@@ -46,10 +46,13 @@ told w ask = option_map_or (λ (message : Data). record w { messages = w.message
 abbrev pub with_gaps : World → List Gap → World
 with_gaps w gaps = record w { gaps = w.gaps ++ gaps; last = end_of w.last gaps }
 
+-- and beats after them
+abbrev pub with_stored : World → List Gap → List NamedBeat → World
+with_stored w gaps beats = record w { held = w.held ++ beats; gaps = w.gaps ++ gaps; last = last_with named_moment w.last gaps beats }
+
 -- it stores the first things of a message, a gap first
 abbrev pub with_first : World → ℕ → Message NamedBeat → World
-with_first w n message =
-    record w { held = w.held ++ first_beats n message; gaps = w.gaps ++ first_gaps n message; last = last_with named_moment w.last (first_gaps n message) (first_beats n message) }
+with_first w n message = with_stored w (first_gaps n message) (first_beats n message)
 
 -- how many things of a message outlive a stop, and all of them where nothing stops
 abbrev pub kept_of : Option ℕ → Message NamedBeat → ℕ

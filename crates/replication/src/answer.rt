@@ -1,14 +1,14 @@
 ghost use Rattle.std.specs.Prelude.{◌≡◌, ℕ, ◌<◌, ◌≤◌, if◌then◌else◌, Bool, List, [], ◌∷◌, ◌++◌, length, map, IfOk, OnOk};
 ghost use Rattle.std.specs.List.{AllByRecursion};
 ghost use Rattle.replication.specs.declared.names.DimName.{DimName as ADimension};
-ghost use Rattle.replication.specs.Answer.{AreNames, AreOfSeries, AreBeatsOf, data_with};
-ghost use Rattle.replication.specs.Copies.{latest};
+ghost use Rattle.replication.specs.Answer.{AreNames, AreOfSeries, AreBeatsOf, from_of, data_with};
 ghost use Rattle.replication.specs.Marks.{AreMarks, AreMarksOf, ArePlaces, AreSmall};
 ghost use Rattle.replication.specs.Names.{beat_moment, words_of, uses, used_names, placed_dimension, placed_word, placed_beat};
 ghost use Rattle.replication.specs.Places.{select, place};
 
 use crate::beats::{Beat, BeatList, SeriesWord, SeriesWordList};
 use crate::fault::CopyFault;
+use crate::latest::last_moment;
 use crate::marks::Marks;
 use crate::message::Data;
 use crate::names::{ChartName, ChartNameList, DimName, DimNameList, Names};
@@ -19,6 +19,13 @@ pub const BEAT_LIMIT: usize = 64;
 
 /// How many bytes the body of a `Data`'s frame may have, where it has more than one beat.
 pub const BODY_LIMIT: usize = 1 << 20;
+
+/// Above which moment a child with this floor has all: `prev`, or one below the floor.
+pub(crate) fn from_of(floor: u32, prev: u32) -> u32
+    ensures { result ≡ from_of floor prev }
+{
+    prev.max(floor.saturating_sub(1))
+}
 
 /// The marks of what the beats use.
 fn marks_of(alloc: Global, names: &Names, beats: &[Beat]) -> Result<Marks, CopyFault>
@@ -44,7 +51,8 @@ fn one_if(mark: bool) -> usize
 /// The new place of each place that stays: none is above the old one.
 fn places_of(alloc: Global, marks: &[bool]) -> Result<Vec<usize>, CopyFault>
     ensures small { IfOk result (λ places. AreSmall places.items) }
-    ensures places { IfOk result (λ places. (test : ℕ → Bool) (n : ℕ) → AreMarks test n marks.now → ArePlaces test n places.items) }
+    ensures places { IfOk result (λ places. (test : ℕ → Bool) (n : ℕ)
+        → AreMarks test n marks.now → ArePlaces test n places.items) }
 {
     let mut places = Vec::new(alloc);
     let mut next = 0;
@@ -77,7 +85,8 @@ fn add_dimension(
     chart: u32,
     mark: bool,
 ) -> Result<(), CopyFault>
-    ensures { OnOk result (used.new ≡ used.old ++ (if mark then (record dimension.now { chart = chart }) ∷ [] else [])) }
+    ensures { OnOk result (used.new ≡ used.old
+        ++ (if mark then (record dimension.now { chart = chart }) ∷ [] else [])) }
 {
     if !mark {
         return Ok(());
@@ -97,7 +106,8 @@ fn used_charts(
     marks: &[bool],
 ) -> Result<ChartNameList, CopyFault>
     requires { length marks.now ≡ length charts.now }
-    ensures { IfOk result (λ used. (test : ℕ → Bool) → AreMarks test (length charts.now) marks.now → used ≡ select test 0 charts.now) }
+    ensures { IfOk result (λ used. (test : ℕ → Bool)
+        → AreMarks test (length charts.now) marks.now → used ≡ select test 0 charts.now) }
 {
     let mut used = ChartNameList::new(alloc);
     for (index, chart) in charts.iter().enumerate() {
@@ -114,9 +124,12 @@ fn used_dimensions(
     places: &[usize],
 ) -> Result<DimNameList, CopyFault>
     requires marks { length marks.now ≡ length dimensions.now }
-    requires charts { AllByRecursion (λ (dimension : ADimension). dimension.chart < length places.now) dimensions.now }
+    requires charts { AllByRecursion (λ (dimension : ADimension).
+        dimension.chart < length places.now) dimensions.now }
     requires small { AreSmall places.now }
-    ensures { IfOk result (λ used. (test charts : ℕ → Bool) → AreMarks test (length dimensions.now) marks.now → ArePlaces charts (length places.now) places.now
+    ensures { IfOk result (λ used. (test charts : ℕ → Bool)
+        → AreMarks test (length dimensions.now) marks.now
+        → ArePlaces charts (length places.now) places.now
         → used ≡ map (placed_dimension charts) (select test 0 dimensions.now)) }
 {
     let mut used = DimNameList::new(alloc);
@@ -134,7 +147,9 @@ fn placed_words(
 ) -> Result<SeriesWordList, CopyFault>
     requires series { AreOfSeries (length places.now) words.now }
     requires small { AreSmall places.now }
-    ensures { IfOk result (λ placed. (test : ℕ → Bool) → ArePlaces test (length places.now) places.now → placed ≡ map (placed_word test) words.now) }
+    ensures { IfOk result (λ placed. (test : ℕ → Bool)
+        → ArePlaces test (length places.now) places.now
+        → placed ≡ map (placed_word test) words.now) }
 {
     let mut placed = SeriesWordList::new(alloc);
     for word in words {
@@ -150,7 +165,9 @@ fn placed_words(
 fn placed_beats(alloc: Global, places: &[usize], beats: &[Beat]) -> Result<BeatList, CopyFault>
     requires series { AreBeatsOf (length places.now) beats.now }
     requires small { AreSmall places.now }
-    ensures { IfOk result (λ placed. (test : ℕ → Bool) → ArePlaces test (length places.now) places.now → placed ≡ map (placed_beat test) beats.now) }
+    ensures { IfOk result (λ placed. (test : ℕ → Bool)
+        → ArePlaces test (length places.now) places.now
+        → placed ≡ map (placed_beat test) beats.now) }
 {
     let mut placed = BeatList::new(alloc);
     for beat in beats {
@@ -167,7 +184,8 @@ fn used_of(alloc: Global, names: &Names, beats: &[Beat]) -> Result<(Names, BeatL
     requires names { AreNames names.now }
     requires series { AreBeatsOf (length names.now.dimensions) beats.now }
     ensures names { IfOk result (λ used. used.0 ≡ used_names names.now (words_of beats.now)) }
-    ensures beats { IfOk result (λ used. used.1 ≡ map (placed_beat (uses (words_of beats.now))) beats.now) }
+    ensures beats { IfOk result (λ used.
+        used.1 ≡ map (placed_beat (uses (words_of beats.now))) beats.now) }
 {
     let marks = marks_of(alloc, names, beats)?;
     let chart_marks = marks.charts.as_slice();
@@ -184,16 +202,6 @@ fn used_of(alloc: Global, names: &Names, beats: &[Beat]) -> Result<(Names, BeatL
     Ok((Names { charts, dimensions }, placed))
 }
 
-/// The moment of the last beat, or `before`.
-fn last_moment(before: u32, beats: &[Beat]) -> u32
-    ensures { result ≡ latest beat_moment before beats.now }
-{
-    match beats.last() {
-        Some(beat) => beat.moment,
-        None => before,
-    }
-}
-
 /// The `Data` with these beats.
 pub(crate) fn data_with(
     alloc: Global,
@@ -207,7 +215,7 @@ pub(crate) fn data_with(
     requires series { AreBeatsOf (length names.now.dimensions) beats.now }
     ensures { IfOk result (λ message. message ≡ data_with child floor prev names.now beats.now) }
 {
-    let from = prev.max(floor.saturating_sub(1));
+    let from = from_of(floor, prev);
     let (names, placed) = used_of(alloc, names, beats)?;
     Ok(Data {
         child,

@@ -3,6 +3,6 @@
 pub struct Ask {
     /// The id of the child that is asked.
     pub child: u64,
-    /// The last moment that the parent has, 0 for none.
+    /// The last moment that the parent has, in seconds, 0 for none.
     pub last: u32,
 }

@@ -1,6 +1,6 @@
 use fixed_num::ListOf;
 
-/// Storage numbers of one beat.
+/// The storage numbers of the points of one beat.
 pub type SeriesWordList = ListOf<SeriesWord>;
 
 /// Beats, the oldest first.
@@ -11,12 +11,14 @@ pub type BeatList = ListOf<Beat>;
 pub struct SeriesWord {
     /// The number of the series, or in a `Data` the place of its dimension.
     pub series: u32,
+    /// The point's storage number.
     pub word: u32,
 }
 
 /// The points of one moment, each by the number of its series.
 #[derive(Debug, Drop)]
 pub struct Beat {
+    /// The moment in seconds, above 0.
     pub moment: u32,
     pub words: SeriesWordList,
 }

@@ -1,10 +1,10 @@
 ghost use Rattle.std.specs.Prelude.{◌≡◌, ◌≤◌, length, take, IfOk};
-ghost use Rattle.replication.specs.Answer.{AreNames, AreBeatsOf, data_of};
+ghost use Rattle.replication.specs.Answer.{AreNames, AreBeatsOf, HaveWords, data_of};
 ghost use Rattle.replication.specs.Copies.{RisesFrom};
 ghost use Rattle.replication.specs.Names.{beat_moment};
 
 use crate::above::beats_above;
-use crate::answer::data_with;
+use crate::answer::{data_with, from_of};
 use crate::ask::Ask;
 use crate::beats::{Beat, BeatList};
 use crate::fault::CopyFault;
@@ -26,8 +26,8 @@ fn first_of(beats: &[Beat], count: usize) -> &[Beat]
 pub struct Child;
 
 impl Child {
-    /// What a child answers to an `Ask`, from its floor, the names of its series and its beats with points:
-    /// the first beats above what was asked for and below what it has lost. They are the longest list of
+    /// What a child answers to an `Ask`, from its floor in seconds, the names of its series and its beats, each
+    /// with points: the first beats above what was asked for that it has not lost. They are the longest list of
     /// such beats that has at most 64 beats and a frame's body of at most 2^20 bytes, but at least one. None
     /// where it has no such beat, and where the `Ask` names another child. Beats are searched by halves.
     pub fn answer(
@@ -41,13 +41,15 @@ impl Child {
         requires names { AreNames names.now }
         requires rises { RisesFrom beat_moment 0 beats.now }
         requires series { AreBeatsOf (length names.now.dimensions) beats.now }
-        ensures { IfOk result (λ answer. answer ≡ data_of child floor names.now beats.now ask.now) }
+        requires words { HaveWords beats.now }
+        ensures { IfOk result (λ answer.
+            answer ≡ data_of child floor names.now beats.now ask.now) }
     {
         if ask.child != child {
             return Ok(None);
         }
         let kept = beats.as_slice();
-        let later = beats_above(kept, ask.last.max(floor.saturating_sub(1)));
+        let later = beats_above(kept, from_of(floor, ask.last));
         if later.is_empty() {
             return Ok(None);
         }

@@ -17,7 +17,8 @@ pub(crate) fn front_len(alloc: Global, names: &Names, later: &[Beat]) -> Result<
     requires series { AreBeatsOf (length names.now.dimensions) later.now }
     requires some { 0 < length later.now }
     ensures within { IfOk result (λ count. count ≤ length later.now) }
-    ensures front { IfOk result (λ count. (child floor prev : ℕ) → take count later.now ≡ front (data_with child floor prev names.now) later.now) }
+    ensures front { IfOk result (λ count. (child floor prev : ℕ)
+        → take count later.now ≡ front (data_with child floor prev names.now) later.now) }
 {
     let mut marks = Marks::new(alloc, names)?;
     let mut room = BODY_LIMIT - EMPTY_SIZE;

@@ -22,6 +22,7 @@ mod child;
 mod fault;
 mod front;
 mod gap;
+mod latest;
 pub mod laws;
 mod marks;
 mod meaning;

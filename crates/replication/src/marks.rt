@@ -55,7 +55,8 @@ impl Marks {
         ensures marks { (words : List AWord) → AreMarksOf names.now words self.old
             → AreMarksOf names.now (words ++ word.now ∷ []) self.new }
         ensures size { (words : List AWord) → AreMarksOf names.now words self.old
-            → words_size names.now (words ++ word.now ∷ []) ≡ words_size names.now words + result }
+            → words_size names.now (words ++ word.now ∷ [])
+            ≡ words_size names.now words + result }
     {
         let dimensions = names.dimensions.as_slice();
         let charts = names.charts.as_slice();
@@ -83,7 +84,8 @@ impl Marks {
         ensures marks { (words : List AWord) → AreMarksOf names.now words self.old
             → OnSome result (AreMarksOf names.now (words ++ beat.now.words) self.new) }
         ensures room { (words : List AWord) → AreMarksOf names.now words self.old
-            → IsLeft (words_size names.now words) (8 + words_size names.now (words ++ beat.now.words)) room result }
+            → IsLeft (words_size names.now words)
+            (8 + words_size names.now (words ++ beat.now.words)) room result }
     {
         if room < 8 {
             return None;

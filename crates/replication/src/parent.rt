@@ -10,7 +10,7 @@ use crate::verdict::Verdict;
 pub struct Parent {
     /// The child that it is a copy of, None as long as it has nothing.
     pub child: Option<u64>,
-    /// The last moment, where a gap counts with its end; 0 for none.
+    /// The last moment in seconds, where a gap counts with its end; 0 for none.
     pub last: u32,
 }
 
@@ -35,8 +35,10 @@ impl Parent {
     /// Judges a message, and where it is stored ends at its last moment from then on. A copy of another
     /// child is WrongChild; a message that begins below the last moment is Old, and above it Ahead.
     pub fn take(&mut self, message: &Data) -> Verdict
-        ensures verdict { result ≡ verdict_by self.old.child self.old.last message.now.child message.now.prev }
-        ensures stored { result ≡ Verdict.Stored → self.new ≡ record { child = Some message.now.child; last = message.now.upto } }
+        ensures verdict { result
+            ≡ verdict_by self.old.child self.old.last message.now.child message.now.prev }
+        ensures stored { result ≡ Verdict.Stored
+            → self.new ≡ record { child = Some message.now.child; last = message.now.upto } }
         ensures others { result ≢ Verdict.Stored → self.new ≡ self.old }
     {
         if let Some(kept) = self.child {

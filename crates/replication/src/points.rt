@@ -39,9 +39,11 @@ fn copy_of(point: &NamedPoint) -> Result<NamedPoint, CopyFault>
 /// The place of the point of this name, or else the place at which this point stands in order.
 fn search(points: &[NamedPoint], point: &NamedPoint) -> Result<usize, usize>
     ensures found_within { IfOk result (λ place. place < length points.now) }
-    ensures found { IfOk result (λ place. put point.now points.now ≡ slice_set points.now place point.now) }
+    ensures found { IfOk result (λ place.
+        put point.now points.now ≡ slice_set points.now place point.now) }
     ensures new_within { IfErr result (λ place. place ≤ length points.now) }
-    ensures new { IfErr result (λ place. put point.now points.now ≡ insert points.now place point.now) }
+    ensures new { IfErr result (λ place.
+        put point.now points.now ≡ insert points.now place point.now) }
 {
     for (place, other) in points.iter().enumerate() {
         match compare_names(point, other) {

@@ -1,16 +1,17 @@
 //! The steps of a world, by the calls of both ends.
 ghost use Rattle.std.specs.Prelude.{◌≡◌, ◌⊎◌, ◌==◌, ℕ, ◌-◌, ◌<◌, ◌^◌, true, false, ◌++◌, length, take, slice_get, IfOk, OnOk, Some, None};
 ghost use Rattle.std.specs.Option.{option_copied};
-ghost use Rattle.replication.specs.Copies.{Message, gap_between, latest};
-ghost use Rattle.replication.specs.Names.{named_moment, named_beats, message_of};
+ghost use Rattle.replication.specs.Copies.{gap_between, latest};
+ghost use Rattle.replication.specs.Names.{named_moment, named_beats};
 ghost use Rattle.replication.specs.Points.{points_of};
 ghost use Rattle.replication.specs.Sound.{Sound, IsEndOf};
-ghost use Rattle.replication.specs.World.{start, floor_now, may_follow, answer_in, with_first, with_gaps, happens};
+ghost use Rattle.replication.specs.World.{start, floor_now, may_follow, answer_in, with_stored, with_gaps, happens};
 
 use crate::ask::Ask;
 use crate::child::Child;
 use crate::fault::CopyFault;
 use crate::gap::{Gap, GapList};
+use crate::latest::last_moment;
 use crate::meaning::named_beats;
 use crate::message::Data;
 use crate::named::{NamedBeat, NamedBeatList, NamedPointList};
@@ -35,33 +36,13 @@ pub(crate) fn start(alloc: Global) -> World
     }
 }
 
-/// The moment of the last beat, or `before`.
-fn last_moment(before: u32, beats: &[NamedBeat]) -> u32
-    ensures { result ≡ latest named_moment before beats.now }
-{
-    match beats.last() {
-        Some(beat) => beat.moment,
-        None => before,
-    }
-}
-
-/// The last floor, or 0.
-fn last_floor(floors: &[u32]) -> u32
-    ensures { result ≡ floor_now 0 floors.now }
-{
-    match floors.last() {
-        Some(floor) => *floor,
-        None => 0,
-    }
-}
-
 /// Whether the child may have a beat of these points next.
 fn may_follow(world: &World, moment: u32, floor: u32, points: &NamedPointList) -> bool
     ensures { result ≡ may_follow world.now moment floor points.now }
 {
     last_moment(0, world.beats.as_slice()) < moment
         && !points.is_empty()
-        && last_floor(world.floors.as_slice()) <= floor
+        && last_moment(0, world.floors.as_slice()) <= floor
         && floor.saturating_sub(1) <= moment
 }
 
@@ -74,7 +55,8 @@ fn child_beat(
     points: &NamedPointList,
     kept: bool,
 ) -> Result<(), CopyFault>
-    ensures { OnOk result (world.new ≡ happens world.old (Step.ChildBeat moment floor points.now kept)) }
+    ensures { OnOk result (world.new
+        ≡ happens world.old (Step.ChildBeat moment floor points.now kept)) }
 {
     if !kept || !may_follow(world, moment, floor, points) {
         return Ok(());
@@ -106,7 +88,7 @@ fn answer_of(alloc: Global, world: &World, ask: &Ask) -> Result<Option<Data>, Co
     let all = points.as_slice();
     let names = names_of(alloc, all)?;
     let beats = numbered_beats(alloc, all, child)?;
-    let floor = last_floor(floors);
+    let floor = last_moment(0, floors);
     Child::answer(alloc, 1, floor, &names, &beats, ask)
 }
 
@@ -140,7 +122,8 @@ fn hold(held: &mut NamedBeatList, last: &mut u32, beats: Vec<NamedBeat>) -> Resu
 /// Stores the gap from `prev` to `from`, if there is one and anything is to be stored, and tells how much more
 /// is to be stored then.
 fn store_gap(world: &mut World, most: usize, prev: u32, from: u32) -> Result<usize, CopyFault>
-    ensures gap { OnOk result (world.new ≡ with_gaps world.old (take most (gap_between prev from))) }
+    ensures gap { OnOk result (world.new
+        ≡ with_gaps world.old (take most (gap_between prev from))) }
     ensures rest { IfOk result (λ rest. rest ≡ most - length (gap_between prev from)) }
 {
     if from <= prev {
@@ -165,8 +148,8 @@ fn store(
     from: u32,
     mut beats: Vec<NamedBeat>,
 ) -> Result<(), CopyFault>
-    ensures { OnOk result (world.new ≡
-        with_first world.old most (record { prev = prev; from = from; upto = 0; floor = 0; beats = beats.items })) }
+    ensures { OnOk result (world.new ≡ with_stored world.old (take most (gap_between prev from))
+        (take (most - length (gap_between prev from)) beats.items)) }
 {
     let rest = store_gap(world, most, prev, from)?;
     beats.truncate(rest);
@@ -178,7 +161,8 @@ fn stores(parent: &mut Parent, message: &Data) -> bool
     requires child { (parent.old.child ≡ None) ⊎ (parent.old.child ≡ Some 1) }
     requires sender { message.now.child ≡ 1 }
     ensures stored { result ≡ (message.now.prev == parent.old.last) }
-    ensures taken { result ≡ true → parent.new ≡ record { child = Some 1; last = message.now.upto } }
+    ensures taken { result ≡ true
+        → parent.new ≡ record { child = Some 1; last = message.now.upto } }
     ensures left { result ≡ false → parent.new ≡ parent.old }
 {
     match parent.take(message) {

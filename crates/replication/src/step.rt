@@ -22,7 +22,9 @@ pub enum Step {
     /// The child gets a beat with these points, and has this floor from then on. Nothing changes where the
     /// moment is not above the last, there is no point, the floor falls, or it is above the moment plus 1.
     ChildBeat {
+        /// The moment in seconds.
         moment: u32,
+        /// The floor in seconds: the child has nothing below it then.
         floor: u32,
         points: NamedPointList,
         /// Whether the beat is kept: a stop loses it where this is false.
@@ -48,13 +50,13 @@ pub enum Step {
 pub struct World {
     /// The child's beats, each with its points in the order of the bytes of their names, the chart's first.
     pub beats: NamedBeatList,
-    /// The child's floors.
+    /// The child's floors, in seconds, the oldest first.
     pub floors: FloorList,
     /// The parent's beats.
     pub held: NamedBeatList,
     /// The parent's gaps.
     pub gaps: GapList,
-    /// The parent's last moment, where a gap counts with its end.
+    /// The parent's last moment in seconds, where a gap counts with its end; 0 for none.
     pub last: u32,
     pub asks: AskList,
     pub messages: DataList,

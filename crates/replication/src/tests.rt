@@ -1,5 +1,7 @@
-ghost use Rattle.std.specs.Prelude.{ℕ, ◌<◌, ◌^◌, ◌≡◌, IsTrue};
-ghost use Rattle.replication.specs.Answer.{AreNames};
+ghost use Rattle.std.specs.Prelude.{ℕ, ◌<◌, ◌^◌, ◌≡◌, length, IsTrue, IfOk};
+ghost use Rattle.replication.specs.Answer.{AreNames, AreOfSeries, AreBeatsOf, HaveWords};
+ghost use Rattle.replication.specs.Copies.{RisesFrom};
+ghost use Rattle.replication.specs.Names.{beat_moment};
 ghost use Rattle.replication.specs.World.{step_points, points_in};
 
 use super::*;
@@ -45,13 +47,202 @@ fn a_parent_judges_messages(rt: HostRuntime) -> Result<(), Fail> {
     Ok(())
 }
 
+fn chart(alloc: Global, id: &str, context: &str, every: u32) -> Result<ChartName, Fail> {
+    Ok(ChartName {
+        id: Text::from_str(alloc, id)?,
+        context: Text::from_str(alloc, context)?,
+        update_every: every,
+    })
+}
+
+fn dimension(alloc: Global, chart: u32, id: &str, hidden: bool) -> Result<DimName, Fail>
+    ensures { IfOk result (λ dimension. dimension.chart ≡ chart) }
+{
+    Ok(DimName {
+        chart,
+        id: Text::from_str(alloc, id)?,
+        hidden,
+    })
+}
+
+/// Charts z and a, and three dimensions of them.
+fn three_names(alloc: Global) -> Result<Names, Fail>
+    ensures names { IfOk result (λ names. AreNames names) }
+    ensures count { IfOk result (λ names. length names.dimensions ≡ 3) }
+{
+    let mut charts = ChartNameList::new(alloc);
+    charts.push(chart(alloc, "z.one", "z.context", 2)?)?;
+    charts.push(chart(alloc, "a.one", "a.context", 5)?)?;
+    let mut dimensions = DimNameList::new(alloc);
+    dimensions.push(dimension(alloc, 0, "unused", false)?)?;
+    dimensions.push(dimension(alloc, 1, "second", true)?)?;
+    dimensions.push(dimension(alloc, 0, "third", false)?)?;
+    Ok(Names { charts, dimensions })
+}
+
+fn word(series: u32, word: u32) -> SeriesWord
+    ensures { result ≡ record { series = series; word = word } }
+{
+    SeriesWord { series, word }
+}
+
+/// Beats at 2, 4 and 6, the first of the first dimension, and the others of the second and the third.
+fn three_beats(alloc: Global) -> Result<BeatList, Fail>
+    ensures rises { IfOk result (λ beats. RisesFrom beat_moment 0 beats) }
+    ensures series { IfOk result (λ beats. AreBeatsOf 3 beats) }
+    ensures words { IfOk result (λ beats. HaveWords beats) }
+{
+    let mut first = SeriesWordList::new(alloc);
+    first.push(word(0, 10))?;
+    let mut second = SeriesWordList::new(alloc);
+    second.push(word(2, 20))?;
+    second.push(word(1, 21))?;
+    let mut third = SeriesWordList::new(alloc);
+    third.push(word(2, 30))?;
+    let mut beats = BeatList::new(alloc);
+    beats.push(Beat {
+        moment: 2,
+        words: first,
+    })?;
+    beats.push(Beat {
+        moment: 4,
+        words: second,
+    })?;
+    beats.push(Beat {
+        moment: 6,
+        words: third,
+    })?;
+    Ok(beats)
+}
+
+/// What the child 7 with these beats and the floor 4 answers.
+fn answer_of(alloc: Global, ask: &Ask) -> Result<Option<Data>, Fail> {
+    let names = three_names(alloc)?;
+    let beats = three_beats(alloc)?;
+    Ok(Child::answer(alloc, 7, 4, &names, &beats, ask)?)
+}
+
+fn chart_is(names: &Names, place: usize, id: &str, context: &str, every: u32) -> bool {
+    match names.charts.as_slice().get(place) {
+        Some(chart) => {
+            chart.id.as_str() == id
+                && chart.context.as_str() == context
+                && chart.update_every == every
+        }
+        None => false,
+    }
+}
+
+fn dimension_is(names: &Names, place: usize, chart: u32, id: &str, hidden: bool) -> bool {
+    match names.dimensions.as_slice().get(place) {
+        Some(dimension) => {
+            dimension.chart == chart && dimension.id.as_str() == id && dimension.hidden == hidden
+        }
+        None => false,
+    }
+}
+
+fn beat_is(beats: &BeatList, place: usize, moment: u32, words: &[SeriesWord]) -> bool {
+    match beats.as_slice().get(place) {
+        Some(beat) => beat.moment == moment && beat.words.as_slice() == words,
+        None => false,
+    }
+}
+
 #[test]
-fn nothing_above_is_no_answer(rt: HostRuntime) -> Result<(), Fail> {
+fn an_answer_has_what_its_beats_use(rt: HostRuntime) -> Result<(), Fail> {
     let alloc = rt.alloc();
-    let beats = BeatList::new(alloc);
-    let ask = Ask { child: 7, last: 3 };
-    assert!(rt; Child::answer(alloc, 7, 0, &no_names(alloc), &beats, &ask)?.is_none());
-    assert!(rt; Child::answer(alloc, 8, 0, &no_names(alloc), &beats, &ask)?.is_none());
+    let found = answer_of(alloc, &Ask { child: 7, last: 2 })?;
+    let Some(data) = found else {
+        assert!(rt; false, "no answer");
+        return Ok(());
+    };
+    assert_eq!(rt; (data.child, data.prev, data.from), (7, 2, 3));
+    assert_eq!(rt; (data.upto, data.floor), (6, 4));
+    assert_eq!(rt; data.names.charts.len(), 2);
+    assert!(rt; chart_is(&data.names, 0, "z.one", "z.context", 2));
+    assert!(rt; chart_is(&data.names, 1, "a.one", "a.context", 5));
+    assert_eq!(rt; data.names.dimensions.len(), 2);
+    assert!(rt; dimension_is(&data.names, 0, 1, "second", true));
+    assert!(rt; dimension_is(&data.names, 1, 0, "third", false));
+    assert_eq!(rt; data.beats.len(), 2);
+    assert!(rt; beat_is(&data.beats, 0, 4, &[word(1, 20), word(0, 21)]));
+    assert!(rt; beat_is(&data.beats, 1, 6, &[word(1, 30)]));
+    Ok(())
+}
+
+#[test]
+fn nothing_above_and_another_child_is_no_answer(rt: HostRuntime) -> Result<(), Fail> {
+    let alloc = rt.alloc();
+    assert!(rt; answer_of(alloc, &Ask { child: 7, last: 5 })?.is_some());
+    assert!(rt; answer_of(alloc, &Ask { child: 7, last: 6 })?.is_none());
+    assert!(rt; answer_of(alloc, &Ask { child: 8, last: 2 })?.is_none());
+    Ok(())
+}
+
+/// So many words of one series, but at least one.
+fn many_words(alloc: Global, count: u32) -> Result<SeriesWordList, Fail>
+    ensures series { IfOk result (λ words. AreOfSeries 1 words) }
+    ensures some { IfOk result (λ words. 0 < length words) }
+{
+    let mut words = SeriesWordList::new(alloc);
+    words.push(word(0, 0x0100_0000))?;
+    for _ in 1..count {
+        words.push(word(0, 0x0100_0000))?;
+    }
+    Ok(words)
+}
+
+/// One chart `c` with one dimension.
+fn one_name(alloc: Global, id: &str) -> Result<Names, Fail>
+    ensures names { IfOk result (λ names. AreNames names) }
+    ensures count { IfOk result (λ names. length names.dimensions ≡ 1) }
+{
+    let mut charts = ChartNameList::new(alloc);
+    charts.push(chart(alloc, "c", "c", 1)?)?;
+    let mut dimensions = DimNameList::new(alloc);
+    dimensions.push(dimension(alloc, 0, id, false)?)?;
+    Ok(Names { charts, dimensions })
+}
+
+/// A beat of so many words, and one of a single word.
+fn two_beats(alloc: Global, count: u32) -> Result<BeatList, Fail>
+    ensures rises { IfOk result (λ beats. RisesFrom beat_moment 0 beats) }
+    ensures series { IfOk result (λ beats. AreBeatsOf 1 beats) }
+    ensures words { IfOk result (λ beats. HaveWords beats) }
+{
+    let first = many_words(alloc, count)?;
+    let second = many_words(alloc, 1)?;
+    let mut beats = BeatList::new(alloc);
+    beats.push(Beat {
+        moment: 1,
+        words: first,
+    })?;
+    beats.push(Beat {
+        moment: 2,
+        words: second,
+    })?;
+    Ok(beats)
+}
+
+/// How many beats come in an answer whose two beats have 131,063 words of a dimension with this id.
+fn beats_of_long_answer(alloc: Global, id: &str) -> Result<usize, Fail> {
+    let names = one_name(alloc, id)?;
+    let beats = two_beats(alloc, 131_062)?;
+    let ask = Ask { child: 7, last: 0 };
+    Ok(match Child::answer(alloc, 7, 0, &names, &beats, &ask)? {
+        Some(data) => data.beats.len(),
+        None => 0,
+    })
+}
+
+// The body has 37 bytes, 8 and 2 for the chart, 7 and 2 for the dimension, 16 for two beats, and 8 for each
+// of 131,063 words: 2^20 in all.
+#[test]
+fn an_answer_has_just_a_mebibyte(rt: HostRuntime) -> Result<(), Fail> {
+    let alloc = rt.alloc();
+    assert_eq!(rt; beats_of_long_answer(alloc, "ab")?, 2);
+    assert_eq!(rt; beats_of_long_answer(alloc, "abc")?, 1);
     Ok(())
 }
 
@@ -93,6 +284,40 @@ fn point(alloc: Global, chart: &str, dimension: &str, word: u32) -> Result<Named
         dimension: Text::from_str(alloc, dimension)?,
         word,
     })
+}
+
+fn point_is(point: &NamedPoint, chart: &str, dimension: &str, word: u32) -> bool {
+    point.chart.as_str() == chart && point.dimension.as_str() == dimension && point.word == word
+}
+
+#[test]
+fn points_stand_by_name_and_the_last_counts(rt: HostRuntime) -> Result<(), Fail> {
+    let alloc = rt.alloc();
+    let mut points = NamedPointList::new(alloc);
+    points.push(point(alloc, "test.one", "b", 1)?)?;
+    points.push(point(alloc, "test.one", "a", 2)?)?;
+    points.push(point(alloc, "rest.one", "c", 3)?)?;
+    points.push(point(alloc, "test.one", "b", 4)?)?;
+    let mut steps = StepList::new(alloc);
+    steps.push(Step::ChildBeat {
+        moment: 1,
+        floor: 0,
+        points,
+        kept: true,
+    })?;
+    let world = run(&rt, alloc, &steps)?;
+    let [beat] = world.beats.as_slice() else {
+        assert!(rt; false, "not one beat");
+        return Ok(());
+    };
+    let [first, second, third] = beat.points.as_slice() else {
+        assert!(rt; false, "not three points");
+        return Ok(());
+    };
+    assert!(rt; point_is(first, "rest.one", "c", 3));
+    assert!(rt; point_is(second, "test.one", "a", 2));
+    assert!(rt; point_is(third, "test.one", "b", 4));
+    Ok(())
 }
 
 /// A beat of one point that is kept.
@@ -313,20 +538,183 @@ fn gaps_are_honest(world: &World) -> bool {
     })
 }
 
-/// The step of a kind, as the one at a place of a schedule: its beats are ten apart.
-fn step_of(alloc: Global, kind: u64, place: u32) -> Result<Step, Fail> {
+/// A message as plain words say it: its bounds and the moments of its beats.
+#[derive(Drop)]
+struct Said {
+    prev: u32,
+    from: u32,
+    upto: u32,
+    floor: u32,
+    moments: Vec<u32>,
+}
+
+/// A child and a parent as plain words say them: beats of one point are their moments.
+#[derive(Drop)]
+struct Model {
+    beats: Vec<u32>,
+    floors: Vec<u32>,
+    held: Vec<u32>,
+    gaps: Vec<(u32, u32)>,
+    last: u32,
+    asks: Vec<u32>,
+    said: Vec<Said>,
+}
+
+fn last_of(moments: &[u32]) -> u32 {
+    match moments.last() {
+        Some(moment) => *moment,
+        None => 0,
+    }
+}
+
+/// The moments above this one, and the last of them.
+fn moments_above(alloc: Global, moments: &[u32], from: u32) -> Result<(Vec<u32>, u32), Fail> {
+    let mut above = Vec::new(alloc);
+    let mut last = from;
+    for moment in moments {
+        if *moment > from {
+            above.push(*moment)?;
+            last = *moment;
+        }
+    }
+    Ok((above, last))
+}
+
+/// Adds what a child says that was asked from `prev`, where it has anything above that.
+fn model_answer(alloc: Global, model: &mut Model, prev: u32) -> Result<(), Fail> {
+    let floor = last_of(model.floors.as_slice());
+    let from = if floor > prev { floor - 1 } else { prev };
+    let (moments, upto) = moments_above(alloc, model.beats.as_slice(), from)?;
+    if !moments.is_empty() {
+        model.said.push(Said {
+            prev,
+            from,
+            upto,
+            floor,
+            moments,
+        })?;
+    }
+    Ok(())
+}
+
+/// Stores the gap of a message, if it has one, and the first beats of it: `left` things at most.
+fn model_store(model: &mut Model, place: usize, mut left: u64) -> Result<(), Fail> {
+    let Some(said) = model.said.as_slice().get(place) else {
+        return Ok(());
+    };
+    if said.prev != model.last {
+        return Ok(());
+    }
+    if said.from > said.prev && left > 0 {
+        model.gaps.push((said.prev, said.from))?;
+        model.last = said.from;
+        left -= 1;
+    }
+    for moment in said.moments.as_slice() {
+        if left > 0 {
+            model.held.push(*moment)?;
+            model.last = *moment;
+            left -= 1;
+        }
+    }
+    Ok(())
+}
+
+/// What a step does to the plain child and parent.
+fn model_step(alloc: Global, model: &mut Model, step: &Step) -> Result<(), Fail> {
+    match step {
+        Step::ChildBeat {
+            moment,
+            floor,
+            kept,
+            ..
+        } => {
+            let follows = *moment > last_of(model.beats.as_slice())
+                && *floor >= last_of(model.floors.as_slice())
+                && floor.saturating_sub(1) <= *moment;
+            if *kept && follows {
+                model.beats.push(*moment)?;
+                model.floors.push(*floor)?;
+            }
+            Ok(())
+        }
+        Step::Ask => Ok(model.asks.push(model.last)?),
+        Step::Answer { ask } => match model.asks.as_slice().get(*ask as usize).copied() {
+            Some(prev) => model_answer(alloc, model, prev),
+            None => Ok(()),
+        },
+        Step::Deliver { message, keep } => {
+            let left = keep.unwrap_or(u64::MAX);
+            model_store(model, *message as usize, left)
+        }
+    }
+}
+
+fn model_of(alloc: Global, steps: &StepList) -> Result<Model, Fail> {
+    let mut model = Model {
+        beats: Vec::new(alloc),
+        floors: Vec::new(alloc),
+        held: Vec::new(alloc),
+        gaps: Vec::new(alloc),
+        last: 0,
+        asks: Vec::new(alloc),
+        said: Vec::new(alloc),
+    };
+    for step in steps.as_slice() {
+        model_step(alloc, &mut model, step)?;
+    }
+    Ok(model)
+}
+
+fn says(message: &Data, said: &Said) -> bool {
+    let bounds = message.prev == said.prev && message.from == said.from;
+    let end = message.upto == said.upto && message.floor == said.floor;
+    let beats = message.beats.as_slice();
+    let moments = said.moments.as_slice();
+    bounds
+        && end
+        && beats.len() == moments.len()
+        && beats
+            .iter()
+            .zip(moments)
+            .all(|(beat, moment)| beat.moment == *moment)
+}
+
+fn all_say(messages: &[Data], said: &[Said]) -> bool {
+    messages.len() == said.len()
+        && messages
+            .iter()
+            .zip(said)
+            .all(|(message, one)| says(message, one))
+}
+
+/// Whether a world is as the plain words say.
+fn is_as_said(world: &World, model: &Model) -> bool {
+    moments_are(world.beats.as_slice(), model.beats.as_slice())
+        && moments_are(world.held.as_slice(), model.held.as_slice())
+        && gaps_are(world, model.gaps.as_slice())
+        && world.last == model.last
+        && all_say(world.messages.as_slice(), model.said.as_slice())
+}
+
+/// The step of a kind, as the one at a place of a schedule: its beats are ten apart, and a child that throws
+/// away keeps the last two. An answer or a delivery is of the one at `near`.
+fn step_of(alloc: Global, kind: u64, place: u32, near: u64) -> Result<Step, Fail> {
     let moment = place.saturating_mul(10).saturating_add(10);
-    let near = u64::from(place / 4);
     Ok(match kind {
-        0 => beat(alloc, moment, 0)?,
-        1 => beat(alloc, moment, moment)?,
-        2 => Step::Ask,
-        3 => Step::Answer { ask: near },
-        4 => Step::Answer { ask: 0 },
-        5 => deliver(0, None),
-        6 => deliver(near, Some(1)),
-        7 => deliver(near, None),
-        _ => lost_beat(alloc, moment)?,
+        0 => beat(alloc, moment, moment.saturating_sub(15))?,
+        1 => Step::Ask,
+        2 => Step::Answer { ask: near },
+        3 => deliver(near, None),
+        4 => deliver(near, Some(0)),
+        5 => deliver(near, Some(1)),
+        6 => deliver(near, Some(2)),
+        7 => beat(alloc, moment, moment.saturating_sub(45))?,
+        8 => deliver(near, Some(3)),
+        9 => lost_beat(alloc, moment)?,
+        10 => Step::Ask,
+        11 => Step::Answer { ask: near },
+        _ => deliver(near, None),
     })
 }
 
@@ -335,20 +723,67 @@ fn schedule_of(alloc: Global, number: u64, count: u32) -> Result<StepList, Fail>
     let mut steps = StepList::new(alloc);
     let mut rest = number;
     for place in 0..count {
-        steps.push(step_of(alloc, rest % 8, place)?)?;
+        steps.push(step_of(alloc, rest % 8, place, 0)?)?;
         rest /= 8;
     }
     Ok(steps)
 }
 
+/// What came about in many schedules, so that a test tells that it saw it.
+#[derive(Drop)]
+struct Seen {
+    held: u64,
+    gaps: u64,
+    second_gaps: u64,
+    messages: u64,
+}
+
+fn nothing_seen() -> Seen {
+    Seen {
+        held: 0,
+        gaps: 0,
+        second_gaps: 0,
+        messages: 0,
+    }
+}
+
+fn one_if(holds: bool) -> u64 {
+    if holds { 1 } else { 0 }
+}
+
+fn see(seen: &mut Seen, world: &World) {
+    let held = one_if(!world.held.is_empty());
+    let gaps = one_if(!world.gaps.is_empty());
+    let second = one_if(world.gaps.len() > 1);
+    let messages = one_if(!world.messages.is_empty());
+    seen.held = seen.held.saturating_add(held);
+    seen.gaps = seen.gaps.saturating_add(gaps);
+    seen.second_gaps = seen.second_gaps.saturating_add(second);
+    seen.messages = seen.messages.saturating_add(messages);
+}
+
+/// Runs a schedule, and compares the world with the plain words.
+fn try_schedule(
+    rt: &impl Abort,
+    alloc: Global,
+    steps: &StepList,
+    seen: &mut Seen,
+) -> Result<bool, Fail> {
+    let world = run(rt, alloc, steps)?;
+    let model = model_of(alloc, steps)?;
+    see(seen, &world);
+    Ok(is_as_said(&world, &model) && is_copy(&world) && gaps_are_honest(&world))
+}
+
 #[test]
 fn short_schedules_leave_copies(rt: HostRuntime) -> Result<(), Fail> {
     let alloc = rt.alloc();
+    let mut seen = nothing_seen();
     for number in 0..32_768u64 {
-        let world = run(&rt, alloc, &schedule_of(alloc, number, 5)?)?;
-        assert!(rt; is_copy(&world), "at {number}");
-        assert!(rt; gaps_are_honest(&world), "at {number}");
+        let steps = schedule_of(alloc, number, 5)?;
+        assert!(rt; try_schedule(&rt, alloc, &steps, &mut seen)?, "at {number}");
     }
+    assert!(rt; seen.messages > 1_000 && seen.held > 300 && seen.gaps > 100);
     Ok(())
 }
 
@@ -360,7 +795,8 @@ fn random_schedule(alloc: Global, seed: u64) -> Result<StepList, Fail> {
         state = state
             .wrapping_mul(6_364_136_223_846_793_005)
             .wrapping_add(1_442_695_040_888_963_407);
-        steps.push(step_of(alloc, (state >> 33) % 9, place)?)?;
+        let near = u64::from(place / 9).saturating_sub((state >> 48) % 2);
+        steps.push(step_of(alloc, (state >> 33) % 13, place, near)?)?;
     }
     Ok(steps)
 }
@@ -368,10 +804,11 @@ fn random_schedule(alloc: Global, seed: u64) -> Result<StepList, Fail> {
 #[test]
 fn random_schedules_leave_copies(rt: HostRuntime) -> Result<(), Fail> {
     let alloc = rt.alloc();
+    let mut seen = nothing_seen();
     for seed in 0..2_000u64 {
-        let world = run(&rt, alloc, &random_schedule(alloc, seed)?)?;
-        assert!(rt; is_copy(&world), "at {seed}");
-        assert!(rt; gaps_are_honest(&world), "at {seed}");
+        let steps = random_schedule(alloc, seed)?;
+        assert!(rt; try_schedule(&rt, alloc, &steps, &mut seen)?, "at {seed}");
     }
+    assert!(rt; seen.held > 1_000 && seen.gaps > 1_000 && seen.second_gaps > 100);
     Ok(())
 }

@@ -3,7 +3,8 @@
 pub enum Verdict {
     /// It begins where the parent ends, and is stored.
     Stored,
-    /// It begins below the parent's last moment: it came before.
+    /// It begins below the parent's last moment: what it begins with is there already, and the rest is asked
+    /// for again.
     Old,
     /// It begins above the parent's last moment: one before it has not come.
     Ahead,

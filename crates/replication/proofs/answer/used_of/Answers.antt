@@ -1,9 +1,9 @@
-use Rattle.std.proofs.Common.{◌≡◌, ◌<◌, length, map, subst, sym, ap, ◌∙◌, arith}
+use Rattle.std.proofs.Common.{◌≡◌, ◌<◌, length, map, subst, sym, ap, ◌∙◌}
 use Rattle.std.specs.List.{AllByRecursion}
 use Rattle.replication.specs.declared.names.DimName.{DimName}
 use Rattle.replication.specs.Answer.{AreBeatsOf}
 use Rattle.replication.specs.Marks.{AreMarks, ArePlaces}
-use Rattle.replication.specs.Names.{words_of, uses, uses_chart, placed_dimension, placed_beat}
+use Rattle.replication.specs.Names.{words_of, uses, uses_chart, placed_dimension}
 use Rattle.replication.specs.Places.{select}
 use Rattle.replication.proofs.MarksCode.{places-own}
 use Rattle.replication.proofs.answer.used_of.Goals as goal

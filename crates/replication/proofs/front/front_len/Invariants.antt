@@ -1,4 +1,4 @@
-use Rattle.std.proofs.Common.{◌≡◌, ℕ, ◌+◌, ◌*◌, ◌≤◌, take}
+use Rattle.std.proofs.Common.{◌≡◌, ◌+◌, ◌*◌, ◌≤◌, take}
 use Rattle.replication.specs.Marks.{AreMarksOf, IsAsLongAs, words_size}
 use Rattle.replication.specs.Names.{words_of}
 use Rattle.replication.proofs.front.front_len.Given as goal

@@ -1,6 +1,6 @@
-use Rattle.std.proofs.Common.{◌≡◌, length, take, subst, sym, ap, ◌∙◌, arith}
+use Rattle.std.proofs.Common.{length, take, subst, sym, ap, ◌∙◌, arith}
 use Rattle.std.proofs.lemmas.List.Sums.{sum_by-take-le}
-use Rattle.replication.specs.World.{happens, run, step_points}
+use Rattle.replication.specs.World.{happens, step_points}
 use Rattle.replication.specs.Points.{points_of}
 use Rattle.replication.specs.Sound.{Sound}
 use Rattle.replication.proofs.WorldLaws.{run-next, run-sound, run-points}

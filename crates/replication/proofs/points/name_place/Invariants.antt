@@ -1,4 +1,4 @@
-use Rattle.std.proofs.Common.{◌≡◌, ℕ, ◌<◌, false, List, get_or}
+use Rattle.std.proofs.Common.{◌≡◌, ℕ, ◌<◌, false, get_or}
 use Rattle.replication.specs.declared.named.NamedPoint.{NamedPoint}
 use Rattle.replication.specs.Points.{has_name_of}
 use Rattle.replication.proofs.points.name_place.Given as goal

@@ -1,11 +1,10 @@
-use Rattle.std.proofs.Common.{◌≡◌, ◌==◌, ℕ, ◌+◌, true, length, Option, Some, None, inr, slice_get, rules, sym, ap, ◌∙◌, arith}
+use Rattle.std.proofs.Common.{◌≡◌, ◌==◌, ℕ, ◌+◌, true, length, Option, Some, slice_get, rules, sym, ap, ◌∙◌, arith}
 use Rattle.std.proofs.lemmas.Grind.{common_steps}
-use Rattle.replication.specs.declared.message.Data.{Data}
 use Rattle.replication.specs.Names.{named_beats, message_of}
 use Rattle.replication.specs.Sound.{IsTrueData}
 use Rattle.replication.specs.World.{kept_of}
 use Rattle.replication.proofs.PointsLaws.{all-at}
-use Rattle.replication.proofs.ScheduleCode.{stored-first, stored-end}
+use Rattle.replication.proofs.ScheduleCode.{stored-first, stored-end, of-one}
 use Rattle.replication.proofs.schedule.deliver.Goals as goal
 
 pub returns-in_ok-store-in-None-clause-step : goal.returns-in_ok-store-in-None-clause-step
@@ -27,9 +26,10 @@ returns-in_ok-store-in-None-clause-end c =
     let beats = c.in_ok-beats.ensures ∙ ap (named_beats sent.names) c.as_slice-numbered.ensures in
     let taken = c.stores-stored.ensures.taken (first_of (search rules, grind (arith, common_steps))) in
     let truth = all-at (IsTrueData w.floors w.beats) w.messages c.args.place sent c.requires.sound.told found in
+    let end = stored-end w _ _ sent _ truth.says own beats (ap (λ beats. length beats + 1) c.as_slice-list.ensures.value) (c.in_ok-store-in-None.ensures) in
     record {
-      last = ap (λ parent. parent.last) taken ∙ stored-end w _ _ sent _ truth own beats (ap (λ beats. length beats + 1) c.as_slice-list.ensures.value) (c.in_ok-store-in-None.ensures);
-      child = inr (ap (λ parent. parent.child) taken);
+      last = ap (λ parent. parent.last) taken ∙ end;
+      child = of-one _ _ (omega (arith, end, truth.says.some)) (ap (λ parent. parent.child) taken);
     }
 
 pub returns-in_ok-store-in-Some-keep-clause-step : goal.returns-in_ok-store-in-Some-keep-clause-step

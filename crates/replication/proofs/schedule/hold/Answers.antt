@@ -1,4 +1,3 @@
-use Rattle.std.proofs.Common.{◌∙◌}
 use Rattle.replication.proofs.PointsCode.{push-step}
 use Rattle.replication.proofs.schedule.hold.Goals as goal
 

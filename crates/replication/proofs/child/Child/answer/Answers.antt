@@ -1,8 +1,6 @@
 use Rattle.std.proofs.Common.{ltb, length, take, subst, sym, ◌∙◌, ap}
 use Rattle.replication.specs.declared.beats.Beat.{Beat}
 use Rattle.replication.specs.Answer.{AreOfSeries, AreBeatsOf}
-use Rattle.replication.specs.Copies.{above}
-use Rattle.replication.specs.Names.{beat_moment}
 use Rattle.replication.proofs.AboveLaws.{all-filter, all-take}
 use Rattle.replication.proofs.child.Child.answer.Goals as goal
 

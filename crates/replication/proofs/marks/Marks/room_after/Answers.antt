@@ -1,4 +1,4 @@
-use Rattle.std.proofs.Common.{◌≡◌, ◌+◌, ◌++◌, length, take, subst, sym, ap, ◌∙◌, arith}
+use Rattle.std.proofs.Common.{◌≡◌, ◌+◌, ◌++◌, length, take, subst, ap, arith}
 use Rattle.std.proofs.lemmas.List.{take_all}
 use Rattle.replication.specs.Marks.{AreMarksOf, words_size}
 use Rattle.replication.proofs.MarksCode.{words-more, word-past, word-within}

@@ -1,4 +1,4 @@
-use Rattle.std.proofs.Common.{◌≡◌, ◌+◌, ◌<◌, length, get_or, cond, not, sym, ap, ◌∙◌, arith}
+use Rattle.std.proofs.Common.{◌+◌, ◌<◌, length, get_or, cond, ap, ◌∙◌}
 use Rattle.replication.specs.declared.names.DimName.{DimName}
 use Rattle.replication.proofs.MarksCode.{all-index, get_at, marked, sized}
 use Rattle.replication.proofs.marks.Marks.take.Goals as goal

@@ -1,0 +1,8 @@
+use Rattle.replication.proofs.OrderLaws.{in_order-rises, in_order-find}
+use Rattle.replication.proofs.laws.every_order.Goals as goal
+
+pub returns-clause-rises : goal.returns-clause-rises
+returns-clause-rises c = in_order-rises
+
+pub returns-clause-last : goal.returns-clause-last
+returns-clause-last c = in_order-find
