@@ -1,3 +1,4 @@
 pub mod GridLemmas
 pub mod ItemLemmas
+pub mod RecordLemmas
 pub mod SlotLemmas

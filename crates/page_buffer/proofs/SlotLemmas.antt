@@ -5,11 +5,11 @@ use Rattle.std.proofs.lemmas.List.{append-nil, append_assoc, length-append, leng
 use Rattle.std.proofs.lemmas.Option.{slice_get_within, get_or_from_slice_get}
 use Rattle.std.proofs.lemmas.Bool.{and_parts, and_from, ltb-true, lt-ltb, le-ltb, eqb-true}
 use Rattle.std.specs.Prelude.{nat_lt, slice_get}
-use Rattle.page_buffer.specs.Page.{page_of, EndsInTime}
+use Rattle.page_buffer.specs.Page.{page_of}
 use Rattle.page_buffer.specs.Slots.{spaced, AreSlots, Skips, HasRoom, reach, IsPushed, none, more}
 
 -- every place's moment is below 2^32 where the last one's is
-before_end : (first step last place : ℕ) → place ≤ last → first + last * step < 2 ^ 32 → first + place * step < 2 ^ 32
+pub before_end : (first step last place : ℕ) → place ≤ last → first + last * step < 2 ^ 32 → first + place * step < 2 ^ 32
 before_end first step last place earlier ends = let grown = mul-le-mul_right step earlier in omega (arith, grown, ends)
 
 abbrev zeros : ℕ → List ℕ

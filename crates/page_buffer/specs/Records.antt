@@ -1,10 +1,14 @@
 -- Records of a page, one for each step.
-use Rattle.std.specs.Prelude.{◌≡◌, ℕ, ◌<◌, ◌≤◌, List, length}
+use Rattle.std.specs.Prelude.{◌≡◌, ℕ, ◌<◌, ◌≤◌, ◌^◌, List, [], ◌∷◌, ◌++◌, length}
 use Rattle.fixed_num.specs.declared.units.Record.{Record}
 use Rattle.page_buffer.specs.declared.fault.PageFault.{PageFault}
 use Rattle.page_buffer.specs.declared.fault.PageFault.TheVariants.{PageFull, TooFar, BadPage, Memory}
 use Rattle.page_buffer.specs.Items.{records_of, IsRecords}
-use Rattle.page_buffer.specs.Page.{Page, moment_at, EndsInTime}
+use Rattle.page_buffer.specs.Page.{Page, page_of, moment_at, EndsInTime}
+
+-- the records of one page
+abbrev pub AreRecords : ℕ → ℕ → List Record → Type 0
+AreRecords first step items = (length items ≤ 73) × EndsInTime first step items
 
 -- the bytes are a page's
 abbrev pub IsRecordPage : ℕ → ℕ → List ℕ → Type 0
@@ -20,3 +24,10 @@ IsRefused page moment PageFull = IsNext page moment × (length page.items ≡ 73
 IsRefused page moment TooFar = ¬ IsNext page moment
 IsRefused page moment BadPage = ⊥
 IsRefused page moment Memory = ⊥
+
+-- pushes of records make the records of a page of this series, first moment and step
+pub data IsPushed (series first step : ℕ) : List Record → Type 0 where
+  none : IsPushed series first step []
+  more : (items : List Record) (moment : ℕ) (item : Record) → IsPushed series first step items → moment < 2 ^ 32
+      → IsNext (page_of series first step items) moment → length items < 73
+      → IsPushed series first step (items ++ item ∷ [])

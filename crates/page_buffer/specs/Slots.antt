@@ -1,5 +1,5 @@
 -- Slots of a page: words, of which 0 is an empty slot.
-use Rattle.std.specs.Prelude.{◌≡◌, ℕ, zero, suc, ◌+◌, ◌*◌, ◌%◌, ◌<◌, ◌≤◌, ◌^◌, Bool, true, ◌&&◌, List, [], ◌∷◌, ◌++◌, length, replicate, nat_eq, nat_lt}
+use Rattle.std.specs.Prelude.{◌≡◌, ℕ, zero, suc, ◌+◌, ◌<◌, ◌≤◌, ◌^◌, Bool, true, ◌&&◌, List, [], ◌∷◌, ◌++◌, length, replicate, nat_eq, nat_lt}
 use Rattle.page_buffer.specs.declared.fault.PageFault.{PageFault}
 use Rattle.page_buffer.specs.declared.fault.PageFault.TheVariants.{PageFull, TooFar, BadPage, Memory}
 use Rattle.page_buffer.specs.Items.{words_of, IsWords}

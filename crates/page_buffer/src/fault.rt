@@ -10,8 +10,8 @@ pub enum PageFault {
     /// The page would have more items than it may.
     #[error("the page is full")]
     PageFull,
-    /// The item's moment does not follow the page's last one.
-    #[error("the moment is too far from the page's last")]
+    /// The moment is none that may follow in the page.
+    #[error("the moment is none that may follow in the page")]
     TooFar,
     /// The bytes are no page's.
     #[error("the bytes are no page")]

@@ -62,9 +62,11 @@ impl RecordPage {
     }
 
     /// Puts a record. `TooFar` where the page is empty and `moment` is not its first, or else is not one
-    /// step past its last; `PageFull` where there are 73 records. A refused record changes nothing.
+    /// step past its last; `PageFull` where its moment is right and there are 73 records. A refused record
+    /// changes nothing.
     pub fn push(&mut self, moment: u32, item: Record) -> Result<(), PageFault>
-        ensures ok { OnOk result (IsNext self.old moment × (length self.old.items < 73) × (self.new ≡ with_more self.old (item ∷ []))) }
+        ensures ok { OnOk result (IsNext self.old moment × (length self.old.items < 73)
+            × (self.new ≡ with_more self.old (item ∷ []))) }
         ensures refused { IfErr result (IsRefused self.old moment) }
         ensures err { OnErr result (self.new ≡ self.old) }
         ensures succeeds { IsNext self.old moment → length self.old.items < 73 → IsOk result }
@@ -100,7 +102,8 @@ impl RecordPage {
     /// Adds the bytes of the records. After `Memory` nothing was added.
     pub fn encode(&self, out: &mut ByteList) -> Result<(), PageFault>
         ensures ok { OnOk result ((bytes : List ℕ) × (out.new ≡ out.old ++ bytes)
-            × IsRecordPage self.now.first self.now.step bytes × (records_of bytes ≡ self.now.items)) }
+            × IsRecordPage self.now.first self.now.step bytes
+            × (records_of bytes ≡ self.now.items)) }
         ensures refused { IfErr result (λ fault. fault ≡ Memory) }
         ensures err { OnErr result (out.new ≡ out.old) }
     {
@@ -109,6 +112,7 @@ impl RecordPage {
     }
 
     /// The page whose records some bytes are, in the raw page. `BadPage` exactly where they are no page's.
+    /// At `BadPage` the raw page is freed.
     pub fn decode(
         bytes: &[u8],
         page: RawPage,
@@ -117,8 +121,10 @@ impl RecordPage {
         step: u32,
     ) -> Result<RecordPage, PageFault>
         requires { 0 < step }
-        ensures ok { IfOk result (λ read. IsRecordPage first step bytes.now × (read ≡ page_of series first step (records_of bytes.now))) }
-        ensures refused { IfErr result (λ fault. (fault ≡ BadPage) × (¬ IsRecordPage first step bytes.now)) }
+        ensures ok { IfOk result (λ read. IsRecordPage first step bytes.now
+            × (read ≡ page_of series first step (records_of bytes.now))) }
+        ensures refused { IfErr result
+            (λ fault. (fault ≡ BadPage) × (¬ IsRecordPage first step bytes.now)) }
     {
         let Some(records) = Records::read(bytes, page) else {
             return Err(PageFault::BadPage);
@@ -134,9 +140,9 @@ impl RecordPage {
         })
     }
 
-    /// The raw page, with the bytes of the records.
+    /// The raw page, with the bytes of the records, which `decode` takes.
     pub fn into_raw(self) -> RawPage
-        ensures form { IsRecords result }
+        ensures form { IsRecordPage self.first self.step result }
         ensures records { records_of result ≡ self.items }
     {
         let RecordPage {

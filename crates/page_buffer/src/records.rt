@@ -63,7 +63,8 @@ impl Records {
 
     /// The records that some bytes spell, if they are those of a page.
     pub(crate) fn read(bytes: &[u8], mut page: RawPage) -> Option<Records>
-        ensures read { IfSome result (λ records. IsRecords bytes.now × (records ≡ records_of bytes.now)) }
+        ensures read { IfSome result
+            (λ records. IsRecords bytes.now × (records ≡ records_of bytes.now)) }
         ensures none { IfNone result (¬ IsRecords bytes.now) }
     {
         if bytes.len() % 56 != 0 || bytes.len() > 4_096 {

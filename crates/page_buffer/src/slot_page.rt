@@ -102,14 +102,16 @@ impl SlotPage {
     }
 
     /// Puts the word of a point, which is not 0, with empty slots before it. `TooFar` where the page is
-    /// empty and `moment` is not its first, or else is not 1 to 7 steps past its last; `PageFull` where
-    /// more than 1,024 slots would result. A refused point changes nothing.
+    /// empty and `moment` is not its first, or else is not 1 to 7 steps past its last; `PageFull` where its
+    /// moment is right and more than 1,024 slots would result. A refused point changes nothing.
     pub fn push(&mut self, moment: u32, word: u32) -> Result<(), PageFault>
         requires { 0 < word }
-        ensures ok { OnOk result ((empty : ℕ) × Skips self.old moment empty × HasRoom self.old empty × (self.new ≡ with_point self.old empty word)) }
+        ensures ok { OnOk result ((empty : ℕ) × Skips self.old moment empty × HasRoom self.old empty
+            × (self.new ≡ with_point self.old empty word)) }
         ensures refused { IfErr result (IsRefused self.old moment) }
         ensures err { OnErr result (self.new ≡ self.old) }
-        ensures succeeds { (empty : ℕ) → Skips self.old moment empty → HasRoom self.old empty → IsOk result }
+        ensures succeeds { (empty : ℕ) → Skips self.old moment empty → HasRoom self.old empty
+            → IsOk result }
     {
         let empty = match self.empty_before(moment) {
             Some(empty) => empty,
@@ -153,7 +155,8 @@ impl SlotPage {
         Ok(())
     }
 
-    /// The page whose slots some bytes are, in the raw page. `BadPage` exactly where they are no page's.
+    /// The page whose slots some bytes are, in the raw page. `BadPage` exactly where they are no page's. At
+    /// `BadPage` the raw page is freed.
     pub fn decode(
         bytes: &[u8],
         page: RawPage,
@@ -162,8 +165,10 @@ impl SlotPage {
         step: u32,
     ) -> Result<SlotPage, PageFault>
         requires { 0 < step }
-        ensures ok { IfOk result (λ read. IsSlotPage first step bytes.now × (read ≡ page_of series first step (words_of bytes.now))) }
-        ensures refused { IfErr result (λ fault. (fault ≡ BadPage) × (¬ IsSlotPage first step bytes.now)) }
+        ensures ok { IfOk result (λ read. IsSlotPage first step bytes.now
+            × (read ≡ page_of series first step (words_of bytes.now))) }
+        ensures refused { IfErr result
+            (λ fault. (fault ≡ BadPage) × (¬ IsSlotPage first step bytes.now)) }
     {
         let Some(words) = Words::read(bytes, page) else {
             return Err(PageFault::BadPage);
@@ -179,9 +184,9 @@ impl SlotPage {
         })
     }
 
-    /// The raw page, with the bytes of the slots.
+    /// The raw page, with the bytes of the slots, which `decode` takes.
     pub fn into_raw(self) -> RawPage
-        ensures form { IsWords result }
+        ensures form { IsSlotPage self.first self.step result }
         ensures words { words_of result ≡ self.items }
     {
         let SlotPage {

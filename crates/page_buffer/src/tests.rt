@@ -1,18 +1,24 @@
 use super::*;
+use crate::raw::fill;
 use fixed_num::{ByteList, Record};
 use page_pool::{PagePool, RawPage};
 use std::alloc::Global;
 use std::test::Fail;
 
-/// An empty page that held a byte before.
-fn used_page(alloc: Global) -> Result<RawPage, Fail> {
-    let mut pool = PagePool::new(alloc);
+/// A page that holds 4,096 bytes.
+fn written_page(pool: &mut PagePool) -> Result<RawPage, Fail> {
     pool.reserve(1)?;
     let mut page = pool.take().ok_or("no page is spare")?;
-    if page.len() == 0 {
-        page.push(255);
-    }
+    fill(&mut page, &[255; 4_096]);
     Ok(page)
+}
+
+/// An empty page that held 4,096 bytes before it was given back and taken again.
+fn used_page(alloc: Global) -> Result<RawPage, Fail> {
+    let mut pool = PagePool::new(alloc);
+    let page = written_page(&mut pool)?;
+    pool.give(page);
+    Ok(pool.take().ok_or("no page is spare")?)
 }
 
 fn record(sum: i128) -> Record {
@@ -113,6 +119,20 @@ fn records_follow_each_other(rt: HostRuntime) -> Result<(), Fail> {
     let short = RecordPage::decode(&[0; 55], used_page(rt.alloc())?, 7, 0, 60);
     assert!(rt; short.is_err_and(|fault| fault == PageFault::BadPage));
     assert_eq!(rt; again.into_raw().len(), 112);
+    Ok(())
+}
+
+#[test]
+fn bytes_that_a_raw_page_holds_are_not_kept(rt: HostRuntime) -> Result<(), Fail> {
+    let mut pool = PagePool::new(rt.alloc());
+    let mut slots = SlotPage::new(written_page(&mut pool)?, 1, 0, 1);
+    assert_eq!(rt; slots.head().3, 0);
+    slots.push(0, 9)?;
+    assert_eq!(rt; slots.into_raw().as_slice(), [9, 0, 0, 0].as_slice());
+    let records = RecordPage::new(written_page(&mut pool)?, 1, 0, 1);
+    assert_eq!(rt; records.head().3, 0);
+    let read = RecordPage::decode(&[], written_page(&mut pool)?, 1, 0, 1)?;
+    assert_eq!(rt; read.into_raw().len(), 0);
     Ok(())
 }
 

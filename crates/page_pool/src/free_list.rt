@@ -9,7 +9,6 @@ use std::ptr::null_mut;
 
 /// The free pages of a pool, the last that was put first. Each owns its block, and its link leads to the
 /// next; what the link of the last is does not matter.
-#[derive(Drop)]
 pub(crate) struct FreeList {
     first: *mut Node,
     pub(crate) ghost nodes: { List TheNode },
@@ -53,5 +52,12 @@ impl FreeList {
         let at = self.first;
         self.first = unsafe { (*at).link };
         Block { at, alloc }
+    }
+
+    /// Lets go of a list with no page. A page that is left in a list is never freed.
+    pub(crate) fn end(self)
+        requires { self.nodes ≡ [] }
+    {
+        let FreeList { first: _ } = self;
     }
 }

@@ -7,9 +7,9 @@
 //!
 //! Proved is that a page is the list of the bytes that were pushed since it was taken or cleared, whatever
 //! stood in its block before, that as many pages can be taken as are spare, and that each block has one
-//! owner, who frees it once. Seven small functions go through a pointer, those of `Block` and `FreeList`;
-//! their proofs are by hand, and all else stands on their contracts. A page may go to another thread; a
-//! pool stays in its own.
+//! owner, who frees it once. A pool that is dropped leaves no page in its list. Seven small functions of
+//! `Block` and `FreeList` go through a pointer; their proofs are by hand, and all else stands on their
+//! contracts. A page may go to another thread; a pool stays in its own.
 //!
 //! The crate stands on no other of the repository. It names the crates of std whose proofs on boxes and on
 //! the heap it cites.

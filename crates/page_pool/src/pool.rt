@@ -117,5 +117,6 @@ impl Drop for PagePool {
         for _ in 0..spare {
             drop(free.take(alloc).into_box());
         }
+        free.end();
     }
 }

@@ -17,8 +17,7 @@ use denote.Param.Laws.{Laws, param_laws}
 use denote.Struct.Owning.{Owning, shape}
 use Rattle.page_pool.specs.declared.block.Block.{Block}
 use Rattle.page_pool.specs.contracts.block.Block as B-type
-use Rattle.core.proofs.alloc.Calls.{Al, α, Fits}
-use Rattle.std_alloc.proofs.ResultValues.{and_tt}
+use Rattle.core.proofs.alloc.Calls.{Al, α}
 use denote.SharingLaws.{beside_shr_laws}
 use denote.RawPtr.{ptr_row_laws}
 use denote.Struct.Struct.{Struct, Struct-row_laws}
@@ -78,6 +77,3 @@ module _ (E : Bk) where
 
   abbrev pub word : Val → ℕ → ℕ → Val
   word hv b o = vstruct (vcons (vptr b o) (vcons hv vnil))
-
-  pub block_typed : (hv : Val) (b o : ℕ) → Fits E.al hv → T (has_ty block_ty (word hv b o)) × WT (word hv b o)
-  block_typed hv b o fa = (and_tt (has_ty (α E.al) hv) fa.0, (tt, (fa.1, tt)))

@@ -4,20 +4,15 @@ use Prim.Native.Nat.{ℕ, ◌+◌}
 use seplogic.Ra.Ura.{Ura}
 use base.Logic.{ent, sep}
 use base.Fml.{Lft, Fml}
-use prog.Memory.{align, up}
 use types.Logic.{Logic, sem}
-use types.Kit.{‵, ◌$◌, ◌∵◌, !, qed, keep, drop, fsplit, done}
+use types.Kit.{‵, ◌$◌, ◌∵◌, !, qed, keep, fsplit, done}
 use denote.RattleType.{RattleType, RowLaws}
 use denote.Memory.{hidden_shr}
 use denote.Opens.{shr_dup, unhide, hide}
 use denote.RawPtr.{RawPtr, ptr_row_laws}
 use denote.Struct.Struct.{Struct, Struct-row_laws}
 use denote.Struct.Owning.{shape}
-use Rattle.core.proofs.alloc.Calls.{α}
-use Rattle.page_pool.proofs.BlockSteps.Form.{Bk, P, D, owning}
-
-abbrev pub heap_at : Bk → ℕ
-heap_at E = up (align (α E.al)) 8
+use Rattle.page_pool.proofs.BlockSteps.Form.{Bk, D, owning}
 
 module _ (E : Bk) {M : Type 1} {𝓤 : Ura M} (𝓛 : Logic 𝓤) (κ : Lft) (b o : ℕ) (d : D E) where
   abbrev Words : RattleType
@@ -34,6 +29,3 @@ module _ (E : Bk) {M : Type 1} {𝓤 : Ura M} (𝓛 : Logic 𝓤) (κ : Lft) (b 
 
   pub shows_ptr : ent 𝓤 (sem 𝓛 S) (sep 𝓤 (sem 𝓛 (hidden_shr RawPtr κ d.at b (o + 0))) (sem 𝓛 S))
   shows_ptr = qed 𝓛 (‵ S ∷ []) ∵ shr_dup ! Words laws fields b o κ $ unhide ! $ fsplit ! $ fsplit ! $ hide ! $ keep ! (0 ∷ 3 ∷ []) $ done !
-
-  pub shows_heap : ent 𝓤 (sem 𝓛 S) (sep 𝓤 (sem 𝓛 (hidden_shr (P E) κ d.alloc b (o + heap_at E))) (sem 𝓛 S))
-  shows_heap = qed 𝓛 (‵ S ∷ []) ∵ shr_dup ! Words laws fields b o κ $ unhide ! $ fsplit ! $ fsplit ! $ drop ! $ fsplit ! $ hide ! $ keep ! (0 ∷ 3 ∷ []) $ done !

@@ -1,4 +1,4 @@
-use Rattle.std.proofs.Common.{◌≡◌, ◌+◌, ◌≤◌, ℕ, drop, sym, ap, ◌∙◌, arith}
+use Rattle.std.proofs.Common.{◌+◌, ℕ, drop, sym, ap, ◌∙◌, arith}
 use Rattle.page_buffer.specs.Slots.{spaced}
 use Rattle.page_buffer.proofs.SlotLemmas.{empty_next, point_next, empty_ends, empty_goes_on}
 use Rattle.page_buffer.proofs.slot_page.are_spaced.Goals.{then-get-ne0, else-get-ne0+then-empty-lt6}

@@ -1,4 +1,4 @@
-use Rattle.std.proofs.Common.{◌≡◌, ℕ, List, Some, length, drop, take, sym, ap, ◌∙◌, subst, arith, ◌<◌, ◌-◌, ◌*◌, ◌/◌}
+use Rattle.std.proofs.Common.{ℕ, List, Some, length, drop, sym, ap, ◌∙◌, arith, ◌<◌, ◌*◌, ◌/◌}
 use Rattle.std.specs.Prelude.{slice_get}
 use Rattle.std.proofs.lemmas.List.{take_rest, length-drop}
 use Rattle.page_buffer.specs.Items.{record_from}

@@ -1,4 +1,4 @@
-use Rattle.std.proofs.Common.{◌≡◌, ◌≢◌, ℕ, ◌+◌, ◌*◌, ◌<◌}
+use Rattle.std.proofs.Common.{◌≢◌, ℕ, ◌+◌, ◌*◌, ◌<◌}
 use Rattle.page_buffer.proofs.slot_page.SlotPage.empty_before.Given as goal
 
 -- no distance so far meets the moment
