@@ -1,12 +1,12 @@
 -- A run that tells the points of a text, as a whole.
-use Rattle.std.proofs.Common.{◌≡◌, ℕ, ◌-◌, ◌<◌, ◌≤◌, Bool, true, false, nat_lt, List, [], ◌∷◌, ◌++◌, length, take, Option, Some, None, IfSome, ◌⊎◌, inl, inr, refl, ap, sym, subst, ◌∙◌, append_assoc, append-nil, string_bytes, arith, if◌then◌else◌}
+use Rattle.std.proofs.Common.{◌≡◌, ℕ, ◌-◌, ◌<◌, ◌≤◌, Bool, true, false, nat_lt, List, [], ◌∷◌, ◌++◌, length, take, Option, Some, None, IfSome, ◌⊎◌, inl, inr, refl, ap, sym, subst, ◌∙◌, append_assoc, append-nil, string_bytes, OnOk, arith, if◌then◌else◌}
 use Rattle.std.proofs.lemmas.List.Elements.{All-pop}
-use Rattle.host_model.specs.Cause.{Rose}
+use Rattle.host_model.specs.Cause.{HasCause, Rose}
 use Rattle.host_model.specs.Past.{Event, told}
 use Rattle.host_model.specs.Source.{Takes as TakesBytes}
 use Rattle.host_model.specs.declared.status.Status.{Status}
 use Rattle.host_model.specs.declared.status.Status.TheVariants.{Ok as Done, Refused, Limit, ReadFault, TellFault, InputLimit, Memory}
-use Rattle.line_stream.specs.Chain.{Acts, acts_of, Chain, begins, goes_on, pauses}
+use Rattle.line_stream.specs.Chain.{Acts, acts_of, Chain, begins, goes_on, pauses, HasPaused, not_begun, after_pause}
 use Rattle.line_stream.specs.Run.{input_limit, Ended, at_line, at_pause, at_long_line, at_end, at_fault, at_limit, at_want, TookAll}
 use Rattle.line_stream.proofs.RunLemmas.{rose-later}
 use Rattle.plugin_text.specs.Lines.{fits, lines, parts, rest, HasNoLongLine}
@@ -15,10 +15,11 @@ use Rattle.plugin_text.proofs.PartsLemmas.{parts_first, parts_whole, parts-appen
 use Rattle.point_lines.specs.declared.refusal.Refusal.{Refusal}
 use Rattle.point_lines.specs.Judged.{refusal_number}
 use Rattle.agent_app.specs.declared.converting.Converting.{Converting}
-use Rattle.agent_core.specs.Calls.{Seen}
+use Rattle.host_model.specs.Seen.{Seen}
 use Rattle.agent_app.specs.Convert.{all_told, converted, ending_status, is_limit, output_of, point_rules, status_of, status_within, tells_all, Converts, EndsAsText, HasStatusCause, IsUnasked, LeavesDisk, TellsOutput}
 use Rattle.agent_app.specs.Converting.{Ends, EndsAs, EndsIn, HasConverted, HasRun, IsFinal, Overflows, Pauses, Takes, TellsLast}
 use Rattle.agent_app.specs.Reading.{Ending, Ends as IsOver, GoesOn, RefusedAt, Reading, reading}
+use Rattle.agent_app.proofs.CauseLemmas.{apart, cause-as, ending-inside, is_outside, stayed, stayed-before, stayed-behind}
 use Rattle.agent_app.proofs.LeavesLemmas.{leaves-both, leaves-none}
 use Rattle.agent_app.proofs.ConvertingLemmas.{both-none, later-unasked, no_memory, rose-sooner}
 use Rattle.agent_app.proofs.HasReadLemmas.{ending_within, line-onward, read-open, take-append_past, within-ended, within-limit}
@@ -41,6 +42,12 @@ ended-cause : (status : Status) (ending : Ending Refusal) (ended : Bool) (text :
 ended-cause status ending ended text source_rose tell_rose (inl (final, is)) = rw is (final-cause ending ended text source_rose tell_rose final)
 ended-cause status ending ended text source_rose tell_rose (inr (inl (is, rose))) = rw is rose
 ended-cause status ending ended text source_rose tell_rose (inr (inr is)) = rw is tt
+
+-- no such run ends because the source failed
+ended-unread : (status : Status) (ending : Ending Refusal) (tell_rose : Type 0) → EndsAs status ending tell_rose → status ≡ ReadFault → ⊥
+ended-unread status ending tell_rose (inl (final, is)) e = apart status ReadFault (ap is_outside is ∙ ending-inside ending) refl e
+ended-unread status ending tell_rose (inr (inl (is, rose))) e = cc
+ended-unread status ending tell_rose (inr (inr is)) e = cc
 
 ended-status : (status : Status) (ending : Ending Refusal) (tell_rose : Type 0) → EndsAs status ending tell_rose → (tell_rose → ⊥) → (status ≡ ending_status ending) ⊎ (status ≡ Memory)
 ended-status status ending tell_rose (inl (final, is)) tell = inl is
@@ -85,16 +92,47 @@ module _ (result status : Status) (honest : Type 0) (waiting : List ℕ) (left l
       }
 
   told-silent : (all : Bool) → tells_all status ≡ all → output_of run.ended run.taken ≡ [] → IsUnasked past past'' tf tf''
-  told-silent true all none = later-unasked past past' past'' tf tf' tf'' (run.leaves.silent none) (last.silent (run.leaves.waits none all))
+  told-silent true all none = later-unasked past past' past'' tf tf' tf'' (run.leaves.silent none) (last.silent (run.leaves.waits none all)).1
   told-silent false all none = later-unasked past past' past'' tf tf' tf'' (run.leaves.silent none) (last.failed all).1
+
+  -- the count of the output rose no less
+  last-later : (all : Bool) → tells_all status ≡ all → tf' ≤ tf''
+  last-later true all = (last.count all).later
+  last-later false all = omega (arith, (last.failed all).1.1)
+
+  last-up : tf' ≤ tf''
+  last-up = last-later (tells_all status) refl
 
   told-cause : (result ≡ status) ⊎ ((result ≡ TellFault) × Rose tf' tf'') → HasStatusCause result run.ended (converted run.ended run.taken).ending run.taken (Rose sf sf') (Rose tf tf'')
   told-cause (inl is) =
-      rw is (later-cause status run.ended (converted run.ended run.taken).ending run.taken (Rose sf sf') (Rose tf tf') (Rose tf tf'') (λ rose. rose-sooner tf tf' tf'' rose last.count) run.cause)
-  told-cause (inr (is, rose)) = rw is (rose-later tf tf' tf'' run.leaves.count last.count rose)
+      rw is (later-cause status run.ended (converted run.ended run.taken).ending run.taken (Rose sf sf') (Rose tf tf') (Rose tf tf'') (λ rose. rose-sooner tf tf' tf'' rose last-up) run.cause)
+  told-cause (inr (is, rose)) = rw is (rose-later tf tf' tf'' run.leaves.count.later last-up rose)
 
-  pub Converts-told : sf ≤ sf' → Converts result honest left left' past past'' sf sf' tf tf''
-  Converts-told source = record {
+  -- the source failed in the run, and behind it nothing was told
+  last-read : (result ≡ status) ⊎ ((result ≡ TellFault) × Rose tf' tf'') → result ≡ ReadFault → status ≡ ReadFault
+  last-read (inl is) read = sym is ∙ read
+  last-read (inr (is, rose)) read = cc
+
+  told-read : sf ≤ sf' → ((status ≡ ReadFault → ⊥) → sf' ≡ sf) → HasCause sf sf' (result ≡ ReadFault)
+  told-read later stays =
+      cause-as sf sf' (status ≡ ReadFault) (result ≡ ReadFault) (last-read last.cause) (λ is. (last.silent (run.read is).1).0 ∙ is)
+      (record {
+        later = later;
+        failed = λ is.
+            (subst (λ (s : Status). HasStatusCause s run.ended (converted run.ended run.taken).ending run.taken (Rose sf sf') (Rose tf tf')) is run.cause).2;
+        stays = stays;
+      })
+
+  -- the output failed in the run, or as the last was told
+  told-count : (all : Bool) → tells_all status ≡ all → HasCause tf tf'' (result ≡ TellFault)
+  told-count true all = stayed-before tf tf' tf'' (result ≡ TellFault) (run.leaves.count.stays (λ is. cc)) (last.count all)
+  told-count false all =
+      let failed = last.failed all in
+      stayed-behind tf tf' tf'' (result ≡ TellFault) failed.1.1
+      (subst (λ (s : Status). HasCause tf tf' (s ≡ TellFault)) (sym failed.0) run.leaves.count)
+
+  pub Converts-told : sf ≤ sf' → ((status ≡ ReadFault → ⊥) → sf' ≡ sf) → Converts result honest left left' past past'' sf sf' tf tf''
+  Converts-told later stays = record {
     taken = run.taken;
     ended = run.ended;
     takes = run.takes;
@@ -103,14 +141,15 @@ module _ (result status : Status) (honest : Type 0) (waiting : List ℕ) (left l
     output = told-output (tells_all status) refl;
     silent = told-silent (tells_all status) refl;
     cause = told-cause last.cause;
-    source_count = source;
-    tell_count = omega (arith, run.leaves.count, last.count);
+    read = λ is. (run.read (last-read last.cause is)).0;
+    read_cause = told-read later stays;
+    tell_cause = told-count (tells_all status) refl;
   }
 
   told-status : (expected : Status) → (result ≡ status) ⊎ ((result ≡ TellFault) × Rose tf' tf'') → (status ≡ expected) ⊎ (status ≡ Memory) → (Rose tf tf'' → ⊥) → (result ≡ expected) ⊎ (result ≡ Memory)
   told-status expected (inl is) (inl same) tell = inl (is ∙ same)
   told-status expected (inl is) (inr none) tell = inr (is ∙ none)
-  told-status expected (inr (is, rose)) whole tell = absurd (tell (rose-later tf tf' tf'' run.leaves.count last.count rose))
+  told-status expected (inr (is, rose)) whole tell = absurd (tell (rose-later tf tf' tf'' run.leaves.count.later last-up rose))
 
 -- what a source that tells has left, it had behind what was taken
 Takes-some : (text taken : List ℕ) (left : Option (List ℕ)) → TakesBytes (Some text) taken left → (more : List ℕ) × (left ≡ Some more) × (text ≡ taken ++ more)
@@ -124,7 +163,7 @@ EndsAsText-told result status honest waiting (Some text) left' past past' past''
     let found = Takes-some text run.taken left' run.takes in
     subst (λ (all : List ℕ). (result ≡ status_of all) ⊎ (result ≡ Memory)) (sym found.2)
     (told-status result status honest waiting (Some text) left' past past' past'' sf sf' tf tf' tf'' run last (status_of (run.taken ++ found.0)) last.cause
-    (run.whole found.0 found.1 no_source (λ rose. no_tell (rose-sooner tf tf' tf'' rose last.count))) no_tell)
+    (run.whole found.0 found.1 no_source (λ rose. no_tell (rose-sooner tf tf' tf'' rose (last-up result status honest waiting (Some text) left' past past' past'' sf sf' tf tf' tf'' run last)))) no_tell)
 
 -- ---- the status of the whole text
 
@@ -156,6 +195,10 @@ open-cause : (status : Status) (text : List ℕ) (ending : Ending Refusal) (tell
 open-cause status text ending tell_rose sf sf' still (inl (is, rose)) = rw is (refl, still, rose)
 open-cause status text ending tell_rose sf sf' still (inr (is, full)) = rw is (refl, still, full)
 
+open-untold : (status : Status) (text : List ℕ) (sf sf' : ℕ) → ((status ≡ ReadFault) × Rose sf sf') ⊎ ((status ≡ InputLimit) × (length text ≡ input_limit)) → status ≡ TellFault → ⊥
+open-untold status text sf sf' (inl (is, rose)) e = cc
+open-untold status text sf sf' (inr (is, full)) e = cc
+
 open-status : (status : Status) (text said more : List ℕ) (sf sf' : ℕ) → converted false text ≡ record { told = said; ending = GoesOn } → ((status ≡ ReadFault) × Rose sf sf') ⊎ ((status ≡ InputLimit) × (length text ≡ input_limit))
     → (Rose sf sf' → ⊥) → (status ≡ status_of (text ++ more)) ⊎ (status ≡ Memory)
 open-status status text said more sf sf' whole (inl (is, rose)) source = absurd (source rose)
@@ -183,57 +226,63 @@ parts-onward text front left behind whole =
           ∙ append_assoc front left (ahead.0 ∷ ahead.1) ∙ ap (λ (l : List (List ℕ)). front ++ l) some.2,
     )
 
-module _ {H : Type 0} (honest : Type 0) (past_of : H → List Event) (faults_of disk_of : H → ℕ) where
-  abbrev seen : H → Seen
-  seen host = record { past = past_of host; disk_faults = disk_of host; tell_faults = faults_of host }
-
+module _ {H : Type 0} (honest : Type 0) (seen : H → Seen) where
   -- what each call does
   abbrev pub converting_acts : Acts Converting H
-  converting_acts = acts_of (λ old host number line result new host'. Takes honest number line result old new (past_of host) (past_of host') (faults_of host) (faults_of host') × (host' ≡ host))
-      (λ old host result new host'. Pauses honest result old new (past_of host) (past_of host') (faults_of host) (faults_of host') × LeavesDisk honest (seen host) (seen host'))
-      (λ old host lines rest status new host'. Ends honest lines rest status old new (past_of host) (past_of host') (faults_of host) (faults_of host') × (host' ≡ host))
-      (λ old host number status new host'. Overflows honest number status old new (past_of host) (past_of host') (faults_of host) (faults_of host') × (host' ≡ host))
+  converting_acts = acts_of (λ old host number line result new host'. Takes honest number line result old new (seen host).past (seen host').past (seen host).tell_faults (seen host').tell_faults × (host' ≡ host))
+      (λ old host result new host'. Pauses honest result old new (seen host).past (seen host').past (seen host).tell_faults (seen host').tell_faults × LeavesDisk honest (seen host) (seen host')
+      × OnOk result (string_bytes new.out ≡ []))
+      (λ old host lines rest status new host'. Ends honest lines rest status old new (seen host).past (seen host').past (seen host).tell_faults (seen host').tell_faults × (host' ≡ host))
+      (λ old host number status new host'. Overflows honest number status old new (seen host).past (seen host').past (seen host).tell_faults (seen host').tell_faults × (host' ≡ host))
 
-  module _ (start : Converting) (begin : H) (fresh : HasConverted start honest [] (past_of begin) (past_of begin) (faults_of begin) (faults_of begin)) where
+  module _ (start : Converting) (begin : H) (fresh : HasConverted start honest [] (seen begin).past (seen begin).past (seen begin).tell_faults (seen begin).tell_faults)
+      (none : string_bytes start.out ≡ []) where
+    -- behind a pause nothing waits
+    paused-out : (converting : Converting) (host : H) → HasPaused converting_acts start begin converting host → string_bytes converting.out ≡ []
+    paused-out converting host not_begun = none
+    paused-out converting host (after_pause old new host' host'' paused) = paused.2
+
     -- all lines of a chain were taken
     chain-converted : (front : List (List ℕ)) (converting : Converting) (host : H) → Chain converting_acts start begin front converting host
-        → HasConverted converting honest front (past_of begin) (past_of host) (faults_of begin) (faults_of host)
+        → HasConverted converting honest front (seen begin).past (seen host).past (seen begin).tell_faults (seen host).tell_faults
     chain-converted front converting host begins = fresh
     chain-converted front converting host (goes_on before line old new host' host'' chain takes) =
-        takes.0 (past_of begin) (faults_of begin) before (chain-converted before old host' chain) refl
+        takes.0 (seen begin).past (seen begin).tell_faults before (chain-converted before old host' chain) refl
     chain-converted front converting host (pauses before old new host' host'' chain takes) =
-        takes.0 (past_of begin) (faults_of begin) before (chain-converted before old host' chain)
+        takes.0 (seen begin).past (seen begin).tell_faults before (chain-converted before old host' chain)
 
     module _ (status : Status) (converting : Converting) (host : H) (left left' : Option (List ℕ)) (sf sf' : ℕ) (text : List ℕ) (took_bytes : TakesBytes left text left') (within : length text ≤ input_limit) where
       -- the run ended in the text, however that goes on
-      run-stopped : ((ended : Bool) (behind : List ℕ) → EndsIn status honest (string_bytes converting.out) (converted ended (text ++ behind)) (past_of begin) (past_of host) (faults_of begin) (faults_of host))
-          → HasRun status honest (string_bytes converting.out) left left' (past_of begin) (past_of host) sf sf' (faults_of begin) (faults_of host)
+      run-stopped : ((ended : Bool) (behind : List ℕ) → EndsIn status honest (string_bytes converting.out) (converted ended (text ++ behind)) (seen begin).past (seen host).past (seen begin).tell_faults (seen host).tell_faults)
+          → HasRun status honest (string_bytes converting.out) left left' (seen begin).past (seen host).past sf sf' (seen begin).tell_faults (seen host).tell_faults
       run-stopped stops =
-          let here = subst (λ (bytes : List ℕ). EndsIn status honest (string_bytes converting.out) (converted false bytes) (past_of begin) (past_of host) (faults_of begin) (faults_of host)) (append-nil text) (stops false []) in
+          let here = subst (λ (bytes : List ℕ). EndsIn status honest (string_bytes converting.out) (converted false bytes) (seen begin).past (seen host).past (seen begin).tell_faults (seen host).tell_faults) (append-nil text) (stops false []) in
           record {
             taken = text;
             ended = false;
             takes = took_bytes;
             within = within;
             at_end = λ ended. cc;
+            read = λ is. absurd (ended-unread status (converted false text).ending (Rose (seen begin).tell_faults (seen host).tell_faults) here.cause is);
             leaves = here.leaves;
-            cause = ended-cause status (converted false text).ending false text (Rose sf sf') (Rose (faults_of begin) (faults_of host)) here.cause;
+            cause = ended-cause status (converted false text).ending false text (Rose sf sf') (Rose (seen begin).tell_faults (seen host).tell_faults) here.cause;
             whole = λ more left_is source tell.
-                status-stopped input_limit status honest (string_bytes converting.out) text (past_of begin) (past_of host) (faults_of begin) (faults_of host) stops within more tell;
+                status-stopped input_limit status honest (string_bytes converting.out) text (seen begin).past (seen host).past (seen begin).tell_faults (seen host).tell_faults stops within more tell;
           }
 
       -- the parts of the text, however that goes on, are such that the run ended
       run-stopped_at : ((ended : Bool) (behind : List ℕ) → (all : List (List ℕ)) × (parts (text ++ behind) ≡ all)
-          × EndsIn status honest (string_bytes converting.out) (reading point_rules ended [] all) (past_of begin) (past_of host) (faults_of begin) (faults_of host))
-          → HasRun status honest (string_bytes converting.out) left left' (past_of begin) (past_of host) sf sf' (faults_of begin) (faults_of host)
+          × EndsIn status honest (string_bytes converting.out) (reading point_rules ended [] all) (seen begin).past (seen host).past (seen begin).tell_faults (seen host).tell_faults)
+          → HasRun status honest (string_bytes converting.out) left left' (seen begin).past (seen host).past sf sf' (seen begin).tell_faults (seen host).tell_faults
       run-stopped_at stops = run-stopped (λ ended behind.
           let stop = stops ended behind in
-          subst (λ (all : List (List ℕ)). EndsIn status honest (string_bytes converting.out) (reading point_rules ended [] all) (past_of begin) (past_of host) (faults_of begin) (faults_of host)) (sym stop.1) stop.2)
+          subst (λ (all : List (List ℕ)). EndsIn status honest (string_bytes converting.out) (reading point_rules ended [] all) (seen begin).past (seen host).past (seen begin).tell_faults (seen host).tell_faults) (sym stop.1) stop.2)
 
       -- all lines were taken, and the text may go on
       run-open : TookAll converting_acts start begin text converting host → ((status ≡ ReadFault) × Rose sf sf') ⊎ ((status ≡ InputLimit) × (length text ≡ input_limit))
-          → HasRun status honest (string_bytes converting.out) left left' (past_of begin) (past_of host) sf sf' (faults_of begin) (faults_of host)
-      run-open took why =
+          → (status ≡ ReadFault → (length text < input_limit) × (string_bytes converting.out ≡ []))
+          → HasRun status honest (string_bytes converting.out) left left' (seen begin).past (seen host).past sf sf' (seen begin).tell_faults (seen host).tell_faults
+      run-open took why read =
           let has = chain-converted (lines text) converting host took.chain in
           let whole = read-open point_rules (lines text) has.said (has.sent ++ string_bytes converting.out) has.read text refl (rest-fits text took.short) in
           let output : output_of false text ≡ has.sent ++ string_bytes converting.out = ap all_told whole ∙ append-nil (has.sent ++ string_bytes converting.out) in
@@ -243,58 +292,60 @@ module _ {H : Type 0} (honest : Type 0) (past_of : H → List Event) (faults_of 
             takes = took_bytes;
             within = within;
             at_end = λ ended. cc;
+            read = read;
             leaves = record {
               tells = λ is_honest. record { sent = has.sent; unsent = string_bytes converting.out; whole = output; tells = has.told.tells is_honest; all = λ all. refl };
               silent = λ none. has.told.silent (both-none has.sent (string_bytes converting.out) (sym output ∙ none)).0;
               waits = λ none all. (both-none has.sent (string_bytes converting.out) (sym output ∙ none)).1;
-              count = has.told.count;
+              count = stayed (seen begin).tell_faults (seen host).tell_faults (status ≡ TellFault) has.told.count (open-untold status text sf sf' why);
             };
-            cause = open-cause status text (converted false text).ending (Rose (faults_of begin) (faults_of host)) sf sf' (ap (λ (r : Reading Refusal). r.ending) whole) why;
+            cause = open-cause status text (converted false text).ending (Rose (seen begin).tell_faults (seen host).tell_faults) sf sf' (ap (λ (r : Reading Refusal). r.ending) whole) why;
             whole = λ more left_is source tell. open-status status text (has.sent ++ string_bytes converting.out) more sf sf' whole why source;
           }
 
       -- the text has ended
       run-ended : (old : Converting) (host' : H) → length text < input_limit → IfSome left' (λ bytes. bytes ≡ []) → TookAll converting_acts start begin text old host'
-          → Ends honest (length (lines text)) (rest text) status old converting (past_of host') (past_of host) (faults_of host') (faults_of host)
-          → HasRun status honest (string_bytes converting.out) left left' (past_of begin) (past_of host) sf sf' (faults_of begin) (faults_of host)
+          → Ends honest (length (lines text)) (rest text) status old converting (seen host').past (seen host).past (seen host').tell_faults (seen host).tell_faults
+          → HasRun status honest (string_bytes converting.out) left left' (seen begin).past (seen host).past sf sf' (seen begin).tell_faults (seen host).tell_faults
       run-ended old host' short nothing took ends =
           let has = chain-converted (lines text) old host' took.chain in
-          let here = subst (λ (all : List (List ℕ)). EndsIn status honest (string_bytes converting.out) (reading point_rules true [] all) (past_of begin) (past_of host) (faults_of begin) (faults_of host)) (sym (parts_whole text))
-          (ends (past_of begin) (faults_of begin) (lines text) has refl) in
+          let here = subst (λ (all : List (List ℕ)). EndsIn status honest (string_bytes converting.out) (reading point_rules true [] all) (seen begin).past (seen host).past (seen begin).tell_faults (seen host).tell_faults) (sym (parts_whole text))
+          (ends (seen begin).past (seen begin).tell_faults (lines text) has refl) in
           record {
             taken = text;
             ended = true;
             takes = took_bytes;
             within = within;
             at_end = λ ended. (short, nothing);
+            read = λ is. absurd (ended-unread status (converted true text).ending (Rose (seen begin).tell_faults (seen host).tell_faults) here.cause is);
             leaves = here.leaves;
-            cause = ended-cause status (converted true text).ending true text (Rose sf sf') (Rose (faults_of begin) (faults_of host)) here.cause;
+            cause = ended-cause status (converted true text).ending true text (Rose sf sf') (Rose (seen begin).tell_faults (seen host).tell_faults) here.cause;
             whole = λ more left_is source tell.
                 let none = nothing_left left' more nothing left_is in
                 let same : status_of (text ++ more) ≡ ending_status (converted true text).ending =
                 ap status_of (ap (λ (bytes : List ℕ). text ++ bytes) none ∙ append-nil text) ∙ status-ended input_limit text short in
                 subst (λ (expected : Status). (status ≡ expected) ⊎ (status ≡ Memory)) (sym same)
-                (ended-status status (converted true text).ending (Rose (faults_of begin) (faults_of host)) here.cause tell);
+                (ended-status status (converted true text).ending (Rose (seen begin).tell_faults (seen host).tell_faults) here.cause tell);
           }
 
       pub run-by : Ended converting_acts status start begin text converting host left' (Rose sf sf')
-          → HasRun status honest (string_bytes converting.out) left left' (past_of begin) (past_of host) sf sf' (faults_of begin) (faults_of host)
+          → HasRun status honest (string_bytes converting.out) left left' (seen begin).past (seen host).past sf sf' (seen begin).tell_faults (seen host).tell_faults
       run-by (at_line front line next more old host' whole short fit chain takes) = run-stopped_at (λ ended behind.
           let on = line-onward text front line next more whole behind in
-          (front ++ line ∷ on.next ∷ on.more, on.whole, takes.0 (past_of begin) (faults_of begin) front (chain-converted front old host' chain) refl ended on.next on.more))
+          (front ++ line ∷ on.next ∷ on.more, on.whole, takes.0 (seen begin).past (seen begin).tell_faults front (chain-converted front old host' chain) refl ended on.next on.more))
       run-by (at_pause old host' took takes) = run-stopped_at (λ ended behind.
           let on = parts-onward text (lines text) [] behind (sym (append-nil (lines text))) in
-          (lines text ++ on.0 ∷ on.1, on.2, takes.0 (past_of begin) (faults_of begin) (lines text) (chain-converted (lines text) old host' took.chain) ended on.0 on.1))
+          (lines text ++ on.0 ∷ on.1, on.2, takes.0 (seen begin).past (seen begin).tell_faults (lines text) (chain-converted (lines text) old host' took.chain) ended on.0 on.1))
       run-by (at_long_line front long more old host' whole short over chain takes) = run-stopped_at (λ ended behind.
           let on = IsLongAfter-append text behind front (record { long = long; more = more; whole = whole; short = short; too_long = over }) in
-          (front ++ on.long ∷ on.more, on.whole, takes.0 (past_of begin) (faults_of begin) front (chain-converted front old host' chain) refl ended on.long on.more on.too_long))
+          (front ++ on.long ∷ on.more, on.whole, takes.0 (seen begin).past (seen begin).tell_faults front (chain-converted front old host' chain) refl ended on.long on.more on.too_long))
       run-by (at_end old host' short nothing took ends) = run-ended old host' short nothing took ends.0
-      run-by (at_fault is rose took) = run-open took (inl (is, rose))
-      run-by (at_limit is full took) = run-open took (inr (is, full))
+      run-by (at_fault is rose below took last) = run-open took (inl (is, rose)) (λ _. (below, paused-out converting host last))
+      run-by (at_limit is full took) = run-open took (inr (is, full)) (λ e. cc)
       run-by (at_want front is took) = run-stopped_at (λ ended behind.
           let on = parts-onward text front took.begins.left behind took.begins.whole in
           let has = chain-converted front converting host took.chain in
-          (front ++ on.0 ∷ on.1, on.2, no_memory converting honest front (past_of begin) (past_of host) (faults_of begin) (faults_of host) has status (string_bytes converting.out) ended on.0 on.1 is))
+          (front ++ on.0 ∷ on.1, on.2, no_memory converting honest front (seen begin).past (seen host).past (seen begin).tell_faults (seen host).tell_faults has status (string_bytes converting.out) ended on.0 on.1 is))
 
   -- ---- the disk
 
@@ -317,6 +368,6 @@ module _ {H : Type 0} (honest : Type 0) (past_of : H → List Event) (faults_of 
       subst (λ (h : H). LeavesDisk honest (seen begin) (seen h)) (sym takes.1) (chain-leaves start begin front old host' chain)
   run-leaves status start begin text converting host left' source_rose (at_end old host' short nothing took ends) =
       subst (λ (h : H). LeavesDisk honest (seen begin) (seen h)) (sym ends.1) (chain-leaves start begin (lines text) old host' took.chain)
-  run-leaves status start begin text converting host left' source_rose (at_fault is rose took) = chain-leaves start begin (lines text) converting host took.chain
+  run-leaves status start begin text converting host left' source_rose (at_fault is rose below took last) = chain-leaves start begin (lines text) converting host took.chain
   run-leaves status start begin text converting host left' source_rose (at_limit is full took) = chain-leaves start begin (lines text) converting host took.chain
   run-leaves status start begin text converting host left' source_rose (at_want front is took) = chain-leaves start begin front converting host took.chain

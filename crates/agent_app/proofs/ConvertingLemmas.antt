@@ -16,11 +16,11 @@ use Rattle.point_lines.specs.declared.refusal.Refusal.TheVariants as refusal
 use Rattle.point_lines.specs.Judged.{every, judge}
 use Rattle.point_lines.specs.Reader.{IsReaderOf, ReadsLine}
 use Rattle.point_lines.specs.Told.{told_at, told_at_end}
-use Rattle.line_stream.proofs.RunLemmas.{rose-later}
 use Rattle.agent_app.specs.declared.converting.Converting.{Converting}
 use Rattle.agent_app.specs.Convert.{all_told, ending_line, ending_status, point_rules, IsUnasked}
 use Rattle.agent_app.specs.Converting.{AddsEnding, EndsIn, HasConverted, IsFinal, TellsFront}
 use Rattle.agent_app.specs.Reading.{Ending, Ends, RefusedAt, HasRead, Reading, reading, refused_at}
+use Rattle.agent_app.proofs.CauseLemmas.{apart, ending-inside, is_outside, stayed}
 use Rattle.agent_app.proofs.HasReadLemmas.{read-next, read-start}
 
 -- a call of `tell` that failed told a front
@@ -49,7 +49,7 @@ converted-start new honest past tf has none = record {
   sent = [];
   read = rw none (read-start point_rules);
   has = has;
-  told = record { tells = λ is_honest. sym (append-nil (told past)); silent = λ nothing. (refl, refl); count = omega arith };
+  told = record { tells = λ is_honest. sym (append-nil (told past)); silent = λ nothing. (refl, refl); count = refl };
 }
 
 -- a part that is too long is refused
@@ -76,7 +76,7 @@ module _ (old : Converting) (honest : Type 0) (front : List (List ℕ)) (past pa
           tells = λ is_honest. record { sent = before.sent; unsent = unsent; whole = output-onward ended next more; tells = before.told.tells is_honest; all = rw is (λ all. cc) };
           silent = λ nothing. before.told.silent (both-none before.sent unsent (sym (output-onward ended next more) ∙ nothing)).0;
           waits = rw is (λ nothing all. cc);
-          count = before.told.count;
+          count = stayed tf tf' (status ≡ TellFault) before.told.count (λ e. cc);
         };
         cause = inr (inr is);
       }
@@ -96,7 +96,7 @@ module _ (old : Converting) (honest : Type 0) (front : List (List ℕ)) (past pa
           tells = λ is_honest. record { sent = before.sent; unsent = out'; whole = whole; tells = before.told.tells is_honest; all = λ all. refl };
           silent = λ nothing. before.told.silent (both-none before.sent out' (sym whole ∙ nothing)).0;
           waits = λ nothing all. (both-none before.sent out' (sym whole ∙ nothing)).1;
-          count = before.told.count;
+          count = stayed tf tf' (status ≡ TellFault) before.told.count (λ e. apart status TellFault (ap is_outside as_ending ∙ ending-inside ending) refl e);
         };
         cause = inl (subst IsFinal (sym ending_is) final, as_ending ∙ ap ending_status (sym ending_is));
       }
@@ -160,8 +160,8 @@ module _ (old : Converting) (honest : Type 0) (front : List (List ℕ)) (past pa
 
   -- what waits was told
   pub pauses-told : (new : Converting) (past'' : List Event) (tf'' : ℕ) → new.reader ≡ old.reader → string_bytes new.out ≡ [] → (honest → told past'' ≡ told past' ++ string_bytes old.out)
-      → (string_bytes old.out ≡ [] → IsUnasked past' past'' tf' tf'') → tf' ≤ tf'' → HasConverted new honest front past past'' tf tf''
-  pauses-told new past'' tf'' same none tells silent later = record {
+      → (string_bytes old.out ≡ [] → IsUnasked past' past'' tf' tf'') → tf'' ≡ tf' → HasConverted new honest front past past'' tf tf''
+  pauses-told new past'' tf'' same none tells silent stays = record {
     said = before.said;
     sent = before.sent ++ string_bytes old.out;
     read = rw (none, append-nil (before.sent ++ string_bytes old.out)) before.read;
@@ -171,7 +171,7 @@ module _ (old : Converting) (honest : Type 0) (front : List (List ℕ)) (past pa
       silent = λ nothing.
           let each = both-none before.sent (string_bytes old.out) nothing in
           later-unasked past past' past'' tf tf' tf'' (before.told.silent each.0) (silent each.1);
-      count = omega (arith, before.told.count);
+      count = stays ∙ before.told.count;
     };
   }
 
@@ -181,6 +181,7 @@ module _ (old : Converting) (honest : Type 0) (front : List (List ℕ)) (past pa
   pauses-fault past'' tf'' waiting torn silent later rose ended next more =
       let ahead = all_told (reading point_rules ended before.said (next ∷ more)) in
       let whole = output-onward ended next more in
+      let rose_since : Rose tf tf'' = subst (λ (n : ℕ). Rose n tf'') before.told.count rose in
       record {
         leaves = record {
           tells = λ is_honest. let front_is = torn is_honest in record {
@@ -195,7 +196,7 @@ module _ (old : Converting) (honest : Type 0) (front : List (List ℕ)) (past pa
               let each = both-none before.sent (string_bytes old.out ++ ahead) (sym whole ∙ nothing) in
               later-unasked past past' past'' tf tf' tf'' (before.told.silent each.0) (silent (both-none (string_bytes old.out) ahead each.1).0);
           waits = λ nothing all. cc;
-          count = omega (arith, before.told.count);
+          count = record { later = omega (arith, before.told.count, later); failed = λ _. rose_since; stays = λ none. absurd (none refl) };
         };
-        cause = inr (inl (refl, rose-later tf tf' tf'' before.told.count later rose));
+        cause = inr (inl (refl, rose_since));
       }

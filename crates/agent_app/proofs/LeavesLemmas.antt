@@ -4,7 +4,7 @@ use Rattle.host_model.specs.declared.file.File.{File}
 use Rattle.host_model.specs.Moments.{Throughout, begins, goes_on}
 use Rattle.host_model.specs.Past.{Event, Told, MayAdd, of}
 use Rattle.host_model.proofs.MomentLemmas.{at_end, joined, weakened}
-use Rattle.agent_core.specs.Calls.{Seen}
+use Rattle.host_model.specs.Seen.{Seen}
 use Rattle.agent_app.specs.Convert.{LeavesDisk}
 
 abbrev Same : List Event → List Event → Type 0

@@ -1,6 +1,8 @@
 mod AckLemmas
+mod CauseLemmas
 mod ConvertLemmas
 mod ConvertingLemmas
+mod CourseLemmas
 mod ExtendsLemmas
 mod HasReadLemmas
 mod LeavesLemmas

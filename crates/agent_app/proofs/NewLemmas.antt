@@ -3,8 +3,10 @@ use Rattle.std.proofs.Common.{◌≡◌, inl, [], Ok, refl, sym, ◌∙◌, true
 use Rattle.host_model.specs.declared.status.Status.TheVariants as status
 use Rattle.entry_codec.specs.declared.entry.Settings.{Settings}
 use Rattle.agent_core.specs.Agent.{AgentState}
-use Rattle.agent_core.specs.Calls.{Creates, Seen}
+use Rattle.agent_core.specs.Calls.{Creates}
+use Rattle.host_model.specs.Seen.{Seen}
 use Rattle.agent_app.specs.New.{Makes}
+use Rattle.agent_app.proofs.CauseLemmas.{cause-as}
 use Rattle.agent_app.proofs.RunningLemmas.{stands-all}
 
 there : status.Ok ≡ status.Exists → ⊥
@@ -21,7 +23,7 @@ made-new honest set host host' agent creates = record {
   exists = λ is. absurd (there is);
   made = λ h made. absurd (true≢false (sym made ∙ creates.none h));
   statuses = inl refl;
-  disk_cause = record { later = creates.cause.later; failed = λ is. absurd (failed is) };
-  output = creates.output;
+  disk_cause = cause-as host.disk_faults host'.disk_faults _ (status.Ok ≡ status.DiskFault) (λ is. absurd (failed is)) (λ is. cc) creates.cause;
+  only_here = creates.only_here;
   tells = creates.tells;
 }

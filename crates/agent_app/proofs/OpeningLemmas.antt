@@ -1,12 +1,11 @@
 -- What `run` promises: where the database was opened, and where it was not.
-use Rattle.std.proofs.Common.{◌≡◌, ◌⊎◌, inl, inr, ℕ, ◌<◌, ◌≤◌, false, List, [], ◌++◌, length, Option, Some, None, IfSome, Ok, Err, true, refl, sym, ap, subst, ◌∙◌, append-nil, arith, true≢false}
-use Rattle.std.proofs.lemmas.Bool.{cases_eq}
+use Rattle.std.proofs.Common.{◌≡◌, ◌⊎◌, inl, inr, ℕ, ◌≤◌, false, List, [], ◌++◌, length, Option, Some, None, IfSome, Result, Ok, Err, true, refl, sym, ap, subst, ◌∙◌, append-nil, arith, true≢false}
 use Rattle.host_model.specs.declared.file.File.{File}
 use Rattle.host_model.specs.Cause.{Rose}
 use Rattle.host_model.specs.declared.status.Status.{Status}
 use Rattle.host_model.specs.declared.status.Status.TheVariants as status
 use Rattle.host_model.specs.Disks.{EveryDisk, reads_as}
-use Rattle.host_model.specs.Moments.{Throughout, EveryStop}
+use Rattle.host_model.specs.Moments.{Throughout, EveryStop, begins}
 use Rattle.host_model.specs.Past.{Event, told, IsDisk, IsText}
 use Rattle.host_model.specs.Source.{Takes}
 use Rattle.host_model.proofs.DiskLemmas.{untold}
@@ -15,22 +14,25 @@ use Rattle.history.specs.Registry.{Registry}
 use Rattle.collect_block.specs.Feed.{CountsFor, IsFeedOf}
 use Rattle.point_lines.specs.Judged.{every}
 use Rattle.entry_codec.specs.declared.entry.Settings.{Settings}
-use Rattle.line_stream.specs.Run.{input_limit, Ran}
+use Rattle.line_stream.specs.Run.{Ran}
 use Rattle.line_stream.proofs.RunLemmas.{rose-later, Takes-none}
 use Rattle.store_core.specs.Stands.{is_made}
 use Rattle.agent_core.specs.declared.fault.AgentFault.{AgentFault}
 use Rattle.agent_core.specs.declared.fault.AgentFault.TheVariants as fault
 use Rattle.agent_core.specs.Agent.{AgentState, IsAgentOf}
-use Rattle.agent_core.specs.Calls.{Opens, Seen}
+use Rattle.agent_core.specs.Calls.{Opens}
+use Rattle.host_model.specs.Seen.{Seen}
 use Rattle.agent_core.specs.Faults.{IsOpening}
 use Rattle.agent_core.specs.Kept.{StandsForHistory}
 use Rattle.agent_app.specs.declared.running.Running.{Running}
-use Rattle.agent_app.specs.Run.{ends_a_run, finds_none, is_opened, is_whole, Keeps, no_more, run_output, run_reading, run_rules, run_status, HasRunCause, Runs, RunsAll}
+use Rattle.agent_app.specs.Run.{ends_a_run, finds_none, is_opened, is_whole, Keeps, no_more, run_output, run_reading, run_rules, run_status, HasRunCause, Resumes, Runs, RunsAll}
 use Rattle.agent_app.specs.Running.{opening_status, Counts, DiskRose, IsRunning, TellRose}
 use Rattle.agent_app.proofs.AckLemmas.{acked-nothing, acked-since, text-front}
+use Rattle.agent_app.proofs.CauseLemmas.{both-counts, cause-as, stayed}
 use Rattle.agent_core.proofs.Within.{within-of}
 use Rattle.agent_app.proofs.HasReadLemmas.{read-start}
-use Rattle.agent_app.proofs.RunLemmas.{EndsFor, cause-wider, ends-otherwise, run-counts, run-for, run-over, run_acts}
+use Rattle.agent_app.proofs.RunningLemmas.{stands-all}
+use Rattle.agent_app.proofs.RunLemmas.{EndsFor, both-others, cause-wider, ends-otherwise, run-for, run-over, run_acts}
 
 -- at each moment of the opening a stop leaves the history
 opening-stops : (set : Settings) (h0 : List Beat) (old new : List Event) → EveryDisk (StandsForHistory set h0) old → told new ≡ told old → Throughout (EveryDisk (IsDisk old)) old new → Throughout (EveryStop (Keeps set h0 h0 (told old))) old new
@@ -57,6 +59,15 @@ complete-by left None text P takes shows = subst (λ (o : Option (List ℕ)). If
 complete-by left (Some more) text P takes shows = subst (λ (o : Option (List ℕ)). IfSome o P) (sym takes) (shows more refl)
 
 -- ---- the database was not opened
+abbrev opened_with : AgentState → Result AgentState AgentFault
+opened_with agent = Ok agent
+
+abbrev failed_by : AgentFault → Result AgentState AgentFault
+failed_by why = Err why
+
+fault-is : (why other : AgentFault) → failed_by why ≡ failed_by other → why ≡ other
+fault-is why other e = cc
+
 module _ (honest : Type 0) (host host' : Seen) (first : honest → IsDisk host.past (reads_as host.past)) where
   -- by which fault it was not
   by-fault : (P : AgentFault → Type 0) (why : AgentFault) → (why ≡ fault.DiskFault) ⊎ (why ≡ fault.Memory) → P fault.DiskFault → P fault.Memory → P why
@@ -74,13 +85,22 @@ module _ (honest : Type 0) (host host' : Seen) (first : honest → IsDisk host.p
         takes = Takes-none left;
         within = omega arith;
         at_end = λ e. absurd (true≢false (sym e));
-        stops = opening-stops set h0 host.past host'.past stands (opens.output h) (opens.any_moment h);
+        stops = opening-stops set h0 host.past host'.past stands (opens.only_here h).output (opens.any_moment h);
         ends = λ all. absurd (true≢false (sym all ∙ short));
-        output = record { sent = []; unsent = run_output h0 false []; whole = refl; tells = opens.output h ∙ sym (append-nil (told host.past)); all = λ all. absurd (true≢false (sym all ∙ short)) };
+        output = record { sent = []; unsent = run_output h0 false []; whole = refl; tells = (opens.only_here h).output ∙ sym (append-nil (told host.past)); all = λ all. absurd (true≢false (sym all ∙ short)) };
         cause =
             by-fault (λ (f : AgentFault). why ≡ f → HasRunCause (opening_status f) false (run_reading h0 false []).ending [] source_rose (TellRose host host') (DiskRose host host')) why which
             (λ is. opens.cause.failed (ap (λ (f : AgentFault). Err f) is)) (λ is. tt) refl;
       }
+
+  unopened-resumes : (why : AgentFault) → Opens honest host (Err why) host' → (left : Option (List ℕ)) (source_rose : Type 0) → honest → (set : Settings) (h0 : List Beat) → StandsForHistory set h0 (reads_as host.past)
+      → Resumes (opening_status why) set h0 left left host.past host'.past source_rose (TellRose host host') (DiskRose host host')
+  unopened-resumes why opens left source_rose h set h0 here = record {
+    read = host'.past;
+    before = opens.any_moment h;
+    silent = (opens.only_here h).output;
+    after = inr (by-fault (λ (f : AgentFault). is_whole (opening_status f) ≡ false) why (opens.stands h set h0 here) refl refl, refl, refl);
+  }
 
   unopened-whole : (why : AgentFault) → Opens honest host (Err why) host' → honest → (set : Settings) (h0 : List Beat) → EveryDisk (StandsForHistory set h0) host.past → (text : List ℕ) → (DiskRose host host' → ⊥)
       → (opening_status why ≡ run_status h0 text) ⊎ (opening_status why ≡ status.Memory)
@@ -184,17 +204,17 @@ module _ (honest : Type 0) (host host' : Seen) (first : honest → IsDisk host.p
       apart : status.Memory ≡ status.TellFault → ⊥
       apart e = cc
 
-  disk-failed : (why : AgentFault) → Opens honest host (Err why) host' → opening_status why ≡ status.DiskFault → DiskRose host host'
-  disk-failed fault.DiskFault opens is = opens.cause.failed refl
-  disk-failed fault.NotADatabase opens is = absurd (apart is)
+  disk-failed : (why : AgentFault) → opening_status why ≡ status.DiskFault → failed_by why ≡ failed_by fault.DiskFault
+  disk-failed fault.DiskFault is = refl
+  disk-failed fault.NotADatabase is = absurd (apart is)
     where
       apart : status.NotADatabase ≡ status.DiskFault → ⊥
       apart e = cc
-  disk-failed (fault.Damaged part) opens is = absurd (apart is)
+  disk-failed (fault.Damaged part) is = absurd (apart is)
     where
       apart : status.Damaged part ≡ status.DiskFault → ⊥
       apart e = cc
-  disk-failed other opens is = absurd (apart is)
+  disk-failed other is = absurd (apart is)
     where
       apart : status.Memory ≡ status.DiskFault → ⊥
       apart e = cc
@@ -202,6 +222,7 @@ module _ (honest : Type 0) (host host' : Seen) (first : honest → IsDisk host.p
   pub unopened : (why : AgentFault) → Opens honest host (Err why) host' → (left : Option (List ℕ)) (faults : ℕ) → RunsAll honest (opening_status why) left left faults faults host host'
   unopened why opens left faults = record {
     runs = λ h set h0 stands. unopened-runs why opens left (Rose faults faults) h set h0 stands;
+    resumes = λ h set h0 here. unopened-resumes why opens left (Rose faults faults) h set h0 here;
     complete = λ h set h0 stands. some-each left _ (λ text is none_read none_told none_disk. unopened-whole why opens h set h0 stands text none_disk);
     none = λ is h. unopened-none why opens is h;
     unmade = λ h unmade. unopened-unmade why opens h unmade;
@@ -212,10 +233,13 @@ module _ (honest : Type 0) (host host' : Seen) (first : honest → IsDisk host.p
     opened = λ is h. absurd (true≢false (sym is ∙ unopened-all why));
     statuses = opening-statuses why;
     input = record { taken = []; takes = Takes-none left; within = omega arith; limit = λ is. absurd (full why is); read = λ is. absurd (unread why is) };
-    leaves = λ _. record { source = (refl, refl); output = opens.output; tells = opens.tells; any_moment = opens.any_moment; same = opens.same };
-    read_cause = record { later = omega arith; failed = λ is. absurd (unread why is) };
-    tell_cause = record { later = omega (arith, opens.tells); failed = λ is. absurd (untold-yet why is) };
-    disk_cause = record { later = opens.cause.later; failed = λ is. disk-failed why opens is };
+    leaves = λ _. record { source = (refl, refl); output = λ h. (opens.only_here h).output; tells = opens.tells; any_moment = opens.any_moment; same = opens.same };
+    others = λ h. (opens.only_here h).others;
+    read_cause = stayed faults faults (opening_status why ≡ status.ReadFault) refl (unread why);
+    tell_cause = stayed host.tell_faults host'.tell_faults (opening_status why ≡ status.TellFault) opens.tells (untold-yet why);
+    disk_cause =
+        cause-as host.disk_faults host'.disk_faults (failed_by why ≡ failed_by fault.DiskFault) (opening_status why ≡ status.DiskFault)
+        (disk-failed why) (λ e. ap opening_status (fault-is why fault.DiskFault e)) opens.cause;
   }
 
 -- ---- the database was opened
@@ -227,74 +251,90 @@ found-one s none ends = true≢false (sym none)
 
 module _ {H : Type 0} (honest : Type 0) (seen : H → Seen) (host : Seen) (agent : AgentState) (middle : H) (opens : Opens honest host (Ok agent) (seen middle)) (first : honest → IsDisk host.past (reads_as host.past))
     (running : Running) (agent-is : running.agent ≡ agent) (feed-is : IsFeedOf running.feed every []) (feed-counts : (registry : Registry) → CountsFor running.feed registry) where
+  -- by whatever history the disk reads as, and since whatever moment
+  begins-at : honest → (set : Settings) (h0 : List Beat) → StandsForHistory set h0 (reads_as host.past) → (start : List Event) → told (seen middle).past ≡ told start
+      → Throughout (EveryStop (Keeps set h0 h0 (told start))) start (seen middle).past → IsRunning (seen middle).past running set h0 [] start
+  begins-at h set h0 here start silent stops = record {
+    read = [];
+    made = [];
+    has = read-start (run_rules h0);
+    at = record {
+      within = within-of h0 here.beats here.are;
+      accepted = tt;
+      agent = subst (λ (a : AgentState). IsAgentOf (seen middle).past a set h0) (sym agent-is) (opens.opened h set h0 here);
+      feed = feed-is;
+      counts = feed-counts running.agent.registry;
+      tells = silent ∙ sym (append-nil (told start));
+      closed = refl;
+      acked = acked-nothing (length h0);
+      stops = stops;
+    };
+  }
+
   begins-so : honest → (set : Settings) (h0 : List Beat) → EveryDisk (StandsForHistory set h0) host.past → IsRunning (seen middle).past running set h0 [] host.past
   begins-so h set h0 stands =
-      let here = stands (reads_as host.past) (first h) in
-      record {
-        read = [];
-        made = [];
-        has = read-start (run_rules h0);
-        at = record {
-          within = within-of h0 here.beats here.are;
-          accepted = tt;
-          agent = subst (λ (a : AgentState). IsAgentOf (seen middle).past a set h0) (sym agent-is) (opens.opened h set h0 here);
-          feed = feed-is;
-          counts = feed-counts running.agent.registry;
-          tells = opens.output h ∙ sym (append-nil (told host.past));
-          closed = refl;
-          acked = acked-nothing (length h0);
-          stops = opening-stops set h0 host.past (seen middle).past stands (opens.output h) (opens.any_moment h);
-        };
-      }
+      begins-at h set h0 (stands (reads_as host.past) (first h)) host.past (opens.only_here h).output
+      (opening-stops set h0 host.past (seen middle).past stands (opens.only_here h).output (opens.any_moment h))
 
-  module _ (s : Status) (running' : Running) (host' : H) (left left' : Option (List ℕ)) (faults faults' : ℕ) (up : faults ≤ faults')
+  stands-now : honest → (set : Settings) (h0 : List Beat) → StandsForHistory set h0 (reads_as host.past) → EveryDisk (StandsForHistory set h0) (seen middle).past
+  stands-now h set h0 here = stands-all (seen middle).past agent set h0 (opens.opened h set h0 here)
+
+  -- since the database was read, a stop leaves that history
+  begins-read : honest → (set : Settings) (h0 : List Beat) → StandsForHistory set h0 (reads_as host.past) → IsRunning (seen middle).past running set h0 [] (seen middle).past
+  begins-read h set h0 here =
+      let now = (seen middle).past in
+      begins-at h set h0 here now refl (opening-stops set h0 now now (stands-now h set h0 here) refl (begins (λ disk images. images)))
+
+  module _ (s : Status) (running' : Running) (host' : H) (left left' : Option (List ℕ)) (faults faults' : ℕ) (up : faults ≤ faults') (still : (s ≡ status.ReadFault → ⊥) → faults' ≡ faults)
       (ran : Ran (run_acts honest seen) s running middle running' host' left left' (Rose faults faults')) where
-    counts : Counts (seen middle) (seen host')
-    counts = run-counts honest seen s running middle ran.text running' host' left' (Rose faults faults') ran.ended
+    for-all : EndsFor honest s ran.text (Rose faults faults') (seen middle) (seen host')
+    for-all = run-for honest seen s running middle ran.text (Rose faults faults') running' host' left' ran.ended
 
-    all-counts : Counts host (seen host')
-    all-counts = record { tells = omega (arith, opens.tells, counts.tells); disk = omega (arith, opens.cause.later, counts.disk) }
+    opening : Counts host (seen middle) ⊥ ⊥
+    opening = record {
+      tells = stayed host.tell_faults (seen middle).tell_faults ⊥ opens.tells (λ never. never);
+      disk = cause-as host.disk_faults (seen middle).disk_faults (opened_with agent ≡ failed_by fault.DiskFault) ⊥ (λ never. absurd never) (λ e. cc) opens.cause;
+    }
+
+    all-counts : Counts host (seen host') (s ≡ status.TellFault) (s ≡ status.DiskFault)
+    all-counts = both-counts host (seen middle) (seen host') (s ≡ status.TellFault) (s ≡ status.DiskFault) opening for-all.counts
 
     tells-sooner : TellRose (seen middle) (seen host') → TellRose host (seen host')
-    tells-sooner = rose-later host.tell_faults (seen middle).tell_faults (seen host').tell_faults (omega (arith, opens.tells)) counts.tells
+    tells-sooner = rose-later host.tell_faults (seen middle).tell_faults (seen host').tell_faults opening.tells.later for-all.counts.tells.later
 
     disk-sooner : DiskRose (seen middle) (seen host') → DiskRose host (seen host')
-    disk-sooner = rose-later host.disk_faults (seen middle).disk_faults (seen host').disk_faults opens.cause.later counts.disk
-
-    for-all : EndsFor s ran.text (Rose faults faults') (TellRose (seen middle) (seen host')) (DiskRose (seen middle) (seen host'))
-    for-all = run-for honest seen s running middle ran.text running' host' left' (Rose faults faults') ran.ended
-
-    -- behind as many bytes as may be taken, no failure of the source is why
-    for-full : length ran.text ≡ input_limit → s ≡ status.ReadFault → ⊥
-    for-full full = (run-for honest seen s running middle ran.text running' host' left' ⊥ (ran.full full)).read
-
-    below : (length ran.text ≡ input_limit → ⊥) → length ran.text < input_limit
-    below never =
-        elim (cases_eq (length ran.text) input_limit) [
-          | inl full ↦ absurd (never full)
-          | inr other ↦ let within = ran.within in omega (arith, within, other)
-        ]
+    disk-sooner = rose-later host.disk_faults (seen middle).disk_faults (seen host').disk_faults opening.disk.later for-all.counts.disk.later
 
     otherwise : (other : Status) → ends_a_run other ≡ false → s ≡ other → ⊥
     otherwise = ends-otherwise s for-all.ends
 
+    runs-over : honest → (set : Settings) (h0 : List Beat) (start : List Event) → IsRunning (seen middle).past running set h0 [] start
+        → Runs s set h0 left left' start (seen host').past (Rose faults faults') (TellRose host (seen host')) (DiskRose host (seen host'))
+    runs-over h set h0 start going =
+        let over = run-over honest seen h set h0 start s middle ran.text left' (Rose faults faults') ran.within running going running' host' ran.ended in
+        record {
+          taken = ran.text;
+          ended = over.ended;
+          takes = ran.takes;
+          within = ran.within;
+          at_end = over.at_end;
+          stops = over.stops.stops;
+          ends = over.stops.ends;
+          output = over.stops.output;
+          cause =
+              cause-wider s over.ended (run_reading h0 over.ended ran.text).ending ran.text (Rose faults faults') (TellRose (seen middle) (seen host')) (DiskRose (seen middle) (seen host'))
+              (Rose faults faults') (TellRose host (seen host')) (DiskRose host (seen host')) (λ rose. rose) tells-sooner disk-sooner over.stops.cause;
+        }
+
     pub opened : RunsAll honest s left left' faults faults' host (seen host')
     opened = record {
-      runs = λ h set h0 stands.
-          let over = run-over honest seen h set h0 host.past s middle ran.text left' (Rose faults faults') ran.within running (begins-so h set h0 stands) running' host' ran.ended in
-          record {
-            taken = ran.text;
-            ended = over.ended;
-            takes = ran.takes;
-            within = ran.within;
-            at_end = over.at_end;
-            stops = over.stops.stops;
-            ends = over.stops.ends;
-            output = over.stops.output;
-            cause =
-                cause-wider s over.ended (run_reading h0 over.ended ran.text).ending ran.text (Rose faults faults') (TellRose (seen middle) (seen host')) (DiskRose (seen middle) (seen host'))
-                (Rose faults faults') (TellRose host (seen host')) (DiskRose host (seen host')) (λ rose. rose) tells-sooner disk-sooner over.stops.cause;
-          };
+      runs = λ h set h0 stands. runs-over h set h0 host.past (begins-so h set h0 stands);
+      resumes = λ h set h0 here. record {
+        read = (seen middle).past;
+        before = opens.any_moment h;
+        silent = (opens.only_here h).output;
+        after = inl (record { stands = stands-now h set h0 here; runs = runs-over h set h0 (seen middle).past (begins-read h set h0 here) });
+      };
       complete = λ h set h0 stands.
           let over = run-over honest seen h set h0 host.past s middle ran.text left' (Rose faults faults') ran.within running (begins-so h set h0 stands) running' host' ran.ended in
           complete-by left left' ran.text (λ text. (Rose faults faults' → ⊥) → (TellRose host (seen host') → ⊥) → (DiskRose host (seen host') → ⊥) → (s ≡ run_status h0 text) ⊎ (s ≡ status.Memory)) ran.takes
@@ -307,9 +347,10 @@ module _ {H : Type 0} (honest : Type 0) (seen : H → Seen) (host : Seen) (agent
       damaged_notes = λ is h. absurd (otherwise (status.Damaged 5) refl is);
       opened = λ is h. opens.notes h;
       statuses = inl for-all.ends;
-      input = record { taken = ran.text; takes = ran.takes; within = ran.within; limit = for-all.limit; read = λ is. below (λ full. for-full full is) };
+      input = record { taken = ran.text; takes = ran.takes; within = ran.within; limit = for-all.limit; read = λ is. (for-all.read is).1 };
       leaves = λ none. absurd (found-one s none for-all.ends);
-      read_cause = record { later = up; failed = for-all.read };
-      tell_cause = record { later = all-counts.tells; failed = λ is. tells-sooner (for-all.tell is) };
-      disk_cause = record { later = all-counts.disk; failed = λ is. disk-sooner (for-all.disk is) };
+      others = both-others honest host (seen middle) (seen host') (λ h. (opens.only_here h).others) for-all.others;
+      read_cause = record { later = up; failed = λ is. (for-all.read is).0; stays = still };
+      tell_cause = all-counts.tells;
+      disk_cause = all-counts.disk;
     }

@@ -18,12 +18,13 @@ use Rattle.entry_codec.specs.declared.entry.Settings.{Settings}
 use Rattle.line_stream.specs.Chain.{Acts, acts_of, Chain, begins, goes_on, pauses}
 use Rattle.line_stream.specs.Run.{input_limit, Ended, at_line, at_pause, at_long_line, at_end, at_fault, at_limit, at_want}
 use Rattle.line_stream.proofs.RunLemmas.{rose-later}
-use Rattle.agent_core.specs.Calls.{Seen}
+use Rattle.host_model.specs.Seen.{Seen}
 use Rattle.agent_app.specs.declared.running.Running.{Running}
 use Rattle.agent_app.specs.Convert.{all_told, ending_status}
 use Rattle.agent_app.specs.Reading.{Ending, GoesOn, Reading}
-use Rattle.agent_app.specs.Run.{ends_a_run, run_reading, run_rules, run_status, HasRunCause}
-use Rattle.agent_app.specs.Running.{Counts, DiskRose, EndsRun, IsCausedBy, IsRunning, Overflows, Pauses, StopsIn, TakesLine, TellRose}
+use Rattle.agent_app.specs.Run.{ends_a_run, run_reading, run_rules, run_status, HasRunCause, LeavesOthers}
+use Rattle.agent_app.specs.Running.{Counts, DiskRose, EndsRun, IsRunning, IsTakers, Overflows, Pauses, StopsIn, TakesLine, TellRose}
+use Rattle.agent_app.proofs.CauseLemmas.{both-counts, counts-none, gone-counts, same-counts, status-counts}
 use Rattle.agent_app.proofs.ExtendsLemmas.{extends-text}
 use Rattle.agent_app.proofs.HasReadLemmas.{line-onward, read-open, says-all, take-append_past}
 use Rattle.agent_app.proofs.StopsLemmas.{output-behind, want-stop, whole-stop}
@@ -100,77 +101,73 @@ front-followed text front begins_with = by begins_with.left begins_with.whole
     by [] is = record { next = rest text; more = []; whole = parts_whole text ∙ ap (λ (l : List (List ℕ)). l ++ rest text ∷ []) (is ∙ append-nil front) }
     by (next ∷ left) is = record { next = next; more = left ++ rest text ∷ []; whole = parts_whole text ∙ ap (λ (l : List (List ℕ)). l ++ rest text ∷ []) is ∙ append_assoc front (next ∷ left) (rest text ∷ []) }
 
+-- nothing happens to a file but the journal, call by call
+pub both-others : (honest : Type 0) (first middle last : Seen) → LeavesOthers honest first middle → LeavesOthers honest middle last → LeavesOthers honest first last
+both-others honest first middle last before after h file other = after h file other ∙ before h file other
+
 not-ok : (s : Status) (r : Result (Unit {0}) Status) → r ≡ Err s → r ≡ Ok tt → ⊥
 not-ok s r is e = cc
 
--- why a run ended as it did, whatever history it is of
-pub record EndsFor (s : Status) (taken : List ℕ) (source_rose tell_rose disk_rose : Type 0) : Type 0 where
-  pub read : s ≡ status.ReadFault → source_rose
-  pub tell : s ≡ status.TellFault → tell_rose
-  pub disk : s ≡ status.DiskFault → disk_rose
+-- why a run ended as it did and what it left, whatever history it is of
+pub record EndsFor (honest : Type 0) (s : Status) (taken : List ℕ) (source_rose : Type 0) (host host' : Seen) : Type 0 where
+  pub read : s ≡ status.ReadFault → source_rose × (length taken < input_limit)
   pub limit : s ≡ status.InputLimit → length taken ≡ input_limit
   pub ends : ends_a_run s ≡ true
+  pub counts : Counts host host' (s ≡ status.TellFault) (s ≡ status.DiskFault)
+  pub others : LeavesOthers honest host host'
 
 -- no such status is another
 module _ (s : Status) (ends : ends_a_run s ≡ true) where
   pub ends-otherwise : (other : Status) → ends_a_run other ≡ false → s ≡ other → ⊥
   ends-otherwise other none is = true≢false (sym ends ∙ ap ends_a_run is ∙ none)
 
-caused-ends : (s : Status) (tell_rose disk_rose : Type 0) → IsCausedBy s tell_rose disk_rose → ends_a_run s ≡ true
-caused-ends status.Ok tell_rose disk_rose caused = refl
-caused-ends (status.Refused line number) tell_rose disk_rose caused = refl
-caused-ends (status.Limit line number) tell_rose disk_rose caused = refl
-caused-ends status.TellFault tell_rose disk_rose caused = refl
-caused-ends status.DiskFault tell_rose disk_rose caused = refl
-caused-ends status.Memory tell_rose disk_rose caused = refl
-caused-ends s tell_rose disk_rose caused = absurd caused
+takers-end : (s : Status) → IsTakers s → ends_a_run s ≡ true
+takers-end status.Ok takers = refl
+takers-end (status.Refused line number) takers = refl
+takers-end (status.Limit line number) takers = refl
+takers-end status.TellFault takers = refl
+takers-end status.DiskFault takers = refl
+takers-end status.Memory takers = refl
+takers-end s takers = absurd takers
 
-caused-for : (s : Status) (taken : List ℕ) (source_rose tell_rose disk_rose : Type 0) → IsCausedBy s tell_rose disk_rose → EndsFor s taken source_rose tell_rose disk_rose
-caused-for s taken source_rose tell_rose disk_rose caused =
-    let by : (t : Status) → s ≡ t → IsCausedBy t tell_rose disk_rose = λ t is. subst (λ (a : Status). IsCausedBy a tell_rose disk_rose) is caused in
-    record {
-      read = λ is. absurd (by status.ReadFault is);
-      tell = λ is. by status.TellFault is;
-      disk = λ is. by status.DiskFault is;
-      limit = λ is. absurd (by status.InputLimit is);
-      ends = caused-ends s tell_rose disk_rose caused;
+module _ (honest : Type 0) (s : Status) (taken : List ℕ) (source_rose : Type 0) (host host' : Seen) (others : LeavesOthers honest host host') where
+  -- the taker ended it
+  takers-for : IsTakers s → Counts host host' (s ≡ status.TellFault) (s ≡ status.DiskFault) → EndsFor honest s taken source_rose host host'
+  takers-for takers counts = record {
+    read = λ is. absurd (subst IsTakers is takers);
+    limit = λ is. absurd (subst IsTakers is takers);
+    ends = takers-end s takers;
+    counts = counts;
+    others = others;
+  }
+
+  module _ (counts : Counts host host' ⊥ ⊥) where
+    kept : (s ≡ status.TellFault → ⊥) → (s ≡ status.DiskFault → ⊥) → Counts host host' (s ≡ status.TellFault) (s ≡ status.DiskFault)
+    kept untold stored = counts-none host host' (s ≡ status.TellFault) (s ≡ status.DiskFault) untold stored counts
+
+    -- the source failed
+    read-for : s ≡ status.ReadFault → source_rose → length taken < input_limit → EndsFor honest s taken source_rose host host'
+    read-for is rose below = record {
+      read = λ _. (rose, below);
+      limit = λ e. cc;
+      ends = ap ends_a_run is;
+      counts = kept (λ e. cc) (λ e. cc);
+      others = others;
     }
 
-read-for : (s : Status) (taken : List ℕ) (source_rose tell_rose disk_rose : Type 0) → s ≡ status.ReadFault → source_rose → EndsFor s taken source_rose tell_rose disk_rose
-read-for s taken source_rose tell_rose disk_rose is rose = record {
-  read = λ _. rose;
-  tell = λ e. absurd (told (sym is ∙ e));
-  disk = λ e. absurd (stored (sym is ∙ e));
-  limit = λ e. absurd (full (sym is ∙ e));
-  ends = ap ends_a_run is;
-}
-  where
-    full : status.ReadFault ≡ status.InputLimit → ⊥
-    full e = cc
+    -- it took as much as it may
+    limit-for : s ≡ status.InputLimit → length taken ≡ input_limit → EndsFor honest s taken source_rose host host'
+    limit-for is full = record {
+      read = λ e. cc;
+      limit = λ _. full;
+      ends = ap ends_a_run is;
+      counts = kept (λ e. cc) (λ e. cc);
+      others = others;
+    }
 
-    told : status.ReadFault ≡ status.TellFault → ⊥
-    told e = cc
-
-    stored : status.ReadFault ≡ status.DiskFault → ⊥
-    stored e = cc
-
-limit-for : (s : Status) (taken : List ℕ) (source_rose tell_rose disk_rose : Type 0) → s ≡ status.InputLimit → length taken ≡ input_limit → EndsFor s taken source_rose tell_rose disk_rose
-limit-for s taken source_rose tell_rose disk_rose is full = record {
-  read = λ e. absurd (read_here (sym is ∙ e));
-  tell = λ e. absurd (told (sym is ∙ e));
-  disk = λ e. absurd (stored (sym is ∙ e));
-  limit = λ _. full;
-  ends = ap ends_a_run is;
-}
-  where
-    read_here : status.InputLimit ≡ status.ReadFault → ⊥
-    read_here e = cc
-
-    told : status.InputLimit ≡ status.TellFault → ⊥
-    told e = cc
-
-    stored : status.InputLimit ≡ status.DiskFault → ⊥
-    stored e = cc
+    -- there was no memory
+    want-for : s ≡ status.Memory → EndsFor honest s taken source_rose host host'
+    want-for is = takers-for (subst IsTakers (sym is) tt) (kept (λ e. cc) (λ e. cc))
 
 -- ---- a run
 module _ {H : Type 0} (honest : Type 0) (seen : H → Seen) where
@@ -181,18 +178,19 @@ module _ {H : Type 0} (honest : Type 0) (seen : H → Seen) where
       (λ running host count left s running' host'. EndsRun honest running (seen host) count left s (seen host'))
       (λ running host number s running' host'. Overflows honest running (seen host) number s (seen host'))
 
-  same-counts : (host : Seen) → Counts host host
-  same-counts host = record { tells = omega arith; disk = omega arith }
-
-  both-counts : (a b c : Seen) → Counts a b → Counts b c → Counts a c
-  both-counts a b c first second = record { tells = omega (arith, first.tells, second.tells); disk = omega (arith, first.disk, second.disk) }
-
-  pub chain-counts : (running : Running) (host : H) (front : List (List ℕ)) (running' : Running) (host' : H) → Chain run_acts running host front running' host' → Counts (seen host) (seen host')
-  chain-counts running host front running' host' begins = same-counts (seen host)
+  pub chain-counts : (running : Running) (host : H) (front : List (List ℕ)) (running' : Running) (host' : H) → Chain run_acts running host front running' host' → Counts (seen host) (seen host') ⊥ ⊥
+  chain-counts running host front running' host' begins = same-counts (seen host) ⊥ ⊥ (λ never. never) (λ never. never)
   chain-counts running host front running' host' (goes_on lines line between running'' middle host'' before step) =
-      both-counts (seen host) (seen middle) (seen host') (chain-counts running host lines between middle before) step.counts
+      both-counts (seen host) (seen middle) (seen host') ⊥ ⊥ (chain-counts running host lines between middle before) (gone-counts (seen middle) (seen host') step.counts)
   chain-counts running host front running' host' (pauses lines between running'' middle host'' before step) =
-      subst (λ (m : H). Counts (seen host) (seen m)) (sym step.2) (chain-counts running host lines between middle before)
+      subst (λ (m : H). Counts (seen host) (seen m) ⊥ ⊥) (sym step.2) (chain-counts running host lines between middle before)
+
+  pub chain-others : (running : Running) (host : H) (front : List (List ℕ)) (running' : Running) (host' : H) → Chain run_acts running host front running' host' → LeavesOthers honest (seen host) (seen host')
+  chain-others running host front running' host' begins = λ h file other. refl
+  chain-others running host front running' host' (goes_on lines line between running'' middle host'' before step) =
+      both-others honest (seen host) (seen middle) (seen host') (chain-others running host lines between middle before) step.others
+  chain-others running host front running' host' (pauses lines between running'' middle host'' before step) =
+      subst (λ (m : H). LeavesOthers honest (seen host) (seen m)) (sym step.2) (chain-others running host lines between middle before)
 
   module _ (h : honest) (set : Settings) (h0 : List Beat) (start : List Event) where
     pub chain-runs : (running : Running) (host : H) → IsRunning (seen host).past running set h0 [] start → (front : List (List ℕ)) (running' : Running) (host' : H) → Chain run_acts running host front running' host'
@@ -220,12 +218,12 @@ module _ {H : Type 0} (honest : Type 0) (seen : H → Seen) where
 
     module _ (s : Status) (host : H) (text : List ℕ) (left : Option (List ℕ)) (source_rose : Type 0) (within : length text ≤ input_limit) where
       -- a step from a middle host ended the run
-      module _ (middle host'' : H) (first : Counts (seen host) (seen middle)) (second : Counts (seen middle) (seen host'')) where
+      module _ (middle host'' : H) (tell disk : Type 0) (first : Counts (seen host) (seen middle) ⊥ ⊥) (second : Counts (seen middle) (seen host'') tell disk) where
         tells-sooner : TellRose (seen middle) (seen host'') → TellRose (seen host) (seen host'')
-        tells-sooner = rose-later (seen host).tell_faults (seen middle).tell_faults (seen host'').tell_faults first.tells second.tells
+        tells-sooner = rose-later (seen host).tell_faults (seen middle).tell_faults (seen host'').tell_faults first.tells.later second.tells.later
 
         disk-sooner : DiskRose (seen middle) (seen host'') → DiskRose (seen host) (seen host'')
-        disk-sooner = rose-later (seen host).disk_faults (seen middle).disk_faults (seen host'').disk_faults first.disk second.disk
+        disk-sooner = rose-later (seen host).disk_faults (seen middle).disk_faults (seen host'').disk_faults first.disk.later second.disk.later
 
         over-by : (ended : Bool) (t : List ℕ) → StopsIn s set h0 ended t start (seen host'').past ⊥ (TellRose (seen middle) (seen host'')) (DiskRose (seen middle) (seen host''))
             → StopsIn s set h0 ended t start (seen host'').past source_rose (TellRose (seen host) (seen host'')) (DiskRose (seen host) (seen host''))
@@ -270,18 +268,18 @@ module _ {H : Type 0} (honest : Type 0) (seen : H → Seen) where
             → Over s text left (seen host'').past source_rose (TellRose (seen host) (seen host'')) (DiskRose (seen host) (seen host''))
         run-over running'' host'' (at_line front line next more running' middle whole short_front short chain step) =
             let going = chain-runs running host first front running' middle chain in
-            over-onward middle host'' (chain-counts running host front running' middle chain) step.counts
+            over-onward middle host'' _ _ (chain-counts running host front running' middle chain) step.counts
             (λ ended behind. let on = line-onward text front line next more whole behind in step.run h set h0 front start going refl ended (text ++ behind) on.next on.more on.whole)
         run-over running'' host'' (at_pause running' middle took step) = absurd (not-ok s (Err s) refl step.0)
         run-over running'' host'' (at_long_line front long more running' middle whole short over chain step) =
             let going = chain-runs running host first front running' middle chain in
-            over-onward middle host'' (chain-counts running host front running' middle chain) step.counts
+            over-onward middle host'' _ _ (chain-counts running host front running' middle chain) step.counts
             (λ ended behind.
             let on = IsLongAfter-append text behind front (record { long = long; more = more; whole = whole; short = short; too_long = over }) in
             step.run h set h0 front start going refl ended (text ++ behind) on.long on.more on.whole on.too_long)
         run-over running'' host'' (at_end running' middle below nothing took step) =
             let going = chain-runs running host first (lines text) running' middle took.chain in
-            let stop = over-by middle host'' (chain-counts running host (lines text) running' middle took.chain) step.counts true text (step.run h set h0 text start going refl refl) in
+            let stop = over-by middle host'' _ _ (chain-counts running host (lines text) running' middle took.chain) step.counts true text (step.run h set h0 text start going refl refl) in
             record {
               ended = true;
               at_end = λ _. (below, nothing);
@@ -292,7 +290,7 @@ module _ {H : Type 0} (honest : Type 0) (seen : H → Seen) where
                   told-as s (ending_status (run_reading h0 true text).ending) (run_status h0 (text ++ more)) (status-ended h0 input_limit text below ∙ same)
                   (status-told s true (run_reading h0 true text).ending text source_rose (TellRose (seen host) (seen host'')) (DiskRose (seen host) (seen host'')) none_read none_told none_disk stop.cause);
             }
-        run-over running'' host'' (at_fault is rose took) =
+        run-over running'' host'' (at_fault is rose below took last) =
             over-open running'' host'' (chain-runs running host first (lines text) running'' host'' took.chain) took.short
             (λ ending goes. subst (λ (a : Status). HasRunCause a false ending text source_rose (TellRose (seen host) (seen host'')) (DiskRose (seen host) (seen host''))) (sym is) (refl, goes, rose))
             (λ more there none. absurd (none rose))
@@ -316,41 +314,29 @@ module _ {H : Type 0} (honest : Type 0) (seen : H → Seen) where
             }
 
   -- ---- whatever history it is of
-  pub run-counts : (s : Status) (running : Running) (host : H) (text : List ℕ) (running'' : Running) (host'' : H) (left : Option (List ℕ)) (source_rose : Type 0) → Ended run_acts s running host text running'' host'' left source_rose
-      → Counts (seen host) (seen host'')
-  run-counts s running host text running'' host'' left source_rose (at_line front line next more running' middle whole short_front short chain step) =
-      both-counts (seen host) (seen middle) (seen host'') (chain-counts running host front running' middle chain) step.counts
-  run-counts s running host text running'' host'' left source_rose (at_pause running' middle took step) = absurd (not-ok s (Err s) refl step.0)
-  run-counts s running host text running'' host'' left source_rose (at_long_line front long more running' middle whole short over chain step) =
-      both-counts (seen host) (seen middle) (seen host'') (chain-counts running host front running' middle chain) step.counts
-  run-counts s running host text running'' host'' left source_rose (at_end running' middle below nothing took step) =
-      both-counts (seen host) (seen middle) (seen host'') (chain-counts running host (lines text) running' middle took.chain) step.counts
-  run-counts s running host text running'' host'' left source_rose (at_fault is rose took) = chain-counts running host (lines text) running'' host'' took.chain
-  run-counts s running host text running'' host'' left source_rose (at_limit is full took) = chain-counts running host (lines text) running'' host'' took.chain
-  run-counts s running host text running'' host'' left source_rose (at_want front is took) = chain-counts running host front running'' host'' took.chain
+  module _ (s : Status) (running : Running) (host : H) (text : List ℕ) (source_rose : Type 0) where
+    abbrev EndsSo : H → Type 0
+    EndsSo host'' = EndsFor honest s text source_rose (seen host) (seen host'')
 
-  sooner-for : (s : Status) (taken : List ℕ) (source_rose : Type 0) (host middle host'' : H) → Counts (seen host) (seen middle) → Counts (seen middle) (seen host'') → IsCausedBy s (TellRose (seen middle) (seen host'')) (DiskRose (seen middle) (seen host''))
-      → EndsFor s taken source_rose (TellRose (seen host) (seen host'')) (DiskRose (seen host) (seen host''))
-  sooner-for s taken source_rose host middle host'' first second caused =
-      let own = caused-for s taken source_rose (TellRose (seen middle) (seen host'')) (DiskRose (seen middle) (seen host'')) caused in
-      record {
-        read = own.read;
-        tell = λ is. rose-later (seen host).tell_faults (seen middle).tell_faults (seen host'').tell_faults first.tells second.tells (own.tell is);
-        disk = λ is. rose-later (seen host).disk_faults (seen middle).disk_faults (seen host'').disk_faults first.disk second.disk (own.disk is);
-        limit = own.limit;
-        ends = own.ends;
-      }
+    -- a step behind these lines ended it
+    step-for : (front : List (List ℕ)) (running' : Running) (middle host'' : H) → Chain run_acts running host front running' middle → IsTakers s
+        → Counts (seen middle) (seen host'') (s ≡ status.TellFault) (s ≡ status.DiskFault) → LeavesOthers honest (seen middle) (seen host'') → EndsSo host''
+    step-for front running' middle host'' chain takers counts others =
+        takers-for honest s text source_rose (seen host) (seen host'')
+        (both-others honest (seen host) (seen middle) (seen host'') (chain-others running host front running' middle chain) others) takers
+        (both-counts (seen host) (seen middle) (seen host'') (s ≡ status.TellFault) (s ≡ status.DiskFault) (chain-counts running host front running' middle chain) counts)
 
-  pub run-for : (s : Status) (running : Running) (host : H) (text : List ℕ) (running'' : Running) (host'' : H) (left : Option (List ℕ)) (source_rose : Type 0) → Ended run_acts s running host text running'' host'' left source_rose
-      → EndsFor s text source_rose (TellRose (seen host) (seen host'')) (DiskRose (seen host) (seen host''))
-  run-for s running host text running'' host'' left source_rose (at_line front line next more running' middle whole short_front short chain step) =
-      sooner-for s text source_rose host middle host'' (chain-counts running host front running' middle chain) step.counts step.cause
-  run-for s running host text running'' host'' left source_rose (at_pause running' middle took step) = absurd (not-ok s (Err s) refl step.0)
-  run-for s running host text running'' host'' left source_rose (at_long_line front long more running' middle whole short over chain step) =
-      sooner-for s text source_rose host middle host'' (chain-counts running host front running' middle chain) step.counts step.cause
-  run-for s running host text running'' host'' left source_rose (at_end running' middle below nothing took step) =
-      sooner-for s text source_rose host middle host'' (chain-counts running host (lines text) running' middle took.chain) step.counts step.cause
-  run-for s running host text running'' host'' left source_rose (at_fault is rose took) = read-for s text source_rose (TellRose (seen host) (seen host'')) (DiskRose (seen host) (seen host'')) is rose
-  run-for s running host text running'' host'' left source_rose (at_limit is full took) = limit-for s text source_rose (TellRose (seen host) (seen host'')) (DiskRose (seen host) (seen host'')) is full
-  run-for s running host text running'' host'' left source_rose (at_want front is took) =
-      caused-for s text source_rose (TellRose (seen host) (seen host'')) (DiskRose (seen host) (seen host'')) (subst (λ (a : Status). IsCausedBy a (TellRose (seen host) (seen host'')) (DiskRose (seen host) (seen host''))) (sym is) tt)
+    pub run-for : (running'' : Running) (host'' : H) (left : Option (List ℕ)) → Ended run_acts s running host text running'' host'' left source_rose → EndsSo host''
+    run-for running'' host'' left (at_line front line next more running' middle whole short_front short chain step) =
+        step-for front running' middle host'' chain step.statuses (status-counts (seen middle) (seen host'') s step.counts) step.others
+    run-for running'' host'' left (at_pause running' middle took step) = absurd (not-ok s (Err s) refl step.0)
+    run-for running'' host'' left (at_long_line front long more running' middle whole short over chain step) =
+        step-for front running' middle host'' chain step.statuses step.counts step.others
+    run-for running'' host'' left (at_end running' middle below nothing took step) =
+        step-for (lines text) running' middle host'' took.chain step.statuses step.counts step.others
+    run-for running'' host'' left (at_fault is rose below took last) =
+        read-for honest s text source_rose (seen host) (seen host'') (chain-others running host (lines text) running'' host'' took.chain) (chain-counts running host (lines text) running'' host'' took.chain) is rose below
+    run-for running'' host'' left (at_limit is full took) =
+        limit-for honest s text source_rose (seen host) (seen host'') (chain-others running host (lines text) running'' host'' took.chain) (chain-counts running host (lines text) running'' host'' took.chain) is full
+    run-for running'' host'' left (at_want front is took) =
+        want-for honest s text source_rose (seen host) (seen host'') (chain-others running host front running'' host'' took.chain) (chain-counts running host front running'' host'' took.chain) is

@@ -1,12 +1,13 @@
 -- What each step of a run does.
-use Rattle.std.proofs.Common.{◌≡◌, inl, inr, ℕ, ◌+◌, ◌≤◌, Bool, true, false, List, [], ◌∷◌, ◌++◌, length, Option, Some, None, Result, Ok, Err, IfOk, IfErr, OnOk, refl, sym, ap, subst, ◌∙◌, append_assoc, append-nil, arith, true≢false, if◌then◌else◌}
+use Rattle.std.proofs.Common.{◌≡◌, inl, inr, ℕ, ◌+◌, Bool, true, false, List, [], ◌∷◌, ◌++◌, length, take, Option, Some, None, Result, Ok, Err, IfOk, IfErr, IsErrOf, OnOk, refl, sym, ap, subst, ◌∙◌, append_assoc, append-nil, arith, true≢false, if◌then◌else◌}
 use Rattle.std.specs.Option.{option_map_or}
-use Rattle.host_model.specs.Cause.{Rose}
+use Rattle.host_model.specs.Cause.{HasCause, Rose}
+use Rattle.host_model.specs.declared.file.File.{File}
 use Rattle.host_model.specs.declared.status.Status.{Status}
-use Rattle.host_model.specs.declared.status.Status.TheVariants.{Ok as Done, Refused, Limit, Memory}
+use Rattle.host_model.specs.declared.status.Status.TheVariants.{Ok as Done, Refused, Limit, TellFault, DiskFault, Memory}
 use Rattle.host_model.specs.Disks.{EveryDisk}
 use Rattle.host_model.specs.Moments.{Throughout}
-use Rattle.host_model.specs.Past.{Event, Told, told}
+use Rattle.host_model.specs.Past.{Event, Told, MayAdd, of, told}
 use Rattle.history.specs.declared.fault.BlockFault.{BlockFault}
 use Rattle.history.specs.declared.fault.BlockFault.TheVariants.{Unfinished}
 use Rattle.history.specs.declared.line.Line.{Line}
@@ -32,7 +33,8 @@ use Rattle.agent_core.specs.declared.reply.Reply.{Reply}
 use Rattle.agent_core.specs.declared.reply.Said.{Said}
 use Rattle.agent_core.specs.declared.reply.Said.TheVariants.{Nothing, Stored, Asked, Disabled}
 use Rattle.agent_core.specs.Agent.{AgentState, IsAgentOf}
-use Rattle.agent_core.specs.Calls.{Lines, Seen}
+use Rattle.agent_core.specs.Calls.{Lines}
+use Rattle.host_model.specs.Seen.{Seen}
 use Rattle.agent_core.specs.Faults.{LeavesAll, RefusedBy}
 use Rattle.agent_core.specs.Kept.{StandsForOneOf}
 use Rattle.agent_core.specs.Replies.{reply_text}
@@ -42,33 +44,54 @@ use Rattle.store_core.specs.Store.{counted}
 use Rattle.agent_app.specs.declared.running.Running.{Running}
 use Rattle.agent_app.specs.Convert.{all_told, is_limit}
 use Rattle.agent_app.specs.Reading.{Ending, HasRead, RefusedAt, Reading}
-use Rattle.agent_app.specs.Run.{Extends, history_with_text, is_whole, judged_after, run_output, run_reading, run_rules, stored_at, HasRunCause, IsAckedUpTo}
-use Rattle.agent_app.specs.Running.{is_query, Counts, DiskRose, EndsRun, IsCausedBy, IsCutShort, Overflows, RunsAt, TakesLine, TellRose, TellsRefusal}
+use Rattle.agent_app.specs.Run.{Extends, history_with_text, is_whole, judged_after, run_output, run_reading, run_rules, stored_at, HasRunCause, IsAckedUpTo, LeavesOthers}
+use Rattle.agent_app.specs.Running.{is_query, Counts, DiskRose, EndsRun, IsCutShort, IsTakers, Overflows, RunsAt, TakesLine, TellRose, TellsRefusal}
 use Rattle.agent_app.proofs.AckLemmas.{acked-stored, closed-stored}
+use Rattle.agent_app.proofs.CauseLemmas.{apart, both-counts, cause-as, counts-none, ended-as, ended-counts, ended_so, going-counts, is_outside, refusal-inside, same-counts, stayed, went_on}
 use Rattle.agent_core.proofs.ClosedLemmas.{text-line}
 use Rattle.agent_app.proofs.ExtendsLemmas.{extends-text}
 use Rattle.agent_app.proofs.HasReadLemmas.{read-ended, read-long, read-next, read-over, read-refused, read-unfinished, says-all, says-long, says-over, says-refused}
 use Rattle.agent_app.proofs.RunningLemmas.{line-taken, text-told}
 use Rattle.agent_app.proofs.StopsLemmas.{Behind, cut-stop, line-stop, output-behind, refusal-stop, want-stop, whole-stop}
 
--- ---- what failed
-cut-cause : (status : Status) (honest : Type 0) (text : List ℕ) (old new : List Event) (tell_rose disk_rose : Type 0) → IsCutShort status honest text old new tell_rose → IsCausedBy status tell_rose disk_rose
-cut-cause status honest text old new tell_rose disk_rose (inl (is, rose, torn)) = subst (λ (s : Status). IsCausedBy s tell_rose disk_rose) (sym is) rose
-cut-cause status honest text old new tell_rose disk_rose (inr (is, same)) = subst (λ (s : Status). IsCausedBy s tell_rose disk_rose) (sym is) tt
+-- ---- what telling does
+module _ (status : Status) (honest : Type 0) (text : List ℕ) (old new : List Event) (tell_rose : Type 0) where
+  cut-takers : IsCutShort status honest text old new tell_rose → IsTakers status
+  cut-takers (inl (is, rose, torn)) = subst IsTakers (sym is) tt
+  cut-takers (inr (is, same)) = subst IsTakers (sym is) tt
 
-refusal-caused : (status : Status) (honest : Type 0) (number : ℕ) (why : Refusal) (old new : List Event) (tell_rose disk_rose : Type 0) → TellsRefusal status honest number why old new tell_rose → IsCausedBy status tell_rose disk_rose
-refusal-caused status honest number why old new tell_rose disk_rose (inl (is, done)) = subst (λ (s : Status). IsCausedBy s tell_rose disk_rose) (sym is) (by (is_limit why))
-  where
-    by : (limit : Bool) → IsCausedBy (if limit then Limit number (refusal_number why) else Refused number (refusal_number why)) tell_rose disk_rose
-    by true = tt
-    by false = tt
-refusal-caused status honest number why old new tell_rose disk_rose (inr cut) = cut-cause status honest _ old new tell_rose disk_rose cut
+  -- the disk was not asked
+  cut-stored : IsCutShort status honest text old new tell_rose → status ≡ DiskFault → ⊥
+  cut-stored (inl (is, rose, torn)) e = cc
+  cut-stored (inr (is, same)) e = cc
 
-pub told-counts : (host host' : Seen) → host.tell_faults ≤ host'.tell_faults → host'.disk_faults ≡ host.disk_faults → Counts host host'
-told-counts host host' tells disk = record { tells = tells; disk = omega (arith, disk) }
+  cut-others : IsCutShort status honest text old new tell_rose → honest → (file : File) → of file new ≡ of file old
+  cut-others (inl (is, rose, torn)) h file = by (torn h)
+    where
+      by : MayAdd (λ (n : ℕ). Told (take n text)) old new → of file new ≡ of file old
+      by (inl same) = ap (of file) same
+      by (inr (n, added)) = ap (of file) added
+  cut-others (inr (is, same)) h file = ap (of file) same
 
-same-counts : (host : Seen) → Counts host host
-same-counts host = record { tells = omega arith; disk = omega arith }
+module _ (status : Status) (honest : Type 0) (number : ℕ) (why : Refusal) (old new : List Event) (tell_rose : Type 0) where
+  refusal-takers : TellsRefusal status honest number why old new tell_rose → IsTakers status
+  refusal-takers (inl (is, done)) = subst IsTakers (sym is) (by (is_limit why))
+    where
+      by : (limit : Bool) → IsTakers (if limit then Limit number (refusal_number why) else Refused number (refusal_number why))
+      by true = tt
+      by false = tt
+  refusal-takers (inr cut) = cut-takers status honest _ old new tell_rose cut
+
+  refusal-stored : TellsRefusal status honest number why old new tell_rose → status ≡ DiskFault → ⊥
+  refusal-stored (inl (is, done)) e = apart status DiskFault (ap is_outside is ∙ refusal-inside number why) refl e
+  refusal-stored (inr cut) e = cut-stored status honest _ old new tell_rose cut e
+
+  refusal-others : TellsRefusal status honest number why old new tell_rose → honest → (file : File) → of file new ≡ of file old
+  refusal-others (inl (is, done)) h file = ap (of file) (done h)
+  refusal-others (inr cut) h file = cut-others status honest _ old new tell_rose cut h file
+
+told-counts : (host host' : Seen) (tell disk : Type 0) → HasCause host.tell_faults host'.tell_faults tell → host'.disk_faults ≡ host.disk_faults → (disk → ⊥) → Counts host host' tell disk
+told-counts host host' tell disk cause same never = record { tells = cause; disk = stayed host.disk_faults host'.disk_faults disk same never }
 
 -- ---- how a line is judged
 judged-place : (h0 : List Beat) (read : List Line) (said : Line) → is_query said ≡ false → judged_after h0 read (Ok said) ≡ option_map_or (λ (fault : BlockFault). Err (refusal.Block fault)) (refusal_at every h0 read said) (Ok said)
@@ -100,15 +123,17 @@ fault-is bytes fault told not = told
 module _ (honest : Type 0) (running : Running) (host : Seen) (number : ℕ) (bytes : List ℕ) (short : fits bytes ≡ true) where
   refused-line : (running' : Running) (status : Status) (host' : Seen) (why : Refusal)
       → (honest → (set : Settings) (h0 : List Beat) (start : List Event) (read : List Line) (made : List ℕ) → RunsAt host.past running set h0 start read made → judged_after h0 read (line_of bytes) ≡ Err why)
-      → TellsRefusal status honest number why host.past host'.past (TellRose host host') → Counts host host' → TakesLine honest running host number bytes (Err status) running' host'
-  refused-line running' status host' why judged telling counts = record {
+      → TellsRefusal status honest number why host.past host'.past (TellRose host host') → HasCause host.tell_faults host'.tell_faults (status ≡ TellFault) → host'.disk_faults ≡ host.disk_faults
+      → TakesLine honest running host number bytes (Err status) running' host'
+  refused-line running' status host' why judged telling cause same = record {
     run = λ h set h0 front start going number_is ended text next more whole.
         let judge = judged h set h0 start going.read going.made going.at in
         refusal-stop host.past running set h0 start going.read going.made going.at ended text ⊥ (TellRose host host') (DiskRose host host') status honest number why host'.past h telling
         (read-refused (run_rules h0) front going.read going.made going.has text bytes next more why ended whole short judge ∙ ap (λ (n : ℕ). record { told = going.made; ending = RefusedAt n why }) (sym number_is))
         (ap (history_at every h0) (says-refused (run_rules h0) front going.read going.made going.has text bytes next more why whole short judge));
-    cause = refusal-caused status honest number why host.past host'.past (TellRose host host') (DiskRose host host') telling;
-    counts = counts;
+    statuses = refusal-takers status honest number why host.past host'.past (TellRose host host') telling;
+    counts = ended-counts host host' status (told-counts host host' (status ≡ TellFault) (status ≡ DiskFault) cause same (refusal-stored status honest number why host.past host'.past (TellRose host host') telling));
+    others = λ h file other. refusal-others status honest number why host.past host'.past (TellRose host host') telling h file;
   }
 
   -- there was no memory to read it
@@ -117,21 +142,24 @@ module _ (honest : Type 0) (running : Running) (host : Seen) (number : ℕ) (byt
     run = λ h set h0 front start going number_is ended text next more whole.
         want-stop host.past running set h0 start going.read going.made going.at ended text ⊥ (TellRose host host) (DiskRose host host)
         (extends-text h0 front going.read going.made going.has text bytes (next ∷ more) whole) (output-behind h0 front going.read going.made going.has ended text bytes (next ∷ more) whole);
-    cause = tt;
-    counts = same-counts host;
+    statuses = tt;
+    counts = ended-counts host host Memory (same-counts host (Memory ≡ TellFault) (Memory ≡ DiskFault) (λ e. cc) (λ e. cc));
+    others = λ h file other. refl;
   }
 
   -- it says nothing
-  pub bad-line : (status : Status) (host' : Seen) (fault : LineFault) → line_of bytes ≡ Err fault → TellsRefusal status honest number (refusal.Line fault) host.past host'.past (TellRose host host') → Counts host host'
+  pub bad-line : (status : Status) (host' : Seen) (fault : LineFault) → line_of bytes ≡ Err fault → TellsRefusal status honest number (refusal.Line fault) host.past host'.past (TellRose host host')
+      → HasCause host.tell_faults host'.tell_faults (status ≡ TellFault) → host'.disk_faults ≡ host.disk_faults
       → TakesLine honest running host number bytes (Err status) running host'
-  bad-line status host' fault is telling counts =
-      refused-line running status host' (refusal.Line fault) (λ h set h0 start read made at. ap (judged_after h0 read) is) telling counts
+  bad-line status host' fault is telling cause same =
+      refused-line running status host' (refusal.Line fault) (λ h set h0 start read made at. ap (judged_after h0 read) is) telling cause same
 
   -- it is a question
-  pub asked-line : (status : Status) (host' : Seen) (said : Line) (text : List ℕ) → line_of bytes ≡ Ok said → said ≡ line.Query text → TellsRefusal status honest number refusal.NotBuilt host.past host'.past (TellRose host host') → Counts host host'
+  pub asked-line : (status : Status) (host' : Seen) (said : Line) (text : List ℕ) → line_of bytes ≡ Ok said → said ≡ line.Query text → TellsRefusal status honest number refusal.NotBuilt host.past host'.past (TellRose host host')
+      → HasCause host.tell_faults host'.tell_faults (status ≡ TellFault) → host'.disk_faults ≡ host.disk_faults
       → TakesLine honest running host number bytes (Err status) running host'
-  asked-line status host' said text is query telling counts =
-      refused-line running status host' refusal.NotBuilt (λ h set h0 start read made at. ap (judged_after h0 read) (is ∙ ap (λ (l : Line). Ok l) query)) telling counts
+  asked-line status host' said text is query telling cause same =
+      refused-line running status host' refusal.NotBuilt (λ h set h0 start read made at. ap (judged_after h0 read) (is ∙ ap (λ (l : Line). Ok l) query)) telling cause same
 
   -- ---- a line that says this was handed to the agent
   module _ (said : Line) (is : line_of bytes ≡ Ok said) (answer : is_query said ≡ false) (result : Result Said AgentFault) (middle : Seen) (agent : AgentState) (feed : Feed)
@@ -142,8 +170,18 @@ module _ (honest : Type 0) (running : Running) (host : Seen) (number : ℕ) (byt
     abbrev reason : List Line → Option BlockFault
     reason read = line_refusal running.agent.registry running.agent.copies running.agent.last every read said
 
-    lined-counts : Counts host middle
-    lined-counts = record { tells = omega (arith, lined.tells); disk = lined.cause.later }
+    lined-tell : (tell : Type 0) → (tell → ⊥) → HasCause host.tell_faults middle.tell_faults tell
+    lined-tell tell never = stayed host.tell_faults middle.tell_faults tell lined.tells never
+
+    lined-disk : (disk : Type 0) → (disk → result ≡ Err agent_fault.DiskFault) → (result ≡ Err agent_fault.DiskFault → disk) → HasCause host.disk_faults middle.disk_faults disk
+    lined-disk disk back on = cause-as host.disk_faults middle.disk_faults (result ≡ Err agent_fault.DiskFault) disk back on lined.cause
+
+    -- where the agent did as it was asked nothing failed
+    lined-ok : (reply : Said) → result ≡ Ok reply → Counts host middle ⊥ ⊥
+    lined-ok reply ok = record { tells = lined-tell ⊥ (λ never. never); disk = lined-disk ⊥ (λ never. absurd never) (λ failed. cc) }
+
+    lined-others : LeavesOthers honest host middle
+    lined-others h file other = (lined.only_here h).others file other
 
     module _ (h : honest) (set : Settings) (h0 : List Beat) (start : List Event) (read : List Line) (made : List ℕ) (at : RunsAt host.past running set h0 start read made) where
       reason-is : reason read ≡ refusal_at every h0 read said
@@ -168,7 +206,7 @@ module _ (honest : Type 0) (running : Running) (host : Seen) (number : ℕ) (byt
             (subst (λ (r : Result Said AgentFault). OnOk r (honest → (set : Settings) (h : List Beat) (every : ℕ) (past : List Line) → IsAgentOf host.past running.agent set h → IsFeedOf running.feed every past
             → IsAgentOf middle.past agent set (history_with h every past said))) ok lined.done h set (history_at every h0 read) every read at.agent at.feed)
             (subst (λ (r : Result Said AgentFault). OnOk r (Becomes said running.feed feed)) ok lined.takes every read at.feed)
-            (subst (λ (r : Result Said AgentFault). OnOk r (CountsFor running.feed running.agent.registry → CountsFor feed agent.registry)) ok lined.counts_on at.counts) moments (lined.output h)
+            (subst (λ (r : Result Said AgentFault). OnOk r (CountsFor running.feed running.agent.registry → CountsFor feed agent.registry)) ok lined.counts_on at.counts) moments (lined.only_here h).output
 
         reply-is : reply ≡ said_of agent.count said
         reply-is = subst (λ (r : Result Said AgentFault). IfOk r (λ (s : Said). s ≡ said_of agent.count said)) ok lined.said
@@ -188,19 +226,20 @@ module _ (honest : Type 0) (running : Running) (host : Seen) (number : ℕ) (byt
                 extends-text h0 (front ++ bytes ∷ []) (said ∷ read) (made ++ stored_at h0 read said) (read-next (run_rules h0) front read made has bytes said short judge ends) text next more with-next
 
     -- the disk failed, or there was no memory
-    pub torn-line : (status : Status) → is_whole status ≡ false → IsCausedBy status (TellRose host middle) (DiskRose host middle)
+    pub torn-line : (status : Status) → is_whole status ≡ false → IsTakers status → (status ≡ TellFault → ⊥) → (status ≡ DiskFault → result ≡ Err agent_fault.DiskFault) → (result ≡ Err agent_fault.DiskFault → status ≡ DiskFault)
         → ((ended : Bool) (ending : Ending Refusal) (text : List ℕ) → HasRunCause status ended ending text ⊥ (TellRose host middle) (DiskRose host middle))
         → TakesLine honest running host number bytes (Err status) now middle
-    torn-line status part caused cause = record {
+    torn-line status part takers untold back on cause = record {
       run = λ h set h0 front start going number_is ended text next more whole.
           let read = going.read in
           let made = going.made in
           line-stop host.past running set h0 start read made going.at ended text ⊥ (TellRose host middle) (DiskRose host middle) status said (reason read) middle.past part
-          (cause ended (run_reading h0 ended text).ending text) (moments h set h0 start read made going.at) (lined.output h)
+          (cause ended (run_reading h0 ended text).ending text) (moments h set h0 start read made going.at) (lined.only_here h).output
           (extends-text h0 front read made going.has text bytes (next ∷ more) whole) (reaches h set h0 start read made going.at front going.has text next more whole)
           (output-behind h0 front read made going.has ended text bytes (next ∷ more) whole);
-      cause = caused;
-      counts = lined-counts;
+      statuses = takers;
+      counts = ended-counts host middle status (record { tells = lined-tell (status ≡ TellFault) untold; disk = lined-disk (status ≡ DiskFault) back on });
+      others = lined-others;
     }
 
     -- it was taken, and nothing is told of it
@@ -216,8 +255,9 @@ module _ (honest : Type 0) (running : Running) (host : Seen) (number : ℕ) (byt
             has = read-next (run_rules h0) front read made going.has bytes said short (judged h set h0 start read made going.at reply ok) silent.0;
             at = subst (λ (t : List ℕ). RunsAt middle.past now set h0 start (said ∷ read) t) (sym (ap (λ (l : List ℕ). made ++ l) silent.1 ∙ append-nil made)) (taken h set h0 start read made going.at reply ok);
           };
-      cause = tt;
-      counts = lined-counts;
+      statuses = tt;
+      counts = going-counts host middle (lined-ok reply ok);
+      others = lined-others;
     }
 
     -- it ends the text
@@ -232,20 +272,22 @@ module _ (honest : Type 0) (running : Running) (host : Seen) (number : ℕ) (byt
           (ap all_told reads ∙ append-nil (made ++ []) ∙ append-nil made)
           (ap (history_at every h0) (says-over (run_rules h0) front read made going.has text bytes next more said whole short judge ends) ∙ sym (disable-same h0 read said ends))
           (ap (λ (r : Reading Refusal). r.ending) reads);
-      cause = tt;
-      counts = lined-counts;
+      statuses = tt;
+      counts = ended-counts host middle Done (counts-none host middle (Done ≡ TellFault) (Done ≡ DiskFault) (λ e. cc) (λ e. cc) (lined-ok reply ok));
+      others = lined-others;
     }
 
     -- it is refused
     pub block-line : (fault : BlockFault) → result ≡ Err (agent_fault.Refused fault) → (status : Status) (host' : Seen)
-        → TellsRefusal status honest number (refusal.Block fault) middle.past host'.past (Rose middle.tell_faults host'.tell_faults) → Counts middle host' → TakesLine honest running host number bytes (Err status) now host'
-    block-line fault err status host' telling counts =
+        → TellsRefusal status honest number (refusal.Block fault) middle.past host'.past (Rose middle.tell_faults host'.tell_faults)
+        → HasCause middle.tell_faults host'.tell_faults (status ≡ TellFault) → host'.disk_faults ≡ middle.disk_faults → TakesLine honest running host number bytes (Err status) now host'
+    block-line fault err status host' telling cause stays =
         let same : middle ≡ host = (subst (λ (r : Result Said AgentFault). IfErr r (λ (f : AgentFault). LeavesAll f → (agent ≡ running.agent) × (middle ≡ host))) err lined.unchanged tt).1 in
         refused-line now status host' (refusal.Block fault)
         (λ h set h0 start read made at. judged-refused h0 read bytes said is fault answer
         (sym (reason-is h set h0 start read made at) ∙ subst (λ (r : Result Said AgentFault). RefusedBy (reason read) r) err (refused-by h set h0 start read made at)))
         (subst (λ (s : Seen). TellsRefusal status honest number (refusal.Block fault) s.past host'.past (Rose s.tell_faults host'.tell_faults)) same telling)
-        (subst (λ (s : Seen). Counts s host') same counts)
+        (subst (λ (s : Seen). HasCause s.tell_faults host'.tell_faults (status ≡ TellFault)) same cause) (stays ∙ ap (λ (s : Seen). s.disk_faults) same)
 
     -- its beat is stored, and that is told
     module _ (moment : ℕ) (said-is : said ≡ line.Moment moment) (reply : Reply) (ok : result ≡ Ok (Stored reply)) (reply-count : reply ≡ record { count = agent.count }) where
@@ -272,7 +314,7 @@ module _ (honest : Type 0) (running : Running) (host : Seen) (number : ℕ) (byt
       next-closed : rest next ≡ []
       next-closed = ap (λ (r : Reply). rest (reply_text r)) reply-count ∙ closed-stored agent.count
 
-      stored-ok : (host' : Seen) → (honest → host'.past ≡ Told next ∷ middle.past) → Counts middle host' → TakesLine honest running host number bytes (Ok tt) now host'
+      stored-ok : (host' : Seen) → (honest → host'.past ≡ Told next ∷ middle.past) → Counts middle host' (went_on ≡ ended_so TellFault) (went_on ≡ ended_so DiskFault) → TakesLine honest running host number bytes (Ok tt) now host'
       stored-ok host' telling counts = record {
         run = λ h set h0 front start going number_is.
             let read = going.read in
@@ -285,11 +327,13 @@ module _ (honest : Type 0) (running : Running) (host : Seen) (number : ℕ) (byt
               at = subst (λ (t : List ℕ). RunsAt host'.past now set h0 start (said ∷ read) (made ++ t)) (text-is h0 read at.agent.count)
                   (text-told middle.past now set h0 start (said ∷ read) made at next (next-acked h0 read at.agent.count) host'.past (telling h) next-closed);
             };
-        cause = tt;
-        counts = record { tells = omega (arith, lined.tells, counts.tells); disk = omega (arith, lined.cause.later, counts.disk) };
+        statuses = tt;
+        counts = both-counts host middle host' (went_on ≡ ended_so TellFault) (went_on ≡ ended_so DiskFault) (lined-ok (Stored reply) ok) counts;
+        others = λ h file other. ap (of file) (telling h) ∙ lined-others h file other;
       }
 
-      stored-err : (status : Status) (host' : Seen) → IsCutShort status honest next middle.past host'.past (Rose middle.tell_faults host'.tell_faults) → Counts middle host' → TakesLine honest running host number bytes (Err status) now host'
+      stored-err : (status : Status) (host' : Seen) → IsCutShort status honest next middle.past host'.past (Rose middle.tell_faults host'.tell_faults)
+          → Counts middle host' (ended_so status ≡ ended_so TellFault) (ended_so status ≡ ended_so DiskFault) → TakesLine honest running host number bytes (Err status) now host'
       stored-err status host' cut counts =
           let cut' : IsCutShort status honest next middle.past host'.past (TellRose host host') = subst (λ (n : ℕ). IsCutShort status honest next middle.past host'.past (Rose n host'.tell_faults)) lined.tells cut in
           record {
@@ -303,14 +347,20 @@ module _ (honest : Type 0) (running : Running) (host : Seen) (number : ℕ) (byt
                 cut-stop middle.past now set h0 start (said ∷ read) made at ended text ⊥ (TellRose host host') (DiskRose host host') status honest next host'.past h cut' (next-acked h0 read at.agent.count)
                 (extends-text h0 (front ++ bytes ∷ []) (said ∷ read) (made ++ stored_at h0 read said) has text after_next more whole')
                 (subst (λ (t : List ℕ). Behind (made ++ t) (run_output h0 ended text)) (sym (text-is h0 read at.agent.count)) behind);
-            cause = cut-cause status honest next middle.past host'.past (TellRose host host') (DiskRose host host') cut';
-            counts = record { tells = omega (arith, lined.tells, counts.tells); disk = omega (arith, lined.cause.later, counts.disk) };
+            statuses = cut-takers status honest next middle.past host'.past (TellRose host host') cut';
+            counts = both-counts host middle host' (ended_so status ≡ ended_so TellFault) (ended_so status ≡ ended_so DiskFault) (lined-ok (Stored reply) ok) counts;
+            others = λ h file other. cut-others status honest next middle.past host'.past (TellRose host host') cut' h file ∙ lined-others h file other;
           }
 
       pub stored-line : (answered : Result (Unit {0}) Status) (host' : Seen) → OnOk answered (honest → host'.past ≡ Told next ∷ middle.past)
-          → IfErr answered (λ (status : Status). IsCutShort status honest next middle.past host'.past (Rose middle.tell_faults host'.tell_faults)) → Counts middle host' → TakesLine honest running host number bytes answered now host'
-      stored-line (Ok tt) host' done torn counts = stored-ok host' done counts
-      stored-line (Err status) host' done torn counts = stored-err status host' torn counts
+          → IfErr answered (λ (status : Status). IsCutShort status honest next middle.past host'.past (Rose middle.tell_faults host'.tell_faults))
+          → HasCause middle.tell_faults host'.tell_faults (IsErrOf answered TellFault) → host'.disk_faults ≡ middle.disk_faults → TakesLine honest running host number bytes answered now host'
+      stored-line (Ok tt) host' done torn cause same =
+          stored-ok host' done (told-counts middle host' (went_on ≡ ended_so TellFault) (went_on ≡ ended_so DiskFault) cause same (λ e. cc))
+      stored-line (Err status) host' done torn cause same =
+          stored-err status host' torn
+          (told-counts middle host' (ended_so status ≡ ended_so TellFault) (ended_so status ≡ ended_so DiskFault) cause same
+          (λ e. cut-stored status honest next middle.past host'.past (Rose middle.tell_faults host'.tell_faults) torn (ended-as status DiskFault e)))
 
 -- ---- what the agent said of a line
 pub nothing-said : (count : ℕ) (said : Line) → Nothing ≡ said_of count said → (h0 : List Beat) (read : List Line) → (is_disable said ≡ false) × (stored_at h0 read said ≡ [])
@@ -323,21 +373,6 @@ nothing-said count line.Disable same h0 read = absurd (apart same)
     apart : Nothing ≡ Disabled → ⊥
     apart e = cc
 nothing-said count said same h0 read = (refl, refl)
-
-pub asked-said : (count : ℕ) (said : Line) (text : List ℕ) → Asked text ≡ said_of count said → is_query said ≡ true
-asked-said count (line.Query more) text same = refl
-asked-said count (line.Moment moment) text same = absurd (apart same)
-  where
-    apart : Asked text ≡ Stored (record { count = count }) → ⊥
-    apart e = cc
-asked-said count line.Disable text same = absurd (apart same)
-  where
-    apart : Asked text ≡ Disabled → ⊥
-    apart e = cc
-asked-said count said text same = absurd (apart same)
-  where
-    apart : Asked text ≡ Nothing → ⊥
-    apart e = cc
 
 pub disabled-said : (count : ℕ) (said : Line) → Disabled ≡ said_of count said → is_disable said ≡ true
 disabled-said count line.Disable same = refl
@@ -380,15 +415,16 @@ stored-said count said reply same = absurd (apart same)
 
 -- ---- the end of the text
 module _ (honest : Type 0) (running : Running) (host : Seen) where
-  pub long-line : (number : ℕ) (status : Status) (host' : Seen) → TellsRefusal status honest number (refusal.Line line_fault.LineTooLong) host.past host'.past (TellRose host host') → Counts host host'
-      → Overflows honest running host number status host'
-  long-line number status host' telling counts = record {
+  pub long-line : (number : ℕ) (status : Status) (host' : Seen) → TellsRefusal status honest number (refusal.Line line_fault.LineTooLong) host.past host'.past (TellRose host host')
+      → HasCause host.tell_faults host'.tell_faults (status ≡ TellFault) → host'.disk_faults ≡ host.disk_faults → Overflows honest running host number status host'
+  long-line number status host' telling cause same = record {
     run = λ h set h0 front start going number_is ended text long more whole over.
         refusal-stop host.past running set h0 start going.read going.made going.at ended text ⊥ (TellRose host host') (DiskRose host host') status honest number (refusal.Line line_fault.LineTooLong) host'.past h telling
         (read-long (run_rules h0) front going.read going.made going.has text long more ended whole over ∙ ap (λ (n : ℕ). record { told = going.made; ending = RefusedAt n (refusal.Line line_fault.LineTooLong) }) (sym number_is))
         (ap (history_at every h0) (says-long (run_rules h0) front going.read going.made going.has text long more whole over));
-    cause = refusal-caused status honest number (refusal.Line line_fault.LineTooLong) host.past host'.past (TellRose host host') (DiskRose host host') telling;
-    counts = counts;
+    statuses = refusal-takers status honest number (refusal.Line line_fault.LineTooLong) host.past host'.past (TellRose host host') telling;
+    counts = told-counts host host' (status ≡ TellFault) (status ≡ DiskFault) cause same (refusal-stored status honest number (refusal.Line line_fault.LineTooLong) host.past host'.past (TellRose host host') telling);
+    others = λ h file other. refusal-others status honest number (refusal.Line line_fault.LineTooLong) host.past host'.past (TellRose host host') telling h file;
   }
 
   module _ (count : ℕ) (left : List ℕ) (short : fits left ≡ true) where
@@ -401,13 +437,15 @@ module _ (honest : Type 0) (running : Running) (host : Seen) where
           whole-stop host.past running set h0 start going.read going.made going.at true text ⊥ (TellRose host host) (DiskRose host host) Done
           (ap all_told reads ∙ append-nil (going.made ++ []) ∙ append-nil going.made) (ap (history_at every h0) (says-all (run_rules h0) (lines text) going.read going.made going.has text refl))
           (ap (λ (r : Reading Refusal). r.ending) reads);
-      cause = tt;
-      counts = same-counts host;
+      statuses = tt;
+      counts = same-counts host (Done ≡ TellFault) (Done ≡ DiskFault) (λ e. cc) (λ e. cc);
+      others = λ h file other. refl;
     }
 
     pub end-refused : (fault : BlockFault) → ((every : ℕ) (past : List Line) → IsFeedOf running.feed every past → (is_unfinished every past left ≡ true) × (fault ≡ Unfinished)) → (status : Status) (host' : Seen)
-        → TellsRefusal status honest count (refusal.Block fault) host.past host'.past (TellRose host host') → Counts host host' → EndsRun honest running host count left status host'
-    end-refused fault unfinished status host' telling counts = record {
+        → TellsRefusal status honest count (refusal.Block fault) host.past host'.past (TellRose host host') → HasCause host.tell_faults host'.tell_faults (status ≡ TellFault) → host'.disk_faults ≡ host.disk_faults
+        → EndsRun honest running host count left status host'
+    end-refused fault unfinished status host' telling cause same = record {
       run = λ h set h0 text start going count_is left_is.
           let fit : fits (rest text) ≡ true = subst (λ (t : List ℕ). fits t ≡ true) left_is short in
           let why = unfinished every going.read going.at.feed in
@@ -416,6 +454,7 @@ module _ (honest : Type 0) (running : Running) (host : Seen) where
           (read-unfinished (run_rules h0) (lines text) going.read going.made going.has text refl fit open_end
           ∙ (λ i. record { told = going.made; ending = RefusedAt (sym count_is i) (refusal.Block (sym why.1 i)) }))
           (ap (history_at every h0) (says-all (run_rules h0) (lines text) going.read going.made going.has text refl));
-      cause = refusal-caused status honest count (refusal.Block fault) host.past host'.past (TellRose host host') (DiskRose host host') telling;
-      counts = counts;
+      statuses = refusal-takers status honest count (refusal.Block fault) host.past host'.past (TellRose host host') telling;
+      counts = told-counts host host' (status ≡ TellFault) (status ≡ DiskFault) cause same (refusal-stored status honest count (refusal.Block fault) host.past host'.past (TellRose host host') telling);
+      others = λ h file other. refusal-others status honest count (refusal.Block fault) host.past host'.past (TellRose host host') telling h file;
     }

@@ -1,6 +1,6 @@
 use Rattle.std.specs.Prelude.{◌≡◌, ℕ, ◌<◌, ◌≤◌, Bool, true, false, nat_lt, List, [], ◌++◌, length, take, ◌⊎◌, Option, IfSome, codes, if◌then◌else◌}
 use Rattle.std.specs.Fmt.{decimal}
-use Rattle.host_model.specs.Cause.{Rose}
+use Rattle.host_model.specs.Cause.{HasCause, Rose}
 use Rattle.host_model.specs.declared.file.File.{File}
 use Rattle.host_model.specs.Moments.{Throughout}
 use Rattle.host_model.specs.Past.{Event, of, told}
@@ -17,7 +17,7 @@ use Rattle.point_lines.specs.declared.refusal.Refusal.TheVariants as refusal
 use Rattle.point_lines.specs.Judged.{every, judge, refusal_number}
 use Rattle.point_lines.specs.Told.{told_at, told_at_end}
 use Rattle.line_stream.specs.Run.{input_limit}
-use Rattle.agent_core.specs.Calls.{Seen}
+use Rattle.host_model.specs.Seen.{Seen}
 use Rattle.agent_app.specs.Reading.{Rules, Reading, Ending, GoesOn, Ends, RefusedAt, reading_of}
 
 -- the rules of a text whose points are told
@@ -115,9 +115,11 @@ pub record Converts (status : Status) (honest : Type 0) (left left' : Option (Li
   -- where nothing is told of the bytes that were taken, the host was not asked
   pub silent : output_of ended taken ≡ [] → IsUnasked past past' tell_faults tell_faults'
   pub cause : HasStatusCause status ended (converted ended taken).ending taken (Rose source_faults source_faults') (Rose tell_faults tell_faults')
-  -- no count of failures fell
-  pub source_count : source_faults ≤ source_faults'
-  pub tell_count : tell_faults ≤ tell_faults'
+  -- behind as many bytes as may be taken, no failure of the source ends the run
+  pub read : status ≡ ReadFault → length taken < input_limit
+  -- each part of the outside counts a failure exactly where that is why the run ended
+  pub read_cause : HasCause source_faults source_faults' (status ≡ ReadFault)
+  pub tell_cause : HasCause tell_faults tell_faults' (status ≡ TellFault)
 
 abbrev pub ending_status : Ending Refusal → Status
 ending_status GoesOn = InputLimit

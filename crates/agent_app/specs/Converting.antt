@@ -1,10 +1,10 @@
 -- How a text whose points are told goes from line to line.
 use Rattle.std.specs.Prelude.{◌≡◌, ℕ, ◌+◌, ◌<◌, ◌≤◌, Bool, true, false, List, [], ◌∷◌, ◌++◌, length, ◌⊎◌, Option, Some, IfSome, string_bytes, Result, MatchResult}
-use Rattle.host_model.specs.Cause.{Rose}
+use Rattle.host_model.specs.Cause.{HasCause, Rose}
 use Rattle.host_model.specs.Past.{Event, told}
 use Rattle.host_model.specs.Source.{Takes as TakesBytes}
 use Rattle.host_model.specs.declared.status.Status.{Status}
-use Rattle.host_model.specs.declared.status.Status.TheVariants.{TellFault, Memory}
+use Rattle.host_model.specs.declared.status.Status.TheVariants.{ReadFault, TellFault, Memory}
 use Rattle.history.specs.declared.line.Line.{Line}
 use Rattle.plugin_text.specs.Lines.{fits}
 use Rattle.point_lines.specs.declared.refusal.Refusal.{Refusal}
@@ -32,7 +32,7 @@ pub record HasTold (honest : Type 0) (sent : List ℕ) (past past' : List Event)
   pub tells : honest → told past' ≡ told past ++ sent
   -- where that is nothing, the host was not asked
   pub silent : sent ≡ [] → IsUnasked past past' tell_faults tell_faults'
-  pub count : tell_faults ≤ tell_faults'
+  pub count : tell_faults' ≡ tell_faults
 
 -- these lines were taken, and what they tell was told, but for what waits
 pub record HasConverted (converting : Converting) (honest : Type 0) (front : List (List ℕ)) (past past' : List Event) (tell_faults tell_faults' : ℕ) : Type 0 where
@@ -58,7 +58,7 @@ pub record Leaves (status : Status) (honest : Type 0) (waiting output : List ℕ
   -- where nothing is to be told, the host was not asked, and nothing waits
   pub silent : output ≡ [] → IsUnasked past past' tell_faults tell_faults'
   pub waits : output ≡ [] → tells_all status ≡ true → waiting ≡ []
-  pub count : tell_faults ≤ tell_faults'
+  pub count : HasCause tell_faults tell_faults' (status ≡ TellFault)
 
 -- an ending behind which nothing is read
 abbrev pub IsFinal : Ending Refusal → Type 0
@@ -117,6 +117,8 @@ pub record HasRun (status : Status) (honest : Type 0) (waiting : List ℕ) (left
   pub takes : TakesBytes left taken left'
   pub within : length taken ≤ input_limit
   pub at_end : ended ≡ true → (length taken < input_limit) × IfSome left' (λ bytes. bytes ≡ [])
+  -- the source failed before as many bytes were taken as may be, and where nothing waits
+  pub read : status ≡ ReadFault → (length taken < input_limit) × (waiting ≡ [])
   pub leaves : Leaves status honest waiting (output_of ended taken) past past' tell_faults tell_faults'
   pub cause : HasStatusCause status ended (converted ended taken).ending taken (Rose source_faults source_faults') (Rose tell_faults tell_faults')
   -- the status is that of the whole text, where nothing failed
@@ -127,5 +129,6 @@ pub record TellsLast (result status : Status) (honest : Type 0) (waiting : List 
   pub tells : tells_all status ≡ true → honest → TellsOutput result waiting past past'
   pub failed : tells_all status ≡ false → (result ≡ status) × IsUnasked past past' tell_faults tell_faults'
   pub cause : (result ≡ status) ⊎ ((result ≡ TellFault) × Rose tell_faults tell_faults')
-  pub silent : waiting ≡ [] → IsUnasked past past' tell_faults tell_faults'
-  pub count : tell_faults ≤ tell_faults'
+  -- where nothing waits nothing is done
+  pub silent : waiting ≡ [] → (result ≡ status) × IsUnasked past past' tell_faults tell_faults'
+  pub count : tells_all status ≡ true → HasCause tell_faults tell_faults' (result ≡ TellFault)

@@ -4,11 +4,11 @@ use Rattle.host_model.specs.declared.status.Status.{Status}
 use Rattle.host_model.specs.declared.status.Status.TheVariants.{Ok as Done, DiskFault, Exists, Memory}
 use Rattle.host_model.specs.Cause.{HasCause}
 use Rattle.host_model.specs.Disks.{EveryDisk, reads_as}
-use Rattle.host_model.specs.Moments.{Throughout}
-use Rattle.host_model.specs.Past.{told}
+use Rattle.host_model.specs.declared.file.File.TheVariants.{JournalA}
+use Rattle.host_model.specs.Moments.{Throughout, OnlyOn}
 use Rattle.entry_codec.specs.declared.entry.Settings.{Settings}
 use Rattle.store_core.specs.Stands.{is_made}
-use Rattle.agent_core.specs.Calls.{Seen}
+use Rattle.host_model.specs.Seen.{Seen}
 use Rattle.agent_core.specs.Kept.{StandsForHistory, StandsForNew}
 
 abbrev pub IsNewStatus : Status → Type 0
@@ -25,7 +25,8 @@ pub record Makes (honest : Type 0) (set : Settings) (status : Status) (host host
   pub exists : status ≡ Exists → honest → is_made (reads_as host.past) ≡ true
   pub made : honest → is_made (reads_as host.past) ≡ true → ((status ≡ Exists) ⊎ (status ≡ DiskFault)) × (host'.past ≡ host.past)
   pub statuses : IsNewStatus status
-  -- the disk fails only where the host counted a failure, and nothing is told
+  -- the disk counts a failure exactly where that is why it ended
   pub disk_cause : HasCause host.disk_faults host'.disk_faults (status ≡ DiskFault)
-  pub output : honest → told host'.past ≡ told host.past
+  -- nothing happens to a file but the journal, and nothing is told
+  pub only_here : honest → OnlyOn JournalA host.past host'.past
   pub tells : host'.tell_faults ≡ host.tell_faults

@@ -2,12 +2,13 @@
 use Rattle.std.specs.Prelude.{◌≡◌, ℕ, ◌+◌, ◌^◌, ◌<◌, ◌≤◌, Bool, true, false, nat_lt, List, [], ◌∷◌, ◌++◌, length, drop, take, All, ◌⊎◌, Option, IfSome, Result, Ok, Err, codes, decimal}
 use Rattle.std.specs.Option.{option_map_or}
 use Rattle.host_model.specs.declared.file.File.{File}
+use Rattle.host_model.specs.declared.file.File.TheVariants.{JournalA}
 use Rattle.host_model.specs.declared.status.Status.{Status}
 use Rattle.host_model.specs.declared.status.Status.TheVariants.{Ok as Done, Refused, Limit, TellFault, DiskFault, ReadFault, InputLimit, NotADatabase, Damaged, Memory}
 use Rattle.host_model.specs.Cause.{HasCause, Rose}
 use Rattle.host_model.specs.Disks.{EveryDisk, reads_as}
 use Rattle.host_model.specs.Moments.{Throughout, EveryStop}
-use Rattle.host_model.specs.Past.{Event, told, IsDisk}
+use Rattle.host_model.specs.Past.{Event, of, told, IsDisk, IsOther}
 use Rattle.host_model.specs.Source.{Takes}
 use Rattle.history.specs.declared.fault.BlockFault.{BlockFault}
 use Rattle.history.specs.declared.fault.BlockFault.TheVariants.{Unfinished}
@@ -26,7 +27,7 @@ use Rattle.point_lines.specs.Judged.{every}
 use Rattle.entry_codec.specs.declared.entry.Settings.{Settings}
 use Rattle.store_core.specs.Stands.{is_made, IsDamaged}
 use Rattle.store_core.specs.Store.{counted}
-use Rattle.agent_core.specs.Calls.{Seen}
+use Rattle.host_model.specs.Seen.{Seen}
 use Rattle.agent_core.specs.Kept.{StandsForHistory}
 use Rattle.agent_core.specs.Notes.{HasNotes}
 use Rattle.agent_core.specs.Replies.{reply_text}
@@ -136,6 +137,21 @@ pub record Runs (status : Status) (set : Settings) (h0 : List Beat) (left left' 
   pub output : TellsRun status (run_output h0 ended taken) old new
   pub cause : HasRunCause status ended (run_reading h0 ended taken).ending taken source_rose tell_rose disk_rose
 
+-- from some moment on all that a stop might leave of the disk was a database of this history, and the run was one on it
+pub record RunsOn (status : Status) (set : Settings) (h0 : List Beat) (left left' : Option (List ℕ)) (read new : List Event) (source_rose tell_rose disk_rose : Type 0) : Type 0 where
+  pub stands : EveryDisk (StandsForHistory set h0) read
+  pub runs : Runs status set h0 left left' read new source_rose tell_rose disk_rose
+
+-- a run on a database that reads as this history, whatever else a stop might have left of it
+pub record Resumes (status : Status) (set : Settings) (h0 : List Beat) (left left' : Option (List ℕ)) (old new : List Event) (source_rose tell_rose disk_rose : Type 0) : Type 0 where
+  -- what had happened once the database was read
+  pub read : List Event
+  -- until then a stop leaves what it might have left before, and nothing is told
+  pub before : Throughout (EveryDisk (IsDisk old)) old read
+  pub silent : told read ≡ told old
+  -- from then on the run is one on that history, unless the disk or memory failed before
+  pub after : RunsOn status set h0 left left' read new source_rose tell_rose disk_rose ⊎ ((is_whole status ≡ false) × (new ≡ read) × (left' ≡ left))
+
 -- the statuses of a run that found its database and opened it
 abbrev pub ends_a_run : Status → Bool
 ends_a_run Done = true
@@ -172,6 +188,10 @@ pub record LeavesAll (honest : Type 0) (left left' : Option (List ℕ)) (source_
   pub any_moment : honest → Throughout (EveryDisk (IsDisk host.past)) host.past host'.past
   pub same : honest → (file : File) → reads_as host'.past file ≡ reads_as host.past file
 
+-- nothing happens to a file but the journal
+abbrev pub LeavesOthers : (honest : Type 0) → (host host' : Seen) → Type 0
+LeavesOthers honest host host' = honest → (file : File) → IsOther file JournalA → of file host'.past ≡ of file host.past
+
 -- the statuses at which the database was opened for sure
 abbrev pub is_opened : Status → Bool
 is_opened NotADatabase = false
@@ -184,6 +204,9 @@ is_opened status = true
 pub record RunsAll (honest : Type 0) (status : Status) (left left' : Option (List ℕ)) (source_faults source_faults' : ℕ) (host host' : Seen) : Type 0 where
   pub runs : honest → (set : Settings) (h0 : List Beat) → EveryDisk (StandsForHistory set h0) host.past
       → Runs status set h0 left left' host.past host'.past (Rose source_faults source_faults') (Rose host.tell_faults host'.tell_faults) (Rose host.disk_faults host'.disk_faults)
+  -- where the images differ, as after a run that the disk ended, that history counts which the files read as
+  pub resumes : honest → (set : Settings) (h0 : List Beat) → StandsForHistory set h0 (reads_as host.past)
+      → Resumes status set h0 left left' host.past host'.past (Rose source_faults source_faults') (Rose host.tell_faults host'.tell_faults) (Rose host.disk_faults host'.disk_faults)
   -- where no call on the outside fails, the status is that of the text, or there was no memory
   pub complete : honest → (set : Settings) (h0 : List Beat) → EveryDisk (StandsForHistory set h0) host.past
       → IfSome left (λ text. (Rose source_faults source_faults' → ⊥) → (Rose host.tell_faults host'.tell_faults → ⊥) → (Rose host.disk_faults host'.disk_faults → ⊥)
@@ -206,7 +229,9 @@ pub record RunsAll (honest : Type 0) (status : Status) (left left' : Option (Lis
   pub input : TakesInput status left left'
   -- a run that finds no database that can be opened leaves all as it found it
   pub leaves : finds_none status ≡ true → LeavesAll honest left left' source_faults source_faults' host host'
-  -- each part of the outside fails only where it counted a failure
+  -- whatever status it ended with
+  pub others : LeavesOthers honest host host'
+  -- each part of the outside counts a failure exactly where that is why the run ended
   pub read_cause : HasCause source_faults source_faults' (status ≡ ReadFault)
   pub tell_cause : HasCause host.tell_faults host'.tell_faults (status ≡ TellFault)
   pub disk_cause : HasCause host.disk_faults host'.disk_faults (status ≡ DiskFault)

@@ -1,8 +1,8 @@
 -- A run under way: of which front of its text it is, and what its steps promise.
-use Rattle.std.specs.Prelude.{◌≡◌, ℕ, ◌+◌, ◌≤◌, Bool, true, false, List, [], ◌∷◌, ◌++◌, length, take, ◌⊎◌, Result, Ok, MatchResult, IfErr}
+use Rattle.std.specs.Prelude.{◌≡◌, ℕ, ◌+◌, Bool, true, false, List, [], ◌∷◌, ◌++◌, length, take, ◌⊎◌, Result, Ok, MatchResult, IfErr, IsErrOf}
 use Rattle.host_model.specs.declared.status.Status.{Status}
 use Rattle.host_model.specs.declared.status.Status.TheVariants.{Ok as Done, Refused, Limit, TellFault, DiskFault, NotADatabase, Damaged, Memory}
-use Rattle.host_model.specs.Cause.{Rose}
+use Rattle.host_model.specs.Cause.{HasCause, Rose}
 use Rattle.host_model.specs.Disks.{EveryDisk}
 use Rattle.host_model.specs.Moments.{Throughout, EveryStop}
 use Rattle.host_model.specs.Past.{Event, Told, told, MayAdd}
@@ -19,14 +19,14 @@ use Rattle.entry_codec.specs.declared.entry.Settings.{Settings}
 use Rattle.agent_core.specs.declared.fault.AgentFault.{AgentFault}
 use Rattle.agent_core.specs.declared.fault.AgentFault.TheVariants as agent_fault
 use Rattle.agent_core.specs.Agent.{IsAgentOf, AgentIsReady}
-use Rattle.agent_core.specs.Calls.{Seen}
+use Rattle.host_model.specs.Seen.{Seen}
 use Rattle.agent_core.specs.Fed.{IsFed}
 use Rattle.agent_core.specs.Kept.{StandsForHistory}
 use Rattle.agent_core.specs.Rules.{IsWithin}
 use Rattle.agent_app.specs.declared.running.Running.{Running}
 use Rattle.agent_app.specs.Convert.{refusal_line, refusal_status}
 use Rattle.agent_app.specs.Reading.{HasRead}
-use Rattle.agent_app.specs.Run.{history_with_text, is_whole, run_output, run_reading, run_rules, HasRunCause, IsAckedUpTo, Keeps, TellsRun}
+use Rattle.agent_app.specs.Run.{history_with_text, is_whole, run_output, run_reading, run_rules, HasRunCause, IsAckedUpTo, Keeps, LeavesOthers, TellsRun}
 
 -- ---- a run under way
 
@@ -76,15 +76,15 @@ abbrev pub is_query : Line → Bool
 is_query (Query text) = true
 is_query line = false
 
--- the statuses of a run that its taker ends, and what fails at them
-abbrev pub IsCausedBy : Status → (tell_rose disk_rose : Type 0) → Type 0
-IsCausedBy Done tell_rose disk_rose = Unit {0}
-IsCausedBy (Refused line number) tell_rose disk_rose = Unit {0}
-IsCausedBy (Limit line number) tell_rose disk_rose = Unit {0}
-IsCausedBy TellFault tell_rose disk_rose = tell_rose
-IsCausedBy DiskFault tell_rose disk_rose = disk_rose
-IsCausedBy Memory tell_rose disk_rose = Unit {0}
-IsCausedBy status tell_rose disk_rose = ⊥
+-- the statuses of a run that its taker ends
+abbrev pub IsTakers : Status → Type 0
+IsTakers Done = Unit {0}
+IsTakers (Refused line number) = Unit {0}
+IsTakers (Limit line number) = Unit {0}
+IsTakers TellFault = Unit {0}
+IsTakers DiskFault = Unit {0}
+IsTakers Memory = Unit {0}
+IsTakers status = ⊥
 
 abbrev pub TellRose : Seen → Seen → Type 0
 TellRose host host' = Rose host.tell_faults host'.tell_faults
@@ -92,10 +92,10 @@ TellRose host host' = Rose host.tell_faults host'.tell_faults
 abbrev pub DiskRose : Seen → Seen → Type 0
 DiskRose host host' = Rose host.disk_faults host'.disk_faults
 
--- no count of failures fell
-pub record Counts (host host' : Seen) : Type 0 where
-  pub tells : host.tell_faults ≤ host'.tell_faults
-  pub disk : host.disk_faults ≤ host'.disk_faults
+-- the counts of failures of the output and of the disk stay, but where that part failed
+pub record Counts (host host' : Seen) (tell_fault disk_fault : Type 0) : Type 0 where
+  pub tells : HasCause host.tell_faults host'.tell_faults tell_fault
+  pub disk : HasCause host.disk_faults host'.disk_faults disk_fault
 
 -- what each call of the taker requires
 pub record IsFit (honest : Type 0) (running : Running) (host : Seen) : Type 0 where
@@ -107,8 +107,9 @@ pub record TakesLine (honest : Type 0) (running : Running) (host : Seen) (number
   pub run : honest → (set : Settings) (h0 : List Beat) (front : List (List ℕ)) (start : List Event) → IsRunning host.past running set h0 front start → number ≡ length front + 1
       → MatchResult result (λ _. IsRunning host'.past running' set h0 (front ++ bytes ∷ []) start)
       (λ status. (ended : Bool) (text next : List ℕ) (more : List (List ℕ)) → parts text ≡ front ++ bytes ∷ next ∷ more → StopsIn status set h0 ended text start host'.past ⊥ (TellRose host host') (DiskRose host host'))
-  pub cause : IfErr result (λ status. IsCausedBy status (TellRose host host') (DiskRose host host'))
-  pub counts : Counts host host'
+  pub statuses : IfErr result IsTakers
+  pub counts : Counts host host' (IsErrOf result TellFault) (IsErrOf result DiskFault)
+  pub others : LeavesOthers honest host host'
 
 -- nothing is done where the lines of a piece are over
 abbrev pub Pauses : {T H : Type 0} → T → H → Result (Unit {0}) Status → T → H → Type 0
@@ -118,16 +119,18 @@ Pauses running host result running' host' = (result ≡ Ok tt) × (running' ≡ 
 pub record EndsRun (honest : Type 0) (running : Running) (host : Seen) (count : ℕ) (left : List ℕ) (status : Status) (host' : Seen) : Type 0 where
   pub run : honest → (set : Settings) (h0 : List Beat) (text : List ℕ) (start : List Event) → IsRunning host.past running set h0 (lines text) start → count ≡ length (lines text) → left ≡ rest text
       → StopsIn status set h0 true text start host'.past ⊥ (TellRose host host') (DiskRose host host')
-  pub cause : IsCausedBy status (TellRose host host') (DiskRose host host')
-  pub counts : Counts host host'
+  pub statuses : IsTakers status
+  pub counts : Counts host host' (status ≡ TellFault) (status ≡ DiskFault)
+  pub others : LeavesOthers honest host host'
 
 -- a line is too long
 pub record Overflows (honest : Type 0) (running : Running) (host : Seen) (number : ℕ) (status : Status) (host' : Seen) : Type 0 where
   pub run : honest → (set : Settings) (h0 : List Beat) (front : List (List ℕ)) (start : List Event) → IsRunning host.past running set h0 front start → number ≡ length front + 1
       → (ended : Bool) (text long : List ℕ) (more : List (List ℕ)) → parts text ≡ front ++ long ∷ more → fits long ≡ false
       → StopsIn status set h0 ended text start host'.past ⊥ (TellRose host host') (DiskRose host host')
-  pub cause : IsCausedBy status (TellRose host host') (DiskRose host host')
-  pub counts : Counts host host'
+  pub statuses : IsTakers status
+  pub counts : Counts host host' (status ≡ TellFault) (status ≡ DiskFault)
+  pub others : LeavesOthers honest host host'
 
 -- the status of a run whose database was not opened
 abbrev pub opening_status : AgentFault → Status

@@ -24,7 +24,8 @@ impl Command {
     /// The command that the words give, or `None` where they are in no form.
     pub fn read(words: &WordsList) -> Option<Command>
         ensures command { result ≡ command_of words.now }
-        ensures limits { (settings : ASettings) → result ≡ Some (Command.New settings) → InLimits settings }
+        ensures limits { (settings : ASettings) → result ≡ Some (Command.New settings)
+            → InLimits settings }
     {
         match words.as_slice() {
             [] => None,
@@ -46,8 +47,10 @@ fn read_alone(word: &str) -> Option<Command>
 }
 
 fn read_new(word: &str, more: &[Text]) -> Option<Command>
-    ensures command { result ≡ (if bytes_eq word.now (codes "new") then option_map (λ settings. Command.New settings) (settings_of more.now) else None) }
-    ensures limits { (settings : ASettings) → result ≡ Some (Command.New settings) → InLimits settings }
+    ensures command { result ≡ (if bytes_eq word.now (codes "new") then option_map
+        (λ settings. Command.New settings) (settings_of more.now) else None) }
+    ensures limits { (settings : ASettings) → result ≡ Some (Command.New settings)
+        → InLimits settings }
 {
     if word == "new" {
         Some(Command::New(read_settings(more)?))

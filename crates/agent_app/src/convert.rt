@@ -8,12 +8,13 @@ use host_model::{Host, Source, Status};
 use line_stream::take_text;
 use std::alloc::Global;
 
-/// Tells what waits in `out`, as the last of a run that ends with this status. Where telling has failed
-/// before, or there was no memory, nothing more is told.
+/// Tells what waits in `out`, as the last of a run that ends with this status. Where telling has
+/// failed before, or there was no memory, nothing more is told.
 fn tell_last<H: Host>(host: &mut H, out: &mut String, status: Status) -> Status
-    ensures tells { TellsLast result status H.honest (string_bytes out.old) (H.past host.old) (H.past host.new) (H.tell_faults host.old) (H.tell_faults host.new) }
-    ensures disk { LeavesDisk H.honest (record { past = H.past host.old; disk_faults = H.disk_faults host.old; tell_faults = H.tell_faults host.old })
-        (record { past = H.past host.new; disk_faults = H.disk_faults host.new; tell_faults = H.tell_faults host.new }) }
+    ensures tells { TellsLast result status H.honest (string_bytes out.old)
+        (H.seen host.old).past (H.seen host.new).past
+        (H.seen host.old).tell_faults (H.seen host.new).tell_faults }
+    ensures disk { LeavesDisk H.honest (H.seen host.old) (H.seen host.new) }
 {
     if let Status::TellFault | Status::Memory = status {
         return status;
@@ -26,11 +27,13 @@ fn tell_last<H: Host>(host: &mut H, out: &mut String, status: Status) -> Status
 
 /// Reads a text from the source, and tells its points.
 pub fn convert<S: Source, H: Host>(alloc: Global, source: &mut S, host: &mut H) -> Status
-    ensures converts { Converts result H.honest (S.left source.old) (S.left source.new) (H.past host.old) (H.past host.new)
-        (S.faults source.old) (S.faults source.new) (H.tell_faults host.old) (H.tell_faults host.new) }
-    ensures leaves_disk { LeavesDisk H.honest (record { past = H.past host.old; disk_faults = H.disk_faults host.old; tell_faults = H.tell_faults host.old })
-        (record { past = H.past host.new; disk_faults = H.disk_faults host.new; tell_faults = H.tell_faults host.new }) }
-    ensures complete { EndsAsText result (S.left source.old) (S.faults source.old) (S.faults source.new) (H.tell_faults host.old) (H.tell_faults host.new) }
+    ensures converts { Converts result H.honest (S.left source.old) (S.left source.new)
+        (H.seen host.old).past (H.seen host.new).past (S.faults source.old) (S.faults source.new)
+        (H.seen host.old).tell_faults (H.seen host.new).tell_faults }
+    ensures leaves_disk { LeavesDisk H.honest (H.seen host.old) (H.seen host.new) }
+    ensures complete { EndsAsText result (S.left source.old)
+        (S.faults source.old) (S.faults source.new)
+        (H.seen host.old).tell_faults (H.seen host.new).tell_faults }
 {
     let mut converting = Converting::new(alloc);
     let status = take_text(alloc, &mut converting, source, host);

@@ -1,5 +1,5 @@
 //! A text whose points are told, line by line.
-ghost use Rattle.std.specs.Prelude.{◌≡◌, ◌+◌, ◌++◌, List, [], ℕ, length, string_bytes, IsErr, OnOk, OnErr};
+ghost use Rattle.std.specs.Prelude.{◌≡◌, ◌+◌, ◌++◌, List, [], ℕ, length, string_bytes, IsErr, IsOk, OnOk, OnErr};
 ghost use Rattle.host_model.specs.Cause.{HasCause};
 ghost use Rattle.host_model.specs.Past.{told};
 ghost use Rattle.history.specs.declared.line.Line.{Line};
@@ -29,13 +29,15 @@ pub(crate) struct Converting {
 
 /// Tells what waits in `out`, if anything does, and leaves nothing waiting.
 pub(crate) fn tell_waiting<H: Host>(host: &mut H, out: &mut String) -> Result<(), Failed>
-    ensures told { OnOk result (H.honest → told (H.past host.new) ≡ told (H.past host.old) ++ string_bytes out.old) }
+    ensures told { OnOk result (H.honest →
+        told (H.seen host.new).past ≡ told (H.seen host.old).past ++ string_bytes out.old) }
     ensures emptied { OnOk result (string_bytes out.new ≡ []) }
-    ensures torn { OnErr result (H.honest → TellsFront (string_bytes out.old) (H.past host.old) (H.past host.new)) }
-    ensures cause { HasCause (H.tell_faults host.old) (H.tell_faults host.new) (IsErr result) }
-    ensures silent { string_bytes out.old ≡ [] → host.new ≡ host.old }
-    ensures disk { LeavesDisk H.honest (record { past = H.past host.old; disk_faults = H.disk_faults host.old; tell_faults = H.tell_faults host.old })
-        (record { past = H.past host.new; disk_faults = H.disk_faults host.new; tell_faults = H.tell_faults host.new }) }
+    ensures torn { OnErr result (H.honest →
+        TellsFront (string_bytes out.old) (H.seen host.old).past (H.seen host.new).past) }
+    ensures cause { HasCause (H.seen host.old).tell_faults (H.seen host.new).tell_faults
+        (IsErr result) }
+    ensures silent { string_bytes out.old ≡ [] → IsOk result × (host.new ≡ host.old) }
+    ensures disk { LeavesDisk H.honest (H.seen host.old) (H.seen host.new) }
 {
     if !out.is_empty() {
         host.tell(out.as_bytes())?;
@@ -57,7 +59,8 @@ impl Converting {
 
     /// Adds a refusal, as the last that is told. Says how the run ends.
     fn refuse(&mut self, line: u64, refusal: Refusal) -> Status
-        ensures { AddsEnding result (RefusedAt line refusal) (string_bytes self.old.out) (ending_line (RefusedAt line refusal)) (string_bytes self.new.out) }
+        ensures { AddsEnding result (RefusedAt line refusal) (string_bytes self.old.out)
+            (ending_line (RefusedAt line refusal)) (string_bytes self.new.out) }
     {
         match push_refusal(&mut self.out, line, refusal) {
             Ok(()) => refusal_status(line, refusal),
@@ -67,7 +70,9 @@ impl Converting {
 
     /// Adds what is told at the end of a text. Says how the run ends.
     fn close(&mut self) -> Status
-        ensures { (past : List Line) → IsReaderOf self.old.reader past → AddsEnding result IsOver (string_bytes self.old.out) (told_at_end past) (string_bytes self.new.out) }
+        ensures { (past : List Line) → IsReaderOf self.old.reader past
+            → AddsEnding result IsOver (string_bytes self.old.out) (told_at_end past)
+            (string_bytes self.new.out) }
     {
         match self.reader.push_skipped(&mut self.out) {
             Ok(()) => Status::Ok,
@@ -79,14 +84,26 @@ impl Converting {
 impl<H: Host> Taker<H> for Converting {
     ghost ready = { λ converting host number. IsAt converting number };
 
-    ghost takes = { λ old host number line result new host'. Takes H.honest number line result old new (H.past host) (H.past host') (H.tell_faults host) (H.tell_faults host') × (host' ≡ host) };
+    ghost takes = { λ old host number line result new host'.
+        Takes H.honest number line result old new (H.seen host).past (H.seen host').past
+        (H.seen host).tell_faults (H.seen host').tell_faults
+        × (host' ≡ host) };
 
-    ghost pauses = { λ old host result new host'. Pauses H.honest result old new (H.past host) (H.past host') (H.tell_faults host) (H.tell_faults host')
-        × LeavesDisk H.honest (record { past = H.past host; disk_faults = H.disk_faults host; tell_faults = H.tell_faults host }) (record { past = H.past host'; disk_faults = H.disk_faults host'; tell_faults = H.tell_faults host' }) };
+    ghost pauses = { λ old host result new host'.
+        Pauses H.honest result old new (H.seen host).past (H.seen host').past
+        (H.seen host).tell_faults (H.seen host').tell_faults
+        × LeavesDisk H.honest (H.seen host) (H.seen host')
+        × OnOk result (string_bytes new.out ≡ []) };
 
-    ghost ends = { λ old host lines rest status new host'. Ends H.honest lines rest status old new (H.past host) (H.past host') (H.tell_faults host) (H.tell_faults host') × (host' ≡ host) };
+    ghost ends = { λ old host lines rest status new host'.
+        Ends H.honest lines rest status old new (H.seen host).past (H.seen host').past
+        (H.seen host).tell_faults (H.seen host').tell_faults
+        × (host' ≡ host) };
 
-    ghost overflows = { λ old host number status new host'. Overflows H.honest number status old new (H.past host) (H.past host') (H.tell_faults host) (H.tell_faults host') × (host' ≡ host) };
+    ghost overflows = { λ old host number status new host'.
+        Overflows H.honest number status old new (H.seen host).past (H.seen host').past
+        (H.seen host).tell_faults (H.seen host').tell_faults
+        × (host' ≡ host) };
 
     fn take_line(&mut self, _host: &mut H, number: u64, line: &[u8]) -> Result<(), Status> {
         match self.reader.take_line(line, &mut self.out) {

@@ -10,7 +10,8 @@ use std::fmt::Write;
 
 /// Adds the line of a refusal to `out`.
 pub(crate) fn push_refusal(out: &mut String, line: u64, refusal: Refusal) -> Result<(), AllocError>
-    ensures { OnOk result (string_bytes out.new ≡ string_bytes out.old ++ refusal_line line refusal) }
+    ensures { OnOk result (string_bytes out.new
+        ≡ string_bytes out.old ++ refusal_line line refusal) }
 {
     let number = refusal.number();
     match refusal {

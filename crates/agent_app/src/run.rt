@@ -22,11 +22,11 @@ fn opening_status(fault: AgentFault) -> Status
     }
 }
 
-/// Opens the database, stores the beats of a text behind those that it has, and tells each once it is stored.
+/// Opens the database, stores the beats of a text behind those that it has, and tells each once it
+/// is stored.
 pub fn run<S: Source, H: Host>(alloc: Global, source: &mut S, host: &mut H) -> Status
-    ensures { RunsAll H.honest result (S.left source.old) (S.left source.new) (S.faults source.old) (S.faults source.new)
-        (record { past = H.past host.old; disk_faults = H.disk_faults host.old; tell_faults = H.tell_faults host.old })
-        (record { past = H.past host.new; disk_faults = H.disk_faults host.new; tell_faults = H.tell_faults host.new }) }
+    ensures { RunsAll H.honest result (S.left source.old) (S.left source.new)
+        (S.faults source.old) (S.faults source.new) (H.seen host.old) (H.seen host.new) }
 {
     match Agent::open(alloc, host) {
         Ok(agent) => {

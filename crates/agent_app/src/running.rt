@@ -1,5 +1,5 @@
 //! A text whose beats are stored, line by line.
-ghost use Rattle.std.specs.Prelude.{◌≡◌, ◌≤◌, ◌∷◌, ℕ, List, [], take, false, true, IsErr, IfErr, OnOk, OnErr};
+ghost use Rattle.std.specs.Prelude.{◌≡◌, ◌∷◌, ℕ, List, [], take, false, true, IsErr, IsErrOf, IfErr, OnOk, OnErr};
 ghost use Rattle.host_model.specs.Cause.{HasCause, Rose};
 ghost use Rattle.host_model.specs.Past.{Told, MayAdd};
 ghost use Rattle.plugin_text.specs.Answer.{IsFaultFor};
@@ -35,19 +35,25 @@ pub(crate) struct Running {
 
 /// Tells a text whole, as one event of the host.
 fn tell_text<H: Host>(host: &mut H, text: &str) -> Result<(), Failed>
-    ensures done { OnOk result (H.honest → H.past host.new ≡ Told text.now ∷ H.past host.old) }
-    ensures torn { OnErr result (H.honest → MayAdd (λ n. Told (take n text.now)) (H.past host.old) (H.past host.new)) }
-    ensures cause { HasCause (H.tell_faults host.old) (H.tell_faults host.new) (IsErr result) }
-    ensures disk { H.disk_faults host.new ≡ H.disk_faults host.old }
+    ensures done { OnOk result (H.honest →
+        (H.seen host.new).past ≡ Told text.now ∷ (H.seen host.old).past) }
+    ensures torn { OnErr result (H.honest →
+        MayAdd (λ n. Told (take n text.now)) (H.seen host.old).past (H.seen host.new).past) }
+    ensures cause { HasCause (H.seen host.old).tell_faults (H.seen host.new).tell_faults
+        (IsErr result) }
+    ensures disk { (H.seen host.new).disk_faults ≡ (H.seen host.old).disk_faults }
 {
     host.tell(text.as_bytes())
 }
 
 /// Tells a refusal, which ends the run.
 fn tell_refusal<H: Host>(alloc: Global, host: &mut H, line: u64, refusal: Refusal) -> Status
-    ensures tells { TellsRefusal result H.honest line refusal (H.past host.old) (H.past host.new) (Rose (H.tell_faults host.old) (H.tell_faults host.new)) }
-    ensures count { H.tell_faults host.old ≤ H.tell_faults host.new }
-    ensures disk { H.disk_faults host.new ≡ H.disk_faults host.old }
+    ensures tells { TellsRefusal result H.honest line refusal
+        (H.seen host.old).past (H.seen host.new).past
+        (Rose (H.seen host.old).tell_faults (H.seen host.new).tell_faults) }
+    ensures cause { HasCause (H.seen host.old).tell_faults (H.seen host.new).tell_faults
+        (result ≡ Status.TellFault) }
+    ensures disk { (H.seen host.new).disk_faults ≡ (H.seen host.old).disk_faults }
 {
     let mut out = String::new(alloc);
     if push_refusal(&mut out, line, refusal).is_err() {
@@ -61,10 +67,14 @@ fn tell_refusal<H: Host>(alloc: Global, host: &mut H, line: u64, refusal: Refusa
 
 /// Tells that a beat is stored.
 fn tell_stored<H: Host>(alloc: Global, host: &mut H, reply: Reply) -> Result<(), Status>
-    ensures done { OnOk result (H.honest → H.past host.new ≡ Told (reply_text reply) ∷ H.past host.old) }
-    ensures torn { IfErr result (λ status. IsCutShort status H.honest (reply_text reply) (H.past host.old) (H.past host.new) (Rose (H.tell_faults host.old) (H.tell_faults host.new))) }
-    ensures count { H.tell_faults host.old ≤ H.tell_faults host.new }
-    ensures disk { H.disk_faults host.new ≡ H.disk_faults host.old }
+    ensures done { OnOk result (H.honest →
+        (H.seen host.new).past ≡ Told (reply_text reply) ∷ (H.seen host.old).past) }
+    ensures torn { IfErr result (λ status. IsCutShort status H.honest (reply_text reply)
+        (H.seen host.old).past (H.seen host.new).past
+        (Rose (H.seen host.old).tell_faults (H.seen host.new).tell_faults)) }
+    ensures cause { HasCause (H.seen host.old).tell_faults (H.seen host.new).tell_faults
+        (IsErrOf result Status.TellFault) }
+    ensures disk { (H.seen host.new).disk_faults ≡ (H.seen host.old).disk_faults }
 {
     let Ok(text) = write_reply(alloc, reply) else {
         return Err(Status::Memory);
@@ -92,8 +102,8 @@ impl Running {
     /// Refuses a line that says nothing, for this reason, and says how the run ends.
     fn refuse<H: Host>(&self, host: &mut H, number: u64, fault: LineFault) -> Status
         ensures takes { (bytes : List ℕ) → IsFaultFor (line_of bytes) fault → fits bytes ≡ true
-            → TakesLine H.honest self.now (record { past = H.past host.old; disk_faults = H.disk_faults host.old; tell_faults = H.tell_faults host.old }) number bytes
-            (Err result) self.now (record { past = H.past host.new; disk_faults = H.disk_faults host.new; tell_faults = H.tell_faults host.new }) }
+            → TakesLine H.honest self.now (H.seen host.old) number bytes (Err result)
+            self.now (H.seen host.new) }
     {
         match fault {
             LineFault::Memory => Status::Memory,
@@ -103,12 +113,12 @@ impl Running {
 
     /// Takes a line that says this. `Err` is how the run ends.
     fn take_said<H: Host>(&mut self, host: &mut H, number: u64, said: Line) -> Result<(), Status>
-        requires ready { IsFit H.honest self.old (record { past = H.past host.old; disk_faults = H.disk_faults host.old; tell_faults = H.tell_faults host.old }) }
+        requires ready { IsFit H.honest self.old (H.seen host.old) }
         requires limits { keeps_limits said ≡ true }
         ensures takes { (bytes : List ℕ) → line_of bytes ≡ Ok said → fits bytes ≡ true
-            → TakesLine H.honest self.old (record { past = H.past host.old; disk_faults = H.disk_faults host.old; tell_faults = H.tell_faults host.old }) number bytes
-            result self.new (record { past = H.past host.new; disk_faults = H.disk_faults host.new; tell_faults = H.tell_faults host.new }) }
-        ensures ready { OnOk result (IsFit H.honest self.new (record { past = H.past host.new; disk_faults = H.disk_faults host.new; tell_faults = H.tell_faults host.new })) }
+            → TakesLine H.honest self.old (H.seen host.old) number bytes result
+            self.new (H.seen host.new) }
+        ensures ready { OnOk result (IsFit H.honest self.new (H.seen host.new)) }
     {
         match said {
             Line::Query(_) => Err(tell_refusal(self.alloc, host, number, Refusal::NotBuilt)),
@@ -118,18 +128,18 @@ impl Running {
 
     /// Takes a line that says this and is no question. `Err` is how the run ends.
     fn take<H: Host>(&mut self, host: &mut H, number: u64, said: Line) -> Result<(), Status>
-        requires ready { IsFit H.honest self.old (record { past = H.past host.old; disk_faults = H.disk_faults host.old; tell_faults = H.tell_faults host.old }) }
+        requires ready { IsFit H.honest self.old (H.seen host.old) }
         requires limits { keeps_limits said ≡ true }
         requires answer { is_query said ≡ false }
         ensures takes { (bytes : List ℕ) → line_of bytes ≡ Ok said → fits bytes ≡ true
-            → TakesLine H.honest self.old (record { past = H.past host.old; disk_faults = H.disk_faults host.old; tell_faults = H.tell_faults host.old }) number bytes
-            result self.new (record { past = H.past host.new; disk_faults = H.disk_faults host.new; tell_faults = H.tell_faults host.new }) }
-        ensures ready { OnOk result (IsFit H.honest self.new (record { past = H.past host.new; disk_faults = H.disk_faults host.new; tell_faults = H.tell_faults host.new })) }
+            → TakesLine H.honest self.old (H.seen host.old) number bytes result
+            self.new (H.seen host.new) }
+        ensures ready { OnOk result (IsFit H.honest self.new (H.seen host.new)) }
     {
         match self.agent.take_line(host, &mut self.feed, said) {
             Ok(Said::Nothing) => Ok(()),
             // No question comes here.
-            Ok(Said::Asked(_)) => Ok(()),
+            Ok(Said::Asked(_)) => unreachable!(),
             Ok(Said::Stored(reply)) => tell_stored(self.alloc, host, reply),
             Ok(Said::Disabled) => Err(Status::Ok),
             Err(AgentFault::Refused(fault)) => {
@@ -142,21 +152,18 @@ impl Running {
 }
 
 impl<H: Host> Taker<H> for Running {
-    ghost ready = { λ running host number. IsFit H.honest running (record { past = H.past host; disk_faults = H.disk_faults host; tell_faults = H.tell_faults host }) };
+    ghost ready = { λ running host number. IsFit H.honest running (H.seen host) };
 
     ghost takes = { λ running host number bytes result running' host'.
-        TakesLine H.honest running (record { past = H.past host; disk_faults = H.disk_faults host; tell_faults = H.tell_faults host }) number bytes
-        result running' (record { past = H.past host'; disk_faults = H.disk_faults host'; tell_faults = H.tell_faults host' }) };
+        TakesLine H.honest running (H.seen host) number bytes result running' (H.seen host') };
 
     ghost pauses = { Pauses };
 
     ghost ends = { λ running host count left status running' host'.
-        EndsRun H.honest running (record { past = H.past host; disk_faults = H.disk_faults host; tell_faults = H.tell_faults host }) count left
-        status (record { past = H.past host'; disk_faults = H.disk_faults host'; tell_faults = H.tell_faults host' }) };
+        EndsRun H.honest running (H.seen host) count left status (H.seen host') };
 
     ghost overflows = { λ running host number status running' host'.
-        Overflows H.honest running (record { past = H.past host; disk_faults = H.disk_faults host; tell_faults = H.tell_faults host }) number
-        status (record { past = H.past host'; disk_faults = H.disk_faults host'; tell_faults = H.tell_faults host' }) };
+        Overflows H.honest running (H.seen host) number status (H.seen host') };
 
     fn take_line(&mut self, host: &mut H, number: u64, line: &[u8]) -> Result<(), Status> {
         match read_line(self.alloc, line) {

@@ -1,8 +1,7 @@
 -- A beat that may be handed in and passed its tests, once the registry has its definitions.
-use Rattle.std.proofs.Common.{◌≡◌, ℕ, ◌+◌, ◌≤◌, Bool, true, false, not, ◌&&◌, ◌||◌, nat_lt, List, length, count_by, All, Some, IsSome, refl, sym, ap, ◌∙◌}
+use Rattle.std.proofs.Common.{◌≡◌, ℕ, ◌+◌, ◌≤◌, Bool, true, false, not, ◌||◌, nat_lt, List, length, count_by, All, Some, IsSome, ◌∙◌}
 use Rattle.std.specs.List.{find, list_any}
-use Rattle.std.specs.Str.{bytes_eq}
-use Rattle.std.proofs.lemmas.Bool.{and_parts, ltb-false}
+use Rattle.std.proofs.lemmas.Bool.{ltb-false}
 use Rattle.std.proofs.lemmas.List.Elements.{All-from_recursion, All-weaker}
 use Rattle.history.specs.declared.beat.OpenBeat.{OpenBeat}
 use Rattle.history.specs.declared.beat.OpenDim.{OpenDim}
@@ -11,48 +10,28 @@ use Rattle.history.specs.declared.beat.OpenValue.{OpenValue}
 use Rattle.history.specs.declared.chart.ChartDef.{ChartDef}
 use Rattle.history.specs.Refusal.{has_chart, has_dimension, is_new_dimension}
 use Rattle.history.specs.Registry.{Registry, is_chart, is_dimension, same_chart, same_dimension, chart_of, series_of, with_definitions}
-use Rattle.chart_registry.proofs.Applying.{has_chart-applied}
+use Rattle.chart_registry.proofs.Applying.{any-put_all, has_chart-applied}
 use Rattle.chart_registry.proofs.Places.{list_any-position}
 use Rattle.chart_registry.proofs.RegistryLemmas.{or_false}
-use Rattle.chart_registry.proofs.RowsLemmas.{same_text, bytes_eq_same}
 use Rattle.history.specs.Regular.{AreApart, IsRegular}
 use Rattle.chart_registry.proofs.Finding.{all-weaker}
 use Rattle.chart_registry.proofs.Growing.{same_dimension-alike}
 use Rattle.beat_entries.specs.Defined.{IsDefinedIn}
+use Rattle.beat_entries.proofs.DefinedLemmas.{chart-alike, chart-itself, dimension-alike, dimension-itself}
+use Rattle.beat_entries.proofs.PutLemmas.{apart-put_all, put-found}
+use Rattle.beat_entries.proofs.Slots.{none-all}
 use Rattle.agent_core.specs.Rules.{fills_chart, is_too_long, lacks_chart, lacks_dimension, row_lacks_dimension, too_many_dimensions, IsOpenBeat}
-use Rattle.agent_core.proofs.Lists.{any-put_all, apart-put_all, found-put_all, none-fails, none-passes, IsSameness}
-
-pub charts-sameness : IsSameness same_chart
-charts-sameness = record {
-  itself = λ x. bytes_eq_same x.id x.id refl;
-  turned = λ x y e. bytes_eq_same y.id x.id (sym (same_text x.id y.id e));
-  left = λ x y z e. ap (λ (id : List ℕ). is_chart id z) (same_text x.id y.id e);
-}
-
-dimension-parts : (x y : OpenDim) → same_dimension x y ≡ true → (x.chart ≡ y.chart) × (x.def.id ≡ y.def.id)
-dimension-parts x y e =
-    let parts = and_parts (bytes_eq x.chart y.chart) (bytes_eq x.def.id y.def.id) e in
-    (same_text x.chart y.chart parts.0, same_text x.def.id y.def.id parts.1)
-
-dimension-from : (x y : OpenDim) → x.chart ≡ y.chart → x.def.id ≡ y.def.id → same_dimension x y ≡ true
-dimension-from x y chart id = ap (λ (b : Bool). b && bytes_eq x.def.id y.def.id) (bytes_eq_same x.chart y.chart chart) ∙ bytes_eq_same x.def.id y.def.id id
-
-pub dimensions-sameness : IsSameness same_dimension
-dimensions-sameness = record {
-  itself = λ x. dimension-from x x refl refl;
-  turned = λ x y e. let parts = dimension-parts x y e in dimension-from y x (sym parts.0) (sym parts.1);
-  left = λ x y z e. let parts = dimension-parts x y e in λ i. is_dimension (parts.0 i) (parts.1 i) z;
-}
+use Rattle.agent_core.proofs.Lists.{none-fails}
 
 module _ (registry : Registry) (beat : OpenBeat) where
   abbrev after : Registry
   after = with_definitions registry beat.charts beat.dimensions
 
   pub charts-apart : AreApart same_chart registry.charts → AreApart same_chart after.charts
-  charts-apart apart = apart-put_all same_chart charts-sameness registry.charts beat.charts apart
+  charts-apart apart = apart-put_all same_chart chart-itself chart-alike registry.charts beat.charts apart
 
   pub dimensions-apart : AreApart same_dimension registry.dimensions → AreApart same_dimension after.dimensions
-  dimensions-apart apart = apart-put_all same_dimension dimensions-sameness registry.dimensions beat.dimensions apart
+  dimensions-apart apart = apart-put_all same_dimension dimension-itself dimension-alike registry.dimensions beat.dimensions apart
 
   -- a chart that the beat or the registry has
   chart-there : (id : List ℕ) → has_chart registry beat id ≡ true → IsSome (chart_of after id)
@@ -97,7 +76,7 @@ module _ (registry : Registry) (beat : OpenBeat) where
   values-there : lacks_dimension registry beat ≡ false → All AreValuesThere beat.rows
   values-there has =
       All-from_recursion AreValuesThere beat.rows
-      (all-weaker (λ (row : OpenRow). row_lacks_dimension registry beat row ≡ false) AreValuesThere row-there beat.rows (none-passes (row_lacks_dimension registry beat) beat.rows has))
+      (all-weaker (λ (row : OpenRow). row_lacks_dimension registry beat row ≡ false) AreValuesThere row-there beat.rows (none-all (row_lacks_dimension registry beat) beat.rows has))
 
   -- no row is longer than a chart can be
   short : (row : OpenRow) → is_too_long row ≡ false → length row.values ≤ 1024
@@ -108,7 +87,7 @@ module _ (registry : Registry) (beat : OpenBeat) where
       let in_all = or_false (nat_lt 65536 (length registry.dimensions + count_by (is_new_dimension registry) beat.dimensions)) (list_any (fills_chart registry beat) beat.dimensions || list_any is_too_long beat.rows) few in
       let rows = or_false (list_any (fills_chart registry beat) beat.dimensions) (list_any is_too_long beat.rows) in_all.1 in
       All-from_recursion (λ (row : OpenRow). length row.values ≤ 1024) beat.rows
-      (all-weaker (λ (row : OpenRow). is_too_long row ≡ false) (λ (row : OpenRow). length row.values ≤ 1024) short beat.rows (none-passes is_too_long beat.rows rows.1))
+      (all-weaker (λ (row : OpenRow). is_too_long row ≡ false) (λ (row : OpenRow). length row.values ≤ 1024) short beat.rows (none-all is_too_long beat.rows rows.1))
 
   module _ (is_open : IsOpenBeat beat) where
     module _ (has_charts : lacks_chart registry beat ≡ false) where
@@ -127,8 +106,8 @@ module _ (registry : Registry) (beat : OpenBeat) where
         own_dimensions = dimensions-apart apart_dimensions;
         apart_charts = is_open.apart_charts;
         apart_dimensions = is_open.apart_dimensions;
-        charts = All-from_recursion (λ (def : ChartDef). find (is_chart def.id) after.charts ≡ Some def) beat.charts (found-put_all same_chart charts-sameness registry.charts beat.charts is_open.apart_charts);
+        charts = All-from_recursion (λ (def : ChartDef). find (is_chart def.id) after.charts ≡ Some def) beat.charts (put-found same_chart chart-itself chart-alike registry.charts beat.charts is_open.apart_charts);
         dimensions = All-from_recursion (λ (dimension : OpenDim). find (is_dimension dimension.chart dimension.def.id) after.dimensions ≡ Some dimension) beat.dimensions
-            (found-put_all same_dimension dimensions-sameness registry.dimensions beat.dimensions is_open.apart_dimensions);
+            (put-found same_dimension dimension-itself dimension-alike registry.dimensions beat.dimensions is_open.apart_dimensions);
         owners = owners-there has_charts;
       }

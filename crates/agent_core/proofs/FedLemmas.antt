@@ -1,9 +1,9 @@
 -- The beats that a feed closes may be handed in, and what a feed is after one line more.
-use Rattle.std.proofs.Common.{◌≡◌, ◌≢◌, ℕ, ◌==◌, ◌<◌, ◌≤◌, Bool, true, false, not, nat_le, ◌&&◌, List, [], ◌∷◌, ◌++◌, Option, Some, None, is_some, ℤ, refl, sym, ap, ◌∙◌, subst, arith, if◌then◌else◌}
+use Rattle.std.proofs.Common.{◌≡◌, ℕ, ◌==◌, ◌≤◌, Bool, true, false, not, nat_le, ◌&&◌, List, [], ◌∷◌, ◌++◌, Option, Some, None, is_some, ℤ, refl, sym, ap, ◌∙◌, subst, if◌then◌else◌}
 use Rattle.std.specs.List.{list_any, AllByRecursion}
 use Rattle.std.specs.Option.{option_map_or}
 use Rattle.std.specs.Str.{bytes_eq}
-use Rattle.std.proofs.lemmas.Bool.{and_parts, eqb-false, le-leb}
+use Rattle.std.proofs.lemmas.Bool.{and_parts, le-leb}
 use Rattle.std.proofs.lemmas.List.{append-nil}
 use Rattle.std.proofs.lemmas.List.Elements.{All-from_recursion, recursion_from_All}
 use Rattle.std.proofs.lemmas.Option.{none-some, same_Some}
@@ -31,26 +31,12 @@ use Rattle.collect_block.specs.Feed.{step_of, Becomes, CountsAt, IsFeedOf}
 use Rattle.agent_core.specs.Fed.{OpenEachFirst, OpensFirst, IsFed}
 use Rattle.agent_core.specs.Rules.{IsOpenBeat}
 use Rattle.agent_core.specs.Steps.{IsOpenStep}
-use Rattle.agent_core.proofs.HistoryLemmas.{passed}
-use Rattle.agent_core.proofs.Lists.{all-put, apart-put, IsSameness}
+use Rattle.beat_entries.proofs.PutLemmas.{apart-put}
+use Rattle.beat_points.proofs.TextLemmas.{passed, same_row-left}
+use Rattle.chart_registry.proofs.Applying.{all-put}
+use Rattle.collect_block.proofs.OpenLemmas.{grids}
 
 -- ---- the charts and dimensions of the open beat
-abbrev HasGrid : ChartDef → Type 0
-HasGrid def = 0 < def.update_every
-
-grid-of : (every : ℕ) (def : ChartDef) → 0 < every → HasGrid (with_grid every def)
-grid-of every def some = by (def.update_every == 0) refl
-  where
-    by : (b : Bool) → (def.update_every == 0) ≡ b → HasGrid (if b then record def { update_every = every } else def)
-    by true e = some
-    by false e = let other : def.update_every ≢ 0 = eqb-false def.update_every 0 e in omega arith
-
-charts-grids : (every : ℕ) (past : List Line) → 0 < every → AllByRecursion HasGrid (charts every past)
-charts-grids every [] some = tt
-charts-grids every (line.Moment moment ∷ past) some = tt
-charts-grids every (line.Chart def ∷ past) some = all-put same_chart HasGrid (charts every past) (with_grid every def) (charts-grids every past some) (grid-of every def some)
-charts-grids every (line ∷ past) some = charts-grids every past some
-
 abbrev KeepsLimits : Line → Type 0
 KeepsLimits line = keeps_limits line ≡ true
 
@@ -95,15 +81,8 @@ dimensions-limits (line.Moment moment ∷ past) limits = tt
 dimensions-limits (line ∷ past) limits = dimensions-limits past limits.1
 
 -- ---- its rows
-values-sameness : IsSameness same_value
-values-sameness = record {
-  itself = λ x. bytes_eq_same x.id x.id refl;
-  turned = λ x y e. bytes_eq_same y.id x.id (sym (same_text x.id y.id e));
-  left = λ x y z e. ap (λ (id : List ℕ). is_value id z) (same_text x.id y.id e);
-}
-
 set-apart : (vs : List OpenValue) (id : List ℕ) (value : Option ℤ) (anomalous : Bool) → AreApart same_value vs → AreApart same_value (set_value vs id value anomalous)
-set-apart vs id (Some value) anomalous apart = apart-put same_value values-sameness vs (record { id = id; value = value; anomalous = anomalous }) apart
+set-apart vs id (Some value) anomalous apart = apart-put same_value (λ x. bytes_eq_same x.id x.id refl) (λ x y z e. ap (λ (id : List ℕ). is_value id z) (same_text x.id y.id e)) vs (record { id = id; value = value; anomalous = anomalous }) apart
 set-apart vs id None anomalous apart = apart-filter same_value (λ (value : OpenValue). not (is_value id value)) vs apart
 
 values-apart : (past : List Line) → AreApart same_value (values past)
@@ -144,9 +123,6 @@ no-row every (line.Flush ∷ past) chart firsts opened = absurd (none-some chart
 no-row every (line.Moment moment ∷ past) chart firsts opened = refl
 no-row every (line ∷ past) chart firsts opened = no-row every past chart firsts.1 opened
 
-same_row-left : (x y : OpenRow) → same_row x y ≡ true → same_row x ≡ same_row y
-same_row-left x y e = λ i row. bytes_eq (same_text x.chart y.chart e i) row.chart
-
 row-apart : (rs : List OpenRow) (vs : List OpenValue) (chart : Option (List ℕ)) → AreApart same_row rs
     → ((id : List ℕ) → chart ≡ Some id → list_any (λ (row : OpenRow). bytes_eq id row.chart) rs ≡ false) → AreApart same_row (with_row rs vs chart)
 row-apart rs vs None apart none = subst (AreApart same_row) (sym (append-nil rs)) apart
@@ -168,7 +144,7 @@ fed-beat feed fed =
       apart_dimensions = dimensions-apart past;
       apart_rows = rows-apart every past fed.blocks;
       apart_values = All-from_recursion IsApartRow (rows past) (rows-values past);
-      grids = All-from_recursion HasGrid (charts every past) (charts-grids every past fed.feed_of.grid);
+      grids = grids every past fed.feed_of.grid;
       chart_limits = All-from_recursion IsLimitedChart (charts every past) (charts-limits every past fed.grid_limit limits);
       dimension_limits = All-from_recursion (OfDimension IsLimited) (dimensions past) (dimensions-limits past limits);
     }

@@ -16,7 +16,8 @@ use Rattle.beat_entries.proofs.Slots.{none-all}
 use Rattle.agent_core.specs.Kept.{Follows}
 use Rattle.agent_core.specs.Rules.{beat_refusal, changes_grid, changes_grid_of, lacks_chart, lacks_dimension, IsWithin}
 use Rattle.agent_core.proofs.DefinedLemmas.{owned, regular-after}
-use Rattle.agent_core.proofs.HistoryLemmas.{follows-passed, passed, Passed}
+use Rattle.beat_points.proofs.TextLemmas.{passed}
+use Rattle.agent_core.proofs.HistoryLemmas.{follows-passed, Passed}
 use Rattle.agent_core.proofs.Within.{room-for, within-after}
 
 -- ---- the update_every of a chart stays

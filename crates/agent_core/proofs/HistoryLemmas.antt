@@ -1,7 +1,6 @@
 -- What holds of a history that a store keeps, and of a beat that may follow it.
-use Rattle.std.proofs.Common.{◌≡◌, ℕ, ◌<◌, Bool, true, false, not, nat_le, List, [], ◌∷◌, Option, Some, None, refl, sym, arith, if◌then◌else◌, is_some}
+use Rattle.std.proofs.Common.{◌≡◌, ℕ, ◌<◌, Bool, false, not, nat_le, List, [], ◌∷◌, None, refl, arith, is_some}
 use Rattle.std.proofs.lemmas.Bool.{leb-false}
-use Rattle.std.proofs.lemmas.Option.{none-some}
 use Rattle.history.specs.declared.beat.OpenBeat.{OpenBeat}
 use Rattle.history.specs.declared.fault.BlockFault.TheVariants.{NoChart, NoDimension, MomentOrder, MixedRoles, GridChanged, TooManyCharts, TooManyDimensions}
 use Rattle.history.specs.History.{Beat, collected, copied, health, missing, child, last, registry_of}
@@ -9,6 +8,7 @@ use Rattle.history.specs.Registry.{Registry}
 use Rattle.beat_points.specs.Points.{IsBefore}
 use Rattle.beat_points.proofs.LawLemmas.{before-collected, before-none}
 use Rattle.store_core.specs.declared.beat.Beat.{Beat as StoreBeat}
+use Rattle.beat_points.proofs.TextLemmas.{passed}
 use Rattle.agent_core.specs.Kept.{AreBeatsOf, Follows}
 use Rattle.agent_core.specs.Roles.{may_collect, role_of}
 use Rattle.agent_core.specs.Rules.{beat_refusal, changes_grid, lacks_chart, lacks_dimension, too_many_charts, too_many_dimensions}
@@ -19,10 +19,8 @@ pub record Passed (registry : Registry) (last moment : ℕ) (beat : OpenBeat) : 
   pub has_charts : lacks_chart registry beat ≡ false
   pub has_dimensions : lacks_dimension registry beat ≡ false
   pub few : too_many_dimensions registry beat ≡ false
-
-pub passed : {A : Type 0} (b : Bool) (x : A) (rest : Option A) → (if b then Some x else rest) ≡ None → (b ≡ false) × (rest ≡ None)
-passed true x rest e = absurd (none-some x (sym e))
-passed false x rest e = (refl, e)
+  pub few_charts : too_many_charts registry beat ≡ false
+  pub kept_grids : changes_grid registry beat ≡ false
 
 pub passes : (registry : Registry) (copies : Bool) (last moment : ℕ) (beat : OpenBeat) → beat_refusal registry copies last moment beat ≡ None → Passed registry last moment beat
 unfolding beat_refusal
@@ -34,7 +32,7 @@ passes registry copies last moment beat free =
     let grid = passed (changes_grid registry beat) GridChanged _ dimensions.1 in
     let room = passed (too_many_charts registry beat) TooManyCharts _ grid.1 in
     let few = passed (too_many_dimensions registry beat) TooManyDimensions _ room.1 in
-    record { later = leb-false moment last order.0; has_charts = charts.0; has_dimensions = dimensions.0; few = few.0 }
+    record { later = leb-false moment last order.0; has_charts = charts.0; has_dimensions = dimensions.0; few = few.0; few_charts = room.0; kept_grids = grid.0 }
 
 pub follows-passed : (h : List Beat) (moment : ℕ) (beat : OpenBeat) → Follows h moment beat → Passed (registry_of h) (last h) moment beat
 follows-passed h moment beat follows = passes (registry_of h) (is_some (child h)) (last h) moment beat follows.accepted

@@ -14,7 +14,8 @@ use Rattle.history.specs.Registry.{Registry, is_dimension}
 use Rattle.chart_registry.proofs.RegistryLemmas.{or_false}
 use Rattle.chart_registry.proofs.RowsLemmas.{same_text}
 use Rattle.history.specs.Regular.{AreApart}
-use Rattle.agent_core.proofs.Lists.{apart-turned, IsSameness}
+use Rattle.chart_registry.proofs.ApartLemmas.{any-filter}
+use Rattle.beat_entries.proofs.PutLemmas.{turned}
 
 -- ---- a list whose things stand apart, put one by one
 module _ {A : Type 0} (p : A → Bool) where
@@ -23,14 +24,6 @@ module _ {A : Type 0} (p : A → Bool) where
   none-at (x ∷ xs) zero d none within = (or_false (p x) (list_any p xs) none).0
   none-at (x ∷ xs) (suc n) d none within = none-at xs n d (or_false (p x) (list_any p xs) none).1 (omega arith)
 
-  none-filtered : (q : A → Bool) (xs : List A) → list_any p xs ≡ false → list_any p (filter q xs) ≡ false
-  none-filtered q [] none = refl
-  none-filtered q (x ∷ xs) none = let parts = or_false (p x) (list_any p xs) none in by (q x) parts.0 (none-filtered q xs parts.1)
-    where
-      by : (b : Bool) → p x ≡ false → list_any p (filter q xs) ≡ false → list_any p (cond b (x ∷ filter q xs) (filter q xs)) ≡ false
-      by true here rest = λ i. here i || rest i
-      by false here rest = rest
-
 module _ {A : Type 0} (same : A → A → Bool) where
   put-new : (xs : List A) (x : A) → list_any (same x) xs ≡ false → put same xs x ≡ xs ++ x ∷ []
   put-new [] x none = refl
@@ -38,12 +31,12 @@ module _ {A : Type 0} (same : A → A → Bool) where
       let parts = or_false (same x y) (list_any (same x) ys) none in
       ap (λ (b : Bool). if b then x ∷ ys else y ∷ put same ys x) parts.0 ∙ ap (λ l. y ∷ l) (put-new ys x parts.1)
 
-  module _ (is : IsSameness same) where
+  module _ (itself : (x : A) → same x x ≡ true) (alike : (x y z : A) → same x y ≡ true → same x z ≡ same y z) where
     none-before : (xs : List A) (n : ℕ) (d : A) → AreApart same xs → n < length xs → list_any (same (get_or xs n d)) (take n xs) ≡ false
     none-before [] n d apart within = absurd (omega arith)
     none-before (x ∷ xs) zero d apart within = refl
     none-before (x ∷ xs) (suc n) d apart within =
-        let other : same (get_or xs n d) x ≡ false = apart-turned same is x (get_or xs n d) (none-at (same x) xs n d apart.0 (omega arith)) in
+        let other : same (get_or xs n d) x ≡ false = turned same itself alike (get_or xs n d) x ∙ none-at (same x) xs n d apart.0 (omega arith) in
         let rest : list_any (same (get_or xs n d)) (take n xs) ≡ false = none-before xs n d apart.1 (omega arith) in
         λ i. other i || rest i
 
@@ -59,7 +52,7 @@ module _ {A : Type 0} (same : A → A → Bool) where
       module _ (q : A → Bool) where
         pub put-next_passing : q x ≡ true → put same (filter q (take n xs)) x ≡ filter q (take (n + 1) xs)
         put-next_passing passes =
-            put-new (filter q (take n xs)) x (none-filtered (same x) q (take n xs) before)
+            put-new (filter q (take n xs)) x (any-filter (same x) q (take n xs) before)
             ∙ ap (λ (b : Bool). filter q (take n xs) ++ cond b (x ∷ []) []) (sym passes)
             ∙ ap (λ (y : A). filter q (take n xs) ++ cond (q y) (y ∷ []) []) (sym at)
             ∙ sym (filter_more q xs n x within)

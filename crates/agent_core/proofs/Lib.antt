@@ -2,6 +2,8 @@ pub mod ClosedLemmas
 pub mod DefinedLemmas
 pub mod FedLemmas
 pub mod FollowLemmas
+pub mod FormLemmas
+pub mod GridLemmas
 pub mod HistoryLemmas
 pub mod IndexLemmas
 pub mod KeptLemmas

@@ -1,5 +1,6 @@
 -- An agent that was just made.
-use Rattle.std.proofs.Common.{◌≡◌, ℕ, inl, inr, false, List, [], Option, None, refl, sym, subst}
+use Rattle.std.proofs.Common.{◌≡◌, ℕ, inl, inr, false, List, [], Option, None, refl, arith, sym, subst}
+use Rattle.std.proofs.lemmas.List.Elements.{All-from_recursion}
 use Rattle.host_model.specs.declared.file.File.{File}
 use Rattle.host_model.specs.Past.{Event}
 use Rattle.host_model.specs.Disks.{EveryDisk}
@@ -14,6 +15,8 @@ use Rattle.store_core.specs.Stands.{StandsIfMade}
 use Rattle.store_core.specs.Store.{IsNew, IsReady, IsStoreOf, StoreState}
 use Rattle.agent_core.specs.Agent.{AgentState, Fits, IsAgentOf}
 use Rattle.agent_core.specs.Kept.{StandsForNew}
+use Rattle.beat_points.specs.Text.{HasFew}
+use Rattle.agent_core.specs.Rules.{HasGrids}
 
 pub new_climbs : (set : Settings) (old new : List Event) → Throughout (EveryDisk (StandsIfMade set)) old new → Throughout (EveryDisk (StandsForNew set)) old new
 new_climbs set old new moments = disks_weaker by moments
@@ -21,6 +24,10 @@ new_climbs set old new moments = disks_weaker by moments
     by : (disk : File → List ℕ) → StandsIfMade set disk → StandsForNew set disk
     by disk (inl none) = inl none
     by disk (inr stands) = inr (record { beats = []; are = tt; stands = stands })
+
+-- no chart at all
+none-gridded : HasGrids empty
+none-gridded = All-from_recursion _ [] tt
 
 abbrev pub new_agent : StoreState → Registry → List (Option Last) → AgentState
 new_agent store registry lasts = record { store = store; registry = registry; last_rows = lasts; last = 0; count = 0; copies = false; fault = None }
@@ -43,4 +50,6 @@ module _ (store : StoreState) (registry : Registry) (lasts : List (Option Last))
     same_last = new.last;
     charts = subst (λ (r : Registry). AreApart same_chart r.charts) (sym is_empty) tt;
     dimensions = subst (λ (r : Registry). AreApart same_dimension r.dimensions) (sym is_empty) tt;
+    grids = subst HasGrids (sym is_empty) none-gridded;
+    each = subst HasFew (sym is_empty) (λ chart. omega arith);
   }

@@ -21,7 +21,8 @@ use Rattle.agent_core.specs.declared.fault.AgentFault.TheVariants.{Refused, Disk
 use Rattle.agent_core.specs.declared.reply.Reply.{Reply}
 use Rattle.agent_core.specs.declared.reply.Said.{Said}
 use Rattle.agent_core.specs.Agent.{id_of, AgentState, IsAgentOf, IsSoundBy, IsSpentAfter}
-use Rattle.agent_core.specs.Calls.{Beats, Lines, Seen}
+use Rattle.agent_core.specs.Calls.{Beats, Lines}
+use Rattle.host_model.specs.Seen.{Seen}
 use Rattle.agent_core.specs.Faults.{cause_of, fault_after, IsRefusal, LeavesAll, ReopensWith}
 use Rattle.agent_core.specs.Kept.{StandsForHistory, StandsForOneOf}
 use Rattle.agent_core.specs.Rules.{beat_refusal, history_with, line_refusal}

@@ -27,7 +27,8 @@ use Rattle.agent_core.specs.declared.reply.Reply.{Reply}
 use Rattle.agent_core.specs.declared.reply.Said.{Said}
 use Rattle.agent_core.specs.declared.reply.Said.TheVariants.{Stored}
 use Rattle.agent_core.specs.Agent.{AgentIsReady, AgentState, IsAgentOf}
-use Rattle.agent_core.specs.Calls.{Beats, GivesAway, Lines, Seen}
+use Rattle.agent_core.specs.Calls.{Beats, GivesAway, Lines}
+use Rattle.host_model.specs.Seen.{Seen}
 use Rattle.agent_core.specs.Fed.{IsFed}
 use Rattle.agent_core.specs.Faults.{fault_after, RefusedBy}
 use Rattle.agent_core.specs.Kept.{StandsForOneOf}
@@ -66,8 +67,8 @@ beat-stored honest host host' agent agent' beat moment reply going did = record 
   stays = tt;
   id = did.id;
   ready = did.ready;
-  cause = record { later = did.cause.later; failed = λ e. absurd (never-disk (Stored reply) e) };
-  output = did.output;
+  cause = record { later = did.cause.later; failed = λ e. absurd (never-disk (Stored reply) e); stays = λ _. did.cause.stays (λ e. cc) };
+  only_here = did.only_here;
   tells = did.tells;
 }
 
@@ -90,8 +91,8 @@ module _ (honest : Type 0) (host : Seen) (agent : AgentState) (going : agent.fau
     stays = tt;
     id = refl;
     ready = ready;
-    cause = record { later = le_refl host.disk_faults; failed = λ e. absurd (never-disk (step_said agent.count step) e) };
-    output = λ true_host. refl;
+    cause = record { later = le_refl host.disk_faults; failed = λ e. absurd (never-disk (step_said agent.count step) e); stays = λ _. refl };
+    only_here = λ true_host. record { others = λ other far. refl; output = refl };
     tells = refl;
   }
 
@@ -210,7 +211,7 @@ module _ (honest : Type 0) (host host' : Seen) (agent agent' : AgentState) (feed
     id = took.id;
     ready = took.ready;
     cause = took.cause;
-    output = took.output;
+    only_here = took.only_here;
     tells = took.tells;
   }
 
@@ -248,8 +249,8 @@ module _ (honest : Type 0) (host : Seen) (agent : AgentState) (feed feed' : Feed
     stays = (refl, refl);
     id = refl;
     ready = ready;
-    cause = record { later = le_refl host.disk_faults; failed = λ e. absurd (no-disk (Reopen cause) (λ e. cc) e) };
-    output = λ true_host. refl;
+    cause = record { later = le_refl host.disk_faults; failed = λ e. absurd (no-disk (Reopen cause) (λ e. cc) e); stays = λ _. refl };
+    only_here = λ true_host. record { others = λ other far. refl; output = refl };
     tells = refl;
   }
 
@@ -273,8 +274,8 @@ module _ (honest : Type 0) (host : Seen) (agent : AgentState) (feed feed' : Feed
     stays = (refl, refl);
     id = refl;
     ready = ready;
-    cause = record { later = le_refl host.disk_faults; failed = λ e. absurd (no-disk (Refused fault) (λ e. cc) e) };
-    output = λ true_host. refl;
+    cause = record { later = le_refl host.disk_faults; failed = λ e. absurd (no-disk (Refused fault) (λ e. cc) e); stays = λ _. refl };
+    only_here = λ true_host. record { others = λ other far. refl; output = refl };
     tells = refl;
   }
 
@@ -307,8 +308,8 @@ module _ (honest : Type 0) (host : Seen) (agent : AgentState) (feed feed' : Feed
     stays = (refl, refl);
     id = refl;
     ready = λ now. absurd (none-some why.Memory (sym now));
-    cause = record { later = le_refl host.disk_faults; failed = λ e. absurd (no-disk Memory (λ e. cc) e) };
-    output = λ true_host. refl;
+    cause = record { later = le_refl host.disk_faults; failed = λ e. absurd (no-disk Memory (λ e. cc) e); stays = λ _. refl };
+    only_here = λ true_host. record { others = λ other far. refl; output = refl };
     tells = refl;
   }
 

@@ -1,15 +1,11 @@
 -- The limits of a registry that takes the definitions of a beat, and of the registry of a history.
-use Rattle.std.proofs.Common.{◌≡◌, ℕ, ◌+◌, ◌≤◌, ◌⊎◌, inl, inr, Bool, true, false, cond, not, ◌&&◌, nat_lt, List, [], ◌∷◌, length, Option, Some, None, is_some, refl, sym, ap, ◌∙◌, arith, if◌then◌else◌}
+use Rattle.std.proofs.Common.{◌≡◌, ℕ, ◌+◌, ◌≤◌, ◌⊎◌, inl, inr, Bool, true, false, ◌&&◌, ◌||◌, nat_lt, List, [], ◌∷◌, length, None, is_some, refl, sym, ap, ◌∙◌, arith, if◌then◌else◌}
 use Rattle.std.specs.List.{list_any, count_by}
 use Rattle.std.proofs.lemmas.Bool.{and_parts, ltb-false}
-use Rattle.std.proofs.lemmas.List.Sums.{sum_by-cons}
-use Rattle.std.proofs.lemmas.Option.{none-some}
 use Rattle.history.specs.declared.beat.OpenBeat.{OpenBeat}
 use Rattle.history.specs.declared.beat.OpenDim.{OpenDim}
-use Rattle.history.specs.declared.chart.ChartDef.{ChartDef}
 use Rattle.history.specs.declared.fault.BlockFault.TheVariants as fault
 use Rattle.history.specs.History.{Beat, collected, copied, health, missing, child, last, registry_of}
-use Rattle.history.specs.Put.{put_all}
 use Rattle.history.specs.Refusal.{is_new_chart, is_new_dimension, is_new_of}
 use Rattle.history.specs.Registry.{Registry, is_of, same_chart, same_dimension, with_definitions}
 use Rattle.chart_registry.proofs.Applying.{same_chart-alike}
@@ -18,35 +14,31 @@ use Rattle.chart_registry.proofs.RowsLemmas.{same_text}
 use Rattle.beat_points.specs.Text.{HasFew}
 use Rattle.chart_registry.proofs.Finding.{one_if}
 use Rattle.chart_registry.proofs.Growing.{same_dimension-alike}
-use Rattle.beat_points.proofs.FewLemmas.{count-put_all, few-closed, HaveFew}
+use Rattle.beat_points.proofs.FewLemmas.{count-cons, few-closed, HaveFew}
+use Rattle.beat_entries.proofs.Slots.{none-all}
+use Rattle.beat_points.proofs.RoomLemmas.{grids-kept, length-put_all, only-memory}
+use Rattle.chart_registry.specs.declared.fault.RegistryFault.{RegistryFault}
+use Rattle.chart_registry.specs.declared.fault.RegistryFault.TheVariants.{Memory}
+use Rattle.chart_registry.specs.Defining.{IsReasonOf}
+use Rattle.history.specs.Regular.{AreApart}
+use Rattle.beat_points.proofs.TextLemmas.{passed}
 use Rattle.store_core.specs.declared.beat.Beat.{Beat as StoreBeat}
 use Rattle.agent_core.specs.Kept.{AreBeatsOf}
-use Rattle.agent_core.specs.Rules.{beat_refusal, changes_grid, dimensions_with, fills_chart, is_too_long, lacks_chart, lacks_dimension, too_many_charts, too_many_dimensions, IsWithin}
-
--- ---- how long a list is that takes more
-pub count-cons : {A : Type 0} (p : A → Bool) (x : A) (xs : List A) → count_by p (x ∷ xs) ≡ one_if (p x) + count_by p xs
-count-cons p x xs = sum_by-cons (λ x. cond (p x) 1 0) x xs
-
-count-all : {A : Type 0} (xs : List A) → count_by (λ (x : A). true) xs ≡ length xs
-count-all [] = refl
-count-all {A} (x ∷ xs) = omega (arith, count-cons (λ (x : A). true) x xs, count-all xs)
-
--- at most the old and the new together
-length-put_all : {A : Type 0} (same : A → A → Bool) → ((z x y : A) → same x y ≡ true → same z x ≡ same z y) → (xs ys : List A)
-    → length (put_all same xs ys) ≤ length xs + count_by (λ (y : A). not (list_any (same y) xs)) ys
-length-put_all {A} same right xs ys =
-    let few : count_by (λ (x : A). true) (put_all same xs ys) ≤ count_by (λ (x : A). true) xs + count_by (λ (y : A). not (list_any (same y) xs)) ys
-    = count-put_all same (λ (x : A). true) (λ x y e. refl) right xs ys in
-    omega (arith, few, count-all (put_all same xs ys), count-all xs)
+use Rattle.agent_core.specs.Rules.{beat_refusal, changes_grid, changes_grid_of, dimensions_with, fills_chart, is_too_long, lacks_chart, lacks_dimension, too_many_charts, too_many_dimensions, IsWithin}
 
 -- ---- a registry with definitions that it has room for
-pub within-counts : (registry : Registry) (cs : List ChartDef) (ds : List OpenDim) → length registry.charts + count_by (is_new_chart registry) cs ≤ 4096
-    → length registry.dimensions + count_by (is_new_dimension registry) ds ≤ 65536 → HaveFew registry ds → IsWithin (with_definitions registry cs ds)
-within-counts registry cs ds charts dimensions few = record {
-  charts = omega (arith, length-put_all same_chart (λ z. same_chart-alike z.id) registry.charts cs, charts);
-  dimensions = omega (arith, length-put_all same_dimension (λ z. same_dimension-alike z.chart z.def.id) registry.dimensions ds, dimensions);
-  each = λ chart. omega (arith, few-closed registry ds chart, few chart);
-}
+pub few-charts : (registry : Registry) (beat : OpenBeat) → too_many_charts registry beat ≡ false → length (with_definitions registry beat.charts beat.dimensions).charts ≤ 4096
+few-charts registry beat room =
+    omega (arith, length-put_all same_chart (λ z. same_chart-alike z.id) registry.charts beat.charts, ltb-false 4096 (length registry.charts + count_by (is_new_chart registry) beat.charts) room)
+
+pub few-dimensions : (registry : Registry) (beat : OpenBeat) → too_many_dimensions registry beat ≡ false → length (with_definitions registry beat.charts beat.dimensions).dimensions ≤ 65536
+few-dimensions registry beat room =
+    let in_all = (or_false (nat_lt 65536 (length registry.dimensions + count_by (is_new_dimension registry) beat.dimensions)) (list_any (fills_chart registry beat) beat.dimensions || list_any is_too_long beat.rows) room).0 in
+    omega (
+      arith,
+      length-put_all same_dimension (λ z. same_dimension-alike z.chart z.def.id) registry.dimensions beat.dimensions,
+      ltb-false 65536 (length registry.dimensions + count_by (is_new_dimension registry) beat.dimensions) in_all,
+    )
 
 module _ (registry : Registry) (beat : OpenBeat) where
   -- a chart that takes a new dimension has room for all that it takes
@@ -73,19 +65,24 @@ module _ (registry : Registry) (beat : OpenBeat) where
       by (inl none) = omega (arith, none, few chart)
       by (inr room) = room
 
+  pub few-after : HasFew registry → too_many_dimensions registry beat ≡ false → HasFew (with_definitions registry beat.charts beat.dimensions)
+  few-after few dimensions chart =
+      let parts = or_false (nat_lt 65536 (length registry.dimensions + count_by (is_new_dimension registry) beat.dimensions)) _ dimensions in
+      let each = or_false (list_any (fills_chart registry beat) beat.dimensions) (list_any is_too_long beat.rows) parts.1 in
+      omega (arith, few-closed registry beat.dimensions chart, few-with few each.0 chart)
+
+  -- a beat that passes its tests is refused for memory alone
+  pub tested-memory : AreApart same_chart registry.charts → AreApart same_chart beat.charts → HasFew registry → changes_grid registry beat ≡ false → too_many_charts registry beat ≡ false → too_many_dimensions registry beat ≡ false
+      → (fault : RegistryFault) → IsReasonOf registry beat fault → fault ≡ Memory
+  tested-memory apart own few grids charts dimensions =
+      only-memory registry beat (grids-kept registry beat apart own (none-all (changes_grid_of registry) beat.charts grids)) (few-charts registry beat charts) (few-dimensions registry beat dimensions) (few-after few dimensions)
+
   -- the limits hold with a beat that passes its tests
   pub within-after : IsWithin registry → too_many_charts registry beat ≡ false → too_many_dimensions registry beat ≡ false → IsWithin (with_definitions registry beat.charts beat.dimensions)
   within-after within charts dimensions =
-      let parts = or_false (nat_lt 65536 (length registry.dimensions + count_by (is_new_dimension registry) beat.dimensions)) _ dimensions in
-      let each = or_false (list_any (fills_chart registry beat) beat.dimensions) (list_any is_too_long beat.rows) parts.1 in
-      within-counts registry beat.charts beat.dimensions (ltb-false 4096 (length registry.charts + count_by (is_new_chart registry) beat.charts) charts)
-      (ltb-false 65536 (length registry.dimensions + count_by (is_new_dimension registry) beat.dimensions) parts.0) (few-with within.each each.0)
+      record { charts = few-charts registry beat charts; dimensions = few-dimensions registry beat dimensions; each = few-after within.each dimensions }
 
 -- ---- a history
-pub passed : {A : Type 0} (b : Bool) (x : A) (rest : Option A) → (if b then Some x else rest) ≡ None → (b ≡ false) × (rest ≡ None)
-passed true x rest e = absurd (none-some x (sym e))
-passed false x rest e = (refl, e)
-
 pub room-for : (registry : Registry) (copies : Bool) (last moment : ℕ) (beat : OpenBeat) → beat_refusal registry copies last moment beat ≡ None
     → (too_many_charts registry beat ≡ false) × (too_many_dimensions registry beat ≡ false)
 unfolding beat_refusal

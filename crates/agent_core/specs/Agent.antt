@@ -14,6 +14,8 @@ use Rattle.store_core.specs.Store.{counted, IsReady, IsReplayed, IsStoreOf, Stor
 use Rattle.agent_core.specs.Kept.{AreBeatsOf, StandsForHistory}
 use Rattle.agent_core.specs.Notes.{left_of}
 use Rattle.agent_core.specs.Roles.{may_collect}
+use Rattle.beat_points.specs.Text.{HasFew}
+use Rattle.agent_core.specs.Rules.{HasGrids}
 
 pub record AgentState : Type 0 where
   pub store : StoreState
@@ -58,6 +60,8 @@ pub record Fits (honest : Type 0) (past : List Event) (agent : AgentState) : Typ
   pub same_last : agent.store.last ≡ agent.last
   pub charts : AreApart same_chart agent.registry.charts
   pub dimensions : AreApart same_dimension agent.registry.dimensions
+  pub grids : HasGrids agent.registry
+  pub each : HasFew agent.registry
 
 -- what a call of an agent requires of its host: it holds of an agent that was made or opened
 abbrev pub AgentIsReady : Type 0 → List Event → AgentState → Type 0

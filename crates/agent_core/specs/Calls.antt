@@ -1,10 +1,12 @@
 -- What each call of an agent promises.
 use Rattle.std.specs.Prelude.{◌≡◌, ◌⊎◌, ℕ, false, true, List, [], ◌∷◌, None, Result, IfOk, IfErr, IsErrOf, OnOk, OnErr}
 use Rattle.host_model.specs.declared.file.File.{File}
-use Rattle.host_model.specs.Past.{Event, told, IsDisk}
+use Rattle.host_model.specs.declared.file.File.TheVariants.{JournalA}
+use Rattle.host_model.specs.Past.{IsDisk}
 use Rattle.host_model.specs.Disks.{EveryDisk, reads_as}
 use Rattle.host_model.specs.Cause.{HasCause}
-use Rattle.host_model.specs.Moments.{Throughout}
+use Rattle.host_model.specs.Seen.{Seen}
+use Rattle.host_model.specs.Moments.{Throughout, OnlyOn}
 use Rattle.history.specs.declared.beat.OpenBeat.{OpenBeat}
 use Rattle.history.specs.declared.line.Line.{Line}
 use Rattle.history.specs.declared.line.Line.TheVariants.{Moment}
@@ -27,12 +29,6 @@ use Rattle.agent_core.specs.Kept.{StandsForHistory, StandsForNew, StandsForOneOf
 use Rattle.agent_core.specs.Notes.{HasNotes}
 use Rattle.agent_core.specs.Rules.{beat_refusal, count_with, history_with, last_with, line_refusal}
 use Rattle.agent_core.specs.Said.{said_of}
-
--- what is seen of a host
-pub record Seen : Type 0 where
-  pub past : List Event
-  pub disk_faults : ℕ
-  pub tell_faults : ℕ
 
 -- `beat` with this result left the host and the agent so
 pub record Beats (honest : Type 0) (host : Seen) (agent : AgentState) (beat : OpenBeat) (moment : ℕ) (result : Result Reply AgentFault) (host' : Seen) (agent' : AgentState) : Type 0 where
@@ -57,9 +53,10 @@ pub record Beats (honest : Type 0) (host : Seen) (agent : AgentState) (beat : Op
   pub id : id_of agent' ≡ id_of agent
   -- what a later call requires
   pub ready : AgentIsReady honest host'.past agent'
-  -- the disk fails only where the host counted a failure, and nothing is told
+  -- the disk fails exactly where the host counted a failure
   pub cause : HasCause host.disk_faults host'.disk_faults (IsErrOf result DiskFault)
-  pub output : honest → told host'.past ≡ told host.past
+  -- nothing happens to a file but the journal, and nothing is told
+  pub only_here : honest → OnlyOn JournalA host.past host'.past
   pub tells : host'.tell_faults ≡ host.tell_faults
 
 -- `create` with this result left the host so
@@ -76,9 +73,10 @@ pub record Creates (honest : Type 0) (host : Seen) (set : Settings) (result : Re
   pub made : honest → is_made (reads_as host.past) ≡ true → (IsErrOf result Exists ⊎ IsErrOf result DiskFault) × (host'.past ≡ host.past)
   pub memory : IsErrOf result Memory → honest → host'.past ≡ host.past
   pub faults : IfErr result IsCreating
-  -- the disk fails only where the host counted a failure, and nothing is told
+  -- the disk fails exactly where the host counted a failure
   pub cause : HasCause host.disk_faults host'.disk_faults (IsErrOf result DiskFault)
-  pub output : honest → told host'.past ≡ told host.past
+  -- nothing happens to a file but the journal, and nothing is told
+  pub only_here : honest → OnlyOn JournalA host.past host'.past
   pub tells : host'.tell_faults ≡ host.tell_faults
 
 -- `open` with this result left the host so
@@ -103,9 +101,10 @@ pub record Opens (honest : Type 0) (host : Seen) (result : Result AgentState Age
   -- where a note is no entry that goes on, or a point is of a series that is not there
   pub damaged_notes : IsErrOf result (Damaged 5) → honest → HasNotes false (reads_as host.past)
   pub faults : IfErr result IsOpening
-  -- the disk fails only where the host counted a failure, and nothing is told
+  -- the disk fails exactly where the host counted a failure
   pub cause : HasCause host.disk_faults host'.disk_faults (IsErrOf result DiskFault)
-  pub output : honest → told host'.past ≡ told host.past
+  -- nothing happens to a file but the journal, and nothing is told
+  pub only_here : honest → OnlyOn JournalA host.past host'.past
   pub tells : host'.tell_faults ≡ host.tell_faults
 
 -- the line is a MOMENT that may stand where it does, and the feed gave its beat away
@@ -145,7 +144,8 @@ pub record Lines (honest : Type 0) (host : Seen) (agent : AgentState) (feed : Fe
   pub id : id_of agent' ≡ id_of agent
   -- what a later call requires
   pub ready : AgentIsReady honest host'.past agent'
-  -- the disk fails only where the host counted a failure, and nothing is told
+  -- the disk fails exactly where the host counted a failure
   pub cause : HasCause host.disk_faults host'.disk_faults (IsErrOf result DiskFault)
-  pub output : honest → told host'.past ≡ told host.past
+  -- nothing happens to a file but the journal, and nothing is told
+  pub only_here : honest → OnlyOn JournalA host.past host'.past
   pub tells : host'.tell_faults ≡ host.tell_faults

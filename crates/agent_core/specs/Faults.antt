@@ -1,10 +1,23 @@
 -- What a fault of an agent leaves it as.
 use Rattle.std.specs.Prelude.{◌≡◌, ◌⊎◌, Option, Some, None, Result, Ok, Err}
 use Rattle.history.specs.declared.fault.BlockFault.{BlockFault}
+use Rattle.store_core.specs.declared.fault.StoreFault.{StoreFault}
+use Rattle.store_core.specs.declared.fault.StoreFault.TheVariants as store
 use Rattle.store_core.specs.declared.fault.Why.{Why}
 use Rattle.store_core.specs.declared.fault.Why.TheVariants as why
 use Rattle.agent_core.specs.declared.fault.AgentFault.{AgentFault}
 use Rattle.agent_core.specs.declared.fault.AgentFault.TheVariants.{Refused, DiskFault, NotADatabase, Damaged, Reopen, Exists, Memory}
+
+-- What a fault of its store is for an agent. A store that refuses a moment never comes to it, since an agent
+-- tests the moment before.
+abbrev pub fault_of : StoreFault → Option AgentFault
+fault_of store.DiskFault = Some DiskFault
+fault_of store.NotADatabase = Some NotADatabase
+fault_of (store.Damaged part) = Some (Damaged part)
+fault_of store.MomentOrder = None
+fault_of (store.Reopen cause) = Some (Reopen cause)
+fault_of store.Exists = Some Exists
+fault_of store.Memory = Some Memory
 
 -- the cause that a fault leaves
 abbrev pub cause_of : AgentFault → Option Why

@@ -13,23 +13,14 @@ use Rattle.entry_codec.specs.declared.entry.Entry.{Entry}
 use Rattle.entry_codec.specs.declared.entry.Entry.TheVariants as entry
 use Rattle.entry_codec.specs.declared.entry.Settings.{Settings}
 use Rattle.store_core.specs.declared.beat.Beat.{Beat as StoreBeat}
-use Rattle.store_core.specs.declared.fault.StoreFault.{StoreFault}
-use Rattle.store_core.specs.declared.fault.StoreFault.TheVariants as store
 use Rattle.store_core.specs.Records.{with_all}
 use Rattle.store_core.specs.Store.{IsReplayed, IsStoreAt, OpensAt, StoreState}
-use Rattle.agent_core.specs.declared.fault.AgentFault.{AgentFault}
-use Rattle.agent_core.specs.declared.fault.AgentFault.TheVariants.{DiskFault, NotADatabase, Damaged, Memory}
 use Rattle.agent_core.specs.declared.left.Left.{Left}
 use Rattle.agent_core.specs.Agent.{AgentState}
 use Rattle.agent_core.specs.Kept.{AreBeatsOf, IsBeatOf}
 use Rattle.agent_core.specs.Notes.{beats_go_on, left_by, left_of}
-
--- why an agent is not opened where its store is not
-abbrev pub fault_of : StoreFault → AgentFault
-fault_of store.DiskFault = DiskFault
-fault_of store.NotADatabase = NotADatabase
-fault_of (store.Damaged part) = Damaged part
-fault_of fault = Memory
+use Rattle.beat_points.specs.Text.{HasFew}
+use Rattle.agent_core.specs.Rules.{HasGrids}
 
 -- ---- the parts that an entry leaves
 
@@ -106,3 +97,5 @@ pub record HasReplayed (store : StoreState) (agent : AgentState) : Type 0 where
   pub going : agent.fault ≡ None
   pub charts : AreApart same_chart agent.registry.charts
   pub dimensions : AreApart same_dimension agent.registry.dimensions
+  pub grids : HasGrids agent.registry
+  pub each : HasFew agent.registry

@@ -123,6 +123,10 @@ last_with last line = last
 
 -- ---- what a history may have
 
+-- each chart has an update_every of 1 to 86,400 seconds
+abbrev pub HasGrids : Registry → Type 0
+HasGrids registry = All (λ (def : ChartDef). (0 < def.update_every) × (def.update_every ≤ 86400)) registry.charts
+
 -- no more charts and dimensions than there may be, in all and of a chart
 pub record IsWithin (registry : Registry) : Type 0 where
   pub charts : length registry.charts ≤ 4096

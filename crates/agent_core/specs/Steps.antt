@@ -1,9 +1,9 @@
 -- What an agent does with what a line led to, and what it promises of it.
 use Rattle.std.specs.Prelude.{◌≡◌, ℕ, Bool, List, ◌∷◌, Option, None, Result, IfOk, IfErr, IsErrOf, OnOk, OnErr}
-use Rattle.host_model.specs.Past.{told}
+use Rattle.host_model.specs.declared.file.File.TheVariants.{JournalA}
 use Rattle.host_model.specs.Disks.{EveryDisk}
 use Rattle.host_model.specs.Cause.{HasCause}
-use Rattle.host_model.specs.Moments.{Throughout}
+use Rattle.host_model.specs.Moments.{Throughout, OnlyOn}
 use Rattle.history.specs.declared.fault.BlockFault.{BlockFault}
 use Rattle.history.specs.History.{Beat, collected}
 use Rattle.history.specs.Registry.{Registry}
@@ -16,7 +16,7 @@ use Rattle.agent_core.specs.declared.fault.AgentFault.TheVariants.{DiskFault}
 use Rattle.agent_core.specs.declared.reply.Said.{Said}
 use Rattle.agent_core.specs.declared.reply.Said.TheVariants.{Nothing, Stored, Asked, Disabled}
 use Rattle.agent_core.specs.Agent.{id_of, AgentIsReady, AgentState, IsAgentOf}
-use Rattle.agent_core.specs.Calls.{Seen}
+use Rattle.host_model.specs.Seen.{Seen}
 use Rattle.agent_core.specs.Faults.{fault_after, LeavesAll, RefusedBy, Reopens}
 use Rattle.agent_core.specs.Kept.{StandsForOneOf}
 use Rattle.agent_core.specs.Rules.{beat_refusal, IsOpenBeat}
@@ -78,5 +78,6 @@ pub record Takes (honest : Type 0) (host : Seen) (agent : AgentState) (step : St
   pub id : id_of agent' ≡ id_of agent
   pub ready : AgentIsReady honest host'.past agent'
   pub cause : HasCause host.disk_faults host'.disk_faults (IsErrOf result DiskFault)
-  pub output : honest → told host'.past ≡ told host.past
+  -- nothing happens to a file but the journal, and nothing is told
+  pub only_here : honest → OnlyOn JournalA host.past host'.past
   pub tells : host'.tell_faults ≡ host.tell_faults

@@ -1,9 +1,10 @@
 ghost use Rattle.std.specs.Prelude.{◌≡◌, ◌⊎◌, ◌∷◌, [], ℕ, List, None, true, false, IfOk, IfErr, IsErrOf, OnOk, OnErr};
 ghost use Rattle.host_model.specs.declared.file.File.{File as AFile};
-ghost use Rattle.host_model.specs.Past.{told, Event, IsDisk};
+ghost use Rattle.host_model.specs.declared.file.File.TheVariants.{JournalA};
+ghost use Rattle.host_model.specs.Past.{Event, IsDisk};
 ghost use Rattle.host_model.specs.Disks.{EveryDisk, reads_as};
 ghost use Rattle.host_model.specs.Cause.{HasCause};
-ghost use Rattle.host_model.specs.Moments.{Throughout};
+ghost use Rattle.host_model.specs.Moments.{Throughout, OnlyOn};
 ghost use Rattle.history.specs.History.{Beat as HistoryBeat, collected};
 ghost use Rattle.history.specs.Limits.{keeps_limits};
 ghost use Rattle.entry_codec.specs.declared.entry.Settings.{Settings as ASettings};
@@ -20,7 +21,7 @@ ghost use Rattle.agent_core.specs.Replay.{HasReplayed, IsOpenedFor};
 ghost use Rattle.agent_core.specs.Rules.{beat_refusal, IsOpenBeat};
 ghost use Rattle.agent_core.specs.Steps.{IsOpenStep, Takes};
 
-use crate::fault::AgentFault;
+use crate::fault::{AgentFault, store_fault};
 use crate::keeping::add;
 use crate::left::{Left, Role};
 use crate::refusal::refusal;
@@ -34,7 +35,7 @@ use history::{BlockFault, Line, OpenBeat};
 use host_model::Host;
 use std::alloc::Global;
 use std::marker::Model;
-use store_core::{Store, StoreFault, Why};
+use store_core::{Store, Why};
 
 /// The agent of one history, with the host that its database is on. Each call on it is handed that host,
 /// which since the agent was made or opened only its calls, and `tell`, have touched.
@@ -91,28 +92,36 @@ impl Agent {
         settings: &Settings,
     ) -> Result<Agent, AgentFault>
         requires { InLimits settings.now }
-        ensures { Creates H.honest (record { past = H.past host.old; disk_faults = H.disk_faults host.old; tell_faults = H.tell_faults host.old })
-            settings.now result (record { past = H.past host.new; disk_faults = H.disk_faults host.new; tell_faults = H.tell_faults host.new }) }
+        ensures { Creates H.honest (H.seen host.old)
+            settings.now result (H.seen host.new) }
     {
         Agent::make(alloc, host, settings)
     }
 
     fn make<H: Host>(alloc: Global, host: &mut H, settings: &Settings) -> Result<Agent, AgentFault>
         requires { InLimits settings.now }
-        ensures any_moment { H.honest → EveryDisk (λ disk. is_made disk ≡ false) (H.past host.old)
-            → Throughout (EveryDisk (StandsForNew settings.now)) (H.past host.old) (H.past host.new) }
-        ensures created { IfOk result (λ agent. H.honest → IsAgentOf (H.past host.new) agent settings.now []) }
-        ensures ready { IfOk result (AgentIsReady H.honest (H.past host.new)) }
+        ensures any_moment { H.honest
+            → EveryDisk (λ disk. is_made disk ≡ false) (H.seen host.old).past
+            → Throughout (EveryDisk (StandsForNew settings.now)) (H.seen host.old).past
+            (H.seen host.new).past }
+        ensures created { IfOk result
+            (λ agent. H.honest → IsAgentOf (H.seen host.new).past agent settings.now []) }
+        ensures ready { IfOk result (AgentIsReady H.honest (H.seen host.new).past) }
         ensures new { IfOk result (IsNewAgent settings.now) }
-        ensures exists { IsErrOf result AgentFault.Exists → H.honest → is_made (reads_as (H.past host.old)) ≡ true }
-        ensures none { OnOk result (H.honest → is_made (reads_as (H.past host.old)) ≡ false) }
-        ensures made { H.honest → is_made (reads_as (H.past host.old)) ≡ true
-            → (IsErrOf result AgentFault.Exists ⊎ IsErrOf result AgentFault.DiskFault) × (H.past host.new ≡ H.past host.old) }
-        ensures memory { IsErrOf result AgentFault.Memory → H.honest → H.past host.new ≡ H.past host.old }
+        ensures exists { IsErrOf result AgentFault.Exists → H.honest
+            → is_made (reads_as (H.seen host.old).past) ≡ true }
+        ensures none { OnOk result (H.honest → is_made (reads_as (H.seen host.old).past) ≡ false) }
+        ensures made { H.honest → is_made (reads_as (H.seen host.old).past) ≡ true
+            → (IsErrOf result AgentFault.Exists ⊎ IsErrOf result AgentFault.DiskFault)
+            × ((H.seen host.new).past ≡ (H.seen host.old).past) }
+        ensures memory { IsErrOf result AgentFault.Memory → H.honest
+            → (H.seen host.new).past ≡ (H.seen host.old).past }
         ensures faults { IfErr result IsCreating }
-        ensures cause { HasCause (H.disk_faults host.old) (H.disk_faults host.new) (IsErrOf result AgentFault.DiskFault) }
-        ensures output { H.honest → told (H.past host.new) ≡ told (H.past host.old) }
-        ensures tells { H.tell_faults host.new ≡ H.tell_faults host.old }
+        ensures cause { HasCause (H.seen host.old).disk_faults (H.seen host.new).disk_faults
+            (IsErrOf result AgentFault.DiskFault) }
+        ensures only_here { H.honest
+            → OnlyOn JournalA (H.seen host.old).past (H.seen host.new).past }
+        ensures tells { (H.seen host.new).tell_faults ≡ (H.seen host.old).tell_faults }
     {
         match Store::create(alloc, host, settings) {
             Ok(store) => Ok(Agent {
@@ -125,13 +134,7 @@ impl Agent {
                 copies: false,
                 fault: None,
             }),
-            Err(StoreFault::DiskFault) => Err(AgentFault::DiskFault),
-            Err(StoreFault::Exists) => Err(AgentFault::Exists),
-            Err(StoreFault::Memory) => Err(AgentFault::Memory),
-            Err(StoreFault::NotADatabase) => Err(AgentFault::NotADatabase),
-            Err(StoreFault::Damaged(part)) => Err(AgentFault::Damaged(part)),
-            Err(StoreFault::Reopen(cause)) => Err(AgentFault::Reopen(cause)),
-            Err(StoreFault::MomentOrder) => Err(AgentFault::Memory),
+            Err(fault) => Err(store_fault(fault)),
         }
     }
 
@@ -146,32 +149,46 @@ impl Agent {
     /// At `Ok` the agent is of just the history that the disk stands for, if it stands for one. The disk is only
     /// read and synced.
     pub fn open<H: Host>(alloc: Global, host: &mut H) -> Result<Agent, AgentFault>
-        ensures { Opens H.honest (record { past = H.past host.old; disk_faults = H.disk_faults host.old; tell_faults = H.tell_faults host.old })
-            result (record { past = H.past host.new; disk_faults = H.disk_faults host.new; tell_faults = H.tell_faults host.new }) }
+        ensures { Opens H.honest (H.seen host.old)
+            result (H.seen host.new) }
     {
         Agent::load(alloc, host)
     }
 
     fn load<H: Host>(alloc: Global, host: &mut H) -> Result<Agent, AgentFault>
-        ensures opened { IfOk result (λ agent. H.honest → (set : ASettings) (h : List HistoryBeat) → StandsForHistory set h (reads_as (H.past host.old))
-            → IsAgentOf (H.past host.new) agent set h) }
-        ensures ready { IfOk result (AgentIsReady H.honest (H.past host.new)) }
+        ensures opened { IfOk result
+            (λ agent. H.honest → (set : ASettings) (h : List HistoryBeat)
+            → StandsForHistory set h (reads_as (H.seen host.old).past)
+            → IsAgentOf (H.seen host.new).past agent set h) }
+        ensures ready { IfOk result (AgentIsReady H.honest (H.seen host.new).past) }
         ensures going { IfOk result (λ agent. agent.fault ≡ None) }
-        ensures left { IfOk result (λ agent. H.honest → (set : ASettings) (beats : List StoreBeat) → Stands set beats (reads_as (H.past host.old)) → HasLeft beats agent) }
-        ensures any_moment { H.honest → Throughout (EveryDisk (IsDisk (H.past host.old))) (H.past host.old) (H.past host.new) }
-        ensures same { H.honest → (file : AFile) → reads_as (H.past host.new) file ≡ reads_as (H.past host.old) file }
-        ensures stands { H.honest → (set : ASettings) (h : List HistoryBeat) → StandsForHistory set h (reads_as (H.past host.old))
+        ensures left { IfOk result
+            (λ agent. H.honest → (set : ASettings) (beats : List StoreBeat)
+            → Stands set beats (reads_as (H.seen host.old).past) → HasLeft beats agent) }
+        ensures any_moment { H.honest
+            → Throughout (EveryDisk (IsDisk (H.seen host.old).past)) (H.seen host.old).past
+            (H.seen host.new).past }
+        ensures same { H.honest → (file : AFile)
+            → reads_as (H.seen host.new).past file ≡ reads_as (H.seen host.old).past file }
+        ensures stands { H.honest → (set : ASettings) (h : List HistoryBeat)
+            → StandsForHistory set h (reads_as (H.seen host.old).past)
             → IfErr result (λ fault. (fault ≡ AgentFault.DiskFault) ⊎ (fault ≡ AgentFault.Memory)) }
-        ensures none { IsErrOf result AgentFault.NotADatabase → H.honest → is_made (reads_as (H.past host.old)) ≡ false }
-        ensures some { OnOk result (H.honest → is_made (reads_as (H.past host.old)) ≡ true) }
-        ensures damaged { IsErrOf result (AgentFault.Damaged 4) → H.honest → IsDamaged (reads_as (H.past host.old)) }
-        ensures made { (part : ℕ) → IsErrOf result (AgentFault.Damaged part) → H.honest → is_made (reads_as (H.past host.old)) ≡ true }
-        ensures notes { OnOk result (H.honest → HasNotes true (reads_as (H.past host.old))) }
-        ensures damaged_notes { IsErrOf result (AgentFault.Damaged 5) → H.honest → HasNotes false (reads_as (H.past host.old)) }
+        ensures none { IsErrOf result AgentFault.NotADatabase → H.honest
+            → is_made (reads_as (H.seen host.old).past) ≡ false }
+        ensures some { OnOk result (H.honest → is_made (reads_as (H.seen host.old).past) ≡ true) }
+        ensures damaged { IsErrOf result (AgentFault.Damaged 4) → H.honest
+            → IsDamaged (reads_as (H.seen host.old).past) }
+        ensures made { (part : ℕ) → IsErrOf result (AgentFault.Damaged part) → H.honest
+            → is_made (reads_as (H.seen host.old).past) ≡ true }
+        ensures notes { OnOk result (H.honest → HasNotes true (reads_as (H.seen host.old).past)) }
+        ensures damaged_notes { IsErrOf result (AgentFault.Damaged 5) → H.honest
+            → HasNotes false (reads_as (H.seen host.old).past) }
         ensures faults { IfErr result IsOpening }
-        ensures cause { HasCause (H.disk_faults host.old) (H.disk_faults host.new) (IsErrOf result AgentFault.DiskFault) }
-        ensures output { H.honest → told (H.past host.new) ≡ told (H.past host.old) }
-        ensures tells { H.tell_faults host.new ≡ H.tell_faults host.old }
+        ensures cause { HasCause (H.seen host.old).disk_faults (H.seen host.new).disk_faults
+            (IsErrOf result AgentFault.DiskFault) }
+        ensures only_here { H.honest
+            → OnlyOn JournalA (H.seen host.old).past (H.seen host.new).past }
+        ensures tells { (H.seen host.new).tell_faults ≡ (H.seen host.old).tell_faults }
     {
         match open_store(alloc, host) {
             Ok(store) => Agent::replayed(alloc, store),
@@ -183,15 +200,25 @@ impl Agent {
     fn replayed(alloc: Global, mut store: Store) -> Result<Agent, AgentFault>
         requires going { store.fault ≡ None }
         ensures replayed { IfOk result (HasReplayed store) }
-        ensures of { IfOk result (λ agent. (past : List Event) (set : ASettings) (h : List HistoryBeat) → IsOpenedFor past store set h
+        ensures of { IfOk result (λ agent. (past : List Event) (set : ASettings)
+            (h : List HistoryBeat) → IsOpenedFor past store set h
             → IsAgentOf past agent set h) }
-        ensures stands { IfErr result (λ fault. (past : List Event) (set : ASettings) (h : List HistoryBeat) → IsOpenedFor past store set h
+        ensures stands { IfErr result
+            (λ fault. (past : List Event) (set : ASettings) (h : List HistoryBeat)
+            → IsOpenedFor past store set h
             → fault ≡ AgentFault.Memory) }
-        ensures left { IfOk result (λ agent. (past : List Event) (set : ASettings) (beats : List StoreBeat) → OpensAt past store set beats → HasLeft beats agent) }
-        ensures notes { OnOk result ((past : List Event) (set : ASettings) (beats : List StoreBeat) → OpensAt past store set beats → beats_go_on beats ≡ true) }
-        ensures broken { IfErr result (λ fault. fault ≡ AgentFault.Damaged 5 → (past : List Event) (set : ASettings) (beats : List StoreBeat)
+        ensures left { IfOk result
+            (λ agent. (past : List Event) (set : ASettings) (beats : List StoreBeat)
+            → OpensAt past store set beats → HasLeft beats agent) }
+        ensures notes { OnOk result
+            ((past : List Event) (set : ASettings) (beats : List StoreBeat)
+            → OpensAt past store set beats → beats_go_on beats ≡ true) }
+        ensures broken { IfErr result
+            (λ fault. fault ≡ AgentFault.Damaged 5
+            → (past : List Event) (set : ASettings) (beats : List StoreBeat)
             → OpensAt past store set beats → beats_go_on beats ≡ false) }
-        ensures faults { IfErr result (λ fault. (fault ≡ AgentFault.Memory) ⊎ (fault ≡ AgentFault.Damaged 5)) }
+        ensures faults { IfErr result
+            (λ fault. (fault ≡ AgentFault.Memory) ⊎ (fault ≡ AgentFault.Damaged 5)) }
     {
         let mut left = Left {
             registry: Registry::new(alloc),
@@ -226,11 +253,11 @@ impl Agent {
         feed: &mut Feed,
         line: &Line,
     ) -> Result<Said, AgentFault>
-        requires ready { AgentIsReady H.honest (H.past host.old) self.old }
+        requires ready { AgentIsReady H.honest (H.seen host.old).past self.old }
         requires fed { IsFed feed.old }
         requires limits { keeps_limits line.now ≡ true }
-        ensures { Lines H.honest (record { past = H.past host.old; disk_faults = H.disk_faults host.old; tell_faults = H.tell_faults host.old }) self.old feed.old
-            line.now result (record { past = H.past host.new; disk_faults = H.disk_faults host.new; tell_faults = H.tell_faults host.new }) self.new feed.new }
+        ensures { Lines H.honest (H.seen host.old) self.old feed.old
+            line.now result (H.seen host.new) self.new feed.new }
     {
         if let Some(earlier) = self.fault {
             return Err(AgentFault::Reopen(earlier));
@@ -254,11 +281,11 @@ impl Agent {
         feed: &mut Feed,
         line: Line,
     ) -> Result<Said, AgentFault>
-        requires ready { AgentIsReady H.honest (H.past host.old) self.old }
+        requires ready { AgentIsReady H.honest (H.seen host.old).past self.old }
         requires fed { IsFed feed.old }
         requires limits { keeps_limits line ≡ true }
-        ensures { Lines H.honest (record { past = H.past host.old; disk_faults = H.disk_faults host.old; tell_faults = H.tell_faults host.old }) self.old feed.old
-            line result (record { past = H.past host.new; disk_faults = H.disk_faults host.new; tell_faults = H.tell_faults host.new }) self.new feed.new }
+        ensures { Lines H.honest (H.seen host.old) self.old feed.old
+            line result (H.seen host.new) self.new feed.new }
     {
         if let Some(earlier) = self.fault {
             return Err(AgentFault::Reopen(earlier));
@@ -277,11 +304,11 @@ impl Agent {
 
     /// Does what a line led to.
     fn take_step<H: Host>(&mut self, host: &mut H, step: Step) -> Result<Said, AgentFault>
-        requires ready { AgentIsReady H.honest (H.past host.old) self.old }
+        requires ready { AgentIsReady H.honest (H.seen host.old).past self.old }
         requires going { self.old.fault ≡ None }
         requires is_open { IsOpenStep step }
-        ensures { Takes H.honest (record { past = H.past host.old; disk_faults = H.disk_faults host.old; tell_faults = H.tell_faults host.old }) self.old
-            step result (record { past = H.past host.new; disk_faults = H.disk_faults host.new; tell_faults = H.tell_faults host.new }) self.new }
+        ensures { Takes H.honest (H.seen host.old) self.old
+            step result (H.seen host.new) self.new }
     {
         match step {
             Step::Nothing => Ok(Said::Nothing),
@@ -304,10 +331,10 @@ impl Agent {
         beat: &OpenBeat,
         moment: u32,
     ) -> Result<Reply, AgentFault>
-        requires ready { AgentIsReady H.honest (H.past host.old) self.old }
+        requires ready { AgentIsReady H.honest (H.seen host.old).past self.old }
         requires is_open { IsOpenBeat beat.now }
-        ensures { Beats H.honest (record { past = H.past host.old; disk_faults = H.disk_faults host.old; tell_faults = H.tell_faults host.old }) self.old
-            beat.now moment result (record { past = H.past host.new; disk_faults = H.disk_faults host.new; tell_faults = H.tell_faults host.new }) self.new }
+        ensures { Beats H.honest (H.seen host.old) self.old
+            beat.now moment result (H.seen host.new) self.new }
     {
         self.store_beat(host, beat, moment)
     }
@@ -318,25 +345,36 @@ impl Agent {
         beat: &OpenBeat,
         moment: u32,
     ) -> Result<Reply, AgentFault>
-        requires ready { AgentIsReady H.honest (H.past host.old) self.old }
+        requires ready { AgentIsReady H.honest (H.seen host.old).past self.old }
         requires is_open { IsOpenBeat beat.now }
-        ensures any_moment { H.honest → (set : ASettings) (h : List HistoryBeat) → IsAgentOf (H.past host.old) self.old set h
-            → Throughout (EveryDisk (StandsForOneOf set h (beat_refusal self.old.registry self.old.copies self.old.last moment beat.now) (collected moment beat.now ∷ h))) (H.past host.old) (H.past host.new) }
-        ensures done { OnOk result (H.honest → (set : ASettings) (h : List HistoryBeat) → IsAgentOf (H.past host.old) self.old set h
-            → IsAgentOf (H.past host.new) self.new set (collected moment beat.now ∷ h)) }
+        ensures any_moment { H.honest → (set : ASettings) (h : List HistoryBeat)
+            → IsAgentOf (H.seen host.old).past self.old set h
+            → Throughout (EveryDisk (StandsForOneOf set h
+            (beat_refusal self.old.registry self.old.copies self.old.last moment beat.now)
+            (collected moment beat.now ∷ h))) (H.seen host.old).past (H.seen host.new).past }
+        ensures done { OnOk result
+            (H.honest → (set : ASettings) (h : List HistoryBeat)
+            → IsAgentOf (H.seen host.old).past self.old set h
+            → IsAgentOf (H.seen host.new).past self.new set (collected moment beat.now ∷ h)) }
         ensures number { IfOk result (λ reply. reply.count ≡ self.new.count) }
         ensures counts { OnOk result (self.new.count ≡ raised self.old.count) }
         ensures last { OnOk result (self.new.last ≡ moment) }
-        ensures refused { self.old.fault ≡ None → RefusedBy (beat_refusal self.old.registry self.old.copies self.old.last moment beat.now) result }
-        ensures unchanged { IfErr result (λ fault. LeavesAll fault → (self.new ≡ self.old) × (host.new ≡ host.old)) }
+        ensures refused { self.old.fault ≡ None
+            → RefusedBy
+            (beat_refusal self.old.registry self.old.copies self.old.last moment beat.now) result }
+        ensures unchanged { IfErr result
+            (λ fault. LeavesAll fault → (self.new ≡ self.old) × (host.new ≡ host.old)) }
         ensures fault { self.new.fault ≡ fault_after self.old.fault result }
         ensures reopens { Reopens self.old.fault result }
-        ensures stays { OnErr result ((self.new.count ≡ self.old.count) × (self.new.last ≡ self.old.last)) }
+        ensures stays { OnErr result
+            ((self.new.count ≡ self.old.count) × (self.new.last ≡ self.old.last)) }
         ensures id { id_of self.new ≡ id_of self.old }
-        ensures ready { AgentIsReady H.honest (H.past host.new) self.new }
-        ensures cause { HasCause (H.disk_faults host.old) (H.disk_faults host.new) (IsErrOf result AgentFault.DiskFault) }
-        ensures output { H.honest → told (H.past host.new) ≡ told (H.past host.old) }
-        ensures tells { H.tell_faults host.new ≡ H.tell_faults host.old }
+        ensures ready { AgentIsReady H.honest (H.seen host.new).past self.new }
+        ensures cause { HasCause (H.seen host.old).disk_faults (H.seen host.new).disk_faults
+            (IsErrOf result AgentFault.DiskFault) }
+        ensures only_here { H.honest
+            → OnlyOn JournalA (H.seen host.old).past (H.seen host.new).past }
+        ensures tells { (H.seen host.new).tell_faults ≡ (H.seen host.old).tell_faults }
     {
         if let Some(cause) = self.fault {
             return Err(AgentFault::Reopen(cause));

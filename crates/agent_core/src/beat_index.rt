@@ -70,7 +70,8 @@ impl BeatIndex {
 
     /// The update_every of a chart that the beat defines.
     pub(crate) fn update_every_of(&self, id: &str) -> Option<u32>
-        ensures { result ≡ option_map (λ def. def.update_every) (find (is_chart id.now) self.now.charts) }
+        ensures { result ≡ option_map (λ def. def.update_every)
+            (find (is_chart id.now) self.now.charts) }
     {
         self.charts.update_every_of(id)
     }

@@ -60,7 +60,8 @@ impl<'a> Definitions<'a> {
     }
 
     fn defined_update_every(&self, id: &str) -> Option<u32>
-        ensures { result ≡ option_map (λ def. def.update_every) (find (is_chart id.now) self.now.beat.now.charts) }
+        ensures { result ≡ option_map (λ def. def.update_every)
+            (find (is_chart id.now) self.now.beat.now.charts) }
     {
         match &self.index {
             Some(index) => index.update_every_of(id),
@@ -70,7 +71,8 @@ impl<'a> Definitions<'a> {
 
     /// The update_every of a chart as it is now: as the beat defines it, or as it is known.
     pub(crate) fn update_every_of(&self, id: &str) -> Option<u32>
-        ensures { result ≡ option_map (λ def. def.update_every) (chart_now self.now.registry.now self.now.beat.now id.now) }
+        ensures { result ≡ option_map (λ def. def.update_every)
+            (chart_now self.now.registry.now self.now.beat.now id.now) }
     {
         match self.defined_update_every(id) {
             Some(update_every) => Some(update_every),
@@ -96,7 +98,8 @@ impl<'a> Definitions<'a> {
 
     /// How many dimensions of the beat the registry does not have.
     pub(crate) fn new_dimensions(&self) -> usize
-        ensures { result ≡ count_by (is_new_dimension self.now.registry.now) self.now.beat.now.dimensions }
+        ensures { result ≡ count_by
+            (is_new_dimension self.now.registry.now) self.now.beat.now.dimensions }
     {
         match &self.index {
             Some(index) => index.fresh(),
@@ -106,7 +109,8 @@ impl<'a> Definitions<'a> {
 
     /// The same, of one chart.
     pub(crate) fn new_dimensions_of(&self, chart: &str) -> usize
-        ensures { result ≡ count_by (is_new_of self.now.registry.now chart.now) self.now.beat.now.dimensions }
+        ensures { result ≡ count_by
+            (is_new_of self.now.registry.now chart.now) self.now.beat.now.dimensions }
     {
         match &self.index {
             Some(index) => index.fresh_of(chart),

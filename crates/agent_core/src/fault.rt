@@ -1,3 +1,6 @@
+ghost use Rattle.std.specs.Prelude.{◌≡◌, Some, IsSome};
+ghost use Rattle.agent_core.specs.Faults.{fault_of};
+
 use history::BlockFault;
 use store_core::{StoreFault, Why};
 use thiserror::Error;
@@ -45,5 +48,21 @@ impl AgentFault {
             | AgentFault::Reopen(_)
             | AgentFault::Exists => None,
         }
+    }
+}
+
+/// What a fault of its store is for an agent. The store refuses no moment, since the agent tests it before.
+pub(crate) fn store_fault(fault: StoreFault) -> AgentFault
+    requires { IsSome (fault_of fault) }
+    ensures { fault_of fault ≡ Some result }
+{
+    match fault {
+        StoreFault::DiskFault => AgentFault::DiskFault,
+        StoreFault::NotADatabase => AgentFault::NotADatabase,
+        StoreFault::Damaged(part) => AgentFault::Damaged(part),
+        StoreFault::MomentOrder => unreachable!(),
+        StoreFault::Reopen(cause) => AgentFault::Reopen(cause),
+        StoreFault::Exists => AgentFault::Exists,
+        StoreFault::Memory => AgentFault::Memory,
     }
 }

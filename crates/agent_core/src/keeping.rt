@@ -1,10 +1,10 @@
 //! What a store keeps of a beat, and how it is added to a history.
 
-ghost use Rattle.std.specs.Prelude.{◌≡◌, ◌≤◌, ◌^◌, [], ◌∷◌, ◌⊎◌, ℕ, List, Some, None, false, length, All, IfOk, IfErr, OnOk, IsErrOf};
-ghost use Rattle.host_model.specs.Past.{told};
+ghost use Rattle.std.specs.Prelude.{◌≡◌, ◌<◌, ◌≤◌, ◌^◌, [], ◌∷◌, ◌⊎◌, ℕ, List, Some, None, true, false, length, All, IfOk, IfErr, IfSome, OnOk, IsErrOf};
+ghost use Rattle.host_model.specs.declared.file.File.TheVariants.{JournalA};
 ghost use Rattle.host_model.specs.Disks.{EveryDisk};
 ghost use Rattle.host_model.specs.Cause.{HasCause};
-ghost use Rattle.host_model.specs.Moments.{Throughout};
+ghost use Rattle.host_model.specs.Moments.{Throughout, OnlyOn};
 ghost use Rattle.history.specs.declared.beat.OpenBeat.{OpenBeat as AnOpenBeat};
 ghost use Rattle.history.specs.History.{Beat as HistoryBeat, collected};
 ghost use Rattle.history.specs.Registry.{same_chart, same_dimension, with_definitions};
@@ -14,7 +14,7 @@ ghost use Rattle.beat_entries.specs.Defined.{IsDefinedIn};
 ghost use Rattle.history.specs.Numbered.{numbered_beat, IsThere};
 ghost use Rattle.entry_codec.specs.declared.entry.Entry.TheVariants as entry;
 ghost use Rattle.entry_codec.specs.declared.entry.Settings.{Settings as ASettings};
-ghost use Rattle.entry_codec.specs.Entries.{entry_bytes, HasSpelling};
+ghost use Rattle.entry_codec.specs.Entries.{is_collected_canonical, HasSpelling, IsWithinLimits};
 ghost use Rattle.store_core.specs.declared.beat.Beat.{Beat as StoreBeat};
 ghost use Rattle.store_core.specs.Beats.{beat_bytes, InForm};
 ghost use Rattle.store_core.specs.Records.{last_after};
@@ -24,35 +24,26 @@ ghost use Rattle.agent_core.specs.Agent.{Holds};
 ghost use Rattle.agent_core.specs.Faults.{IsSpending};
 ghost use Rattle.agent_core.specs.Kept.{kept_of, Follows, StandsForHistory};
 ghost use Rattle.agent_core.specs.Replay.{HasRoom, HasTakenRows};
-ghost use Rattle.agent_core.specs.Rules.{lacks_chart, lacks_dimension, too_many_dimensions, IsOpenBeat};
+ghost use Rattle.chart_registry.specs.declared.fault.RegistryFault.TheVariants as registry_fault;
+ghost use Rattle.beat_points.specs.Text.{HasFew};
+ghost use Rattle.agent_core.specs.Rules.{changes_grid, lacks_chart, lacks_dimension, too_many_charts, too_many_dimensions, HasGrids, IsOpenBeat};
 
-use crate::fault::AgentFault;
+use crate::fault::{AgentFault, store_fault};
 use crate::points::stored_points;
 use beat_entries::number_beat;
 use beat_points::LastRows;
-use chart_registry::Registry;
+use chart_registry::{Registry, RegistryFault};
 use entry_codec::write_collected;
 use history::{NumberedBeat, OpenBeat};
 use host_model::Host;
 use std::alloc::{AllocError, Global};
-use store_core::{Beat, ByteList, Store, StoreFault};
+use store_core::{Beat, Store};
 
 /// What a store keeps of a beat, and the beat by number.
 #[derive(Drop)]
 struct Kept {
     beat: Beat,
     numbered: NumberedBeat,
-}
-
-/// The entry of a numbered beat, as bytes.
-fn note_of(alloc: Global, numbered: &NumberedBeat) -> Result<ByteList, AllocError>
-    ensures note { IfOk result (λ note. note ≡ entry_bytes (entry.Collected numbered.now)) }
-    ensures spelt { OnOk result (HasSpelling (entry.Collected numbered.now)) }
-{
-    match write_collected(alloc, numbered) {
-        Ok(note) => Ok(note),
-        Err(_) => Err(AllocError),
-    }
 }
 
 /// What a store keeps of a numbered beat, whose definitions the registry has.
@@ -63,34 +54,34 @@ fn stored_beat(
     numbered: &NumberedBeat,
 ) -> Result<Beat, AllocError>
     requires there { IsThere registry.now numbered.now }
-    ensures kept { IfOk result (λ kept. (h : List HistoryBeat) (opened : AnOpenBeat) → IsNext registry.now last_rows.now h numbered.now.moment opened
-        → numbered.now ≡ numbered_beat registry.now numbered.now.moment opened → kept ≡ kept_of h numbered.now.moment opened) }
+    requires canonical { is_collected_canonical numbered.now ≡ true }
+    requires limits { IsWithinLimits numbered.now }
+    requires numbered { (opened : AnOpenBeat)
+        × (numbered.now ≡ numbered_beat registry.now numbered.now.moment opened) }
+    requires later { 0 < numbered.now.moment }
+    requires charts { AreApart same_chart registry.now.charts }
+    requires grids { HasGrids registry.now }
+    requires few { length registry.now.dimensions ≤ 65536 }
+    ensures kept { IfOk result
+        (λ kept. (h : List HistoryBeat) (opened : AnOpenBeat)
+        → IsNext registry.now last_rows.now h numbered.now.moment opened
+        → numbered.now ≡ numbered_beat registry.now numbered.now.moment opened
+        → kept ≡ kept_of h numbered.now.moment opened) }
     ensures spelt { OnOk result (HasSpelling (entry.Collected numbered.now)) }
     ensures moment { IfOk result (λ kept. kept.moment ≡ Some numbered.now.moment) }
+    ensures form { IfOk result InForm }
+    ensures size { IfOk result (λ kept. length (beat_bytes kept) ≤ 2 ^ 26) }
 {
     let Ok(words) = last_rows.points(alloc, registry, numbered) else {
         return Err(AllocError);
     };
     let points = stored_points(alloc, registry, words.as_slice())?;
-    let note = note_of(alloc, numbered)?;
+    let note = write_collected(alloc, numbered)?;
     Ok(Beat {
         moment: Some(numbered.moment),
         points,
         note,
     })
-}
-
-/// The beat, if a record of a store can hold it. Each beat that an agent keeps is so.
-fn in_form(kept: Beat) -> Result<Beat, AllocError>
-    ensures same { IfOk result (λ beat. beat ≡ kept) }
-    ensures form { IfOk result InForm }
-    ensures size { IfOk result (λ beat. length (beat_bytes beat) ≤ 2 ^ 26) }
-{
-    if kept.is_in_form() && kept.fits_a_record() {
-        Ok(kept)
-    } else {
-        Err(AllocError)
-    }
 }
 
 /// What a store keeps of a beat, by number, once the registry has its definitions.
@@ -103,17 +94,37 @@ fn kept_of(
 ) -> Result<Kept, AllocError>
     requires regular { IsRegular registry.now beat.now }
     requires defined { IsDefinedIn registry.now beat.now }
-    ensures kept { IfOk result (λ kept. (h : List HistoryBeat) → IsNext registry.now last_rows.now h moment beat.now → kept.beat ≡ kept_of h moment beat.now) }
-    ensures numbered { IfOk result (λ kept. kept.numbered ≡ numbered_beat registry.now moment beat.now) }
+    requires later { 0 < moment }
+    requires limits { IsWithinLimits (numbered_beat registry.now moment beat.now) }
+    requires grids { HasGrids registry.now }
+    requires few { length registry.now.dimensions ≤ 65536 }
+    ensures kept { IfOk result
+        (λ kept. (h : List HistoryBeat) → IsNext registry.now last_rows.now h moment beat.now
+        → kept.beat ≡ kept_of h moment beat.now) }
+    ensures numbered { IfOk result
+        (λ kept. kept.numbered ≡ numbered_beat registry.now moment beat.now) }
     ensures there { IfOk result (λ kept. IsThere registry.now kept.numbered) }
-    ensures spelt { OnOk result (HasSpelling (entry.Collected (numbered_beat registry.now moment beat.now))) }
+    ensures spelt { OnOk result
+        (HasSpelling (entry.Collected (numbered_beat registry.now moment beat.now))) }
     ensures moment { IfOk result (λ kept. kept.beat.moment ≡ Some moment) }
     ensures form { IfOk result (λ kept. InForm kept.beat) }
     ensures size { IfOk result (λ kept. length (beat_bytes kept.beat) ≤ 2 ^ 26) }
 {
     let numbered = number_beat(alloc, registry, moment, beat)?;
-    let beat = in_form(stored_beat(alloc, registry, last_rows, &numbered)?)?;
+    let beat = stored_beat(alloc, registry, last_rows, &numbered)?;
     Ok(Kept { beat, numbered })
+}
+
+/// Why a registry did not take a beat that was tested before: there was no memory.
+fn untaken(fault: RegistryFault) -> AllocError
+    requires { fault ≡ registry_fault.Memory }
+{
+    match fault {
+        RegistryFault::Memory => AllocError,
+        RegistryFault::GridChanged
+        | RegistryFault::TooManyCharts
+        | RegistryFault::TooManyDimensions => unreachable!(),
+    }
 }
 
 /// What a store keeps of a beat, whose definitions the registry takes. After an `Err` it may have taken a
@@ -131,47 +142,64 @@ fn keep(
     requires has_charts { lacks_chart registry.old beat.now ≡ false }
     requires has_dimensions { lacks_dimension registry.old beat.now ≡ false }
     requires few { too_many_dimensions registry.old beat.now ≡ false }
-    ensures applied { OnOk result (registry.new ≡ with_definitions registry.old beat.now.charts beat.now.dimensions) }
-    ensures kept { IfOk result (λ kept. (h : List HistoryBeat) → IsNext registry.new last_rows.now h moment beat.now → kept.beat ≡ kept_of h moment beat.now) }
-    ensures numbered { IfOk result (λ kept. kept.numbered ≡ numbered_beat registry.new moment beat.now) }
+    requires few_charts { too_many_charts registry.old beat.now ≡ false }
+    requires kept_grids { changes_grid registry.old beat.now ≡ false }
+    requires grids { HasGrids registry.old }
+    requires each { HasFew registry.old }
+    requires later { 0 < moment }
+    ensures applied { OnOk result
+        (registry.new ≡ with_definitions registry.old beat.now.charts beat.now.dimensions) }
+    ensures kept { IfOk result
+        (λ kept. (h : List HistoryBeat) → IsNext registry.new last_rows.now h moment beat.now
+        → kept.beat ≡ kept_of h moment beat.now) }
+    ensures numbered { IfOk result
+        (λ kept. kept.numbered ≡ numbered_beat registry.new moment beat.now) }
     ensures there { IfOk result (λ kept. IsThere registry.new kept.numbered) }
-    ensures spelt { OnOk result (HasSpelling (entry.Collected (numbered_beat registry.new moment beat.now))) }
+    ensures spelt { OnOk result
+        (HasSpelling (entry.Collected (numbered_beat registry.new moment beat.now))) }
     ensures moment { IfOk result (λ kept. kept.beat.moment ≡ Some moment) }
     ensures form { IfOk result (λ kept. InForm kept.beat) }
     ensures size { IfOk result (λ kept. length (beat_bytes kept.beat) ≤ 2 ^ 26) }
     ensures regular { OnOk result (IsRegular registry.new beat.now) }
+    ensures grids { OnOk result (HasGrids registry.new) }
+    ensures each { OnOk result (HasFew registry.new) }
 {
     match registry.apply(beat) {
         Ok(()) => kept_of(alloc, registry, last_rows, beat, moment),
-        Err(_) => Err(AllocError),
+        Err(fault) => Err(untaken(fault)),
     }
 }
 
 /// Adds a beat to a store that is still of use.
 fn commit<H: Host>(store: &mut Store, host: &mut H, kept: &Beat) -> Result<(), AgentFault>
-    requires ready { IsReady H.honest (H.past host.old) store.old }
+    requires ready { IsReady H.honest (H.seen host.old).past store.old }
     requires replayed { IsReplayed store.old }
     requires going { store.old.fault ≡ None }
+    requires later { IfSome kept.now.moment (λ moment. store.old.last < moment) }
     requires form { InForm kept.now }
     requires size { length (beat_bytes kept.now) ≤ 2 ^ 26 }
-    ensures any_moment { H.honest → (set : ASettings) (beats : List StoreBeat) → IsStoreOf (H.past host.old) store.old set beats
-        → Throughout (EveryDisk (StandsAround set beats kept.now)) (H.past host.old) (H.past host.new) }
-    ensures stored { OnOk result (H.honest → (set : ASettings) (beats : List StoreBeat) → IsStoreOf (H.past host.old) store.old set beats
-        → IsStoreOf (H.past host.new) store.new set (kept.now ∷ beats)) }
-    ensures ready { IsReady H.honest (H.past host.new) store.new }
+    ensures any_moment { H.honest → (set : ASettings) (beats : List StoreBeat)
+        → IsStoreOf (H.seen host.old).past store.old set beats
+        → Throughout (EveryDisk (StandsAround set beats kept.now)) (H.seen host.old).past
+        (H.seen host.new).past }
+    ensures stored { OnOk result
+        (H.honest → (set : ASettings) (beats : List StoreBeat)
+        → IsStoreOf (H.seen host.old).past store.old set beats
+        → IsStoreOf (H.seen host.new).past store.new set (kept.now ∷ beats)) }
+    ensures ready { IsReady H.honest (H.seen host.new).past store.new }
     ensures replayed { IsReplayed store.new }
     ensures going { OnOk result (store.new.fault ≡ None) }
     ensures last { OnOk result (store.new.last ≡ last_after store.old.last kept.now.moment) }
     ensures settings { store.new.settings ≡ store.old.settings }
     ensures faults { IfErr result IsSpending }
-    ensures output { H.honest → told (H.past host.new) ≡ told (H.past host.old) }
-    ensures cause { HasCause (H.disk_faults host.old) (H.disk_faults host.new) (IsErrOf result AgentFault.DiskFault) }
-    ensures tells { H.tell_faults host.new ≡ H.tell_faults host.old }
+    ensures only_here { H.honest → OnlyOn JournalA (H.seen host.old).past (H.seen host.new).past }
+    ensures cause { HasCause (H.seen host.old).disk_faults (H.seen host.new).disk_faults
+        (IsErrOf result AgentFault.DiskFault) }
+    ensures tells { (H.seen host.new).tell_faults ≡ (H.seen host.old).tell_faults }
 {
     match store.commit(host, kept) {
         Ok(()) => Ok(()),
-        Err(StoreFault::DiskFault) => Err(AgentFault::DiskFault),
-        Err(_) => Err(AgentFault::Memory),
+        Err(fault) => Err(store_fault(fault)),
     }
 }
 
@@ -183,7 +211,8 @@ pub(crate) fn take_rows(
 ) -> Result<(), AgentFault>
     requires { IsThere registry.now beat.now }
     ensures taken { OnOk result (HasTakenRows registry.now last_rows.old last_rows.new beat.now) }
-    ensures room { OnOk result (beat.now.rows ≡ [] → HasRoom registry.now last_rows.old last_rows.new) }
+    ensures room { OnOk result
+        (beat.now.rows ≡ [] → HasRoom registry.now last_rows.old last_rows.new) }
     ensures memory { IfErr result (λ fault. fault ≡ AgentFault.Memory) }
 {
     match last_rows.apply(registry, beat) {
@@ -203,7 +232,7 @@ pub(crate) fn add<H: Host>(
     beat: &OpenBeat,
     moment: u32,
 ) -> Result<(), AgentFault>
-    requires ready { IsReady H.honest (H.past host.old) store.old }
+    requires ready { IsReady H.honest (H.seen host.old).past store.old }
     requires replayed { IsReplayed store.old }
     requires going { store.old.fault ≡ None }
     requires is_open { IsOpenBeat beat.now }
@@ -212,21 +241,37 @@ pub(crate) fn add<H: Host>(
     requires has_charts { lacks_chart registry.old beat.now ≡ false }
     requires has_dimensions { lacks_dimension registry.old beat.now ≡ false }
     requires few { too_many_dimensions registry.old beat.now ≡ false }
-    ensures any_moment { H.honest → (set : ASettings) (h : List HistoryBeat) → Holds (H.past host.old) store.old registry.old last_rows.old set h → Follows h moment beat.now
-        → Throughout (EveryDisk (λ disk. StandsForHistory set h disk ⊎ StandsForHistory set (collected moment beat.now ∷ h) disk)) (H.past host.old) (H.past host.new) }
-    ensures done { OnOk result (H.honest → (set : ASettings) (h : List HistoryBeat) → Holds (H.past host.old) store.old registry.old last_rows.old set h → Follows h moment beat.now
-        → Holds (H.past host.new) store.new registry.new last_rows.new set (collected moment beat.now ∷ h)) }
-    ensures ready { IsReady H.honest (H.past host.new) store.new }
+    requires few_charts { too_many_charts registry.old beat.now ≡ false }
+    requires kept_grids { changes_grid registry.old beat.now ≡ false }
+    requires grids { HasGrids registry.old }
+    requires each { HasFew registry.old }
+    requires later { store.old.last < moment }
+    ensures any_moment { H.honest → (set : ASettings) (h : List HistoryBeat)
+        → Holds (H.seen host.old).past store.old registry.old last_rows.old set h
+        → Follows h moment beat.now
+        → Throughout (EveryDisk (λ disk. StandsForHistory set h disk
+        ⊎ StandsForHistory set (collected moment beat.now ∷ h) disk)) (H.seen host.old).past
+        (H.seen host.new).past }
+    ensures done { OnOk result
+        (H.honest → (set : ASettings) (h : List HistoryBeat)
+        → Holds (H.seen host.old).past store.old registry.old last_rows.old set h
+        → Follows h moment beat.now
+        → Holds (H.seen host.new).past store.new registry.new last_rows.new set
+        (collected moment beat.now ∷ h)) }
+    ensures ready { IsReady H.honest (H.seen host.new).past store.new }
     ensures replayed { IsReplayed store.new }
     ensures going { OnOk result (store.new.fault ≡ None) }
     ensures last { OnOk result (store.new.last ≡ moment) }
     ensures charts { OnOk result (AreApart same_chart registry.new.charts) }
     ensures dimensions { OnOk result (AreApart same_dimension registry.new.dimensions) }
+    ensures grids { OnOk result (HasGrids registry.new) }
+    ensures each { OnOk result (HasFew registry.new) }
     ensures settings { store.new.settings ≡ store.old.settings }
     ensures faults { IfErr result IsSpending }
-    ensures output { H.honest → told (H.past host.new) ≡ told (H.past host.old) }
-    ensures cause { HasCause (H.disk_faults host.old) (H.disk_faults host.new) (IsErrOf result AgentFault.DiskFault) }
-    ensures tells { H.tell_faults host.new ≡ H.tell_faults host.old }
+    ensures only_here { H.honest → OnlyOn JournalA (H.seen host.old).past (H.seen host.new).past }
+    ensures cause { HasCause (H.seen host.old).disk_faults (H.seen host.new).disk_faults
+        (IsErrOf result AgentFault.DiskFault) }
+    ensures tells { (H.seen host.new).tell_faults ≡ (H.seen host.old).tell_faults }
 {
     let Ok(kept) = keep(alloc, registry, last_rows, beat, moment) else {
         return Err(AgentFault::Memory);

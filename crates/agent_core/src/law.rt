@@ -15,7 +15,8 @@ ghost use Rattle.agent_core.specs.declared.fault.AgentFault.{AgentFault};
 ghost use Rattle.agent_core.specs.declared.reply.Reply.{Reply};
 ghost use Rattle.agent_core.specs.declared.reply.Said.{Said};
 ghost use Rattle.agent_core.specs.Agent.{AgentState, IsSoundBy};
-ghost use Rattle.agent_core.specs.Calls.{Beats, Lines, Seen};
+ghost use Rattle.agent_core.specs.Calls.{Beats, Lines};
+ghost use Rattle.host_model.specs.Seen.{Seen};
 ghost use Rattle.agent_core.specs.Kept.{StandsForHistory};
 ghost use Rattle.agent_core.specs.Notes.{HasNotes};
 ghost use Rattle.agent_core.specs.Rules.{beat_refusal, line_refusal, IsWithin};
@@ -27,12 +28,17 @@ use host_model::Host;
 /// this update_every: the beat that a MOMENT closes is not refused once more, so that a line is refused just
 /// where it is refused for where it stands, and the history keeps within its limits. It does nothing.
 pub fn any_text()
-    ensures closed { (every : ℕ) (h : List Beat) (past : List Line) (moment : ℕ) → IsWithin (registry_of h)
+    ensures closed { (every : ℕ) (h : List Beat) (past : List Line) (moment : ℕ)
+        → IsWithin (registry_of h)
         → AreAccepted every h (Moment moment ∷ past)
-        → let now = history_at every h past in beat_refusal (registry_of now) (is_some (child now)) (last now) moment (open_beat every past) ≡ None }
-    ensures line { (every : ℕ) (h : List Beat) (past : List Line) (line : Line) → IsWithin (registry_of h) → AreAccepted every h past
-        → let now = history_at every h past in line_refusal (registry_of now) (is_some (child now)) (last now) every past line ≡ refusal_at every h past line }
-    ensures within { (every : ℕ) (h : List Beat) (past : List Line) → IsWithin (registry_of h) → AreAccepted every h past
+        → let now = history_at every h past in beat_refusal (registry_of now) (is_some (child now))
+        (last now) moment (open_beat every past) ≡ None }
+    ensures line { (every : ℕ) (h : List Beat) (past : List Line) (line : Line)
+        → IsWithin (registry_of h) → AreAccepted every h past
+        → let now = history_at every h past in line_refusal (registry_of now) (is_some (child now))
+        (last now) every past line ≡ refusal_at every h past line }
+    ensures within { (every : ℕ) (h : List Beat) (past : List Line) → IsWithin (registry_of h)
+        → AreAccepted every h past
         → IsWithin (registry_of (history_at every h past)) }
 {}
 
@@ -40,22 +46,29 @@ pub fn any_text()
 /// settings and beats, these are its only ones, so that its beats do not both go on and not, and the database
 /// is not one of no settings and beats. It does nothing.
 pub fn any_notes()
-    ensures history { (set : ASettings) (h : List Beat) (disk : AFile → List ℕ) → StandsForHistory set h disk → HasNotes true disk }
+    ensures history { (set : ASettings) (h : List Beat) (disk : AFile → List ℕ)
+        → StandsForHistory set h disk → HasNotes true disk }
     ensures once { (disk : AFile → List ℕ) → HasNotes true disk → HasNotes false disk → ⊥ }
-    ensures records { (goes : Bool) (disk : AFile → List ℕ) → HasNotes goes disk → IsDamaged disk → ⊥ }
-    ensures made { (goes : Bool) (disk : AFile → List ℕ) → HasNotes goes disk → is_made disk ≡ true }
+    ensures records { (goes : Bool) (disk : AFile → List ℕ) → HasNotes goes disk → IsDamaged disk
+        → ⊥ }
+    ensures made { (goes : Bool) (disk : AFile → List ℕ) → HasNotes goes disk
+        → is_made disk ≡ true }
 {}
 
 /// The laws of an agent on an honest host that is sound by a history: it is of that history, or it was before a
 /// call of it was refused for the disk or for memory. Each `beat` and each `line` keeps it so, by what these
 /// calls promise: at `Ok` by the history with the beat, and else by the same. They do nothing.
 pub fn any_call<H: Host>()
-    ensures beat { H.honest → (host host' : Seen) (agent agent' : AgentState) (beat : OpenBeat) (moment : ℕ) (result : Result Reply AgentFault) (set : ASettings) (h : List Beat)
-        → Beats H.honest host agent beat moment result host' agent' → IsSoundBy host.past agent set h
+    ensures beat { H.honest → (host host' : Seen) (agent agent' : AgentState) (beat : OpenBeat)
+        (moment : ℕ) (result : Result Reply AgentFault) (set : ASettings) (h : List Beat)
+        → Beats H.honest host agent beat moment result host' agent'
+        → IsSoundBy host.past agent set h
         → IsSoundBy host'.past agent' set (history_after result (collected moment beat) h) }
-    ensures line { H.honest → (host host' : Seen) (agent agent' : AgentState) (feed feed' : Feed) (line : Line) (result : Result Said AgentFault)
+    ensures line { H.honest → (host host' : Seen) (agent agent' : AgentState) (feed feed' : Feed)
+        (line : Line) (result : Result Said AgentFault)
         (set : ASettings) (h : List Beat) (every : ℕ) (past : List Line)
         → IsFeedOf feed every past → CountsAt line feed agent.registry
-        → Lines H.honest host agent feed line result host' agent' feed' → IsSoundBy host.past agent set h
+        → Lines H.honest host agent feed line result host' agent' feed'
+        → IsSoundBy host.past agent set h
         → IsSoundBy host'.past agent' set (history_by result every past line h) }
 {}

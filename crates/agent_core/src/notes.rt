@@ -13,6 +13,8 @@ ghost use Rattle.agent_core.specs.Kept.{AreBeatsOf, IsBeatOf};
 ghost use Rattle.agent_core.specs.Notes.{entry_goes_on, entry_in, moment_of, names_series, takes_note, with_entry, with_note};
 ghost use Rattle.agent_core.specs.Roles.{may_copy};
 ghost use Rattle.agent_core.specs.Replay.{ArePartsOf, HasRows};
+ghost use Rattle.beat_points.specs.Text.{HasFew};
+ghost use Rattle.agent_core.specs.Rules.{HasGrids};
 
 use crate::fault::AgentFault;
 use crate::keeping::take_rows;
@@ -42,8 +44,10 @@ fn entry_in(alloc: Global, kept: &Beat) -> Result<Entry, AgentFault>
     ensures found { IfOk result (λ entry. entry_in kept.now ≡ Some entry) }
 
     // It is damaged only where there is no such entry.
-    ensures refused { IfErr result (λ fault. fault ≡ AgentFault.Damaged 5 → entry_in kept.now ≡ None) }
-    ensures faults { IfErr result (λ fault. (fault ≡ AgentFault.Memory) ⊎ (fault ≡ AgentFault.Damaged 5)) }
+    ensures refused { IfErr result
+        (λ fault. fault ≡ AgentFault.Damaged 5 → entry_in kept.now ≡ None) }
+    ensures faults { IfErr result
+        (λ fault. (fault ≡ AgentFault.Memory) ⊎ (fault ≡ AgentFault.Damaged 5)) }
 {
     match read_entry(alloc, kept.note.as_slice()) {
         Ok(entry) => {
@@ -75,8 +79,10 @@ fn define_entry(registry: &mut Registry, entry: &NumberedBeat) -> Result<(), Age
     ensures defined { OnOk result (registry.new ≡ with_numbered registry.old entry.now) }
     ensures there { OnOk result (IsThere registry.new entry.now) }
     ensures next { OnOk result (goes_on registry.old entry.now ≡ true) }
-    ensures refused { IfErr result (λ fault. fault ≡ AgentFault.Damaged 5 → goes_on registry.old entry.now ≡ false) }
-    ensures faults { IfErr result (λ fault. (fault ≡ AgentFault.Memory) ⊎ (fault ≡ AgentFault.Damaged 5)) }
+    ensures refused { IfErr result
+        (λ fault. fault ≡ AgentFault.Damaged 5 → goes_on registry.old entry.now ≡ false) }
+    ensures faults { IfErr result
+        (λ fault. (fault ≡ AgentFault.Memory) ⊎ (fault ≡ AgentFault.Damaged 5)) }
 {
     match define(registry, entry) {
         Ok(()) => Ok(()),
@@ -93,10 +99,13 @@ fn define_copy(
 ) -> Result<NumberedBeat, AgentFault>
     ensures beat { IfOk result (λ beat. beat ≡ defined_by entry.now) }
     ensures there { IfOk result (IsThere registry.new) }
-    ensures defined { OnOk result (registry.new ≡ with_numbered registry.old (defined_by entry.now)) }
+    ensures defined { OnOk result
+        (registry.new ≡ with_numbered registry.old (defined_by entry.now)) }
     ensures next { OnOk result (copied_goes_on registry.old entry.now ≡ true) }
-    ensures refused { IfErr result (λ fault. fault ≡ AgentFault.Damaged 5 → copied_goes_on registry.old entry.now ≡ false) }
-    ensures faults { IfErr result (λ fault. (fault ≡ AgentFault.Memory) ⊎ (fault ≡ AgentFault.Damaged 5)) }
+    ensures refused { IfErr result
+        (λ fault. fault ≡ AgentFault.Damaged 5 → copied_goes_on registry.old entry.now ≡ false) }
+    ensures faults { IfErr result
+        (λ fault. (fault ≡ AgentFault.Memory) ⊎ (fault ≡ AgentFault.Damaged 5)) }
 {
     match define_copied(alloc, registry, entry) {
         Ok(beat) => Ok(beat),
@@ -111,10 +120,14 @@ fn take_collected(
     entry: &NumberedBeat,
 ) -> Result<(), AgentFault>
     ensures left { OnOk result (left.new ≡ with_entry left.old (Entry.Collected entry.now)) }
-    ensures rows { OnOk result (HasRows left.new.registry last_rows.old last_rows.new (Entry.Collected entry.now)) }
+    ensures rows { OnOk result
+        (HasRows left.new.registry last_rows.old last_rows.new (Entry.Collected entry.now)) }
     ensures next { OnOk result (entry_goes_on left.old (Entry.Collected entry.now) ≡ true) }
-    ensures broken { IfErr result (λ fault. fault ≡ AgentFault.Damaged 5 → entry_goes_on left.old (Entry.Collected entry.now) ≡ false) }
-    ensures faults { IfErr result (λ fault. (fault ≡ AgentFault.Memory) ⊎ (fault ≡ AgentFault.Damaged 5)) }
+    ensures broken { IfErr result
+        (λ fault. fault ≡ AgentFault.Damaged 5
+        → entry_goes_on left.old (Entry.Collected entry.now) ≡ false) }
+    ensures faults { IfErr result
+        (λ fault. (fault ≡ AgentFault.Memory) ⊎ (fault ≡ AgentFault.Damaged 5)) }
 {
     if !left.role.may_collect() {
         return Err(AgentFault::Damaged(5));
@@ -133,10 +146,14 @@ fn take_copied(
     entry: &Copied,
 ) -> Result<(), AgentFault>
     ensures left { OnOk result (left.new ≡ with_entry left.old (Entry.Copied entry.now)) }
-    ensures rows { OnOk result (HasRows left.new.registry last_rows.old last_rows.new (Entry.Copied entry.now)) }
+    ensures rows { OnOk result
+        (HasRows left.new.registry last_rows.old last_rows.new (Entry.Copied entry.now)) }
     ensures next { OnOk result (entry_goes_on left.old (Entry.Copied entry.now) ≡ true) }
-    ensures broken { IfErr result (λ fault. fault ≡ AgentFault.Damaged 5 → entry_goes_on left.old (Entry.Copied entry.now) ≡ false) }
-    ensures faults { IfErr result (λ fault. (fault ≡ AgentFault.Memory) ⊎ (fault ≡ AgentFault.Damaged 5)) }
+    ensures broken { IfErr result
+        (λ fault. fault ≡ AgentFault.Damaged 5
+        → entry_goes_on left.old (Entry.Copied entry.now) ≡ false) }
+    ensures faults { IfErr result
+        (λ fault. (fault ≡ AgentFault.Memory) ⊎ (fault ≡ AgentFault.Damaged 5)) }
 {
     if !left.role.may_copy() {
         return Err(AgentFault::Damaged(5));
@@ -149,9 +166,11 @@ fn take_copied(
 
 /// Takes a gap, where nothing was collected.
 fn take_gap(left: &mut Left) -> Result<(), AgentFault>
-    ensures left { OnOk result (left.new ≡ record { registry = left.old.registry; role = Role.Copies }) }
+    ensures left { OnOk result
+        (left.new ≡ record { registry = left.old.registry; role = Role.Copies }) }
     ensures next { OnOk result (may_copy left.old.role ≡ true) }
-    ensures broken { IfErr result (λ fault. fault ≡ AgentFault.Damaged 5 → may_copy left.old.role ≡ false) }
+    ensures broken { IfErr result
+        (λ fault. fault ≡ AgentFault.Damaged 5 → may_copy left.old.role ≡ false) }
     ensures faults { IfErr result (λ fault. fault ≡ AgentFault.Damaged 5) }
 {
     if left.role.may_copy() {
@@ -172,8 +191,10 @@ fn take_entry(
     ensures left { OnOk result (left.new ≡ with_entry left.old entry.now) }
     ensures rows { OnOk result (HasRows left.new.registry last_rows.old last_rows.new entry.now) }
     ensures next { OnOk result (entry_goes_on left.old entry.now ≡ true) }
-    ensures broken { IfErr result (λ fault. fault ≡ AgentFault.Damaged 5 → entry_goes_on left.old entry.now ≡ false) }
-    ensures faults { IfErr result (λ fault. (fault ≡ AgentFault.Memory) ⊎ (fault ≡ AgentFault.Damaged 5)) }
+    ensures broken { IfErr result
+        (λ fault. fault ≡ AgentFault.Damaged 5 → entry_goes_on left.old entry.now ≡ false) }
+    ensures faults { IfErr result
+        (λ fault. (fault ≡ AgentFault.Memory) ⊎ (fault ≡ AgentFault.Damaged 5)) }
 {
     match entry {
         Entry::Settings(_) => Err(AgentFault::Damaged(5)),
@@ -202,21 +223,31 @@ pub(crate) fn replay_beat(
 ) -> Result<(), AgentFault>
     requires charts { AreApart same_chart left.old.registry.charts }
     requires dimensions { AreApart same_dimension left.old.registry.dimensions }
-    ensures taken { OnOk result ((g : List HistoryBeat) (beats : List StoreBeat) (beat : HistoryBeat) → AreBeatsOf g beats → IsBeatOf g beat kept.now
+    requires grids { HasGrids left.old.registry }
+    requires each { HasFew left.old.registry }
+    ensures taken { OnOk result
+        ((g : List HistoryBeat) (beats : List StoreBeat) (beat : HistoryBeat) → AreBeatsOf g beats
+        → IsBeatOf g beat kept.now
         → ArePartsOf left.old last_rows.old g → ArePartsOf left.new last_rows.new (beat ∷ g)) }
 
     // Where the beat is kept for one that follows the history, only memory can be short.
-    ensures stands { IfErr result (λ fault. (g : List HistoryBeat) (beats : List StoreBeat) (beat : HistoryBeat) → AreBeatsOf g beats → IsBeatOf g beat kept.now
+    ensures stands { IfErr result
+        (λ fault. (g : List HistoryBeat) (beats : List StoreBeat) (beat : HistoryBeat)
+        → AreBeatsOf g beats → IsBeatOf g beat kept.now
         → ArePartsOf left.old last_rows.old g → fault ≡ AgentFault.Memory) }
 
     // Whatever beat it is: its note has an entry that goes on and its points are of series that are there then,
     // or it is damaged.
     ensures left { OnOk result (left.new ≡ with_note left.old kept.now) }
     ensures next { OnOk result (takes_note left.old kept.now ≡ true) }
-    ensures broken { IfErr result (λ fault. fault ≡ AgentFault.Damaged 5 → takes_note left.old kept.now ≡ false) }
+    ensures broken { IfErr result
+        (λ fault. fault ≡ AgentFault.Damaged 5 → takes_note left.old kept.now ≡ false) }
     ensures charts { OnOk result (AreApart same_chart left.new.registry.charts) }
     ensures dimensions { OnOk result (AreApart same_dimension left.new.registry.dimensions) }
-    ensures faults { IfErr result (λ fault. (fault ≡ AgentFault.Memory) ⊎ (fault ≡ AgentFault.Damaged 5)) }
+    ensures grids { OnOk result (HasGrids left.new.registry) }
+    ensures each { OnOk result (HasFew left.new.registry) }
+    ensures faults { IfErr result
+        (λ fault. (fault ≡ AgentFault.Memory) ⊎ (fault ≡ AgentFault.Damaged 5)) }
 {
     let entry = entry_in(alloc, kept)?;
     take_entry(alloc, left, last_rows, &entry)?;

@@ -1,6 +1,8 @@
 //! The points of a beat as a store keeps them.
 
 ghost use Rattle.std.specs.Prelude.{◌≡◌, map, IfOk};
+ghost use Rattle.std.specs.List.{AllByRecursion};
+ghost use Rattle.store_core.specs.Beats.{IsPoint};
 ghost use Rattle.agent_core.specs.Kept.{point_of, step_of};
 
 use beat_points::SeriesWord;
@@ -20,7 +22,8 @@ fn step_of(registry: &Registry, series: u32) -> u32
 }
 
 fn point_of(registry: &Registry, point: SeriesWord) -> BeatPoint
-    ensures { result ≡ point_of registry.now point }
+    ensures value { result ≡ point_of registry.now point }
+    ensures short { IsPoint result }
 {
     BeatPoint {
         series: point.series,
@@ -35,7 +38,8 @@ pub(crate) fn stored_points(
     registry: &Registry,
     words: &[SeriesWord],
 ) -> Result<BeatPointList, AllocError>
-    ensures { IfOk result (λ points. points ≡ map (point_of registry.now) words.now) }
+    ensures points { IfOk result (λ points. points ≡ map (point_of registry.now) words.now) }
+    ensures short { IfOk result (AllByRecursion IsPoint) }
 {
     let mut points = Vec::with_capacity(alloc, words.len())?;
     for word in words {

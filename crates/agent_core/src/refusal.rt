@@ -16,7 +16,9 @@ use history::{BlockFault, ChartDef, OpenBeat, OpenDim, OpenRow};
 use std::alloc::Global;
 
 fn rows_lack_chart(definitions: &Definitions) -> bool
-    ensures { result ≡ list_any (λ (row : ARow). not (has_chart definitions.now.registry.now definitions.now.beat.now row.chart)) definitions.now.beat.now.rows }
+    ensures { result ≡ list_any
+        (λ (row : ARow). not
+        (has_chart definitions.now.registry.now definitions.now.beat.now row.chart)) definitions.now.beat.now.rows }
 {
     let rows = definitions.beat.rows.as_slice();
     rows.iter()
@@ -24,7 +26,9 @@ fn rows_lack_chart(definitions: &Definitions) -> bool
 }
 
 fn dimensions_lack_chart(definitions: &Definitions) -> bool
-    ensures { result ≡ list_any (λ (dimension : ADim). not (has_chart definitions.now.registry.now definitions.now.beat.now dimension.chart)) definitions.now.beat.now.dimensions }
+    ensures { result ≡ list_any
+        (λ (dimension : ADim). not
+        (has_chart definitions.now.registry.now definitions.now.beat.now dimension.chart)) definitions.now.beat.now.dimensions }
 {
     let dimensions = definitions.beat.dimensions.as_slice();
     dimensions.iter().any(|dimension| !definitions.has_chart(dimension.chart.as_str()))
@@ -37,7 +41,8 @@ fn lacks_chart(definitions: &Definitions) -> bool
 }
 
 fn row_lacks_dimension(definitions: &Definitions, row: &OpenRow) -> bool
-    ensures { result ≡ row_lacks_dimension definitions.now.registry.now definitions.now.beat.now row.now }
+    ensures { result
+        ≡ row_lacks_dimension definitions.now.registry.now definitions.now.beat.now row.now }
 {
     row.values.as_slice().iter().any(|value| {
         !definitions.has_dimension(row.chart.as_str(), value.id.as_str())
@@ -79,7 +84,8 @@ fn too_many_charts(registry: &Registry, beat: &OpenBeat) -> bool
 }
 
 fn fills_chart(definitions: &Definitions, dimension: &OpenDim) -> bool
-    ensures { result ≡ fills_chart definitions.now.registry.now definitions.now.beat.now dimension.now }
+    ensures { result
+        ≡ fills_chart definitions.now.registry.now definitions.now.beat.now dimension.now }
 {
     let chart = dimension.chart.as_str();
     let known = known_dimensions_of(definitions.registry, chart);
@@ -90,7 +96,8 @@ fn fills_chart(definitions: &Definitions, dimension: &OpenDim) -> bool
 }
 
 fn fill_a_chart(definitions: &Definitions) -> bool
-    ensures { result ≡ list_any (fills_chart definitions.now.registry.now definitions.now.beat.now) definitions.now.beat.now.dimensions }
+    ensures { result ≡ list_any
+        (fills_chart definitions.now.registry.now definitions.now.beat.now) definitions.now.beat.now.dimensions }
 {
     let dimensions = definitions.beat.dimensions.as_slice();
     dimensions
@@ -99,7 +106,9 @@ fn fill_a_chart(definitions: &Definitions) -> bool
 }
 
 fn fill_the_registry(definitions: &Definitions) -> bool
-    ensures { result ≡ nat_lt 65536 (length definitions.now.registry.now.dimensions + count_by (is_new_dimension definitions.now.registry.now) definitions.now.beat.now.dimensions) }
+    ensures { result ≡ nat_lt 65536
+        (length definitions.now.registry.now.dimensions + count_by
+        (is_new_dimension definitions.now.registry.now) definitions.now.beat.now.dimensions) }
 {
     let room = (MOST_DIMENSIONS - definitions.registry.dimensions()) as usize;
     definitions.beat.dimensions.len() > room && definitions.new_dimensions() > room
@@ -129,7 +138,8 @@ fn is_off_grid(definitions: &Definitions, moment: u32) -> bool
 
 // Why what a beat defines and sets may not come to its registry, if it may not.
 fn content_refusal(definitions: &Definitions, moment: u32) -> Option<BlockFault>
-    ensures { result ≡ content_refusal definitions.now.registry.now moment definitions.now.beat.now }
+    ensures { result
+        ≡ content_refusal definitions.now.registry.now moment definitions.now.beat.now }
 {
     if lacks_chart(definitions) {
         Some(BlockFault::NoChart)

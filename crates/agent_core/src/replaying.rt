@@ -2,10 +2,11 @@
 
 ghost use Rattle.std.specs.Prelude.{◌≡◌, ◌⊎◌, ◌<◌, ℕ, List, true, false, length, IfOk, IfErr, IsErrOf, OnOk};
 ghost use Rattle.host_model.specs.declared.file.File.{File as AFile};
-ghost use Rattle.host_model.specs.Past.{told, Event, IsDisk};
+ghost use Rattle.host_model.specs.declared.file.File.TheVariants.{JournalA};
+ghost use Rattle.host_model.specs.Past.{Event, IsDisk};
 ghost use Rattle.host_model.specs.Disks.{EveryDisk, reads_as};
 ghost use Rattle.host_model.specs.Cause.{HasCause};
-ghost use Rattle.host_model.specs.Moments.{Throughout};
+ghost use Rattle.host_model.specs.Moments.{Throughout, OnlyOn};
 ghost use Rattle.history.specs.History.{Beat as HistoryBeat};
 ghost use Rattle.history.specs.Registry.{same_chart, same_dimension};
 ghost use Rattle.history.specs.Regular.{AreApart};
@@ -15,62 +16,63 @@ ghost use Rattle.store_core.specs.Stands.{is_made, IsDamaged, Stands};
 ghost use Rattle.store_core.specs.Store.{IsReady, IsReplayed, IsStoreAt, OpensAt, Replays, TakesFirst};
 ghost use Rattle.agent_core.specs.Faults.{IsOpening};
 ghost use Rattle.agent_core.specs.Notes.{beats_go_on};
-ghost use Rattle.agent_core.specs.Replay.{fault_of, HasTaken, IsReplaying};
+ghost use Rattle.agent_core.specs.Replay.{HasTaken, IsReplaying};
+ghost use Rattle.beat_points.specs.Text.{HasFew};
+ghost use Rattle.agent_core.specs.Rules.{HasGrids};
 
-use crate::fault::AgentFault;
+use crate::fault::{AgentFault, store_fault};
 use crate::left::Left;
 use crate::notes::replay_beat;
 use beat_points::LastRows;
 use host_model::Host;
 use std::alloc::Global;
-use store_core::{Beat, Store, StoreFault};
-
-/// Why an agent was not opened where its store was not.
-fn opening_fault(fault: StoreFault) -> AgentFault
-    ensures { result ≡ fault_of fault }
-{
-    match fault {
-        StoreFault::DiskFault => AgentFault::DiskFault,
-        StoreFault::NotADatabase => AgentFault::NotADatabase,
-        StoreFault::Damaged(part) => AgentFault::Damaged(part),
-        StoreFault::Exists | StoreFault::MomentOrder | StoreFault::Reopen(_) | StoreFault::Memory =>
-            AgentFault::Memory,
-    }
-}
+use store_core::{Beat, Store};
 
 /// Opens the store of an agent, none of whose beats is replayed yet.
 pub(crate) fn open_store<H: Host>(alloc: Global, host: &mut H) -> Result<Store, AgentFault>
     ensures opened { IfOk result (λ store. H.honest → (set : ASettings) (beats : List StoreBeat)
-        → Stands set beats (reads_as (H.past host.old)) → OpensAt (H.past host.new) store set beats) }
-    ensures ready { IfOk result (IsReady H.honest (H.past host.new)) }
+        → Stands set beats (reads_as (H.seen host.old).past)
+        → OpensAt (H.seen host.new).past store set beats) }
+    ensures ready { IfOk result (IsReady H.honest (H.seen host.new).past) }
     ensures going { IfOk result (λ store. store.fault ≡ None) }
-    ensures any_moment { H.honest → Throughout (EveryDisk (IsDisk (H.past host.old))) (H.past host.old) (H.past host.new) }
-    ensures same { H.honest → (file : AFile) → reads_as (H.past host.new) file ≡ reads_as (H.past host.old) file }
-    ensures stands { H.honest → (set : ASettings) (beats : List StoreBeat) → Stands set beats (reads_as (H.past host.old))
+    ensures any_moment { H.honest
+        → Throughout (EveryDisk (IsDisk (H.seen host.old).past)) (H.seen host.old).past
+        (H.seen host.new).past }
+    ensures same { H.honest → (file : AFile)
+        → reads_as (H.seen host.new).past file ≡ reads_as (H.seen host.old).past file }
+    ensures stands { H.honest → (set : ASettings) (beats : List StoreBeat)
+        → Stands set beats (reads_as (H.seen host.old).past)
         → IfErr result (λ fault. (fault ≡ AgentFault.DiskFault) ⊎ (fault ≡ AgentFault.Memory)) }
-    ensures none { IsErrOf result AgentFault.NotADatabase → H.honest → is_made (reads_as (H.past host.old)) ≡ false }
-    ensures some { OnOk result (H.honest → is_made (reads_as (H.past host.old)) ≡ true) }
-    ensures damaged { IsErrOf result (AgentFault.Damaged 4) → H.honest → IsDamaged (reads_as (H.past host.old)) }
-    ensures made { (part : ℕ) → IsErrOf result (AgentFault.Damaged part) → H.honest → is_made (reads_as (H.past host.old)) ≡ true }
-    ensures found { OnOk result (H.honest → (set : ASettings) × (beats : List StoreBeat) × Stands set beats (reads_as (H.past host.old))) }
+    ensures none { IsErrOf result AgentFault.NotADatabase → H.honest
+        → is_made (reads_as (H.seen host.old).past) ≡ false }
+    ensures some { OnOk result (H.honest → is_made (reads_as (H.seen host.old).past) ≡ true) }
+    ensures damaged { IsErrOf result (AgentFault.Damaged 4) → H.honest
+        → IsDamaged (reads_as (H.seen host.old).past) }
+    ensures made { (part : ℕ) → IsErrOf result (AgentFault.Damaged part) → H.honest
+        → is_made (reads_as (H.seen host.old).past) ≡ true }
+    ensures found { OnOk result
+        (H.honest → (set : ASettings) × (beats : List StoreBeat)
+        × Stands set beats (reads_as (H.seen host.old).past)) }
 
     // No note is read yet.
     ensures notes { IsErrOf result (AgentFault.Damaged 5) → ⊥ }
     ensures faults { IfErr result IsOpening }
-    ensures cause { HasCause (H.disk_faults host.old) (H.disk_faults host.new) (IsErrOf result AgentFault.DiskFault) }
-    ensures output { H.honest → told (H.past host.new) ≡ told (H.past host.old) }
-    ensures tells { H.tell_faults host.new ≡ H.tell_faults host.old }
+    ensures cause { HasCause (H.seen host.old).disk_faults (H.seen host.new).disk_faults
+        (IsErrOf result AgentFault.DiskFault) }
+    ensures only_here { H.honest → OnlyOn JournalA (H.seen host.old).past (H.seen host.new).past }
+    ensures tells { (H.seen host.new).tell_faults ≡ (H.seen host.old).tell_faults }
 {
     match Store::open(alloc, host) {
         Ok(store) => Ok(store),
-        Err(fault) => Err(opening_fault(fault)),
+        Err(fault) => Err(store_fault(fault)),
     }
 }
 
 /// Gives the next beat that a store has to replay.
 fn next_beat(store: &mut Store) -> Result<Option<Beat>, AgentFault>
     requires going { store.old.fault ≡ None }
-    ensures next { (past : List Event) (set : ASettings) (beats rest : List StoreBeat) → IsStoreAt past store.old set beats rest
+    ensures next { (past : List Event) (set : ASettings) (beats rest : List StoreBeat)
+        → IsStoreAt past store.old set beats rest
         → IfOk result (Replays past store.new set beats rest) }
 
     // The same, of a store that is of no beats.
@@ -81,7 +83,7 @@ fn next_beat(store: &mut Store) -> Result<Option<Beat>, AgentFault>
 {
     match store.replay() {
         Ok(next) => Ok(next),
-        Err(_) => Err(AgentFault::Memory),
+        Err(fault) => Err(store_fault(fault)),
     }
 }
 
@@ -95,27 +97,40 @@ fn replay_next(
     requires going { store.old.fault ≡ None }
     requires charts { AreApart same_chart left.old.registry.charts }
     requires dimensions { AreApart same_dimension left.old.registry.dimensions }
-    ensures replaying { OnOk result ((past : List Event) (set : ASettings) (h : List HistoryBeat) → IsReplaying past store.old left.old last_rows.old set h
+    requires grids { HasGrids left.old.registry }
+    requires each { HasFew left.old.registry }
+    ensures replaying { OnOk result
+        ((past : List Event) (set : ASettings) (h : List HistoryBeat)
+        → IsReplaying past store.old left.old last_rows.old set h
         → IsReplaying past store.new left.new last_rows.new set h) }
 
     // Where the store is that of a history, only memory can be short.
-    ensures stands { IfErr result (λ fault. (past : List Event) (set : ASettings) (h : List HistoryBeat)
+    ensures stands { IfErr result
+        (λ fault. (past : List Event) (set : ASettings) (h : List HistoryBeat)
         → IsReplaying past store.old left.old last_rows.old set h → fault ≡ AgentFault.Memory) }
 
     // Whatever beats the store keeps: they go on so far, and where one does not, it is damaged.
-    ensures notes { OnOk result ((past : List Event) (set : ASettings) (beats : List StoreBeat) → HasTaken past store.old left.old set beats
+    ensures notes { OnOk result
+        ((past : List Event) (set : ASettings) (beats : List StoreBeat)
+        → HasTaken past store.old left.old set beats
         → HasTaken past store.new left.new set beats) }
-    ensures broken { IfErr result (λ fault. fault ≡ AgentFault.Damaged 5 → (past : List Event) (set : ASettings) (beats : List StoreBeat)
+    ensures broken { IfErr result
+        (λ fault. fault ≡ AgentFault.Damaged 5
+        → (past : List Event) (set : ASettings) (beats : List StoreBeat)
         → HasTaken past store.old left.old set beats → beats_go_on beats ≡ false) }
 
     // The beats that wait become fewer, until there are none.
-    ensures smaller { IfOk result (λ went. went ≡ true → length store.new.waiting < length store.old.waiting) }
+    ensures smaller { IfOk result
+        (λ went. went ≡ true → length store.new.waiting < length store.old.waiting) }
     ensures done { IfOk result (λ went. went ≡ false → IsReplayed store.new) }
     ensures going { OnOk result (store.new.fault ≡ None) }
     ensures journal { store.new.journal ≡ store.old.journal }
     ensures charts { OnOk result (AreApart same_chart left.new.registry.charts) }
     ensures dimensions { OnOk result (AreApart same_dimension left.new.registry.dimensions) }
-    ensures faults { IfErr result (λ fault. (fault ≡ AgentFault.Memory) ⊎ (fault ≡ AgentFault.Damaged 5)) }
+    ensures grids { OnOk result (HasGrids left.new.registry) }
+    ensures each { OnOk result (HasFew left.new.registry) }
+    ensures faults { IfErr result
+        (λ fault. (fault ≡ AgentFault.Memory) ⊎ (fault ≡ AgentFault.Damaged 5)) }
 {
     match next_beat(store)? {
         Some(kept) => {
@@ -136,17 +151,26 @@ pub(crate) fn replay_all(
     requires going { store.old.fault ≡ None }
     requires charts { AreApart same_chart left.old.registry.charts }
     requires dimensions { AreApart same_dimension left.old.registry.dimensions }
-    ensures replaying { OnOk result ((past : List Event) (set : ASettings) (h : List HistoryBeat) → IsReplaying past store.old left.old last_rows.old set h
+    requires grids { HasGrids left.old.registry }
+    requires each { HasFew left.old.registry }
+    ensures replaying { OnOk result
+        ((past : List Event) (set : ASettings) (h : List HistoryBeat)
+        → IsReplaying past store.old left.old last_rows.old set h
         → IsReplaying past store.new left.new last_rows.new set h) }
 
     // Where the store is that of a history, only memory can be short.
-    ensures stands { IfErr result (λ fault. (past : List Event) (set : ASettings) (h : List HistoryBeat)
+    ensures stands { IfErr result
+        (λ fault. (past : List Event) (set : ASettings) (h : List HistoryBeat)
         → IsReplaying past store.old left.old last_rows.old set h → fault ≡ AgentFault.Memory) }
 
     // Whatever beats the store keeps: they go on so far, and where one does not, it is damaged.
-    ensures notes { OnOk result ((past : List Event) (set : ASettings) (beats : List StoreBeat) → HasTaken past store.old left.old set beats
+    ensures notes { OnOk result
+        ((past : List Event) (set : ASettings) (beats : List StoreBeat)
+        → HasTaken past store.old left.old set beats
         → HasTaken past store.new left.new set beats) }
-    ensures broken { IfErr result (λ fault. fault ≡ AgentFault.Damaged 5 → (past : List Event) (set : ASettings) (beats : List StoreBeat)
+    ensures broken { IfErr result
+        (λ fault. fault ≡ AgentFault.Damaged 5
+        → (past : List Event) (set : ASettings) (beats : List StoreBeat)
         → HasTaken past store.old left.old set beats → beats_go_on beats ≡ false) }
 
     // What holds of any store.
@@ -155,7 +179,10 @@ pub(crate) fn replay_all(
     ensures journal { store.new.journal ≡ store.old.journal }
     ensures charts { OnOk result (AreApart same_chart left.new.registry.charts) }
     ensures dimensions { OnOk result (AreApart same_dimension left.new.registry.dimensions) }
-    ensures faults { IfErr result (λ fault. (fault ≡ AgentFault.Memory) ⊎ (fault ≡ AgentFault.Damaged 5)) }
+    ensures grids { OnOk result (HasGrids left.new.registry) }
+    ensures each { OnOk result (HasFew left.new.registry) }
+    ensures faults { IfErr result
+        (λ fault. (fault ≡ AgentFault.Memory) ⊎ (fault ≡ AgentFault.Damaged 5)) }
 {
     while replay_next(alloc, store, left, last_rows)? {}
     Ok(())

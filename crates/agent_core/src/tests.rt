@@ -116,10 +116,10 @@ fn take<H: Host>(
     host: &mut H,
     line: Result<Line, AllocError>,
 ) -> Result<Said, AgentFault>
-    requires ready { AgentIsReady H.honest (H.past host.old) taking.old.agent }
+    requires ready { AgentIsReady H.honest (H.seen host.old).past taking.old.agent }
     requires fed { IsFed taking.old.feed }
     requires limits { IfOk line (λ line. keeps_limits line ≡ true) }
-    ensures ready { AgentIsReady H.honest (H.past host.new) taking.new.agent }
+    ensures ready { AgentIsReady H.honest (H.seen host.new).past taking.new.agent }
     ensures fed { IsFed taking.new.feed }
 {
     match line {
@@ -135,9 +135,9 @@ fn define<H: Host>(
     host: &mut H,
     title: &str,
 ) -> Result<(), AgentFault>
-    requires ready { AgentIsReady H.honest (H.past host.old) taking.old.agent }
+    requires ready { AgentIsReady H.honest (H.seen host.old).past taking.old.agent }
     requires fed { IsFed taking.old.feed }
-    ensures ready { AgentIsReady H.honest (H.past host.new) taking.new.agent }
+    ensures ready { AgentIsReady H.honest (H.seen host.new).past taking.new.agent }
     ensures fed { IsFed taking.new.feed }
 {
     take(taking, host, chart_line(alloc, title))?;
@@ -161,9 +161,9 @@ fn collect<H: Host>(
     host: &mut H,
     moment: u32,
 ) -> Result<Said, AgentFault>
-    requires ready { AgentIsReady H.honest (H.past host.old) taking.old.agent }
+    requires ready { AgentIsReady H.honest (H.seen host.old).past taking.old.agent }
     requires fed { IsFed taking.old.feed }
-    ensures ready { AgentIsReady H.honest (H.past host.new) taking.new.agent }
+    ensures ready { AgentIsReady H.honest (H.seen host.new).past taking.new.agent }
     ensures fed { IsFed taking.new.feed }
 {
     take(taking, host, begin_line(alloc))?;
@@ -180,9 +180,9 @@ fn define_for<H: Host>(
     host: &mut H,
     number: u32,
 ) -> Result<(), AgentFault>
-    requires ready { AgentIsReady H.honest (H.past host.old) taking.old.agent }
+    requires ready { AgentIsReady H.honest (H.seen host.old).past taking.old.agent }
     requires fed { IsFed taking.old.feed }
-    ensures ready { AgentIsReady H.honest (H.past host.new) taking.new.agent }
+    ensures ready { AgentIsReady H.honest (H.seen host.new).past taking.new.agent }
     ensures fed { IsFed taking.new.feed }
 {
     match number {
@@ -202,9 +202,9 @@ fn store<H: Host>(
     host: &mut H,
     number: u32,
 ) -> Result<Said, AgentFault>
-    requires ready { AgentIsReady H.honest (H.past host.old) taking.old.agent }
+    requires ready { AgentIsReady H.honest (H.seen host.old).past taking.old.agent }
     requires fed { IsFed taking.old.feed }
-    ensures ready { AgentIsReady H.honest (H.past host.new) taking.new.agent }
+    ensures ready { AgentIsReady H.honest (H.seen host.new).past taking.new.agent }
     ensures fed { IsFed taking.new.feed }
 {
     define_for(alloc, taking, host, number)?;
@@ -219,9 +219,9 @@ fn store_unless<H: Host>(
     is_there: bool,
     number: u32,
 ) -> Result<(), AgentFault>
-    requires ready { AgentIsReady H.honest (H.past host.old) taking.old.agent }
+    requires ready { AgentIsReady H.honest (H.seen host.old).past taking.old.agent }
     requires fed { IsFed taking.old.feed }
-    ensures ready { AgentIsReady H.honest (H.past host.new) taking.new.agent }
+    ensures ready { AgentIsReady H.honest (H.seen host.new).past taking.new.agent }
     ensures fed { IsFed taking.new.feed }
 {
     if is_there {
@@ -232,7 +232,8 @@ fn store_unless<H: Host>(
 }
 
 fn make<H: Host>(alloc: Global, host: &mut H) -> Result<Taking, AgentFault>
-    ensures ready { IfOk result (λ taking. AgentIsReady H.honest (H.past host.new) taking.agent) }
+    ensures ready { IfOk result
+        (λ taking. AgentIsReady H.honest (H.seen host.new).past taking.agent) }
     ensures fed { IfOk result (λ taking. IsFed taking.feed) }
 {
     if !is_in_limits(&SETTINGS) {
@@ -248,7 +249,8 @@ fn make<H: Host>(alloc: Global, host: &mut H) -> Result<Taking, AgentFault>
 }
 
 fn open<H: Host>(alloc: Global, host: &mut H) -> Result<Taking, AgentFault>
-    ensures ready { IfOk result (λ taking. AgentIsReady H.honest (H.past host.new) taking.agent) }
+    ensures ready { IfOk result
+        (λ taking. AgentIsReady H.honest (H.seen host.new).past taking.agent) }
     ensures fed { IfOk result (λ taking. IsFed taking.feed) }
 {
     match Agent::open(alloc, host) {
@@ -284,7 +286,7 @@ fn store_missing<H: Host>(
     host: &mut H,
     count: u64,
 ) -> Result<(), AgentFault>
-    requires ready { AgentIsReady H.honest (H.past host.old) taking.old.agent }
+    requires ready { AgentIsReady H.honest (H.seen host.old).past taking.old.agent }
     requires fed { IsFed taking.old.feed }
 {
     store_unless(alloc, taking, host, count >= 1, 1)?;
@@ -418,9 +420,9 @@ fn store_first<H: Host>(
     taking: &mut Taking,
     host: &mut H,
 ) -> Result<Said, AgentFault>
-    requires ready { AgentIsReady H.honest (H.past host.old) taking.old.agent }
+    requires ready { AgentIsReady H.honest (H.seen host.old).past taking.old.agent }
     requires fed { IsFed taking.old.feed }
-    ensures ready { AgentIsReady H.honest (H.past host.new) taking.new.agent }
+    ensures ready { AgentIsReady H.honest (H.seen host.new).past taking.new.agent }
     ensures fed { IsFed taking.new.feed }
 {
     take(taking, host, chart_line(alloc, "One"))?;
@@ -587,8 +589,8 @@ fn hand_in<H: Host>(
     id: &str,
     moment: u32,
 ) -> Result<Reply, AgentFault>
-    requires { AgentIsReady H.honest (H.past host.old) agent.old }
-    ensures { AgentIsReady H.honest (H.past host.new) agent.new }
+    requires { AgentIsReady H.honest (H.seen host.old).past agent.old }
+    ensures { AgentIsReady H.honest (H.seen host.new).past agent.new }
 {
     match beat_of(alloc, id) {
         Ok(beat) => agent.beat(host, &beat, moment),

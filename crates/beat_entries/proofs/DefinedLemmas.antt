@@ -15,19 +15,17 @@ use Rattle.history.specs.declared.numbered.NumberedDimension.{NumberedDimension}
 use Rattle.history.specs.declared.beat.OpenBeat.{OpenBeat}
 use Rattle.history.specs.declared.beat.OpenDim.{OpenDim}
 use Rattle.history.specs.declared.chart.ChartDef.{ChartDef}
-use Rattle.history.specs.History.{Beat, collected, copied, health, missing, registry_of}
+use Rattle.history.specs.History.{Beat, collected, registry_of}
 use Rattle.history.specs.Refusal.{has_chart}
 use Rattle.history.specs.Registry.{Registry, is_chart, is_dimension, same_chart, same_dimension, chart_of}
-use Rattle.history.specs.Regular.{AreApart}
-use Rattle.chart_registry.proofs.ApartLemmas.{apart-registry, own-series}
-use Rattle.chart_registry.proofs.Finding.{found-passes, all-weaker}
+use Rattle.chart_registry.proofs.ApartLemmas.{apart-charts, apart-registry, own-series}
+use Rattle.chart_registry.proofs.Finding.{found-all, found-passes, all-weaker}
 use Rattle.beat_entries.specs.Following.{AreOwned}
 use Rattle.beat_entries.specs.Defined.{IsDefinedIn}
 use Rattle.history.specs.Numbered.{numbered_dimension}
 use Rattle.beat_entries.specs.Next.{chart_def, dimension_back}
 use Rattle.beat_entries.proofs.EntryLemmas.{any-find, at-found, own-chart}
-use Rattle.beat_entries.proofs.PutLemmas.{apart-put_all, put-found}
-use Rattle.beat_entries.proofs.Slots.{found-all}
+use Rattle.beat_entries.proofs.PutLemmas.{put-found}
 
 -- ---- the same chart, the same dimension
 pub chart-itself : (x : ChartDef) → same_chart x x ≡ true
@@ -45,13 +43,6 @@ dimension-alike x y z e =
     let charts : x.chart ≡ y.chart = same_text x.chart y.chart parts.0 in
     let ids : x.def.id ≡ y.def.id = same_text x.def.id y.def.id parts.1 in
     λ i. bytes_eq (charts i) z.chart && bytes_eq (ids i) z.def.id
-
-pub apart-charts : (h : List Beat) → AreApart same_chart (registry_of h).charts
-apart-charts [] = tt
-apart-charts (collected moment beat ∷ h) = apart-put_all same_chart chart-itself chart-alike (registry_of h).charts beat.charts (apart-charts h)
-apart-charts (copied copy ∷ h) = apart-put_all same_chart chart-itself chart-alike (registry_of h).charts copy.charts (apart-charts h)
-apart-charts (health text ∷ h) = apart-charts h
-apart-charts (missing gap ∷ h) = apart-charts h
 
 module _ (h : List Beat) (moment : ℕ) (beat : OpenBeat) (owned : AreOwned (registry_of h) beat) where
   abbrev registry : Registry

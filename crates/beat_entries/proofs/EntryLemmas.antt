@@ -25,14 +25,15 @@ use Rattle.chart_registry.proofs.RegistryLemmas.{or_false, chart_id-chart_of, ch
 use Rattle.chart_registry.proofs.RowsLemmas.{same_text, bytes_eq_same}
 use Rattle.chart_registry.specs.Defining.{chart_id}
 use Rattle.history.specs.Regular.{AreApart, same_row}
-use Rattle.chart_registry.proofs.ApartLemmas.{own-series, one_series}
-use Rattle.chart_registry.proofs.Finding.{found-passes}
+use Rattle.chart_registry.proofs.ApartLemmas.{own-series, one_series, turned}
+use Rattle.chart_registry.proofs.Finding.{found-all, found-passes}
+use Rattle.chart_registry.proofs.OpenLemmas.{chart-left, chart-same}
 use Rattle.beat_entries.specs.Defined.{IsDefinedIn}
 use Rattle.history.specs.Numbered.{numbered_charts, numbered_dimension, numbered_dimensions, numbered_value, numbered_values, numbered_rows, numbered_beat}
 use Rattle.beat_entries.specs.Gathered.{chart_at, dimension_at, value_at, row_at}
 use Rattle.beat_entries.proofs.Ascending.{picked-ascending, all-picked}
 use Rattle.beat_entries.proofs.Gathering.{map-some, then-some, all-gathered, apart-gathered, find-gathered}
-use Rattle.beat_entries.proofs.Slots.{at, found-all, sorted-is}
+use Rattle.beat_entries.proofs.Slots.{at, sorted-is}
 
 -- ---- searches
 pub any-find : {X : Type 0} (p : X → Bool) (xs : List X) (found : Option X) → find p xs ≡ found → list_any p xs ≡ is_some found
@@ -66,17 +67,10 @@ none-at x [] n d none at = absurd (none-some d at)
 none-at x (y ∷ defs) zero d none at = ap (same_chart x) (sym (same_Some y d at)) ∙ (or_false (same_chart x y) (list_any (same_chart x) defs) none).0
 none-at x (y ∷ defs) (suc n) d none at = none-at x defs n d (or_false (same_chart x y) (list_any (same_chart x) defs) none).1 at
 
-turned : (x y : List ℕ) → bytes_eq x y ≡ false → bytes_eq y x ≡ false
-turned x y e = by (bytes_eq y x) refl
-  where
-    by : (b : Bool) → bytes_eq y x ≡ b → bytes_eq y x ≡ false
-    by true f = absurd (true≢false (sym (bytes_eq_same x y (sym (same_text y x f))) ∙ e))
-    by false f = f
-
 first-apart : (defs : List ChartDef) (n : ℕ) (d : ChartDef) → AreApart same_chart defs → slice_get defs n ≡ Some d → IsFirst (is_chart d.id) defs n
 first-apart [] n d apart at = absurd (none-some d at)
 first-apart (x ∷ defs) zero d apart at = bytes_eq_same d.id x.id (ap (λ (d : ChartDef). d.id) (sym (same_Some x d at)))
-first-apart (x ∷ defs) (suc n) d apart at = (turned x.id d.id (none-at x defs n d apart.0 at), first-apart defs n d apart.1 at)
+first-apart (x ∷ defs) (suc n) d apart at = (turned same_chart chart-same chart-left x d (none-at x defs n d apart.0 at), first-apart defs n d apart.1 at)
 
 pub own-chart : (registry : Registry) (n : ℕ) (d : ChartDef) → AreApart same_chart registry.charts → slice_get registry.charts n ≡ Some d → chart_of registry d.id ≡ Some n
 own-chart registry n d apart at = position-first (is_chart d.id) registry.charts n (first-apart registry.charts n d apart at)

@@ -1,5 +1,5 @@
 -- A numbered beat that may follow goes on from what stands before it.
-use Rattle.std.proofs.Common.{◌≡◌, ℕ, zero, suc, ◌+◌, ◌<◌, ◌≤◌, Bool, true, false, cond, ◌&&◌, ◌||◌, List, [], ◌∷◌, map, filter, length, position, slice_get, Option, Some, None, IsSome, IfSome, refl, sym, ap, subst, ◌∙◌, arith, true≢false, add-zero, zero-add, lt-ltb, if◌then◌else◌}
+use Rattle.std.proofs.Common.{◌≡◌, ℕ, zero, suc, ◌+◌, ◌<◌, ◌≤◌, Bool, true, false, cond, ◌&&◌, List, [], ◌∷◌, map, length, position, slice_get, Option, Some, None, IsSome, IfSome, refl, sym, ap, subst, ◌∙◌, arith, add-zero, zero-add, lt-ltb, if◌then◌else◌}
 use Rattle.std.specs.List.{find, list_any, list_all, filter_map, cons_option, count_by, enumerate_from, AllByRecursion}
 use Rattle.std.specs.Option.{option_map, option_and_then}
 use Rattle.std.specs.Str.{bytes_eq}
@@ -25,18 +25,17 @@ use Rattle.history.specs.Looking.{is_value}
 use Rattle.history.specs.Put.{put_all}
 use Rattle.history.specs.Registry.{Registry, is_chart, is_dimension, same_chart, same_dimension, chart_of}
 use Rattle.history.specs.Regular.{AreApart, IsRegular}
-use Rattle.chart_registry.proofs.ApartLemmas.{apart-registry, own-series}
-use Rattle.chart_registry.proofs.Finding.{found-passes, nat_eq_same, one_if}
+use Rattle.chart_registry.proofs.ApartLemmas.{apart-charts, apart-filter, apart-registry, own-series, turned}
+use Rattle.chart_registry.proofs.Finding.{found-all, found-passes, nat_eq_same, one_if}
 use Rattle.beat_entries.specs.Following.{AreOwned, MayFollow}
 use Rattle.beat_entries.specs.Defined.{IsDefinedIn}
 use Rattle.history.specs.Numbered.{numbered_dimension, numbered_value, numbered_values, numbered_rows, numbered_beat}
 use Rattle.beat_entries.specs.Next.{all_taken, chart_def, takes_chart, with_chart, dimension_back, takes_dimension, with_dimension, is_number, is_of_chart, takes_row, with_charts, with_dimensions, with_numbered, goes_on}
-use Rattle.beat_entries.proofs.DefinedLemmas.{chart-itself, chart-alike, dimension-itself, dimension-alike, apart-charts, beat-defined, chart-has, charts-back, dimension-has, dimensions-back}
+use Rattle.beat_entries.proofs.DefinedLemmas.{chart-itself, chart-alike, dimension-itself, dimension-alike, beat-defined, chart-has, charts-back, dimension-has, dimensions-back}
 use Rattle.beat_entries.proofs.EntryLemmas.{own-chart, if-some}
 use Rattle.beat_entries.proofs.Gathering.{map-some}
 use Rattle.beat_entries.proofs.NextLemmas.{MayChart, MayDimension, charts-taken, dimensions-taken}
 use Rattle.beat_entries.proofs.PutLemmas.{put-again}
-use Rattle.beat_entries.proofs.Slots.{found-all}
 
 -- ---- what is picked at the places of a list
 module _ {A C : Type 0} (P : C → Type 0) (pick : ℕ × A → Option C) where
@@ -59,22 +58,6 @@ each-tests p (x ∷ xs) all = ap (λ (b : Bool). b && list_all p xs) all.0 ∙ e
 pub if-true : {X : Type 0} (b : Bool) (found : Option X) (x : X) → (if b then found else None) ≡ Some x → b ≡ true
 if-true true found x e = refl
 if-true false found x e = absurd (none-some x e)
-
-any-filter : {A : Type 0} (p q : A → Bool) (xs : List A) → list_any p xs ≡ false → list_any p (filter q xs) ≡ false
-any-filter p q [] none = refl
-any-filter p q (x ∷ xs) none = let parts = or_false (p x) (list_any p xs) none in by (q x) parts.0 (any-filter p q xs parts.1)
-  where
-    by : (b : Bool) → p x ≡ false → list_any p (filter q xs) ≡ false → list_any p (cond b (x ∷ filter q xs) (filter q xs)) ≡ false
-    by true one rest = λ i. one i || rest i
-    by false one rest = rest
-
-apart-filter : {A : Type 0} (same : A → A → Bool) (q : A → Bool) (xs : List A) → AreApart same xs → AreApart same (filter q xs)
-apart-filter same q [] apart = tt
-apart-filter same q (x ∷ xs) apart = by (q x) (apart-filter same q xs apart.1)
-  where
-    by : (b : Bool) → AreApart same (filter q xs) → AreApart same (cond b (x ∷ filter q xs) (filter q xs))
-    by true rest = (any-filter (same x) q xs apart.0, rest)
-    by false rest = rest
 
 -- ---- a row has no more values than were set
 count-none : {A : Type 0} (p : A → Bool) (xs : List A) → list_any p xs ≡ false → count_by p xs ≡ 0
@@ -113,11 +96,7 @@ module _ (chart : List ℕ) (v : OpenValue) (vs : List OpenValue) where
 
   turned-text : (a b : List ℕ) (c : Bool) → bytes_eq a b ≡ c → bytes_eq b a ≡ c
   turned-text a b true e = bytes_eq_same b a (sym (same_text a b e))
-  turned-text a b false e = by (bytes_eq b a) refl
-    where
-      by : (c : Bool) → bytes_eq b a ≡ c → bytes_eq b a ≡ false
-      by true f = absurd (true≢false (sym (bytes_eq_same a b (sym (same_text b a f))) ∙ e))
-      by false f = f
+  turned-text a b false e = turned bytes_eq (λ x. bytes_eq_same x x refl) (λ x y e. ap bytes_eq (same_text x y e)) a b e
 
   one-more : (found : Option Value) (rest more : List Value) (k : ℕ) → length more ≤ k + length rest → length (cons_option found more) ≤ k + length (cons_option found rest)
   one-more None rest more k le = le

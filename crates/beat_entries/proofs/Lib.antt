@@ -5,6 +5,7 @@ pub mod DefiningLemmas
 pub mod EntryLemmas
 pub mod FollowLemmas
 pub mod Gathering
+pub mod LimitLemmas
 pub mod NextLemmas
 pub mod PutLemmas
 pub mod Slots

@@ -2,16 +2,15 @@
 use Rattle.std.proofs.Common.{◌≡◌, ℕ, zero, suc, ◌+◌, ◌<◌, ◌≤◌, Bool, true, false, cond, ◌&&◌, ◌||◌, nat_eq, List, [], ◌∷◌, ◌++◌, map, length, position, slice_get, Option, Some, None, is_some, is_none, refl, sym, ap, ◌∙◌, arith, true≢false, lt-ltb, if◌then◌else◌}
 use Rattle.std.specs.List.{find, list_any, count_by, AllByRecursion}
 use Rattle.std.specs.Option.{option_and_then}
-use Rattle.std.specs.Str.{bytes_eq}
 use Rattle.std.proofs.lemmas.Bool.{lt-leb}
 use Rattle.std.proofs.lemmas.List.{length_push}
 use Rattle.std.proofs.lemmas.Option.{same_Some}
 use Rattle.chart_registry.specs.Defining.{chart_id, nothing_open}
-use Rattle.chart_registry.proofs.Applying.{any-put}
+use Rattle.chart_registry.proofs.Applying.{any-put, same_chart-alike}
 use Rattle.chart_registry.proofs.Places.{IsFirst, first-from_position, position-first, put-absent, list_any-position, find-position, count_by-push}
 use Rattle.chart_registry.proofs.ReasonLemmas.{count-put_all, of-alike}
 use Rattle.chart_registry.proofs.RegistryLemmas.{chart_refusal-present, chart_refusal-absent, dimension_refusal-present, dimension_refusal-absent}
-use Rattle.chart_registry.proofs.RowsLemmas.{same_text, bytes_eq_same}
+use Rattle.chart_registry.proofs.RowsLemmas.{bytes_eq_same}
 use Rattle.history.specs.declared.numbered.NumberedChart.{NumberedChart}
 use Rattle.history.specs.declared.numbered.NumberedDimension.{NumberedDimension}
 use Rattle.history.specs.declared.beat.OpenDim.{OpenDim}
@@ -73,9 +72,6 @@ module _ (last : List ChartDef) (few : length last ≤ 4096) where
     pub number : position (is_chart chart.def.id) last ≡ Some chart.number
     pub kept : (old : ChartDef) → find (is_chart chart.def.id) charts ≡ Some old → old.update_every ≡ chart.def.update_every
 
-  id-alike : (id : List ℕ) (x y : ChartDef) → same_chart x y ≡ true → is_chart id x ≡ is_chart id y
-  id-alike id x y e = ap (bytes_eq id) (same_text x.id y.id e)
-
   not-refused : (s : Registry) (chart : NumberedChart) (rest : List ChartDef) → MayChart s.charts chart → put_all same_chart (put same_chart s.charts chart.def) rest ≡ last
       → chart_refusal s nothing_open chart.def ≡ None
   not-refused s chart rest may whole = by (chart_of s chart.def.id) refl
@@ -84,7 +80,7 @@ module _ (last : List ChartDef) (few : length last ≤ 4096) where
       by None e =
           let pushed : put same_chart s.charts chart.def ≡ s.charts ++ chart.def ∷ [] = put-absent same_chart chart.def s.charts e in
           let room : length s.charts < 4096
-          = omega (arith, few, ap length whole, length-put_all same_chart (is_chart []) (id-alike []) (put same_chart s.charts chart.def) rest, ap length pushed, length_push s.charts chart.def) in
+          = omega (arith, few, ap length whole, length-put_all same_chart (is_chart []) (same_chart-alike []) (put same_chart s.charts chart.def) rest, ap length pushed, length_push s.charts chart.def) in
           chart_refusal-absent s chart.def e ∙ ap (λ (b : Bool). if b then Some block.TooManyCharts else None) (lt-leb 4096 (length s.charts) room)
       by (Some n) e =
           let there = first-at (is_chart chart.def.id) s.charts n (first-from_position (is_chart chart.def.id) s.charts n e) in
@@ -99,7 +95,7 @@ module _ (last : List ChartDef) (few : length last ≤ 4096) where
   charts-taken s (chart ∷ charts) whole apart may =
       let takes : takes_chart s chart ≡ true
       = λ i. lt-ltb 0 chart.def.update_every may.0.grid i && may.0.limits i && is_none (not-refused s chart (map chart_def charts) may.0 whole i)
-      && number-kept same_chart (is_chart chart.def.id) (id-alike chart.def.id) s.charts (map chart_def charts) last chart.def chart.number whole (chart-itself chart.def) may.0.number i in
+      && number-kept same_chart (is_chart chart.def.id) (same_chart-alike chart.def.id) s.charts (map chart_def charts) last chart.def chart.number whole (chart-itself chart.def) may.0.number i in
       ap (λ (b : Bool). b && all_taken takes_chart with_chart (with_chart s chart) charts) takes
       ∙ charts-taken (with_chart s chart) charts whole apart.1
       (all-weaker (λ (x : NumberedChart). MayChart s.charts x × (same_chart chart.def x.def ≡ false)) (MayChart (put same_chart s.charts chart.def))

@@ -4,7 +4,8 @@ use Rattle.std.proofs.Common.{◌≡◌, Bool, true, false, cond, ◌||◌, List
 use Rattle.std.specs.List.{find, list_any, AllByRecursion}
 use Rattle.std.specs.Option.{option_map_or}
 use Rattle.history.specs.Put.{put, put_all}
-use Rattle.chart_registry.proofs.Applying.{any-put, all-put}
+use Rattle.chart_registry.proofs.ApartLemmas.{apart-put as put-apart}
+use Rattle.chart_registry.proofs.Applying.{all-put}
 use Rattle.history.specs.Regular.{AreApart}
 use Rattle.chart_registry.proofs.Finding.{all-weaker, find-none}
 use Rattle.beat_entries.proofs.Slots.{all-both, none-all}
@@ -34,15 +35,8 @@ module _ {A : Type 0} (same : A → A → Bool) (itself : (x : A) → same x x �
   alike_right k x y e = turned k x ∙ alike x y k e ∙ turned y k
 
   -- ---- each thing stands once
-  apart-put : (ys : List A) (x : A) → AreApart same ys → AreApart same (put same ys x)
-  apart-put [] x apart = (refl, tt)
-  apart-put (y ∷ ys) x apart = by (same x y) refl (apart-put ys x apart.1)
-    where
-      by : (b : Bool) → same x y ≡ b → AreApart same (put same ys x) → AreApart same (if b then x ∷ ys else y ∷ put same ys x)
-      by true e rest = (ap (λ (p : A → Bool). list_any p ys) (λ i z. alike x y z e i) ∙ apart.0, apart.1)
-      by false e rest =
-          let other : same y x ≡ false = turned y x ∙ e in
-          (any-put same (same y) (alike_right y) ys x ∙ (λ i. apart.0 i || other i), rest)
+  pub apart-put : (ys : List A) (x : A) → AreApart same ys → AreApart same (put same ys x)
+  apart-put ys x apart = put-apart same itself (λ x y e i z. alike x y z e i) alike_right ys x apart
 
   pub apart-put_all : (ys xs : List A) → AreApart same ys → AreApart same (put_all same ys xs)
   apart-put_all ys [] apart = apart

@@ -1,15 +1,15 @@
 -- A list in the order of its numbers has at each number what a look-up finds there.
-use Rattle.std.proofs.Common.{◌≡◌, ℕ, zero, suc, ◌+◌, ◌<◌, ◌≤◌, Bool, true, false, cond, nat_eq, List, [], ◌∷◌, length, slice_get, Option, Some, None, inl, inr, refl, sym, ap, subst, ◌∙◌, arith, true≢false, add-zero, zero-add}
+use Rattle.std.proofs.Common.{◌≡◌, ℕ, zero, suc, ◌+◌, ◌<◌, ◌≤◌, Bool, true, false, cond, nat_eq, List, [], ◌∷◌, length, slice_get, Option, Some, None, inl, inr, refl, sym, ap, ◌∙◌, arith, true≢false, add-zero, zero-add}
 use Rattle.std.specs.List.{find, list_any, filter_map, cons_option, count_by, enumerate_from, AllByRecursion}
 use Rattle.std.specs.List.Sorted.{IsPermutation, IsNonDecreasingBy}
 use Rattle.std.proofs.lemmas.Bool.{cases_eq, eqb-true}
 use Rattle.std.proofs.lemmas.List.Elements.{All-from_recursion, recursion_from_All}
 use Rattle.std.proofs.lemmas.List.Sorted.{All-permutation, IsPermutation-sym, sum_by-IsPermutation}
 use Rattle.std.proofs.lemmas.List.Sums.{sum_by-cons}
-use Rattle.std.proofs.lemmas.Option.{none-some, same_Some}
+use Rattle.std.proofs.lemmas.Option.{none-some}
 use Rattle.chart_registry.proofs.RegistryLemmas.{or_false}
 use Rattle.history.specs.Regular.{AreApart}
-use Rattle.chart_registry.proofs.Finding.{found-passes, nat_eq_same, nat_eq_other, all-weaker}
+use Rattle.chart_registry.proofs.Finding.{found-all, found-passes, nat_eq_same, nat_eq_other, all-weaker}
 
 -- ---- lists
 pub all-both : {X : Type 0} (P Q : X → Type 0) (xs : List X) → AllByRecursion P xs → AllByRecursion Q xs → AllByRecursion (λ (x : X). P x × Q x) xs
@@ -27,14 +27,6 @@ find-none-all {X} p (x ∷ xs) none = by (p x) refl none (find-none-all p xs)
     by : (b : Bool) → p x ≡ b → cond b (Some x) (find p xs) ≡ None → (find p xs ≡ None → AllByRecursion (λ (x : X). p x ≡ false) xs) → (p x ≡ false) × AllByRecursion (λ (x : X). p x ≡ false) xs
     by true e none rest = absurd (none-some x (sym none))
     by false e none rest = (e, rest none)
-
-pub found-all : {X : Type 0} (P : X → Type 0) (p : X → Bool) (xs : List X) (x : X) → AllByRecursion P xs → find p xs ≡ Some x → P x
-found-all P p [] x all e = absurd (none-some x e)
-found-all {X} P p (y ∷ ys) x all e = by (p y) e (found-all P p ys x all.1)
-  where
-    by : (b : Bool) → cond b (Some y) (find p ys) ≡ Some x → (find p ys ≡ Some x → P x) → P x
-    by true e rest = subst P (same_Some y x e) all.0
-    by false e rest = rest e
 
 module _ {A C : Type 0} (f g : ℕ × A → Option C) where
   pub places-same : (things : List A) (n : ℕ) → ((m : ℕ) (a : A) → slice_get things m ≡ Some a → f (n + m, a) ≡ g (n + m, a)) → filter_map f (enumerate_from n things) ≡ filter_map g (enumerate_from n things)

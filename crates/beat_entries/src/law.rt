@@ -1,7 +1,12 @@
-ghost use Rattle.std.specs.Prelude.{◌≡◌, ℕ, true, List, ◌∷◌};
+ghost use Rattle.std.specs.Prelude.{◌≡◌, ◌≤◌, ℕ, true, List, ◌∷◌, length, All};
+ghost use Rattle.entry_codec.specs.Entries.{IsWithinLimits};
 ghost use Rattle.history.specs.declared.beat.OpenBeat.{OpenBeat};
 ghost use Rattle.history.specs.History.{Beat, collected, registry_of};
+ghost use Rattle.history.specs.declared.beat.OpenDim.{OpenDim};
+ghost use Rattle.history.specs.declared.chart.ChartDef.{ChartDef};
+ghost use Rattle.history.specs.Limits.{chart_keeps_limits, dimension_keeps_limits};
 ghost use Rattle.history.specs.Numbered.{numbered_beat};
+ghost use Rattle.history.specs.Registry.{Registry};
 ghost use Rattle.history.specs.Regular.{IsRegular};
 ghost use Rattle.beat_entries.specs.Defined.{IsDefinedIn};
 ghost use Rattle.beat_entries.specs.Following.{AreOwned, MayFollow};
@@ -30,4 +35,14 @@ pub fn any_numbered()
         → with_numbered (registry_of h)
         (numbered_beat (registry_of (collected moment beat ∷ h)) moment beat)
         ≡ registry_of (collected moment beat ∷ h) }
+{}
+
+/// The law of a numbered beat whose definitions keep their limits, in a registry of no more charts
+/// and dimensions than there may be: it is within the limits of an entry. It does nothing.
+pub fn any_limits()
+    ensures { (registry : Registry) (moment : ℕ) (beat : OpenBeat) → IsDefinedIn registry beat
+        → All (λ (def : ChartDef). chart_keeps_limits def ≡ true) beat.charts
+        → All (λ (dimension : OpenDim). dimension_keeps_limits dimension.def ≡ true) beat.dimensions
+        → length registry.charts ≤ 4096 → length registry.dimensions ≤ 65536
+        → IsWithinLimits (numbered_beat registry moment beat) }
 {}

@@ -24,7 +24,7 @@ mod usual;
 
 pub use copied::{any_copied, define_copied};
 pub use entry::{define, number_beat};
-pub use law::{any_defined, any_next, any_numbered};
+pub use law::{any_defined, any_limits, any_next, any_numbered};
 pub use refusal::EntryRefusal;
 
 #[cfg(test)]

@@ -1,10 +1,11 @@
 -- The words of all rows, in the order of their series, are the points of the beat.
-use Rattle.std.proofs.Common.{◌≡◌, ℕ, ◌+◌, ◌<◌, ◌≤◌, cond, List, [], ◌∷◌, ◌++◌, length, slice_get, All, Option, Some, None, Result, Ok, Err, IfOk, sym, ap, subst, ◌∙◌, arith, zero-add}
+use Rattle.std.proofs.Common.{◌≡◌, ℕ, ◌+◌, ◌<◌, ◌≤◌, true, cond, List, [], ◌∷◌, length, slice_get, All, Option, Some, None, Result, Ok, Err, IfOk, sym, ap, subst, ◌∙◌, arith, zero-add}
 use Rattle.std.specs.List.{count_by, AllByRecursion}
 use Rattle.std.specs.List.Sorted.{IsPermutation, IsNonDecreasingBy}
 use Rattle.std.specs.Option.{option_map_or}
 use Rattle.std.proofs.lemmas.List.Elements.{All-from_recursion, recursion_from_All}
 use Rattle.std.proofs.lemmas.List.Sorted.{All-permutation, sum_by-IsPermutation}
+use Rattle.storage_number.specs.Word.{is_word as is_storage_number}
 use Rattle.algorithms.specs.declared.last.Last.{Last}
 use Rattle.algorithms.specs.Words.{packed}
 use Rattle.history.specs.declared.beat.OpenBeat.{OpenBeat}
@@ -14,7 +15,7 @@ use Rattle.history.specs.declared.numbered.NumberedBeat.{NumberedBeat}
 use Rattle.history.specs.declared.row.Row.{Row}
 use Rattle.history.specs.declared.row.Value.{Value}
 use Rattle.history.specs.History.{Beat, collected}
-use Rattle.history.specs.Numbered.{numbered_beat, IsThere}
+use Rattle.history.specs.Numbered.{numbered_beat, numbered_rows, IsThere}
 use Rattle.history.specs.Points.{word_at}
 use Rattle.history.specs.Registry.{Registry, same_chart}
 use Rattle.history.specs.Regular.{AreApart}
@@ -23,13 +24,11 @@ use Rattle.chart_registry.proofs.Finding.{all-weaker, one_if}
 use Rattle.beat_points.specs.declared.fault.PointFault.{PointFault}
 use Rattle.beat_points.specs.declared.series_word.SeriesWord.{SeriesWord}
 use Rattle.beat_points.specs.Numbered.{chart_pairs, row_pairs, rows_pairs, words_by}
-use Rattle.beat_points.specs.Points.{IsNext, beat_points}
+use Rattle.beat_points.specs.Points.{IsNext, ArePointsIn, AreRising, beat_points}
 use Rattle.beat_points.proofs.CountLemmas.{beat-count}
+use Rattle.beat_points.proofs.OnceLemmas.{is_series, rising, series-once}
+use Rattle.beat_points.proofs.StorageWords.{all-append, are-words}
 use Rattle.beat_points.proofs.OrderLemmas.{in_order, is_pair, is_word, rises-from}
-
-all-append : {A : Type 0} (P : A → Type 0) (xs ys : List A) → AllByRecursion P xs → AllByRecursion P ys → AllByRecursion P (xs ++ ys)
-all-append P [] ys all rest = rest
-all-append P (x ∷ xs) ys all rest = (all.0, all-append P xs ys all.1 rest)
 
 module _ (registry : Registry) (lasts : List (Option Last)) (moment : ℕ) where
   abbrev InRegistry : ℕ → Type 0
@@ -89,3 +88,43 @@ pub sorted-points : (registry : Registry) (lasts : List (Option Last)) (numbered
 sorted-points registry lasts numbered (Ok points) gathered there gives same up =
     λ h beat next is. points-sorted registry lasts h numbered beat points there next is (subst (λ (all : List SeriesWord). IsPermutation all points) gives same) up
 sorted-points registry lasts numbered (Err fault) gathered there gives same up = tt
+
+-- ---- whatever the history is
+
+pub sorted-in : (registry : Registry) (lasts : List (Option Last)) (numbered : NumberedBeat) (result : Result (List SeriesWord) PointFault) (gathered : List SeriesWord)
+    → IsThere registry numbered → gathered ≡ rows_pairs registry lasts numbered.moment numbered.rows
+    → IfOk result (λ points. IsPermutation gathered points) → IfOk result (ArePointsIn registry)
+sorted-in registry lasts numbered (Err fault) gathered there gives same = tt
+sorted-in registry lasts numbered (Ok points) gathered there gives same =
+    All-permutation (λ (x : SeriesWord). (x.series < length registry.dimensions) × (is_storage_number x.word ≡ true)) gathered points same
+    (subst (ArePointsIn registry) (sym gives)
+    (All-from_recursion (λ (x : SeriesWord). (x.series < length registry.dimensions) × (is_storage_number x.word ≡ true)) pairs
+    (both pairs (rows-there registry lasts numbered.moment numbered.rows
+    (recursion_from_All (λ (row : Row). All (λ (value : Value). value.series < length registry.dimensions) row.values) numbered.rows there.dimensions))
+    (are-words registry lasts numbered.moment numbered.rows))))
+  where
+    pairs : List SeriesWord
+    pairs = rows_pairs registry lasts numbered.moment numbered.rows
+
+    both : (xs : List SeriesWord) → AllByRecursion (λ (x : SeriesWord). x.series < length registry.dimensions) xs → AllByRecursion (λ (x : SeriesWord). is_storage_number x.word ≡ true) xs
+        → AllByRecursion (λ (x : SeriesWord). (x.series < length registry.dimensions) × (is_storage_number x.word ≡ true)) xs
+    both [] there words = tt
+    both (x ∷ xs) there words = ((there.0, words.0), both xs there.1 words.1)
+
+pub sorted-rising : (registry : Registry) (lasts : List (Option Last)) (numbered : NumberedBeat) (result : Result (List SeriesWord) PointFault) (gathered : List SeriesWord)
+    → gathered ≡ rows_pairs registry lasts numbered.moment numbered.rows
+    → IfOk result (λ points. IsPermutation gathered points) → IfOk result (λ points. IsNonDecreasingBy (λ (point : SeriesWord). point.series) points)
+    → IfOk result (λ points. (beat : OpenBeat) → AreApart same_chart registry.charts → numbered ≡ numbered_beat registry numbered.moment beat → AreRising points)
+sorted-rising registry lasts numbered (Err fault) gathered gives same up = tt
+sorted-rising registry lasts numbered (Ok points) gathered gives same up = λ beat apart is. rising points (rises-from points up) (once beat apart is)
+  where
+    once : (beat : OpenBeat) → AreApart same_chart registry.charts → numbered ≡ numbered_beat registry numbered.moment beat → (n : ℕ) → count_by (is_series n) points ≤ 1
+    once beat apart is n =
+        let owner : List ℕ = option_map_or (λ (d : OpenDim). d.chart) (slice_get registry.dimensions n) [] in
+        let few : count_by (is_series n) (rows_pairs registry lasts numbered.moment (numbered_rows registry beat)) ≤ 1 =
+        series-once registry lasts numbered.moment beat n owner (λ d at. sym (ap (λ (found : Option OpenDim). option_map_or (λ (d : OpenDim). d.chart) found []) at)) apart in
+        let same_count : count_by (is_series n) points ≡ count_by (is_series n) (rows_pairs registry lasts numbered.moment (numbered_rows registry beat)) =
+        sum_by-IsPermutation (λ (x : SeriesWord). cond (is_series n x) 1 0) gathered points same
+        ∙ ap (λ (all : List SeriesWord). count_by (is_series n) all) gives
+        ∙ ap (λ (made : NumberedBeat). count_by (is_series n) (rows_pairs registry lasts numbered.moment made.rows)) is in
+        omega (arith, same_count, few)

@@ -11,6 +11,7 @@ use Rattle.history.specs.Put.{put, put_all}
 use Rattle.history.specs.Refusal.{is_new_dimension}
 use Rattle.history.specs.Registry.{Registry, is_of, is_dimension, same_dimension}
 use Rattle.chart_registry.proofs.Applying.{any-put}
+use Rattle.chart_registry.proofs.ReasonLemmas.{of-alike}
 use Rattle.chart_registry.proofs.RegistryLemmas.{or_false}
 use Rattle.chart_registry.proofs.RowsLemmas.{same_text}
 use Rattle.history.specs.Regular.{AreApart}
@@ -25,7 +26,7 @@ one_if-wider true false wider = absurd (true≢false (sym (wider refl)))
 one_if-wider false true wider = omega arith
 one_if-wider false false wider = omega arith
 
-count-cons : {A : Type 0} (p : A → Bool) (x : A) (xs : List A) → count_by p (x ∷ xs) ≡ one_if (p x) + count_by p xs
+pub count-cons : {A : Type 0} (p : A → Bool) (x : A) (xs : List A) → count_by p (x ∷ xs) ≡ one_if (p x) + count_by p xs
 count-cons p x xs = sum_by-cons (λ x. cond (p x) 1 0) x xs
 
 module _ {A : Type 0} (p q : A → Bool) (wider : (x : A) → p x ≡ true → q x ≡ true) where
@@ -99,14 +100,11 @@ module _ (registry : Registry) where
   abbrev pub HaveFew : List OpenDim → Type 0
   HaveFew ds = (chart : List ℕ) → count_of ds chart ≤ 1024
 
-  alike : (chart : List ℕ) (x y : OpenDim) → same_dimension x y ≡ true → is_of chart x ≡ is_of chart y
-  alike chart x y e = ap (bytes_eq chart) (same-parts x y e).0
-
   new-alike : (chart : List ℕ) (x y : OpenDim) → same_dimension x y ≡ true → (is_of chart x && is_new_dimension registry x) ≡ (is_of chart y && is_new_dimension registry y)
   new-alike chart x y e = let parts = same-parts x y e in λ i. bytes_eq chart (parts.0 i) && not (list_any (is_dimension (parts.0 i) (parts.1 i)) registry.dimensions)
 
   pub few-closed : (ds : List OpenDim) (chart : List ℕ) → count_by (is_of chart) (put_all same_dimension registry.dimensions ds) ≤ count_of ds chart
-  few-closed ds chart = count-put_all same_dimension (is_of chart) (alike chart) (λ z. same_dimension-alike z.chart z.def.id) registry.dimensions ds
+  few-closed ds chart = count-put_all same_dimension (is_of chart) (of-alike chart) (λ z. same_dimension-alike z.chart z.def.id) registry.dimensions ds
 
   module _ (ds : List OpenDim) (few : HaveFew ds) (dimension : OpenDim) where
     abbrev more : List ℕ → ℕ

@@ -5,8 +5,11 @@ pub mod Growing
 pub mod LastLemmas
 pub mod LawLemmas
 pub mod NumberedLemmas
+pub mod OnceLemmas
 pub mod OrderLemmas
+pub mod RoomLemmas
 pub mod RowLemmas
 pub mod Rows
+pub mod StorageWords
 pub mod TakingLemmas
 pub mod TextLemmas

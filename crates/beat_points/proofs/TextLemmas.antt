@@ -35,11 +35,11 @@ use Rattle.beat_points.proofs.FewLemmas.{HaveFew, count_of, few-closed, few-know
 use Rattle.beat_points.proofs.LawLemmas.{before-collected}
 
 -- ---- what is not refused
-passed : {A : Type 0} (b : Bool) (x : A) (rest : Option A) → (if b then Some x else rest) ≡ None → (b ≡ false) × (rest ≡ None)
+pub passed : {A : Type 0} (b : Bool) (x : A) (rest : Option A) → (if b then Some x else rest) ≡ None → (b ≡ false) × (rest ≡ None)
 passed true x rest e = absurd (none-some x (sym e))
 passed false x rest e = (refl, e)
 
-wanted : {A : Type 0} (b : Bool) (x : A) → (if b then None else Some x) ≡ None → b ≡ true
+pub wanted : {A : Type 0} (b : Bool) (x : A) → (if b then None else Some x) ≡ None → b ≡ true
 wanted true x e = refl
 wanted false x e = absurd (none-some x (sym e))
 
@@ -95,6 +95,23 @@ module _ (registry : Registry) (chart : List ℕ) (vs : List OpenValue) (id : Li
         apart = apart-filter same_value kept vs known.apart;
       }
 
+pub same_row-left : (x y : OpenRow) → same_row x y ≡ true → same_row x ≡ same_row y
+same_row-left x y e = λ i row. bytes_eq (same_text x.chart y.chart e i) row.chart
+
+-- a dimension that is not refused leaves no chart with too many
+pub few-taken : (registry : Registry) (open_beat : OpenBeat) → HaveFew registry open_beat.dimensions → (dimension : OpenDim)
+    → dimension_refusal registry open_beat dimension.chart dimension.def ≡ None → HaveFew registry (put same_dimension open_beat.dimensions dimension)
+few-taken registry open_beat few dimension free = by (has_dimension registry open_beat dimension.chart dimension.def.id) refl free
+  where
+    by : (b : Bool) → has_dimension registry open_beat dimension.chart dimension.def.id ≡ b
+        → (if b then None else if dimensions_full registry open_beat dimension.chart then Some fault.TooManyDimensions else None) ≡ None
+        → HaveFew registry (put same_dimension open_beat.dimensions dimension)
+    by true e free = few-known registry open_beat.dimensions few dimension e
+    by false e free =
+        let room = passed (dimensions_full registry open_beat dimension.chart) fault.TooManyDimensions None free in
+        let first = or_false (nat_le 1024 (count_of registry open_beat.dimensions dimension.chart)) (nat_le 65536 (length registry.dimensions + count_by (is_new_dimension registry) open_beat.dimensions)) room.0 in
+        few-room registry open_beat.dimensions few dimension (omega (arith, leb-false 1024 (count_of registry open_beat.dimensions dimension.chart) first.0))
+
 -- ---- what holds after each line
 -- A registry with these definitions knows all of these rows, which are apart, and all of the open block,
 -- whose chart has no row, and no chart of it has too many dimensions.
@@ -140,15 +157,7 @@ module _ (registry : Registry) (cs : List ChartDef) (ds : List OpenDim) (rs : Li
         charts = λ id there. there;
         dimensions = λ chart' id. more-put same_dimension (is_dimension chart' id) (same_dimension-alike chart' id) registry.dimensions ds (record { chart = chart; def = def });
       })
-      (by (has_dimension registry open_now chart def.id) refl free)
-    where
-      by : (b : Bool) → has_dimension registry open_now chart def.id ≡ b → (if b then None else if dimensions_full registry open_now chart then Some fault.TooManyDimensions else None) ≡ None
-          → HaveFew registry (put same_dimension ds (record { chart = chart; def = def }))
-      by true e free = few-known registry ds sound.few (record { chart = chart; def = def }) e
-      by false e free =
-          let room = passed (dimensions_full registry open_now chart) fault.TooManyDimensions None free in
-          let first = or_false (nat_le 1024 (count_of registry ds chart)) (nat_le 65536 (length registry.dimensions + count_by (is_new_dimension registry) ds)) room.0 in
-          few-room registry ds sound.few (record { chart = chart; def = def }) (omega (arith, leb-false 1024 (count_of registry ds chart) first.0))
+      (few-taken registry open_now sound.few (record { chart = chart; def = def }) free)
 
   sound-last : (def : DimDef) (chart : Option (List ℕ)) → option_map_or (λ chart. dimension_refusal registry open_now chart def) chart (Some fault.NoChart) ≡ None
       → IsSound registry cs (option_map_or (λ chart. put same_dimension ds (record { chart = chart; def = def })) chart ds) rs block vs
@@ -199,14 +208,11 @@ module _ (registry : Registry) (cs : List ChartDef) (ds : List OpenDim) (rs : Li
       → IsSound registry cs ds (rs ++ option_map_or (λ chart. record { chart = chart; values = vs } ∷ []) block []) None vs
   sound-end None vs sound free = absurd (none-some fault.NoBlock (sym free))
   sound-end (Some chart) vs sound free = record {
-    apart = apart-push same_row (λ x. bytes_eq_same x.chart x.chart refl) alike rs (row_of chart vs) sound.apart sound.opened.1;
+    apart = apart-push same_row (λ x. bytes_eq_same x.chart x.chart refl) same_row-left rs (row_of chart vs) sound.apart sound.opened.1;
     rows = All-push (IsKnown (with_definitions registry cs ds)) rs (row_of chart vs) sound.rows sound.opened.0;
     opened = tt;
     few = sound.few;
   }
-    where
-      alike : (x y : OpenRow) → same_row x y ≡ true → same_row x ≡ same_row y
-      alike x y e = λ i row. bytes_eq (same_text x.chart y.chart e i) row.chart
 
 -- ---- a text
 module _ (every : ℕ) (h : List Beat) where
@@ -262,6 +268,10 @@ module _ (every : ℕ) (h : List Beat) where
           sound.few row.chart,
         )) (rows past) sound.rows;
       }
+
+  -- no chart comes to have too many with the open beat
+  pub text-open_few : (past : List Line) → HasFew (registry_of h) → AreAccepted every h past → HaveFew (now past) (dimensions past)
+  text-open_few past few accepted = let sound : Sound past = sound-all past few accepted in sound.few
 
   pub text-few : (past : List Line) → HasFew (registry_of h) → AreAccepted every h past → HasFew (registry_of (history_at every h past))
   text-few past few accepted chart = let sound : Sound past = sound-all past few accepted in omega (arith, sound.few chart)

@@ -1,6 +1,7 @@
-use Rattle.std.specs.Prelude.{◌≡◌, ◌<◌, ℕ, List, ◌∷◌, filter_map, Option, IfSome}
+use Rattle.std.specs.Prelude.{◌≡◌, ◌<◌, ℕ, true, List, [], ◌∷◌, length, filter_map, All, Option, IfSome}
 use Rattle.std.specs.List.{enumerate_from}
 use Rattle.std.specs.Option.{option_map}
+use Rattle.storage_number.specs.Word.{is_word}
 use Rattle.algorithms.specs.declared.last.Last.{Last}
 use Rattle.algorithms.specs.Words.{packed}
 use Rattle.history.specs.declared.beat.OpenBeat.{OpenBeat}
@@ -16,6 +17,15 @@ use Rattle.beat_points.specs.LastRows.{AreLastOf}
 abbrev pub beat_points : Registry → List Beat → ℕ → OpenBeat → List SeriesWord
 beat_points registry h moment beat =
     filter_map (λ (place : ℕ × OpenDim). option_map (λ (word : ℕ). record { series = place.0; word = word }) (word_at packed registry h moment beat place.1)) (enumerate_from 0 registry.dimensions)
+
+-- each point is of a series that the registry has, and its word is a storage number
+abbrev pub ArePointsIn : Registry → List SeriesWord → Type 0
+ArePointsIn registry points = All (λ (point : SeriesWord). (point.series < length registry.dimensions) × (is_word point.word ≡ true)) points
+
+-- each series is below those after it
+abbrev pub AreRising : List SeriesWord → Type 0
+AreRising [] = Unit {0}
+AreRising (point ∷ points) = All (λ (later : SeriesWord). point.series < later.series) points × AreRising points
 
 -- each value that a history collected lies before this moment
 abbrev pub IsBefore : List Beat → ℕ → Type 0

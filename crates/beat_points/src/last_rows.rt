@@ -2,9 +2,10 @@ ghost use Rattle.std.specs.Prelude.{◌≡◌, List, [], ◌∷◌, IfOk, OnOk, 
 ghost use Rattle.history.specs.declared.beat.OpenBeat.{OpenBeat};
 ghost use Rattle.history.specs.History.{Beat, Copy, collected, copied, registry_of};
 ghost use Rattle.history.specs.Numbered.{numbered_beat, IsThere};
-ghost use Rattle.history.specs.Regular.{IsRegular};
+ghost use Rattle.history.specs.Registry.{same_chart};
+ghost use Rattle.history.specs.Regular.{AreApart, IsRegular};
 ghost use Rattle.beat_points.specs.LastRows.{AreLastOf};
-ghost use Rattle.beat_points.specs.Points.{IsNext, beat_points};
+ghost use Rattle.beat_points.specs.Points.{IsNext, ArePointsIn, AreRising, beat_points};
 
 use crate::fault::PointFault;
 use crate::series_word::SeriesWordList;
@@ -41,8 +42,8 @@ impl LastRows {
         }
     }
 
-    /// The points that a beat gives, with its definitions in the registry, by ascending series. These are
-    /// the last rows of the history before it.
+    /// The points that a beat gives, with its definitions in the registry, by ascending series, each
+    /// series once. These are the last rows of the history before it, if there is one.
     pub fn points(
         &self,
         alloc: Global,
@@ -50,10 +51,14 @@ impl LastRows {
         beat: &NumberedBeat,
     ) -> Result<SeriesWordList, PointFault>
         requires { IsThere registry.now beat.now }
-        ensures { IfOk result (λ points. (h : List Beat) (opened : OpenBeat)
+        ensures points { IfOk result (λ points. (h : List Beat) (opened : OpenBeat)
             → IsNext registry.now self.now h beat.now.moment opened
             → beat.now ≡ numbered_beat registry.now beat.now.moment opened
             → points ≡ beat_points registry.now h beat.now.moment opened) }
+        ensures words { IfOk result (ArePointsIn registry.now) }
+        ensures rising { IfOk result (λ points. (opened : OpenBeat)
+            → AreApart same_chart registry.now.charts
+            → beat.now ≡ numbered_beat registry.now beat.now.moment opened → AreRising points) }
     {
         let points = giving::gather(
             alloc,

@@ -29,7 +29,7 @@ same-from x y chart id = ap (λ (b : Bool). b && bytes_eq x.def.id y.def.id) (by
 
 -- ---- things of which none is the same as a later one
 -- those that pass a test
-any-filter : {A : Type 0} (p q : A → Bool) (xs : List A) → list_any p xs ≡ false → list_any p (filter q xs) ≡ false
+pub any-filter : {A : Type 0} (p q : A → Bool) (xs : List A) → list_any p xs ≡ false → list_any p (filter q xs) ≡ false
 any-filter p q [] none = refl
 any-filter p q (x ∷ xs) none = let parts = or_false (p x) (list_any p xs) none in by (q x) parts.0 (any-filter p q xs parts.1)
   where

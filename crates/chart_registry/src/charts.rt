@@ -29,7 +29,8 @@ pub(crate) fn number_of(charts: &IndexMap<String, Chart>, id: &str) -> Option<u3
 pub(crate) fn chart_at(charts: &IndexMap<String, Chart>, number: u32) -> &Chart
     requires { number < length (chart_defs charts.now) }
     ensures def { slice_get (chart_defs charts.now) number ≡ Some result.now.def }
-    ensures row { row_at (rows charts.now) number ≡ record { id = result.now.def.id; series = result.now.series.entries } }
+    ensures row { row_at (rows charts.now) number
+        ≡ record { id = result.now.def.id; series = result.now.series.entries } }
 {
     &charts[number as usize]
 }
@@ -44,7 +45,8 @@ pub(crate) fn replace(
     requires same { (row_at (rows charts.old) number).id ≡ def.now.id }
     ensures by_id { AreById charts.old → AreById charts.new }
     ensures rows { rows charts.new ≡ rows charts.old }
-    ensures ok { OnOk result (chart_defs charts.new ≡ slice_set (chart_defs charts.old) number def.now) }
+    ensures ok { OnOk result (chart_defs charts.new
+        ≡ slice_set (chart_defs charts.old) number def.now) }
     ensures err { OnErr result (chart_defs charts.new ≡ chart_defs charts.old) }
 {
     let copy = def.clone()?;
@@ -61,7 +63,8 @@ pub(crate) fn add(
     requires by_id { AreById charts.old }
     requires absent { position (bytes_eq def.now.id) (ids (rows charts.old)) ≡ None }
     ensures by_id { AreById charts.new }
-    ensures rows { OnOk result (rows charts.new ≡ rows charts.old ++ record { id = def.now.id; series = [] } ∷ []) }
+    ensures rows { OnOk result
+        (rows charts.new ≡ rows charts.old ++ record { id = def.now.id; series = [] } ∷ []) }
     ensures ok { OnOk result (chart_defs charts.new ≡ chart_defs charts.old ++ def.now ∷ []) }
     ensures rows_err { OnErr result (rows charts.new ≡ rows charts.old) }
     ensures err { OnErr result (chart_defs charts.new ≡ chart_defs charts.old) }
@@ -87,7 +90,8 @@ pub(crate) fn series_of(charts: &IndexMap<String, Chart>, number: u32, id: &str)
 fn add_series(chart: &mut Chart, id: String, series: u32) -> Result<(), AllocError>
     requires { series_in chart.old.series.entries (string_bytes id) ≡ None }
     ensures def { chart.new.def ≡ chart.old.def }
-    ensures ok { OnOk result (AddsSeries chart.old.series.entries (string_bytes id) series chart.new.series.entries) }
+    ensures ok { OnOk result (AddsSeries chart.old.series.entries
+        (string_bytes id) series chart.new.series.entries) }
     ensures err { OnErr result (chart.new.series.entries ≡ chart.old.series.entries) }
 {
     chart.series.insert(id, series)?;
@@ -105,7 +109,8 @@ pub(crate) fn enter(
     requires absent { series_in (row_at (rows charts.old) number).series (string_bytes id) ≡ None }
     ensures by_id { AreById charts.old → AreById charts.new }
     ensures defs { chart_defs charts.new ≡ chart_defs charts.old }
-    ensures ok { OnOk result (EntersSeries (rows charts.old) number (string_bytes id) series (rows charts.new)) }
+    ensures ok { OnOk result (EntersSeries (rows charts.old) number (string_bytes id) series
+        (rows charts.new)) }
     ensures err { OnErr result (rows charts.new ≡ rows charts.old) }
 {
     add_series(&mut charts[number as usize], id, series)

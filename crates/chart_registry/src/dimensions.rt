@@ -16,7 +16,8 @@ pub(crate) struct Dimension {
 
 // A dimension of the chart with this number.
 fn dimension_of(chart: &Chart, number: u32, def: &DimDef) -> Result<Dimension, AllocError>
-    ensures { IfOk result (λ made. made ≡ record { owner = number; definition = record { chart = chart.now.def.id; def = def.now } }) }
+    ensures { IfOk result (λ made. made
+        ≡ record { owner = number; definition = record { chart = chart.now.def.id; def = def.now } }) }
 {
     Ok(Dimension {
         owner: number,
@@ -33,9 +34,11 @@ pub(crate) fn replace(
     series: u32,
     def: &DimDef,
 ) -> Result<(), AllocError>
-    requires { option_map (λ mark. mark.id) (slice_get (marks dimensions.old.items) series) ≡ Some def.now.id }
+    requires { option_map (λ mark. mark.id) (slice_get (marks dimensions.old.items) series)
+        ≡ Some def.now.id }
     ensures marks { marks dimensions.new.items ≡ marks dimensions.old.items }
-    ensures ok { OnOk result (open_dims dimensions.new.items ≡ redefined (open_dims dimensions.old.items) series def.now) }
+    ensures ok { OnOk result (open_dims dimensions.new.items
+        ≡ redefined (open_dims dimensions.old.items) series def.now) }
     ensures err { OnErr result (open_dims dimensions.new.items ≡ open_dims dimensions.old.items) }
 {
     let copy = def.clone()?;
@@ -56,9 +59,17 @@ pub(crate) fn add(
     ensures by_id { AreById charts.old → AreById charts.new }
     ensures defs { chart_defs charts.new ≡ chart_defs charts.old }
     ensures series { IfOk result (λ series. series ≡ length dimensions.old.items) }
-    ensures rows { IfOk result (λ series. EntersSeries (rows charts.old) number def.now.id series (rows charts.new)) }
+    ensures rows { IfOk result
+        (λ series. EntersSeries (rows charts.old) number def.now.id series (rows charts.new)) }
     ensures ok { OnOk result (dimensions.new.items ≡ dimensions.old.items
-        ++ record { owner = number; definition = record { chart = (row_at (rows charts.old) number).id; def = def.now } } ∷ []) }
+        ++ record {
+          owner = number;
+          definition = record {
+            chart = (row_at
+                (rows charts.old) number).id;
+            def = def.now;
+          };
+        } ∷ []) }
     ensures rows_err { OnErr result (rows charts.new ≡ rows charts.old) }
     ensures err { OnErr result (dimensions.new.items ≡ dimensions.old.items) }
 {

@@ -75,7 +75,8 @@ impl Registry {
     pub fn chart_of(&self, id: &str) -> Option<u32>
         ensures value { result ≡ chart_of self.now id.now }
         ensures found { is_some result ≡ list_any (is_chart id.now) self.now.charts }
-        ensures chart { option_and_then (slice_get self.now.charts) result ≡ find (is_chart id.now) self.now.charts }
+        ensures chart { option_and_then (slice_get self.now.charts) result
+            ≡ find (is_chart id.now) self.now.charts }
         ensures id { IfSome result (λ number. chart_id self.now number ≡ id.now) }
         ensures within { IfSome result (λ number. number < length self.now.charts) }
         ensures unowned { IfNone result (list_any (is_of id.now) self.now.dimensions ≡ false) }
@@ -107,7 +108,8 @@ impl Registry {
     pub fn series_of(&self, chart: u32, id: &str) -> Option<u32>
         requires { chart < length self.now.charts }
         ensures value { result ≡ series_of self.now (chart_id self.now chart) id.now }
-        ensures found { is_some result ≡ list_any (is_dimension (chart_id self.now chart) id.now) self.now.dimensions }
+        ensures found { is_some result
+            ≡ list_any (is_dimension (chart_id self.now chart) id.now) self.now.dimensions }
         ensures within { IfSome result (λ series. series < length self.now.dimensions) }
     {
         charts::series_of(&self.charts, chart, id)
@@ -160,11 +162,15 @@ impl Registry {
     /// `TooManyDimensions` at a 1,025th of its chart or a 65,537th in all. After an `Err` all is as before.
     pub fn define_dimension(&mut self, chart: u32, def: &DimDef) -> Result<u32, RegistryFault>
         requires { chart < length self.old.charts }
-        ensures series { IfOk result (λ series. series_of self.new (chart_id self.old chart) def.now.id ≡ Some series) }
+        ensures series { IfOk result
+            (λ series. series_of self.new (chart_id self.old chart) def.now.id ≡ Some series) }
         ensures within { IfOk result (λ series. series < length self.new.dimensions) }
-        ensures ok { OnOk result (self.new ≡ with_definitions self.old [] (record { chart = chart_id self.old chart; def = def.now } ∷ [])) }
+        ensures ok { OnOk result (self.new
+            ≡ with_definitions self.old []
+            (record { chart = chart_id self.old chart; def = def.now } ∷ [])) }
         ensures err { OnErr result (self.new ≡ self.old) }
-        ensures refused { let reason = dimension_refusal self.old nothing_open (chart_id self.old chart) def.now in
+        ensures refused { let reason = dimension_refusal self.old nothing_open
+            (chart_id self.old chart) def.now in
             MatchResult result (λ _. reason ≡ None) (RefusedBy reason) }
     {
         match charts::series_of(&self.charts, chart, def.id.as_str()) {
@@ -212,7 +218,8 @@ impl Registry {
     }
 
     fn define_dimensions(&mut self, dimensions: &[OpenDim]) -> Result<(), RegistryFault>
-        requires { All (λ dimension. list_any (is_chart dimension.chart) self.old.charts ≡ true) dimensions.now }
+        requires { All (λ dimension. list_any (is_chart dimension.chart) self.old.charts
+            ≡ true) dimensions.now }
         ensures ok { OnOk result (self.new ≡ with_definitions self.old [] dimensions.now) }
         ensures refused { IfErr result (IsReasonOf self.old (defines [] dimensions.now)) }
     {
@@ -238,8 +245,10 @@ impl Registry {
     /// The definition of the dimension with this series.
     pub fn dimension(&self, series: u32) -> &DimDef
         requires { series < length self.now.dimensions }
-        ensures value { option_map (λ dimension. dimension.def) (slice_get self.now.dimensions series) ≡ Some result.now }
-        ensures series { IfSome (slice_get self.now.dimensions series) (λ dimension. series_of self.now dimension.chart dimension.def.id ≡ Some series) }
+        ensures value { option_map (λ dimension. dimension.def)
+            (slice_get self.now.dimensions series) ≡ Some result.now }
+        ensures series { IfSome (slice_get self.now.dimensions series)
+            (λ dimension. series_of self.now dimension.chart dimension.def.id ≡ Some series) }
     {
         &self.dimensions[series as usize].definition.def
     }
@@ -247,8 +256,10 @@ impl Registry {
     /// The number of the chart of the dimension with this series.
     pub fn owner(&self, series: u32) -> u32
         requires { series < length self.now.dimensions }
-        ensures value { IfSome (slice_get self.now.dimensions series) (λ dimension. chart_of self.now dimension.chart ≡ Some result) }
-        ensures id { option_map (λ dimension. dimension.chart) (slice_get self.now.dimensions series) ≡ Some (chart_id self.now result) }
+        ensures value { IfSome (slice_get self.now.dimensions series)
+            (λ dimension. chart_of self.now dimension.chart ≡ Some result) }
+        ensures id { option_map (λ dimension. dimension.chart)
+            (slice_get self.now.dimensions series) ≡ Some (chart_id self.now result) }
         ensures within { result < length self.now.charts }
     {
         self.dimensions[series as usize].owner

@@ -1,9 +1,9 @@
 -- which of two slots counts
-use Rattle.std.proofs.Common.{◌≡◌, ℕ, ◌+◌, ◌<◌, ◌%◌, Bool, true, false, cond, ltb, List, drop, Option, Some, None, refl, sym, ap, ◌∙◌, arith}
-use Rattle.std.proofs.lemmas.Bool.{ltb-true, ltb-false, lt-ltb, le-ltb}
+use Rattle.std.proofs.Common.{◌≡◌, ℕ, ◌%◌, Bool, true, false, cond, ltb, List, Option, Some, None, refl, ap, arith}
+use Rattle.std.proofs.lemmas.Bool.{lt-ltb, le-ltb}
 use Rattle.checkpoint.specs.declared.head.Head.{Head}
 use Rattle.checkpoint.specs.Form.{head_in}
-use Rattle.checkpoint.specs.Files.{Slot, slot_of, slot_in, later_head, later_slot, new_slot, IsNext}
+use Rattle.checkpoint.specs.Files.{Slot, slot_in, later_slot, new_slot, IsNext}
 use Rattle.checkpoint.proofs.FormLemmas.{head_in-odd}
 
 -- the number of the slot, if there is one, is odd (1) or even (0)

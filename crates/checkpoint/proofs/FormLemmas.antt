@@ -1,7 +1,7 @@
 -- what the bytes of a checkpoint file are made of, and what is read of them
-use Rattle.std.proofs.Common.{◌≡◌, ◌≢◌, ℕ, ◌+◌, ◌<◌, ◌≤◌, ◌^◌, ◌%◌, ◌&&◌, Bool, true, false, cond, leb, eqb, eq-eqb, eqb-true, List, ◌∷◌, ◌++◌, length, take, drop, get_or, Option, Some, None, inl, inr, refl, sym, ap, ◌∙◌, arith, append_assoc, append-nil, length-append}
-use Rattle.std.proofs.lemmas.Bool.{and_left, and_right, and_from, and_parts, le-leb, lt-leb, ne_eqb}
-use Rattle.std.proofs.lemmas.List.{take_all, drop_all, drop_at, drop-take, length-take, get_or-take}
+use Rattle.std.proofs.Common.{◌≡◌, ◌≢◌, ℕ, ◌+◌, ◌-◌, ◌<◌, ◌≤◌, ◌^◌, ◌%◌, ◌&&◌, Bool, true, false, cond, leb, eqb, eq-eqb, eqb-true, List, ◌∷◌, ◌++◌, length, take, drop, get_or, Some, None, inl, inr, refl, sym, ap, ◌∙◌, arith, append_assoc, append-nil, length-append}
+use Rattle.std.proofs.lemmas.Bool.{and_left, and_right, and_parts, le-leb, lt-leb, ne_eqb}
+use Rattle.std.proofs.lemmas.List.{take_all, drop_all, drop_at, drop-take, length-drop, length-take, get_or-take}
 use Rattle.byteorder.specs.Endian.{little_number}
 use Rattle.byteorder.specs.Numbers.{length-bytes_low_first, little_from-take, little_number-reads_back}
 use Rattle.checkpoint.specs.declared.head.Head.{Head}
@@ -100,6 +100,12 @@ head_in-slot number body small fits =
 
 pub body_in-whole : (body : List ℕ) → body_in (length body) body ≡ Some body
 body_in-whole body = rw (le-leb (length body) (length body) (omega arith), take_all (length body) body (omega arith)) refl
+
+-- a file that is long enough has a body of this length
+pub body_in-long : (size len : ℕ) (bytes : List ℕ) → len ≡ length bytes → size ≤ len - 17 → (body : List ℕ) × (body_in size (drop 17 bytes) ≡ Some body)
+body_in-long size len bytes is_len enough =
+    let long : size ≤ length (drop 17 bytes) = omega (arith, is_len, enough, length-drop 17 bytes) in
+    (take size (drop 17 bytes), rw (le-leb size (length (drop 17 bytes)) long) refl)
 
 -- what the head of the first 17 bytes says
 pub head_in-closed : (odd : ℕ) (bytes : List ℕ) → get_or bytes 0 0 ≢ 1 → None ≡ head_in odd bytes

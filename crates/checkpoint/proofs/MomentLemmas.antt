@@ -2,7 +2,7 @@
 use Rattle.std.proofs.Common.{◌≡◌, ◌≢◌, ℕ, ◌+◌, ◌<◌, ◌≤◌, ◌^◌, ◌⊎◌, inl, inr, ⊎_elim, List, [], ◌∷◌, ◌++◌, length, take, drop, get_or, max, Option, Result, Ok, Err, false, refl, sym, ap, ◌∙◌, subst, arith, append_assoc, length-append}
 use Rattle.std.specs.Result.{OnOk, is_err}
 use Rattle.std.proofs.lemmas.Bool.{cases_eq}
-use Rattle.std.proofs.lemmas.List.{take_at, drop_at, drop_more, take-append-drop, length-take, get_or-take}
+use Rattle.std.proofs.lemmas.List.{take_at, drop_at, drop_more, length-take, get_or-take}
 use Rattle.host_model.specs.declared.file.File.{File}
 use Rattle.host_model.specs.Images.{Change, Synced, contents, written, greatest, IsImage, IsSynced}
 use Rattle.host_model.specs.Past.{Event, On, of, IsOther}
@@ -14,7 +14,7 @@ use Rattle.host_model.proofs.CallLemmas.{reads_after}
 use Rattle.host_model.proofs.SizeLemmas.{within_when_synced}
 use Rattle.host_model.proofs.DiskLemmas.{is_disk_with}
 use Rattle.host_model.proofs.RunLemmas.{synced_after_sync, RunsFrom, RunsFrom-images, RunsWithin, RunsWithin-images}
-use Rattle.checkpoint.specs.Form.{field, slot_bytes, IsShut}
+use Rattle.checkpoint.specs.Form.{slot_bytes, IsShut}
 use Rattle.checkpoint.specs.Files.{Slot, checkpoint_in, new_slot, slot_file, IsNext, HasOldOrNew}
 use Rattle.checkpoint.specs.Switching.{KeepsGate, KeepsBehindGate, IsSameOrShut, IsReplacing}
 use Rattle.checkpoint.proofs.SlotLemmas.{switch_step, switch_end, same_with}

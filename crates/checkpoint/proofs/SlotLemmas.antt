@@ -1,7 +1,7 @@
 -- the checkpoint of a disk, from what its two files hold
-use Rattle.std.proofs.Common.{◌≡◌, ℕ, ◌+◌, ◌<◌, ◌≤◌, ◌^◌, ◌%◌, ◌⊎◌, Bool, true, false, cond, eqb, eqb-true, ltb, List, ◌∷◌, length, drop, take, Option, Some, None, inl, inr, ⊎_elim, refl, sym, ap, ◌∙◌, subst, arith}
+use Rattle.std.proofs.Common.{◌≡◌, ℕ, ◌<◌, ◌^◌, ◌%◌, ◌⊎◌, Bool, true, false, cond, eqb, eqb-true, ltb, List, ◌∷◌, length, drop, Option, Some, None, inl, inr, ⊎_elim, refl, sym, ap, ◌∙◌, subst, arith}
 use Rattle.std.specs.Option.{option_map}
-use Rattle.std.proofs.lemmas.Bool.{eqb-false, eq-eqb, ne_eqb}
+use Rattle.std.proofs.lemmas.Bool.{eqb-false}
 use Rattle.host_model.specs.declared.file.File.{File}
 use Rattle.host_model.specs.declared.file.File.TheVariants.{CheckA, CheckB}
 use Rattle.host_model.specs.Images.{Synced}
@@ -192,3 +192,17 @@ pub loaded_disks : (old synced new : List Event) → new ≡ synced → EveryDis
 loaded_disks old synced new same both =
     subst (EveryDisk (λ (disk : File → List ℕ). checkpoint_in disk ≡ checkpoint_in (reads_as old))) (sym same)
     (λ disk images. checkpoint_in-same disk (reads_as old) (both disk images))
+
+-- the file that counts has a body of the length that it says
+pub held_of : (old synced : File → List ℕ) (found : Option Head) (head : Head) (file : File) → ((other : File) → synced other ≡ old other)
+    → IsFound found synced → found ≡ Some head → file ≡ slot_file head.number → (body : List ℕ) × (body_in head.size (drop 17 (synced file)) ≡ Some body)
+    → (number : ℕ) × (body : List ℕ) × (checkpoint_in old ≡ new_slot number body)
+held_of old synced found head file same is_found_head is_head is_file held =
+    let counts : IsFound (Some head) synced = subst (λ (h : Option Head). IsFound h synced) is_head is_found_head in
+    let whole : body_in head.size (drop 17 (synced (slot_file head.number))) ≡ Some held.0 =
+    ap (λ (f : File). body_in head.size (drop 17 (synced f))) (sym is_file) ∙ held.1 in (
+      head.number,
+      held.0,
+      checkpoint_in-same old synced (record { first = sym (same CheckA); second = sym (same CheckB) })
+          ∙ counts ∙ ap (λ (b : Option (List ℕ)). slot_with head.number b) whole,
+    )

@@ -1,5 +1,5 @@
 -- the two checkpoint files of a disk, and the checkpoint that they hold
-use Rattle.std.specs.Prelude.{◌≡◌, ◌⊎◌, ◌==◌, ℕ, ◌+◌, ◌<◌, ◌%◌, if◌then◌else◌, nat_lt, List, length, drop, Option, Some, None}
+use Rattle.std.specs.Prelude.{◌≡◌, ◌⊎◌, ◌==◌, ℕ, ◌+◌, ◌%◌, if◌then◌else◌, nat_lt, List, length, drop, Option, Some, None}
 use Rattle.std.specs.Option.{option_map}
 use Rattle.host_model.specs.declared.file.File.{File}
 use Rattle.host_model.specs.declared.file.File.TheVariants.{CheckA, CheckB}

@@ -1,5 +1,5 @@
 -- the bytes of one checkpoint file
-use Rattle.std.specs.Prelude.{◌≡◌, ◌≢◌, ◌⊎◌, ◌==◌, ◌&&◌, ℕ, ◌<◌, ◌%◌, Bool, if◌then◌else◌, nat_le, List, ◌∷◌, ◌++◌, length, take, drop, slice_index, Option, Some, None}
+use Rattle.std.specs.Prelude.{◌≢◌, ◌⊎◌, ◌==◌, ◌&&◌, ℕ, ◌<◌, ◌%◌, Bool, if◌then◌else◌, nat_le, List, ◌∷◌, ◌++◌, length, take, drop, slice_index, Option, Some, None}
 use Rattle.byteorder.specs.Endian.{little_bytes, little_number}
 use Rattle.checkpoint.specs.declared.head.Head.{Head}
 

@@ -6,8 +6,9 @@
 //! number counts. Bytes behind the body have no meaning.
 //!
 //! A switch writes the next checkpoint over the older one: it closes that file's gate, writes all that
-//! stands behind the gate, and then opens it, each with a sync. A gate is written only where the rest is
-//! stable. So at every moment a stop leaves the checkpoint that was there, or the new one whole.
+//! stands behind the gate, and then opens it, each with a sync. A gate is opened, and an open one closed,
+//! only where the rest is stable. So at every moment a stop leaves the checkpoint that was there, or the
+//! new one whole.
 //!
 //! It stands on `host_model`: what a stop may leave of a file is its definition, and over a host that
 //! tells nothing of its past each call is still safe and returns. Only `load` takes memory, for the body

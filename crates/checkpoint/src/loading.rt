@@ -1,6 +1,6 @@
-ghost use Rattle.std.specs.Prelude.{◌≡◌, ℕ, ◌∷◌, ◌⊎◌, length, drop, Some, None, IfOk, IsErr, IsErrOf, OnOk};
+ghost use Rattle.std.specs.Prelude.{◌≡◌, ℕ, ◌∷◌, ◌⊎◌, List, length, drop, Some, None, IfOk, IsErr, IsErrOf, OnOk};
 ghost use Rattle.host_model.specs.Images.{Synced, contents};
-ghost use Rattle.host_model.specs.Past.{On, of, told, IsDisk};
+ghost use Rattle.host_model.specs.Past.{On, of, told, IsDisk, IsOther};
 ghost use Rattle.host_model.specs.Disks.{EveryDisk, reads_as};
 ghost use Rattle.host_model.specs.Cause.{HasCause};
 ghost use Rattle.host_model.specs.Moments.{Throughout};
@@ -15,23 +15,45 @@ use host_model::{Failed, File, Host};
 use std::alloc::Global;
 
 /// The number and the body of the checkpoint that counts. It syncs both files first, and then only reads.
+/// `NoneOpen` where neither file is open, `BadSlot` where the open file that counts is shorter than it
+/// says, `Memory` where there is none for the body, and `DiskFault` where a call on the disk failed.
 pub fn load<H: Host>(alloc: Global, host: &mut H) -> Result<(u64, ByteList), CheckFault>
-    ensures loaded { IfOk result (λ found. H.honest → checkpoint_in (reads_as (H.past host.old)) ≡ new_slot found.0 found.1) }
-    ensures none_open { IsErrOf result CheckFault.NoneOpen → H.honest → checkpoint_in (reads_as (H.past host.old)) ≡ None }
+    ensures loaded { IfOk result
+        (λ found. H.honest → checkpoint_in (reads_as (H.seen host.old).past)
+        ≡ new_slot found.0 found.1) }
+    ensures none_open { IsErrOf result CheckFault.NoneOpen → H.honest
+        → checkpoint_in (reads_as (H.seen host.old).past) ≡ None }
 
     // The open file that counts is shorter than it says, and that is its length.
-    ensures bad_slot { (place : ℕ) → IsErrOf result (CheckFault.BadSlot place) → H.honest → EndsEarly place (reads_as (H.past host.old)) }
+    ensures bad_slot { (place : ℕ) → IsErrOf result (CheckFault.BadSlot place) → H.honest
+        → EndsEarly place (reads_as (H.seen host.old).past) }
+
+    // There is a checkpoint to hold.
+    ensures memory { IsErrOf result CheckFault.Memory → H.honest
+        → (number : ℕ) × (body : List ℕ)
+        × (checkpoint_in (reads_as (H.seen host.old).past) ≡ new_slot number body) }
 
     // It begins with the two syncs, and nothing else happens to the disk.
     ensures begins { H.honest → IsErrOf result CheckFault.DiskFault
-        ⊎ (H.past host.new ≡ On File.CheckB Synced ∷ (On File.CheckA Synced ∷ H.past host.old)) }
+        ⊎ ((H.seen host.new).past ≡ On File.CheckB Synced ∷
+        (On File.CheckA Synced ∷ (H.seen host.old).past)) }
     ensures every_disk { H.honest → IsErrOf result CheckFault.DiskFault
-        ⊎ EveryDisk (λ disk. checkpoint_in disk ≡ checkpoint_in (reads_as (H.past host.old))) (H.past host.new) }
-    ensures same_bytes { H.honest → (file : File) → reads_as (H.past host.new) file ≡ reads_as (H.past host.old) file }
-    ensures any_moment { H.honest → Throughout (EveryDisk (IsDisk (H.past host.old))) (H.past host.old) (H.past host.new) }
-    ensures untold { H.honest → told (H.past host.new) ≡ told (H.past host.old) }
-    ensures cause { HasCause (H.disk_faults host.old) (H.disk_faults host.new) (IsErrOf result CheckFault.DiskFault) }
-    ensures output { H.tell_faults host.new ≡ H.tell_faults host.old }
+        ⊎ EveryDisk (λ disk. checkpoint_in disk ≡ checkpoint_in (reads_as (H.seen host.old).past))
+        (H.seen host.new).past }
+    ensures same_bytes { H.honest → (file : File)
+        → reads_as (H.seen host.new).past file ≡ reads_as (H.seen host.old).past file }
+    ensures any_moment { H.honest
+        → Throughout (EveryDisk (IsDisk (H.seen host.old).past)) (H.seen host.old).past
+        (H.seen host.new).past }
+
+    // Nothing happens to any other file, and nothing is told.
+    ensures only_here { H.honest → (other : File) → IsOther other File.CheckA
+        → IsOther other File.CheckB
+        → of other (H.seen host.new).past ≡ of other (H.seen host.old).past }
+    ensures untold { H.honest → told (H.seen host.new).past ≡ told (H.seen host.old).past }
+    ensures cause { HasCause (H.seen host.old).disk_faults (H.seen host.new).disk_faults
+        (IsErrOf result CheckFault.DiskFault) }
+    ensures output { (H.seen host.new).tell_faults ≡ (H.seen host.old).tell_faults }
 {
     if sync_both(host).is_err() {
         return Err(CheckFault::DiskFault);
@@ -48,13 +70,24 @@ pub fn load<H: Host>(alloc: Global, host: &mut H) -> Result<(u64, ByteList), Che
 
 /// Syncs both files.
 fn sync_both<H: Host>(host: &mut H) -> Result<(), Failed>
-    ensures begins { OnOk result (H.honest → H.past host.new ≡ On File.CheckB Synced ∷ (On File.CheckA Synced ∷ H.past host.old)) }
-    ensures every_disk { OnOk result (H.honest → EveryDisk (AreBoth (reads_as (H.past host.old))) (H.past host.new)) }
-    ensures same_bytes { H.honest → (file : File) → reads_as (H.past host.new) file ≡ reads_as (H.past host.old) file }
-    ensures any_moment { H.honest → Throughout (EveryDisk (IsDisk (H.past host.old))) (H.past host.old) (H.past host.new) }
-    ensures untold { H.honest → told (H.past host.new) ≡ told (H.past host.old) }
-    ensures cause { HasCause (H.disk_faults host.old) (H.disk_faults host.new) (IsErr result) }
-    ensures output { H.tell_faults host.new ≡ H.tell_faults host.old }
+    ensures begins { OnOk result
+        (H.honest → (H.seen host.new).past
+        ≡ On File.CheckB Synced ∷ (On File.CheckA Synced ∷ (H.seen host.old).past)) }
+    ensures every_disk { OnOk result
+        (H.honest → EveryDisk (AreBoth (reads_as (H.seen host.old).past)) (H.seen host.new).past) }
+    ensures same_bytes { H.honest → (file : File)
+        → reads_as (H.seen host.new).past file ≡ reads_as (H.seen host.old).past file }
+    ensures any_moment { H.honest
+        → Throughout (EveryDisk (IsDisk (H.seen host.old).past)) (H.seen host.old).past
+        (H.seen host.new).past }
+    ensures only_here { H.honest → (other : File) → IsOther other File.CheckA
+        → IsOther other File.CheckB
+        → of other (H.seen host.new).past ≡ of other (H.seen host.old).past }
+    ensures untold { H.honest → told (H.seen host.new).past ≡ told (H.seen host.old).past }
+    ensures cause { HasCause (H.seen host.old).disk_faults (H.seen host.new).disk_faults
+        (IsErr result) }
+    ensures output { (H.seen host.new).tell_faults ≡ (H.seen host.old).tell_faults }
+    ensures reads { (H.seen host.new).reads ≡ (H.seen host.old).reads }
 {
     host.sync(File::CheckA)?;
     host.sync(File::CheckB)
@@ -62,10 +95,12 @@ fn sync_both<H: Host>(host: &mut H) -> Result<(), Failed>
 
 /// What the front of a file says, where it is open. The numbers of the file are odd, or even.
 fn read_head<H: Host>(host: &mut H, file: File, odd: u64) -> Result<Option<Head>, Failed>
-    ensures head { IfOk result (λ head. H.honest → head ≡ head_in odd (contents (of file (H.past host.old)))) }
-    ensures past { H.honest → H.past host.new ≡ H.past host.old }
-    ensures cause { HasCause (H.disk_faults host.old) (H.disk_faults host.new) (IsErr result) }
-    ensures output { H.tell_faults host.new ≡ H.tell_faults host.old }
+    ensures head { IfOk result
+        (λ head. H.honest → head ≡ head_in odd (contents (of file (H.seen host.old).past))) }
+    ensures past { H.honest → (H.seen host.new).past ≡ (H.seen host.old).past }
+    ensures cause { HasCause (H.seen host.old).disk_faults (H.seen host.new).disk_faults
+        (IsErr result) }
+    ensures output { (H.seen host.new).tell_faults ≡ (H.seen host.old).tell_faults }
 {
     let mut seen = [0u8; HEAD];
     if host.read(file, 0, &mut seen)? < HEAD {
@@ -76,10 +111,12 @@ fn read_head<H: Host>(host: &mut H, file: File, odd: u64) -> Result<Option<Head>
 
 /// The head of the checkpoint that counts, where a file is open.
 fn find<H: Host>(host: &mut H) -> Result<Option<Head>, Failed>
-    ensures found { IfOk result (λ found. H.honest → IsFound found (reads_as (H.past host.old))) }
-    ensures past { H.honest → H.past host.new ≡ H.past host.old }
-    ensures cause { HasCause (H.disk_faults host.old) (H.disk_faults host.new) (IsErr result) }
-    ensures output { H.tell_faults host.new ≡ H.tell_faults host.old }
+    ensures found { IfOk result
+        (λ found. H.honest → IsFound found (reads_as (H.seen host.old).past)) }
+    ensures past { H.honest → (H.seen host.new).past ≡ (H.seen host.old).past }
+    ensures cause { HasCause (H.seen host.old).disk_faults (H.seen host.new).disk_faults
+        (IsErr result) }
+    ensures output { (H.seen host.new).tell_faults ≡ (H.seen host.old).tell_faults }
 {
     let first = read_head(host, File::CheckA, 0)?;
     let second = read_head(host, File::CheckB, 1)?;
@@ -93,13 +130,20 @@ fn read_body<H: Host>(
     file: File,
     size: u64,
 ) -> Result<ByteList, CheckFault>
-    ensures body { IfOk result (λ body. H.honest → body_in size (drop 17 (contents (of file (H.past host.old)))) ≡ Some body) }
+    ensures body { IfOk result
+        (λ body. H.honest → body_in size (drop 17 (contents (of file (H.seen host.old).past)))
+        ≡ Some body) }
     ensures bad_slot { (place : ℕ) → IsErrOf result (CheckFault.BadSlot place) → H.honest
-        → (place ≡ length (contents (of file (H.past host.old)))) × (body_in size (drop 17 (contents (of file (H.past host.old)))) ≡ None) }
+        → (place ≡ length (contents (of file (H.seen host.old).past)))
+        × (body_in size (drop 17 (contents (of file (H.seen host.old).past))) ≡ None) }
+    ensures memory { IsErrOf result CheckFault.Memory → H.honest
+        → (body : List ℕ) × (body_in size (drop 17 (contents (of file (H.seen host.old).past)))
+        ≡ Some body) }
     ensures not_none_open { IsErrOf result CheckFault.NoneOpen → ⊥ }
-    ensures past { H.honest → H.past host.new ≡ H.past host.old }
-    ensures cause { HasCause (H.disk_faults host.old) (H.disk_faults host.new) (IsErrOf result CheckFault.DiskFault) }
-    ensures output { H.tell_faults host.new ≡ H.tell_faults host.old }
+    ensures past { H.honest → (H.seen host.new).past ≡ (H.seen host.old).past }
+    ensures cause { HasCause (H.seen host.old).disk_faults (H.seen host.new).disk_faults
+        (IsErrOf result CheckFault.DiskFault) }
+    ensures output { (H.seen host.new).tell_faults ≡ (H.seen host.old).tell_faults }
 {
     let Ok(len) = host.len(file) else {
         return Err(CheckFault::DiskFault);

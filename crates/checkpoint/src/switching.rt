@@ -17,24 +17,37 @@ use host_model::{Failed, File, Host};
 
 /// Makes a body the checkpoint of this number, which is one above that of the checkpoint that is there,
 /// or 0 where there is none. At `Ok` it is stored and synced. After `DiskFault` each stop leaves the old
-/// checkpoint or the new one, as at every moment of the call.
+/// checkpoint or the new one, as at every moment of the call, and the checkpoint must be loaded before
+/// the next switch.
 pub fn switch<H: Host>(host: &mut H, number: u64, body: &[u8]) -> Result<(), CheckFault>
-    ensures switched { OnOk result (H.honest → (old : Option Slot) → EveryDisk (λ disk. checkpoint_in disk ≡ old) (H.past host.old)
-        → IsNext old number → EveryDisk (λ disk. checkpoint_in disk ≡ new_slot number body.now) (H.past host.new)) }
-    ensures any_moment { H.honest → (old : Option Slot) → EveryDisk (λ disk. checkpoint_in disk ≡ old) (H.past host.old)
-        → IsNext old number → Throughout (EveryDisk (HasOldOrNew old number body.now)) (H.past host.old) (H.past host.new) }
-    ensures whole { OnOk result (H.honest → contents (of (slot_file number) (H.past host.new)) ≡ slot_bytes 1 number body.now) }
-    ensures synced { OnOk result (H.honest → IsSynced (of (slot_file number) (H.past host.new))) }
+    ensures switched { OnOk result
+        (H.honest → (old : Option Slot)
+        → EveryDisk (λ disk. checkpoint_in disk ≡ old) (H.seen host.old).past
+        → IsNext old number → EveryDisk (λ disk. checkpoint_in disk ≡ new_slot number body.now)
+        (H.seen host.new).past) }
+    ensures any_moment { H.honest → (old : Option Slot)
+        → EveryDisk (λ disk. checkpoint_in disk ≡ old) (H.seen host.old).past
+        → IsNext old number → Throughout (EveryDisk (HasOldOrNew old number body.now))
+        (H.seen host.old).past (H.seen host.new).past }
+    ensures whole { OnOk result
+        (H.honest → contents (of (slot_file number) (H.seen host.new).past)
+        ≡ slot_bytes 1 number body.now) }
+    ensures synced { OnOk result
+        (H.honest → IsSynced (of (slot_file number) (H.seen host.new).past)) }
 
     // No stop leaves a file that is longer than it could be before, or than the new checkpoint is.
-    ensures bound { (size : ℕ) → 17 + length body.now ≤ size → H.honest → greatest (of (slot_file number) (H.past host.old)) ≤ size
-        → Throughout (λ past. greatest (of (slot_file number) past) ≤ size) (H.past host.old) (H.past host.new) }
+    ensures bound { (size : ℕ) → 17 + length body.now ≤ size → H.honest
+        → greatest (of (slot_file number) (H.seen host.old).past) ≤ size
+        → Throughout (λ past. greatest (of (slot_file number) past) ≤ size) (H.seen host.old).past
+        (H.seen host.new).past }
 
     // The images of all other files and the output stay.
-    ensures only_here { H.honest → OnlyOn (slot_file number) (H.past host.old) (H.past host.new) }
+    ensures only_here { H.honest
+        → OnlyOn (slot_file number) (H.seen host.old).past (H.seen host.new).past }
     ensures faults { IfErr result (λ fault. fault ≡ CheckFault.DiskFault) }
-    ensures cause { HasCause (H.disk_faults host.old) (H.disk_faults host.new) (IsErrOf result CheckFault.DiskFault) }
-    ensures output { H.tell_faults host.new ≡ H.tell_faults host.old }
+    ensures cause { HasCause (H.seen host.old).disk_faults (H.seen host.new).disk_faults
+        (IsErrOf result CheckFault.DiskFault) }
+    ensures output { (H.seen host.new).tell_faults ≡ (H.seen host.old).tell_faults }
 {
     let head = head_bytes(number, body.len() as u64);
     if replace(host, slot_file_of(number), head, body).is_err() {
@@ -46,15 +59,21 @@ pub fn switch<H: Host>(host: &mut H, number: u64, body: &[u8]) -> Result<(), Che
 /// Leaves an open gate, a head and a body in a file, whatever it held. At every moment a stop leaves
 /// what was there, or a file that is not open, or the new bytes whole.
 fn replace<H: Host>(host: &mut H, file: File, head: [u8; 16], body: &[u8]) -> Result<(), Failed>
-    ensures whole { OnOk result (H.honest → contents (of file (H.past host.new)) ≡ 1 ∷ (head ++ body.now)) }
-    ensures synced { OnOk result (H.honest → IsSynced (of file (H.past host.new))) }
-    ensures any_moment { H.honest → Throughout (EveryImage file (IsReplacing (of file (H.past host.old)) (1 ∷ (head ++ body.now))))
-        (H.past host.old) (H.past host.new) }
-    ensures bound { (size : ℕ) → 17 + length body.now ≤ size → H.honest → greatest (of file (H.past host.old)) ≤ size
-        → Throughout (λ past. greatest (of file past) ≤ size) (H.past host.old) (H.past host.new) }
-    ensures only_here { H.honest → OnlyOn file (H.past host.old) (H.past host.new) }
-    ensures cause { HasCause (H.disk_faults host.old) (H.disk_faults host.new) (IsErr result) }
-    ensures output { H.tell_faults host.new ≡ H.tell_faults host.old }
+    ensures whole { OnOk result
+        (H.honest → contents (of file (H.seen host.new).past) ≡ 1 ∷ (head ++ body.now)) }
+    ensures synced { OnOk result (H.honest → IsSynced (of file (H.seen host.new).past)) }
+    ensures any_moment { H.honest
+        → Throughout (EveryImage file
+        (IsReplacing (of file (H.seen host.old).past) (1 ∷ (head ++ body.now))))
+        (H.seen host.old).past (H.seen host.new).past }
+    ensures bound { (size : ℕ) → 17 + length body.now ≤ size → H.honest
+        → greatest (of file (H.seen host.old).past) ≤ size
+        → Throughout (λ past. greatest (of file past) ≤ size) (H.seen host.old).past
+        (H.seen host.new).past }
+    ensures only_here { H.honest → OnlyOn file (H.seen host.old).past (H.seen host.new).past }
+    ensures cause { HasCause (H.seen host.old).disk_faults (H.seen host.new).disk_faults
+        (IsErr result) }
+    ensures output { (H.seen host.new).tell_faults ≡ (H.seen host.old).tell_faults }
 {
     close_gate(host, file)?;
     write_rest(host, file, head, body)?;

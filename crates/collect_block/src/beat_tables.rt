@@ -50,7 +50,8 @@ impl BeatTables {
 
     /// Whether it says nothing.
     pub(crate) fn is_empty(&self) -> bool
-        ensures { result ≡ (is_empty self.now.charts && is_empty self.now.dimensions && is_empty self.now.rows) }
+        ensures { result
+            ≡ (is_empty self.now.charts && is_empty self.now.dimensions && is_empty self.now.rows) }
     {
         self.charts.as_slice().is_empty()
             && self.dimensions.as_slice().is_empty()
@@ -75,7 +76,8 @@ impl BeatTables {
 
     /// The update_every of a chart as it is now, by its last definition.
     pub(crate) fn update_every_of(&self, registry: &Registry, id: &str) -> Option<u32>
-        ensures { result ≡ option_map (λ def. def.update_every) (chart_now registry.now (beat_of self.now) id.now) }
+        ensures { result ≡ option_map (λ def. def.update_every)
+            (chart_now registry.now (beat_of self.now) id.now) }
     {
         match self.charts.update_every_of(id) {
             Some(update_every) => Some(update_every),
@@ -118,8 +120,11 @@ impl BeatTables {
         registry: &Registry,
         def: ChartDef,
     ) -> Result<(), AllocError>
-        ensures beat { OnOk result (beat_of self.new ≡ record (beat_of self.old) { charts = put same_chart self.old.charts def }) }
-        ensures counts { OnOk result (CountsNew self.old registry.now → CountsNew self.new registry.now) }
+        ensures beat { OnOk result
+            (beat_of self.new ≡ record
+            (beat_of self.old) { charts = put same_chart self.old.charts def }) }
+        ensures counts { OnOk result
+            (CountsNew self.old registry.now → CountsNew self.new registry.now) }
         ensures err { OnErr result (self.new ≡ self.old) }
     {
         let is_new = !self.has_chart(registry, def.id.as_str());
@@ -137,8 +142,11 @@ impl BeatTables {
         registry: &Registry,
         dimension: OpenDim,
     ) -> Result<(), AllocError>
-        ensures beat { OnOk result (beat_of self.new ≡ record (beat_of self.old) { dimensions = put same_dimension self.old.dimensions dimension }) }
-        ensures counts { OnOk result (CountsNew self.old registry.now → CountsNew self.new registry.now) }
+        ensures beat { OnOk result
+            (beat_of self.new ≡ record
+            (beat_of self.old) { dimensions = put same_dimension self.old.dimensions dimension }) }
+        ensures counts { OnOk result
+            (CountsNew self.old registry.now → CountsNew self.new registry.now) }
         ensures err { OnErr result (self.new ≡ self.old) }
     {
         let chart = dimension.chart.as_str();
@@ -153,7 +161,8 @@ impl BeatTables {
     /// Whether there is no room for one more chart. The charts of the beat are gone through only where
     /// those that are counted leave no room.
     fn is_full_of_charts(&self, registry: &Registry) -> bool
-        ensures { CountsNew self.now registry.now → result ≡ charts_full registry.now (beat_of self.now) }
+        ensures { CountsNew self.now registry.now
+            → result ≡ charts_full registry.now (beat_of self.now) }
     {
         let known = registry.charts() as usize;
         let most = MOST_CHARTS as usize;
@@ -165,7 +174,8 @@ impl BeatTables {
 
     /// Whether there is no room for one more dimension of this chart.
     fn is_full_of(&self, registry: &Registry, chart: &str) -> bool
-        ensures { CountsNew self.now registry.now → result ≡ chart_full registry.now (beat_of self.now) chart.now }
+        ensures { CountsNew self.now registry.now
+            → result ≡ chart_full registry.now (beat_of self.now) chart.now }
     {
         let known = known_dimensions_of(registry, chart) as usize;
         let most = MOST_DIMENSIONS_OF_CHART as usize;
@@ -177,7 +187,8 @@ impl BeatTables {
 
     /// Whether there is no room for one more dimension of any chart.
     fn is_full_of_dimensions(&self, registry: &Registry) -> bool
-        ensures { CountsNew self.now registry.now → result ≡ all_full registry.now (beat_of self.now) }
+        ensures { CountsNew self.now registry.now
+            → result ≡ all_full registry.now (beat_of self.now) }
     {
         let known = registry.dimensions() as usize;
         let most = MOST_DIMENSIONS as usize;
@@ -194,7 +205,9 @@ impl BeatTables {
         id: &str,
         update_every: u32,
     ) -> Option<BlockFault>
-        ensures { CountsNew self.now registry.now → (def : ChartDefinition) → def.id ≡ id.now → def.update_every ≡ update_every → result ≡ chart_refusal registry.now (beat_of self.now) def }
+        ensures { CountsNew self.now registry.now → (def : ChartDefinition) → def.id ≡ id.now
+            → def.update_every ≡ update_every
+            → result ≡ chart_refusal registry.now (beat_of self.now) def }
     {
         match self.update_every_of(registry, id) {
             Some(old) if old == update_every => None,
@@ -211,7 +224,8 @@ impl BeatTables {
         chart: &str,
         id: &str,
     ) -> Option<BlockFault>
-        ensures { CountsNew self.now registry.now → (def : DimDefinition) → def.id ≡ id.now → result ≡ dimension_refusal registry.now (beat_of self.now) chart.now def }
+        ensures { CountsNew self.now registry.now → (def : DimDefinition) → def.id ≡ id.now
+            → result ≡ dimension_refusal registry.now (beat_of self.now) chart.now def }
     {
         if self.has_dimension(registry, chart, id) {
             return None;

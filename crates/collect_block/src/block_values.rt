@@ -126,7 +126,8 @@ fn put_value(
 fn drop_value(marks: &mut Vec<u32>, values: &mut Vec<OpenValue>, id: &str)
     requires marked { AreMarksOf marks.old.items values.old.items }
     ensures marked { AreMarksOf marks.new.items values.new.items }
-    ensures dropped { values.new.items ≡ filter (λ value. not (is_value id.now value)) values.old.items }
+    ensures dropped { values.new.items
+        ≡ filter (λ value. not (is_value id.now value)) values.old.items }
 {
     let mark = mark_of(id);
     while let Some(place) = place_of(marks.as_slice(), values.as_slice(), mark, id) {

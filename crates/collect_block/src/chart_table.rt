@@ -102,7 +102,8 @@ fn define(
 fn replace(defs: &mut Vec<ChartDef>, place: usize, def: ChartDef)
     requires there { position (is_chart def.id) defs.old.items ≡ Some place }
     ensures put { defs.new.items ≡ put same_chart defs.old.items def }
-    ensures kept { (id : List ℕ) → position (is_chart id) defs.new.items ≡ position (is_chart id) defs.old.items }
+    ensures kept { (id : List ℕ)
+        → position (is_chart id) defs.new.items ≡ position (is_chart id) defs.old.items }
 {
     defs[place] = def;
 }

@@ -54,7 +54,10 @@ impl CountTable {
         dimension: OpenDim,
     ) -> Result<(), AllocError>
         ensures table { OnOk result (table.new ≡ put same_dimension table.old dimension) }
-        ensures counts { OnOk result ((chart : List ℕ) → count_in self.new chart ≡ with_count self.old dimension.chart (min (count_in self.old dimension.chart + 1) (length table.new)) chart) }
+        ensures counts { OnOk result
+            ((chart : List ℕ) → count_in self.new chart
+            ≡ with_count self.old dimension.chart
+            (min (count_in self.old dimension.chart + 1) (length table.new)) chart) }
         ensures table_kept { OnErr result (table.new ≡ table.old) }
         ensures counts_kept { OnErr result (self.new ≡ self.old) }
     {

@@ -109,7 +109,8 @@ fn add_place(
     place: usize,
 ) -> Result<(), AllocError>
     requires absent { place_in table.old.entries (string_bytes id) ≡ None }
-    ensures ok { OnOk result (AddsPlace table.old.entries (string_bytes id) place table.new.entries) }
+    ensures ok { OnOk result (AddsPlace table.old.entries
+        (string_bytes id) place table.new.entries) }
     ensures err { OnErr result (table.new.entries ≡ table.old.entries) }
 {
     table.insert(id, place)?;
@@ -125,7 +126,8 @@ fn enter_first(
     place: usize,
 ) -> Result<(), AllocError>
     requires absent { place_in tables.old.entries (string_bytes chart) ≡ None }
-    ensures ok { OnOk result (EntersPlace tables.old.entries (string_bytes chart) (string_bytes id) place tables.new.entries) }
+    ensures ok { OnOk result (EntersPlace tables.old.entries (string_bytes chart)
+        (string_bytes id) place tables.new.entries) }
     ensures err { OnErr result (KeepsTables tables.old.entries tables.new.entries) }
 {
     let mut table = IndexMap::new(alloc);
@@ -142,8 +144,10 @@ fn enter(
     id: String,
     place: usize,
 ) -> Result<(), AllocError>
-    requires absent { place_in (table_in tables.old.entries (string_bytes chart)) (string_bytes id) ≡ None }
-    ensures ok { OnOk result (EntersPlace tables.old.entries (string_bytes chart) (string_bytes id) place tables.new.entries) }
+    requires absent { place_in (table_in tables.old.entries (string_bytes chart)) (string_bytes id)
+        ≡ None }
+    ensures ok { OnOk result (EntersPlace tables.old.entries (string_bytes chart)
+        (string_bytes id) place tables.new.entries) }
     ensures err { OnErr result (KeepsTables tables.old.entries tables.new.entries) }
 {
     match tables.get_index_of(chart.as_str()) {
@@ -177,8 +181,11 @@ fn define(
 fn replace(defs: &mut Vec<OpenDim>, place: usize, dimension: OpenDim)
     requires there { position (same_dimension dimension) defs.old.items ≡ Some place }
     ensures put { defs.new.items ≡ put same_dimension defs.old.items dimension }
-    ensures kept { (chart id : List ℕ) → position (is_dimension chart id) defs.new.items ≡ position (is_dimension chart id) defs.old.items }
-    ensures counts { (chart : List ℕ) → count_by (is_of chart) defs.new.items ≡ count_by (is_of chart) defs.old.items }
+    ensures kept { (chart id : List ℕ)
+        → position (is_dimension chart id) defs.new.items
+        ≡ position (is_dimension chart id) defs.old.items }
+    ensures counts { (chart : List ℕ)
+        → count_by (is_of chart) defs.new.items ≡ count_by (is_of chart) defs.old.items }
 {
     defs[place] = dimension;
 }

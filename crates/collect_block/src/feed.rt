@@ -96,12 +96,18 @@ impl Feed {
         copies: bool,
         line: &Line,
     ) -> Result<Step, BlockFault>
-        ensures refused { (every : ℕ) (past : List ALine) → IsFeedOf self.old every past → CountsAt line.now self.old registry.now →
-            let reason = refusal registry.now every past copies last line.now in MatchResult result (λ _. reason ≡ None) (RefusedBy reason) }
-        ensures short { (every : ℕ) (past : List ALine) → IsFeedOf self.old every past → IsErrOf result BlockFault.Memory → ClosesNone line.now }
-        ensures gives { IfOk result (λ step. (every : ℕ) (past : List ALine) → IsFeedOf self.old every past → step ≡ step_of every past line.now) }
+        ensures refused { (every : ℕ) (past : List ALine) → IsFeedOf self.old every past
+            → CountsAt line.now self.old registry.now →
+            let reason = refusal registry.now every past copies last line.now in MatchResult result
+            (λ _. reason ≡ None) (RefusedBy reason) }
+        ensures short { (every : ℕ) (past : List ALine) → IsFeedOf self.old every past
+            → IsErrOf result BlockFault.Memory → ClosesNone line.now }
+        ensures gives { IfOk result
+            (λ step. (every : ℕ) (past : List ALine) → IsFeedOf self.old every past
+            → step ≡ step_of every past line.now) }
         ensures taken { OnOk result (Becomes line.now self.old self.new) }
-        ensures counts { OnOk result (CountsFor self.old registry.now → CountsPast line.now self.new registry.now) }
+        ensures counts { OnOk result
+            (CountsFor self.old registry.now → CountsPast line.now self.new registry.now) }
         ensures err { OnErr result (self.new ≡ self.old) }
     {
         match self.refusal(registry, last, copies, line) {
@@ -116,7 +122,8 @@ impl Feed {
     /// Whether the text may end here, with these bytes behind its last line feed: `Unfinished` where the
     /// open beat has a definition, a row or an open block, or where there are such bytes.
     pub fn end(&self, rest: &[u8]) -> Result<(), BlockFault>
-        ensures { (every : ℕ) (past : List ALine) → IsFeedOf self.now every past → MatchResult result
+        ensures { (every : ℕ) (past : List ALine) → IsFeedOf self.now every past
+            → MatchResult result
             (λ _. is_unfinished every past rest.now ≡ false)
             (λ fault. (is_unfinished every past rest.now ≡ true) × (fault ≡ Unfinished)) }
     {
@@ -129,7 +136,8 @@ impl Feed {
 
     /// How many lines said nothing: at most 2^64 - 1.
     pub fn skipped(&self) -> u64
-        ensures { (every : ℕ) (past : List ALine) → IsFeedOf self.now every past → result ≡ min (skips past) (2 ^ 64 - 1) }
+        ensures { (every : ℕ) (past : List ALine) → IsFeedOf self.now every past
+            → result ≡ min (skips past) (2 ^ 64 - 1) }
     {
         self.skipped
     }
@@ -143,7 +151,9 @@ impl Feed {
         copies: bool,
         line: &Line,
     ) -> Option<BlockFault>
-        ensures { (every : ℕ) (past : List ALine) → IsFeedOf self.now every past → CountsAt line.now self.now registry.now → result ≡ refusal registry.now every past copies last line.now }
+        ensures { (every : ℕ) (past : List ALine) → IsFeedOf self.now every past
+            → CountsAt line.now self.now registry.now
+            → result ≡ refusal registry.now every past copies last line.now }
     {
         match line {
             Line::Chart(def) => self.chart_refusal(registry, def),
@@ -157,7 +167,9 @@ impl Feed {
     }
 
     fn chart_refusal(&self, registry: &Registry, def: &ChartDef) -> Option<BlockFault>
-        ensures { (every : ℕ) (past : List ALine) (copies : Bool) (last : ℕ) → IsFeedOf self.now every past → CountsFor self.now registry.now → result ≡ refusal registry.now every past copies last (line.Chart def.now) }
+        ensures { (every : ℕ) (past : List ALine) (copies : Bool) (last : ℕ)
+            → IsFeedOf self.now every past → CountsFor self.now registry.now
+            → result ≡ refusal registry.now every past copies last (line.Chart def.now) }
     {
         if self.block.is_some() {
             return Some(BlockFault::OpenBlock);
@@ -169,7 +181,8 @@ impl Feed {
 
     /// The update_every of a definition, or the feed's where the line leaves it open.
     fn grid_of(&self, def: &ChartDef) -> u32
-        ensures { (every : ℕ) → self.now.every ≡ every → result ≡ (with_grid every def.now).update_every }
+        ensures { (every : ℕ) → self.now.every ≡ every
+            → result ≡ (with_grid every def.now).update_every }
     {
         if def.update_every == 0 {
             self.every
@@ -179,7 +192,9 @@ impl Feed {
     }
 
     fn dimension_refusal(&self, registry: &Registry, def: &DimDef) -> Option<BlockFault>
-        ensures { (every : ℕ) (past : List ALine) (copies : Bool) (last : ℕ) → IsFeedOf self.now every past → CountsFor self.now registry.now → result ≡ refusal registry.now every past copies last (line.Dimension def.now) }
+        ensures { (every : ℕ) (past : List ALine) (copies : Bool) (last : ℕ)
+            → IsFeedOf self.now every past → CountsFor self.now registry.now
+            → result ≡ refusal registry.now every past copies last (line.Dimension def.now) }
     {
         if self.block.is_some() {
             return Some(BlockFault::OpenBlock);
@@ -193,7 +208,9 @@ impl Feed {
     }
 
     fn begin_refusal(&self, registry: &Registry, chart: &str) -> Option<BlockFault>
-        ensures { (every : ℕ) (past : List ALine) (copies : Bool) (last : ℕ) → IsFeedOf self.now every past → result ≡ refusal registry.now every past copies last (line.Begin chart.now) }
+        ensures { (every : ℕ) (past : List ALine) (copies : Bool) (last : ℕ)
+            → IsFeedOf self.now every past
+            → result ≡ refusal registry.now every past copies last (line.Begin chart.now) }
     {
         if self.block.is_some() {
             Some(BlockFault::OpenBlock)
@@ -207,7 +224,10 @@ impl Feed {
     }
 
     fn set_refusal(&self, registry: &Registry, id: &str) -> Option<BlockFault>
-        ensures { (every : ℕ) (past : List ALine) (copies : Bool) (last : ℕ) (value : Option ℤ) (anomalous : Bool) → IsFeedOf self.now every past → result ≡ refusal registry.now every past copies last (line.Set id.now value anomalous) }
+        ensures { (every : ℕ) (past : List ALine) (copies : Bool) (last : ℕ) (value : Option ℤ)
+            (anomalous : Bool) → IsFeedOf self.now every past
+            → result ≡ refusal registry.now every past copies last
+            (line.Set id.now value anomalous) }
     {
         let Some(block) = &self.block else {
             return Some(BlockFault::NoBlock);
@@ -221,7 +241,9 @@ impl Feed {
     }
 
     fn end_refusal(&self) -> Option<BlockFault>
-        ensures { (registry : Definitions) (every : ℕ) (past : List ALine) (copies : Bool) (last : ℕ) → IsFeedOf self.now every past → result ≡ refusal registry every past copies last line.End }
+        ensures { (registry : Definitions) (every : ℕ) (past : List ALine) (copies : Bool)
+            (last : ℕ) → IsFeedOf self.now every past
+            → result ≡ refusal registry every past copies last line.End }
     {
         match &self.block {
             Some(_) => None,
@@ -236,7 +258,8 @@ impl Feed {
         copies: bool,
         moment: u32,
     ) -> Option<BlockFault>
-        ensures { (every : ℕ) (past : List ALine) → IsFeedOf self.now every past → result ≡ refusal registry.now every past copies last (line.Moment moment) }
+        ensures { (every : ℕ) (past : List ALine) → IsFeedOf self.now every past
+            → result ≡ refusal registry.now every past copies last (line.Moment moment) }
     {
         if self.block.is_some() {
             Some(BlockFault::OpenBlock)
@@ -298,7 +321,8 @@ impl Feed {
     }
 
     fn close(&mut self, moment: u32) -> Step
-        ensures gives { (every : ℕ) (past : List ALine) → IsFeedOf self.old every past → result ≡ step_of every past (line.Moment moment) }
+        ensures gives { (every : ℕ) (past : List ALine) → IsFeedOf self.old every past
+            → result ≡ step_of every past (line.Moment moment) }
         ensures taken { Becomes (line.Moment moment) self.old self.new }
         ensures counts { (registry : Definitions) → CountsFor self.new registry }
     {
@@ -307,7 +331,8 @@ impl Feed {
 
     fn define_chart(&mut self, registry: &Registry, mut def: ChartDef) -> Result<(), AllocError>
         ensures taken { OnOk result (Becomes (line.Chart def) self.old self.new) }
-        ensures counts { OnOk result (CountsFor self.old registry.now → CountsFor self.new registry.now) }
+        ensures counts { OnOk result
+            (CountsFor self.old registry.now → CountsFor self.new registry.now) }
         ensures err { OnErr result (self.new ≡ self.old) }
     {
         let id = def.id.clone()?;
@@ -319,7 +344,8 @@ impl Feed {
 
     fn define_dimension(&mut self, registry: &Registry, def: DimDef) -> Result<(), AllocError>
         ensures taken { OnOk result (Becomes (line.Dimension def) self.old self.new) }
-        ensures counts { OnOk result (CountsFor self.old registry.now → CountsFor self.new registry.now) }
+        ensures counts { OnOk result
+            (CountsFor self.old registry.now → CountsFor self.new registry.now) }
         ensures err { OnErr result (self.new ≡ self.old) }
     {
         let Some(chart) = &self.chart else {
@@ -372,7 +398,8 @@ impl Feed {
 
     fn end_block(&mut self) -> Result<(), AllocError>
         ensures taken { OnOk result (Becomes line.End self.old self.new) }
-        ensures counts { OnOk result ((registry : Definitions) → CountsFor self.old registry → CountsFor self.new registry) }
+        ensures counts { OnOk result
+            ((registry : Definitions) → CountsFor self.old registry → CountsFor self.new registry) }
         ensures err { OnErr result (self.new ≡ self.old) }
     {
         let Some(block) = self.block.take() else {

@@ -12,7 +12,8 @@ use history::{ChartDef, OpenDim};
 
 /// Whether a moment is no multiple of the update_every of a chart, which is in seconds; no chart has none.
 pub fn is_off(update_every: Option<u32>, moment: u32) -> bool
-    ensures { result ≡ option_map_or (λ every. nat_lt 0 every && not (moment % every == 0)) update_every false }
+    ensures { result ≡ option_map_or
+        (λ every. nat_lt 0 every && not (moment % every == 0)) update_every false }
 {
     match update_every {
         Some(update_every) => update_every > 0 && moment % update_every != 0,
@@ -22,7 +23,8 @@ pub fn is_off(update_every: Option<u32>, moment: u32) -> bool
 
 /// The update_every of a chart that the registry has.
 pub fn known_update_every(registry: &Registry, id: &str) -> Option<u32>
-    ensures { result ≡ option_map (λ def. def.update_every) (find (is_chart id.now) registry.now.charts) }
+    ensures { result ≡ option_map (λ def. def.update_every)
+        (find (is_chart id.now) registry.now.charts) }
 {
     match registry.chart_of(id) {
         Some(number) => Some(registry.chart(number).update_every),

@@ -10,6 +10,8 @@ ghost use Rattle.collect_block.specs.Grown.{HasAllOf};
 /// dimensions of a registry for which it held. A registry with more definitions has all that it had. It
 /// does nothing.
 pub fn any_later()
-    ensures counts { (feed : Feed) (registry later : Registry) → HasAllOf registry later → CountsFor feed registry → CountsFor feed later }
-    ensures grown { (registry : Registry) (charts : List Chart) (dimensions : List Dimension) → HasAllOf registry (with_definitions registry charts dimensions) }
+    ensures counts { (feed : Feed) (registry later : Registry) → HasAllOf registry later
+        → CountsFor feed registry → CountsFor feed later }
+    ensures grown { (registry : Registry) (charts : List Chart) (dimensions : List Dimension)
+        → HasAllOf registry (with_definitions registry charts dimensions) }
 {}

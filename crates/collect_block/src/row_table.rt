@@ -106,7 +106,9 @@ fn make_room(
 ) -> Result<(), AllocError>
     ensures rows { rows.new.items ≡ rows.old.items }
     ensures room { OnOk result (vec_len rows.new < vec_capacity rows.new) }
-    ensures ok { OnOk result ((other : List ℕ) → is_some (place_in charts.new.entries other) ≡ (bytes_eq chart.now other || is_some (place_in charts.old.entries other))) }
+    ensures ok { OnOk result ((other : List ℕ)
+        → is_some (place_in charts.new.entries other)
+        ≡ (bytes_eq chart.now other || is_some (place_in charts.old.entries other))) }
     ensures err { OnErr result (charts.new.entries ≡ charts.old.entries) }
 {
     let key = String::from_str(alloc, chart)?;

@@ -71,9 +71,14 @@ pub fn read_text(
 ) -> Result<ReadText, AllocError>
     requires every { 0 < every }
     requires history { (h : List Beat) × IsAt h registry.old last copies }
-    ensures items { IfOk result (λ text. (h : List Beat) → IsAt h registry.old last copies → map item_of text.items ≡ (read every h ended rest.now lines.now).items) }
-    ensures end { IfOk result (λ text. (h : List Beat) → IsAt h registry.old last copies → end_of text.end ≡ (read every h ended rest.now lines.now).end) }
-    ensures registry { OnOk result ((h : List Beat) → IsAt h registry.old last copies → registry.new ≡ registry_of (history_at every h (accepted every h [] lines.now))) }
+    ensures items { IfOk result
+        (λ text. (h : List Beat) → IsAt h registry.old last copies
+        → map item_of text.items ≡ (read every h ended rest.now lines.now).items) }
+    ensures end { IfOk result (λ text. (h : List Beat) → IsAt h registry.old last copies
+        → end_of text.end ≡ (read every h ended rest.now lines.now).end) }
+    ensures registry { OnOk result
+        ((h : List Beat) → IsAt h registry.old last copies
+        → registry.new ≡ registry_of (history_at every h (accepted every h [] lines.now))) }
 {
     let mut reader = Reader {
         feed: Feed::new(alloc, every),
@@ -98,7 +103,9 @@ impl Reader {
         rest: &[u8],
     ) -> Result<End, AllocError>
         requires { (every : ℕ) × (h : List Beat) × IsReaderOf self.old registry.old every h [] }
-        ensures { IfOk result (λ end. (every : ℕ) (h : List Beat) → IsReaderOf self.old registry.old every h [] → HasRead every h lines.now ended rest.now end self.new registry.new) }
+        ensures { IfOk result (λ end. (every : ℕ) (h : List Beat)
+            → IsReaderOf self.old registry.old every h []
+            → HasRead every h lines.now ended rest.now end self.new registry.new) }
     {
         match self.take_lines(registry, lines)? {
             Some(end) => Ok(end),
@@ -113,7 +120,9 @@ impl Reader {
         lines: &[Line],
     ) -> Result<Option<End>, AllocError>
         requires { (every : ℕ) × (h : List Beat) × IsReaderOf self.old registry.old every h [] }
-        ensures { IfOk result (λ found. (every : ℕ) (h : List Beat) → IsReaderOf self.old registry.old every h [] → TookAll every h lines.now found self.new registry.new) }
+        ensures { IfOk result (λ found. (every : ℕ) (h : List Beat)
+            → IsReaderOf self.old registry.old every h []
+            → TookAll every h lines.now found self.new registry.new) }
     {
         let mut number = 0;
         for line in lines {
@@ -132,8 +141,11 @@ impl Reader {
         number: usize,
         line: &Line,
     ) -> Result<Option<End>, AllocError>
-        requires { (every : ℕ) × (h : List Beat) × (past : List ALine) × IsReaderOf self.old registry.old every h past }
-        ensures { IfOk result (λ found. (every : ℕ) (h : List Beat) (past : List ALine) → IsReaderOf self.old registry.old every h past → number ≡ length past + 1 → Took every h past line.now found self.new registry.new) }
+        requires { (every : ℕ) × (h : List Beat) × (past : List ALine)
+            × IsReaderOf self.old registry.old every h past }
+        ensures { IfOk result (λ found. (every : ℕ) (h : List Beat) (past : List ALine)
+            → IsReaderOf self.old registry.old every h past → number ≡ length past + 1
+            → Took every h past line.now found self.new registry.new) }
     {
         match self.feed.line(registry, self.last, self.copies, line) {
             Ok(step) => self.take_step(registry, step),
@@ -144,8 +156,11 @@ impl Reader {
 
     // Applies what a line leads to.
     fn take_step(&mut self, registry: &mut Registry, step: Step) -> Result<Option<End>, AllocError>
-        requires { (every : ℕ) × (h : List Beat) × (past : List ALine) × (line : ALine) × Stepped self.old registry.old every h past line step }
-        ensures { IfOk result (λ found. (every : ℕ) (h : List Beat) (past : List ALine) (line : ALine) → Stepped self.old registry.old every h past line step → Took every h past line found self.new registry.new) }
+        requires { (every : ℕ) × (h : List Beat) × (past : List ALine) × (line : ALine)
+            × Stepped self.old registry.old every h past line step }
+        ensures { IfOk result (λ found. (every : ℕ) (h : List Beat) (past : List ALine)
+            (line : ALine) → Stepped self.old registry.old every h past line step
+            → Took every h past line found self.new registry.new) }
     {
         match step {
             Step::Nothing => Ok(None),
@@ -167,8 +182,13 @@ impl Reader {
         beat: OpenBeat,
         moment: u32,
     ) -> Result<(), AllocError>
-        requires { (every : ℕ) × (h : List Beat) × (past : List ALine) × Stepped self.old registry.old every h past (line.Moment moment) (step.Beat beat moment) }
-        ensures { OnOk result ((every : ℕ) (h : List Beat) (past : List ALine) → Stepped self.old registry.old every h past (line.Moment moment) (step.Beat beat moment) → IsReaderOf self.new registry.new every h (line.Moment moment ∷ past)) }
+        requires { (every : ℕ) × (h : List Beat) × (past : List ALine)
+            × Stepped self.old registry.old every h past (line.Moment moment)
+            (step.Beat beat moment) }
+        ensures { OnOk result ((every : ℕ) (h : List Beat) (past : List ALine)
+            → Stepped self.old registry.old every h past (line.Moment moment)
+            (step.Beat beat moment)
+            → IsReaderOf self.new registry.new every h (line.Moment moment ∷ past)) }
     {
         if registry.apply(&beat).is_err() {
             return Err(AllocError);
@@ -180,7 +200,9 @@ impl Reader {
 
     // How the text ends after these many lines, of which none ended it.
     fn end(&self, lines: usize, ended: bool, rest: &[u8]) -> End
-        ensures { (every : ℕ) (past : List ALine) → IsFeedOf self.now.feed every past → lines ≡ length past → (h : List Beat) → end_of result ≡ ending every h ended rest.now past [] }
+        ensures { (every : ℕ) (past : List ALine) → IsFeedOf self.now.feed every past
+            → lines ≡ length past → (h : List Beat)
+            → end_of result ≡ ending every h ended rest.now past [] }
     {
         if !ended {
             return End::Open;

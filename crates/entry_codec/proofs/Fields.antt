@@ -9,7 +9,7 @@ use Rattle.std.proofs.lemmas.List.Concat.{flat_map-cons}
 use Rattle.field_codec.specs.declared.fault.FieldFault.TheVariants.{Range}
 use Rattle.field_codec.specs.Field.{IsBytes, IsField}
 use Rattle.field_codec.specs.Reading.{ReadOf, read_as, read_passing, read_u8, read_u32, read_text}
-use Rattle.field_codec.specs.Spelling.{u8_bytes, u32_bytes, text_bytes}
+use Rattle.field_codec.specs.Spelling.{u8_bytes, u32_bytes, text_bytes, list_bytes}
 use Rattle.field_codec.proofs.Combined.{done, done_is, field_from, same_values, as_field, passing_field}
 use Rattle.field_codec.proofs.Fields.{u8_field, u32_field, u64_field, i32_field, i64_field, flag_field, text_field}
 use Rattle.history.specs.declared.chart.ChartKind.{ChartKind}
@@ -19,7 +19,7 @@ use Rattle.history.specs.declared.dimension.Algorithm.TheVariants.{Absolute, Inc
 use Rattle.entry_codec.specs.Charts.{kind_number, kind_of, kind_bytes, read_kind, chart_of, chart_bytes, read_chart, IsChart, copied_chart_of, copied_chart_bytes, read_copied_chart, IsCopiedChart}
 use Rattle.entry_codec.specs.Dimensions.{algorithm_number, algorithm_of, algorithm_bytes, read_algorithm, marks_number, marks_of, marks_bytes, read_marks, dimension_of, dimension_bytes, read_dimension, IsDimension, copied_dimension_of, copied_dimension_bytes, read_copied_dimension, IsCopiedDimension}
 use Rattle.entry_codec.specs.Entries.{tier_of, tier_bytes, read_tier, IsTier, read_version, settings_of, settings_bytes, read_settings, IsSettings, collected_of, collected_bytes, read_collected, IsCollected, copied_of, copied_bytes, read_copied, IsCopied, gap_of, gap_bytes, read_gap, IsGap}
-use Rattle.entry_codec.specs.Lists.{◌>>◌, read_items, read_counted_items, read_list, list_bytes, IsShortListOf, IsText}
+use Rattle.entry_codec.specs.Lists.{◌>>◌, read_items, read_counted_items, read_list, IsShortListOf, IsText}
 use Rattle.entry_codec.specs.Rows.{value_of, value_bytes, read_value, IsValue, row_of, row_bytes, read_row, IsRow}
 use Rattle.entry_codec.specs.Words.{word_of, word_bytes, read_word, IsCopiedWord}
 

@@ -1,3 +1,4 @@
 pub mod EntriesLaw
 pub mod Fields
+pub mod Lengths
 pub mod Loops

@@ -1,5 +1,5 @@
 -- Charts by number: how they are spelt, and what bytes read as.
-use Rattle.std.specs.Prelude.{ℕ, zero, suc, ℤ, ◌<◌, ◌^◌, Bool, nat_lt, List, ◌++◌, FitsSigned}
+use Rattle.std.specs.Prelude.{ℕ, zero, suc, ℤ, ◌<◌, ◌^◌, Bool, nat_lt, List, ◌++◌, length, FitsSigned}
 use Rattle.std.specs.Int.{w64}
 use Rattle.field_codec.specs.declared.fault.FieldFault.TheVariants.{Range}
 use Rattle.field_codec.specs.Reading.{ReadOf, read_as, read_passing, read_u8, read_u32, read_i64, read_flag, read_text}
@@ -52,6 +52,15 @@ unfoldable pub chart_bytes : NumberedChart → List ℕ
 chart_bytes c =
     u32_bytes c.number ++ text_bytes c.def.id ++ text_bytes c.def.name ++ text_bytes c.def.title ++ text_bytes c.def.units ++ text_bytes c.def.family ++ text_bytes c.def.context ++ kind_bytes c.def.kind ++ i64_bytes c.def.priority ++ u32_bytes c.def.update_every ++ flag_bytes c.def.store_first
 
+-- the charts whose texts are short enough for a spelling
+pub record IsShortChart (c : NumberedChart) : Type 0 where
+  pub id : length c.def.id < 2 ^ 16
+  pub name : length c.def.name < 2 ^ 16
+  pub title : length c.def.title < 2 ^ 16
+  pub units : length c.def.units < 2 ^ 16
+  pub family : length c.def.family < 2 ^ 16
+  pub context : length c.def.context < 2 ^ 16
+
 -- the charts that have a spelling
 pub record IsChart (c : NumberedChart) : Type 0 where
   pub number : c.number < 2 ^ 32
@@ -73,6 +82,10 @@ read_copied_chart bytes = read_as copied_chart_of (read_u32 bytes >> read_text >
 
 unfoldable pub copied_chart_bytes : CopiedChart → List ℕ
 copied_chart_bytes c = u32_bytes c.number ++ text_bytes c.id ++ text_bytes c.context ++ u32_bytes c.update_every
+
+pub record IsShortCopiedChart (c : CopiedChart) : Type 0 where
+  pub id : length c.id < 2 ^ 16
+  pub context : length c.context < 2 ^ 16
 
 pub record IsCopiedChart (c : CopiedChart) : Type 0 where
   pub number : c.number < 2 ^ 32

@@ -1,5 +1,5 @@
 -- Dimensions by number: how they are spelt, and what bytes read as.
-use Rattle.std.specs.Prelude.{ℕ, zero, suc, ℤ, ◌<◌, ◌^◌, Bool, true, false, nat_lt, List, ◌++◌, FitsSigned}
+use Rattle.std.specs.Prelude.{ℕ, zero, suc, ℤ, ◌<◌, ◌^◌, Bool, true, false, nat_lt, List, ◌++◌, length, FitsSigned}
 use Rattle.std.specs.Int.{w32}
 use Rattle.field_codec.specs.declared.fault.FieldFault.TheVariants.{Range}
 use Rattle.field_codec.specs.Reading.{ReadOf, read_as, read_passing, read_u8, read_u32, read_i32, read_flag, read_text}
@@ -71,6 +71,11 @@ unfoldable pub dimension_bytes : NumberedDimension → List ℕ
 dimension_bytes d =
     u32_bytes d.series ++ u32_bytes d.chart ++ text_bytes d.def.id ++ text_bytes d.def.name ++ algorithm_bytes d.def.algorithm ++ i32_bytes d.def.multiplier ++ i32_bytes d.def.divisor ++ marks_bytes (d.def.hidden, d.def.noreset)
 
+-- the dimensions whose texts are short enough for a spelling
+pub record IsShortDimension (d : NumberedDimension) : Type 0 where
+  pub id : length d.def.id < 2 ^ 16
+  pub name : length d.def.name < 2 ^ 16
+
 -- the dimensions that have a spelling
 pub record IsDimension (d : NumberedDimension) : Type 0 where
   pub series : d.series < 2 ^ 32
@@ -89,6 +94,9 @@ read_copied_dimension bytes = read_as copied_dimension_of (read_u32 bytes >> rea
 
 unfoldable pub copied_dimension_bytes : CopiedDimension → List ℕ
 copied_dimension_bytes d = u32_bytes d.series ++ u32_bytes d.chart ++ text_bytes d.id ++ flag_bytes d.hidden
+
+abbrev pub IsShortCopiedDimension : CopiedDimension → Type 0
+IsShortCopiedDimension d = length d.id < 2 ^ 16
 
 pub record IsCopiedDimension (d : CopiedDimension) : Type 0 where
   pub series : d.series < 2 ^ 32

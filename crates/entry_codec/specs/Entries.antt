@@ -1,11 +1,11 @@
 -- Entries: the one spelling of each, which of them have one, and what bytes read as.
-use Rattle.std.specs.Prelude.{◌≡◌, ◌≢◌, ℕ, zero, suc, ◌<◌, ◌^◌, Bool, true, ◌&&◌, ◌==◌, List, [], ◌∷◌, ◌++◌, length, map, Result, Ok, Err, if◌then◌else◌}
-use Rattle.std.specs.List.{list_all}
+use Rattle.std.specs.Prelude.{◌≡◌, ◌≢◌, ℕ, zero, suc, ◌<◌, ◌≤◌, ◌^◌, Bool, true, ◌&&◌, ◌==◌, List, [], ◌∷◌, ◌++◌, length, map, All, Result, Ok, Err, if◌then◌else◌}
+use Rattle.std.specs.List.{list_all, sum_by}
 use Rattle.storage_number.specs.Word.{is_word}
 use Rattle.field_codec.specs.declared.fault.FieldFault.{FieldFault}
 use Rattle.field_codec.specs.declared.fault.FieldFault.TheVariants as fields
 use Rattle.field_codec.specs.Reading.{ReadOf, read_as, read_passing, read_u8, read_u32, read_u64, read_bytes}
-use Rattle.field_codec.specs.Spelling.{u8_bytes, u32_bytes, u64_bytes, sized_bytes}
+use Rattle.field_codec.specs.Spelling.{u8_bytes, u32_bytes, u64_bytes, sized_bytes, list_bytes}
 use Rattle.entry_codec.specs.declared.charts.CopiedChart.{CopiedChart}
 use Rattle.history.specs.declared.numbered.NumberedChart.{NumberedChart}
 use Rattle.entry_codec.specs.declared.dimensions.CopiedDimension.{CopiedDimension}
@@ -19,14 +19,15 @@ use Rattle.entry_codec.specs.declared.entry.Settings.{Settings}
 use Rattle.entry_codec.specs.declared.entry.TierSettings.{TierSettings}
 use Rattle.entry_codec.specs.declared.fault.EntryFault.{EntryFault}
 use Rattle.entry_codec.specs.declared.fault.EntryFault.TheVariants as faults
+use Rattle.history.specs.Limits.{chart_keeps_limits, dimension_keeps_limits}
 use Rattle.history.specs.declared.row.Row.{Row}
 use Rattle.history.specs.declared.row.Value.{Value}
 use Rattle.entry_codec.specs.declared.words.CopiedWord.{CopiedWord}
-use Rattle.entry_codec.specs.Charts.{chart_bytes, copied_chart_bytes, read_chart, read_copied_chart, IsChart, IsCopiedChart}
-use Rattle.entry_codec.specs.Dimensions.{copied_dimension_bytes, dimension_bytes, read_copied_dimension, read_dimension, IsCopiedDimension, IsDimension}
-use Rattle.entry_codec.specs.Lists.{◌>>◌, is_ascending, list_bytes, read_list, IsShortListOf}
-use Rattle.entry_codec.specs.Rows.{read_row, row_bytes, IsRow}
-use Rattle.entry_codec.specs.Words.{read_word, word_bytes, IsCopiedWord}
+use Rattle.entry_codec.specs.Charts.{chart_bytes, copied_chart_bytes, read_chart, read_copied_chart, IsChart, IsCopiedChart, IsShortChart, IsShortCopiedChart}
+use Rattle.entry_codec.specs.Dimensions.{copied_dimension_bytes, dimension_bytes, read_copied_dimension, read_dimension, IsCopiedDimension, IsDimension, IsShortCopiedDimension, IsShortDimension}
+use Rattle.entry_codec.specs.Lists.{◌>>◌, is_ascending, read_list, IsShortListOf}
+use Rattle.entry_codec.specs.Rows.{read_row, row_bytes, IsRow, IsShortRow}
+use Rattle.entry_codec.specs.Words.{read_word, word_bytes, IsCopiedWord, IsShortWord}
 
 -- ---- settings
 
@@ -76,6 +77,22 @@ unfoldable pub collected_bytes : NumberedBeat → List ℕ
 collected_bytes c =
     u32_bytes c.moment ++ list_bytes chart_bytes c.charts ++ list_bytes dimension_bytes c.dimensions ++ list_bytes row_bytes c.rows
 
+-- its lists, and the texts and lists in them, are short enough for a spelling
+pub record IsShortCollected (c : NumberedBeat) : Type 0 where
+  pub charts : IsShortListOf IsShortChart c.charts
+  pub dimensions : IsShortListOf IsShortDimension c.dimensions
+  pub rows : IsShortListOf IsShortRow c.rows
+
+-- Its definitions keep their limits, and it has no more charts, dimensions, rows and values than a registry may
+-- have charts and dimensions.
+pub record IsWithinLimits (c : NumberedBeat) : Type 0 where
+  pub chart_limits : All (λ (chart : NumberedChart). chart_keeps_limits chart.def ≡ true) c.charts
+  pub dimension_limits : All (λ (dimension : NumberedDimension). dimension_keeps_limits dimension.def ≡ true) c.dimensions
+  pub charts : length c.charts ≤ 4096
+  pub dimensions : length c.dimensions ≤ 65536
+  pub rows : length c.rows ≤ 4096
+  pub values : sum_by (λ (row : Row). length row.values) c.rows ≤ 65536
+
 pub record IsCollected (c : NumberedBeat) : Type 0 where
   pub moment : c.moment < 2 ^ 32
   pub charts : IsShortListOf IsChart c.charts
@@ -106,6 +123,11 @@ read_copied bytes =
 unfoldable pub copied_bytes : Copied → List ℕ
 copied_bytes c =
     u64_bytes c.child ++ u32_bytes c.moment ++ list_bytes copied_chart_bytes c.charts ++ list_bytes copied_dimension_bytes c.dimensions ++ list_bytes word_bytes c.words
+
+pub record IsShortCopied (c : Copied) : Type 0 where
+  pub charts : IsShortListOf IsShortCopiedChart c.charts
+  pub dimensions : IsShortListOf IsShortCopiedDimension c.dimensions
+  pub words : IsShortListOf IsShortWord c.words
 
 pub record IsCopied (c : Copied) : Type 0 where
   pub child : c.child < 2 ^ 64

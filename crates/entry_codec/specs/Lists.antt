@@ -1,11 +1,10 @@
 -- Fields one after the other, and lists of items: how they are spelt, and what bytes read as.
-use Rattle.std.specs.Prelude.{◌≡◌, ◌⊎◌, ℕ, zero, suc, ◌<◌, ◌^◌, Bool, true, ◌&&◌, nat_lt, List, [], ◌∷◌, ◌++◌, length, Ok, Err}
-use Rattle.std.specs.List.{flat_map, AllByRecursion}
+use Rattle.std.specs.Prelude.{◌≡◌, ◌⊎◌, ℕ, zero, suc, ◌<◌, ◌^◌, Bool, true, ◌&&◌, nat_lt, List, [], ◌∷◌, length, Ok, Err}
+use Rattle.std.specs.List.{AllByRecursion}
 use Rattle.std.specs.Str.{IsUtf8}
 use Rattle.field_codec.specs.declared.fault.FieldFault.{FieldFault}
 use Rattle.field_codec.specs.declared.fault.FieldFault.TheVariants.{Memory}
 use Rattle.field_codec.specs.Reading.{ReadOf, read_as, read_u32}
-use Rattle.field_codec.specs.Spelling.{u32_bytes}
 
 -- what was read, with what `next` reads of the bytes after it
 infixl 10 ◌>>◌
@@ -29,10 +28,6 @@ read_counted_items item (Err fault) = Err fault
 
 unfoldable pub read_list : {X : Type 0} → (List ℕ → ReadOf X) → List ℕ → ReadOf (List X)
 read_list item bytes = read_counted_items item (read_u32 bytes)
-
--- the count of the items, and each of them
-unfoldable pub list_bytes : {X : Type 0} → (X → List ℕ) → List X → List ℕ
-list_bytes item_bytes items = u32_bytes (length items) ++ flat_map item_bytes items
 
 -- the lists that have a spelling
 pub record IsShortListOf {X : Type 0} (IsItem : X → Type 0) (items : List X) : Type 0 where

@@ -14,6 +14,10 @@ read_word bytes = read_as word_of (read_u32 bytes >> read_u32)
 unfoldable pub word_bytes : CopiedWord → List ℕ
 word_bytes w = u32_bytes w.series ++ u32_bytes w.word
 
+-- a word has no text and no list
+abbrev pub IsShortWord : CopiedWord → Type 0
+IsShortWord w = Unit {0}
+
 pub record IsCopiedWord (w : CopiedWord) : Type 0 where
   pub series : w.series < 2 ^ 32
   pub word : w.word < 2 ^ 32

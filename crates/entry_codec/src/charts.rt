@@ -20,9 +20,11 @@ pub struct CopiedChart {
 }
 
 impl Item for NumberedChart {
-    ghost use Rattle.entry_codec.specs.Charts.{IsChart, chart_bytes, read_chart};
+    ghost use Rattle.entry_codec.specs.Charts.{IsChart, IsShortChart, chart_bytes, read_chart};
 
     ghost is_item = { IsChart };
+
+    ghost is_short_item = { IsShortChart };
 
     ghost item_bytes = { chart_bytes };
 
@@ -90,9 +92,11 @@ impl Item for NumberedChart {
 }
 
 impl Item for CopiedChart {
-    ghost use Rattle.entry_codec.specs.Charts.{IsCopiedChart, copied_chart_bytes, read_copied_chart};
+    ghost use Rattle.entry_codec.specs.Charts.{IsCopiedChart, IsShortCopiedChart, copied_chart_bytes, read_copied_chart};
 
     ghost is_item = { IsCopiedChart };
+
+    ghost is_short_item = { IsShortCopiedChart };
 
     ghost item_bytes = { copied_chart_bytes };
 

@@ -20,9 +20,11 @@ pub struct CopiedDimension {
 }
 
 impl Item for NumberedDimension {
-    ghost use Rattle.entry_codec.specs.Dimensions.{IsDimension, dimension_bytes, read_dimension};
+    ghost use Rattle.entry_codec.specs.Dimensions.{IsDimension, IsShortDimension, dimension_bytes, read_dimension};
 
     ghost is_item = { IsDimension };
+
+    ghost is_short_item = { IsShortDimension };
 
     ghost item_bytes = { dimension_bytes };
 
@@ -77,9 +79,11 @@ impl Item for NumberedDimension {
 }
 
 impl Item for CopiedDimension {
-    ghost use Rattle.entry_codec.specs.Dimensions.{IsCopiedDimension, copied_dimension_bytes, read_copied_dimension};
+    ghost use Rattle.entry_codec.specs.Dimensions.{IsCopiedDimension, IsShortCopiedDimension, copied_dimension_bytes, read_copied_dimension};
 
     ghost is_item = { IsCopiedDimension };
+
+    ghost is_short_item = { IsShortCopiedDimension };
 
     ghost item_bytes = { copied_dimension_bytes };
 

@@ -33,7 +33,7 @@ pub use charts::{CopiedChart, CopiedChartList};
 pub use dimensions::{CopiedDimension, CopiedDimensionList};
 pub use entry::{Copied, Entry, Gap, Settings, TierSettings};
 pub use fault::EntryFault;
-pub use law::every_entry;
+pub use law::{any_length, every_entry};
 pub use reading::read_entry;
 pub use words::{CopiedWord, CopiedWordList};
 pub use writing::{has_spelling, write_collected, write_entry};

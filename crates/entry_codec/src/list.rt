@@ -2,7 +2,8 @@ ghost use Rattle.std.specs.Prelude.{◌≡◌, ℕ, List, [], ◌∷◌, ◌++�
 ghost use Rattle.std.specs.List.{flat_map, AllByRecursion};
 ghost use Rattle.std.specs.Option.{option_to_list};
 ghost use Rattle.field_codec.specs.Reading.{ReadOf};
-ghost use Rattle.entry_codec.specs.Lists.{IsRefusal, read_list, read_items, list_bytes, is_ascending, IsShortListOf};
+ghost use Rattle.entry_codec.specs.Lists.{IsRefusal, read_list, read_items, is_ascending, IsShortListOf};
+ghost use Rattle.field_codec.specs.Spelling.{list_bytes};
 
 use field_codec::{FieldFault, Reader, Writer};
 use fixed_num::ListOf;
@@ -12,6 +13,9 @@ use std::alloc::Global;
 pub(crate) trait Item: Drop {
     /// Holds of the values that have a spelling.
     ghost is_item: { Self → Type 0 };
+
+    /// Holds of the values whose texts and lists are short enough for a spelling.
+    ghost is_short_item: { Self → Type 0 };
 
     ghost item_bytes: { Self → List ℕ };
 
@@ -27,8 +31,9 @@ pub(crate) trait Item: Drop {
         ensures { IsTrue result ↔ is_item self.now };
 
     fn put(&self, writer: &mut Writer) -> Result<(), FieldFault>
-        requires { is_item self.now }
+        requires { is_short_item self.now }
         ensures put { OnOk result (writer.new ≡ writer.old ++ item_bytes self.now) }
+        ensures item { OnOk result (is_item self.now) }
         ensures memory { IsOkUnless result FieldFault.Memory };
 
     fn take(alloc: Global, reader: &mut Reader<'_>) -> Result<Self, FieldFault>
@@ -49,7 +54,8 @@ fn take_items<T: Item>(
     count: u32,
     reader: &mut Reader<'_>,
 ) -> Result<ListOf<T>, FieldFault>
-    ensures taken { IfOk result (λ items. read_items T.read_item count reader.old ≡ Ok (items, reader.new)) }
+    ensures taken { IfOk result
+        (λ items. read_items T.read_item count reader.old ≡ Ok (items, reader.new)) }
     ensures fault { IfErr result (IsRefusal (read_items T.read_item count reader.old)) }
 {
     let mut items = ListOf::new(alloc);
@@ -66,7 +72,8 @@ pub(crate) fn take_list<T: Item>(
     alloc: Global,
     reader: &mut Reader<'_>,
 ) -> Result<ListOf<T>, FieldFault>
-    ensures taken { IfOk result (λ items. read_list T.read_item reader.old ≡ Ok (items, reader.new)) }
+    ensures taken { IfOk result
+        (λ items. read_list T.read_item reader.old ≡ Ok (items, reader.new)) }
     ensures fault { IfErr result (IsRefusal (read_list T.read_item reader.old)) }
 {
     let count = reader.take_u32()?;
@@ -74,8 +81,9 @@ pub(crate) fn take_list<T: Item>(
 }
 
 fn put_items<T: Item>(items: &[T], writer: &mut Writer) -> Result<(), FieldFault>
-    requires { AllByRecursion T.is_item items.now }
+    requires { AllByRecursion T.is_short_item items.now }
     ensures put { OnOk result (writer.new ≡ writer.old ++ flat_map T.item_bytes items.now) }
+    ensures items { OnOk result (AllByRecursion T.is_item items.now) }
     ensures memory { IsOkUnless result FieldFault.Memory }
 {
     for item in items {
@@ -84,10 +92,11 @@ fn put_items<T: Item>(items: &[T], writer: &mut Writer) -> Result<(), FieldFault
     Ok(())
 }
 
-#[tactic(auto, unfolding(crate::specs::Lists::list_bytes))]
+#[tactic(auto, unfolding(field_codec::specs::Spelling::list_bytes))]
 pub(crate) fn put_list<T: Item>(items: &ListOf<T>, writer: &mut Writer) -> Result<(), FieldFault>
-    requires { IsShortListOf T.is_item items.now }
+    requires { IsShortListOf T.is_short_item items.now }
     ensures put { OnOk result (writer.new ≡ writer.old ++ list_bytes T.item_bytes items.now) }
+    ensures list { OnOk result (IsShortListOf T.is_item items.now) }
     ensures memory { IsOkUnless result FieldFault.Memory }
 {
     let items = items.as_slice();

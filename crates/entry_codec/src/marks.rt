@@ -23,7 +23,8 @@ pub(crate) fn put_algorithm(algorithm: Algorithm, writer: &mut Writer) -> Result
 
 #[tactic(auto, unfolding(crate::specs::Dimensions::read_algorithm))]
 pub(crate) fn take_algorithm(reader: &mut Reader<'_>) -> Result<Algorithm, FieldFault>
-    ensures taken { IfOk result (λ algorithm. read_algorithm reader.old ≡ Ok (algorithm, reader.new)) }
+    ensures taken { IfOk result
+        (λ algorithm. read_algorithm reader.old ≡ Ok (algorithm, reader.new)) }
     ensures fault { IfErr result (IsRefusal (read_algorithm reader.old)) }
 {
     match reader.take_u8()? {
@@ -52,7 +53,8 @@ pub(crate) fn put(hidden: bool, noreset: bool, writer: &mut Writer) -> Result<()
 
 #[tactic(auto, unfolding(crate::specs::Dimensions::read_marks))]
 pub(crate) fn take(reader: &mut Reader<'_>) -> Result<(bool, bool), FieldFault>
-    ensures taken { IfOk result (λ marks. read_marks reader.old ≡ Ok ((marks.0, marks.1), reader.new)) }
+    ensures taken { IfOk result
+        (λ marks. read_marks reader.old ≡ Ok ((marks.0, marks.1), reader.new)) }
     ensures fault { IfErr result (IsRefusal (read_marks reader.old)) }
 {
     match reader.take_u8()? {

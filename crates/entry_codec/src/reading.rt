@@ -52,7 +52,8 @@ fn take_settings(reader: &mut Reader<'_>) -> Result<Settings, FieldFault>
 
 #[tactic(auto, unfolding(crate::specs::Entries::read_collected))]
 fn take_collected(alloc: Global, reader: &mut Reader<'_>) -> Result<NumberedBeat, FieldFault>
-    ensures taken { IfOk result (λ collected. read_collected reader.old ≡ Ok (collected, reader.new)) }
+    ensures taken { IfOk result
+        (λ collected. read_collected reader.old ≡ Ok (collected, reader.new)) }
     ensures fault { IfErr result (IsRefusal (read_collected reader.old)) }
 {
     let moment = reader.take_u32()?;
@@ -109,8 +110,10 @@ fn take_gap(reader: &mut Reader<'_>) -> Result<Gap, FieldFault>
 
 /// The fields of an entry of this kind.
 fn take_kind(alloc: Global, kind: u8, reader: &mut Reader<'_>) -> Result<Entry, EntryFault>
-    ensures taken { IfOk result (λ entry. read_kind_fields kind reader.old ≡ Ok (entry, reader.new)) }
-    ensures fault { IfErr result (λ fault. (fault ≡ EntryFault.Memory) ⊎ (read_kind_fields kind reader.old ≡ Err fault)) }
+    ensures taken { IfOk result
+        (λ entry. read_kind_fields kind reader.old ≡ Ok (entry, reader.new)) }
+    ensures fault { IfErr result
+        (λ fault. (fault ≡ EntryFault.Memory) ⊎ (read_kind_fields kind reader.old ≡ Err fault)) }
 {
     match kind {
         0 => Ok(Entry::Settings(take_settings(reader)?)),
@@ -125,7 +128,8 @@ fn take_kind(alloc: Global, kind: u8, reader: &mut Reader<'_>) -> Result<Entry, 
 #[tactic(auto, unfolding(crate::specs::Entries::read_fields, field_codec::specs::Reading::read_u8))]
 fn take_entry(alloc: Global, reader: &mut Reader<'_>) -> Result<Entry, EntryFault>
     ensures taken { IfOk result (λ entry. read_fields reader.old ≡ Ok (entry, reader.new)) }
-    ensures fault { IfErr result (λ fault. (fault ≡ EntryFault.Memory) ⊎ (read_fields reader.old ≡ Err fault)) }
+    ensures fault { IfErr result
+        (λ fault. (fault ≡ EntryFault.Memory) ⊎ (read_fields reader.old ≡ Err fault)) }
 {
     let kind = reader.take_u8()?;
     take_kind(alloc, kind, reader)
@@ -134,7 +138,8 @@ fn take_entry(alloc: Global, reader: &mut Reader<'_>) -> Result<Entry, EntryFaul
 #[tactic(auto, unfolding(crate::specs::Entries::read_entry))]
 fn take_whole(alloc: Global, bytes: &[u8]) -> Result<Entry, EntryFault>
     ensures value { IfOk result (λ entry. read_entry bytes.now ≡ Ok entry) }
-    ensures fault { IfErr result (λ fault. (fault ≡ EntryFault.Memory) ⊎ (read_entry bytes.now ≡ Err fault)) }
+    ensures fault { IfErr result
+        (λ fault. (fault ≡ EntryFault.Memory) ⊎ (read_entry bytes.now ≡ Err fault)) }
 {
     let mut reader = Reader::new(bytes);
     let entry = take_entry(alloc, &mut reader)?;
@@ -151,7 +156,8 @@ pub fn read_entry(alloc: Global, bytes: &[u8]) -> Result<Entry, EntryFault>
     ensures spelling { IfOk result (λ entry. bytes.now ≡ entry_bytes entry) }
 
     // The first fault from the left, unless memory ran out; and the bytes are no spelling then.
-    ensures fault { IfErr result (λ fault. (fault ≡ EntryFault.Memory) ⊎ (read_entry bytes.now ≡ Err fault)) }
+    ensures fault { IfErr result
+        (λ fault. (fault ≡ EntryFault.Memory) ⊎ (read_entry bytes.now ≡ Err fault)) }
     ensures refused { IfErr result (λ fault. (fault ≡ EntryFault.Memory) ⊎ IsNoSpelling bytes.now) }
 {
     take_whole(alloc, bytes)

@@ -6,9 +6,11 @@ use history::{Row, Value};
 use std::alloc::Global;
 
 impl Item for Value {
-    ghost use Rattle.entry_codec.specs.Rows.{IsValue, value_bytes, read_value};
+    ghost use Rattle.entry_codec.specs.Rows.{IsValue, IsShortValue, value_bytes, read_value};
 
     ghost is_item = { IsValue };
+
+    ghost is_short_item = { IsShortValue };
 
     ghost item_bytes = { value_bytes };
 
@@ -46,9 +48,11 @@ impl Item for Value {
 }
 
 impl Item for Row {
-    ghost use Rattle.entry_codec.specs.Rows.{IsRow, row_bytes, read_row};
+    ghost use Rattle.entry_codec.specs.Rows.{IsRow, IsShortRow, row_bytes, read_row};
 
     ghost is_item = { IsRow };
+
+    ghost is_short_item = { IsShortRow };
 
     ghost item_bytes = { row_bytes };
 

@@ -1,4 +1,4 @@
-ghost use Rattle.std.specs.Prelude.{◌≡◌, ◌++◌, ◌↔◌, Ok, Err, IsTrue, IfOk, IfErr, OnOk, IsOkUnless};
+ghost use Rattle.std.specs.Prelude.{◌≡◌, ◌<◌, ◌^◌, ◌++◌, ◌↔◌, length, Ok, Err, IsTrue, IfOk, IfErr, OnOk, IsOkUnless};
 ghost use Rattle.field_codec.specs.Reading.{read_text};
 ghost use Rattle.field_codec.specs.Spelling.{text_bytes};
 ghost use Rattle.entry_codec.specs.Lists.{IsRefusal, IsText};
@@ -16,8 +16,9 @@ pub(crate) fn is_short(text: &Text) -> bool
 }
 
 pub(crate) fn put(text: &Text, writer: &mut Writer) -> Result<(), FieldFault>
-    requires { IsText text.now }
+    requires { length text.now < 2 ^ 16 }
     ensures put { OnOk result (writer.new ≡ writer.old ++ text_bytes text.now) }
+    ensures text { OnOk result (IsText text.now) }
     ensures memory { IsOkUnless result FieldFault.Memory }
 {
     writer.put_text(text.as_str())

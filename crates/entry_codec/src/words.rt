@@ -16,9 +16,11 @@ pub struct CopiedWord {
 }
 
 impl Item for CopiedWord {
-    ghost use Rattle.entry_codec.specs.Words.{IsCopiedWord, word_bytes, read_word};
+    ghost use Rattle.entry_codec.specs.Words.{IsCopiedWord, IsShortWord, word_bytes, read_word};
 
     ghost is_item = { IsCopiedWord };
+
+    ghost is_short_item = { IsShortWord };
 
     ghost item_bytes = { word_bytes };
 

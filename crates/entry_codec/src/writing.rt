@@ -1,5 +1,5 @@
-ghost use Rattle.std.specs.Prelude.{◌≡◌, ◌<◌, ◌^◌, ◌++◌, ◌↔◌, length, Ok, Err, IsTrue, IfOk, OnOk, IsOkUnless};
-ghost use Rattle.entry_codec.specs.Entries.{collected_bytes, copied_bytes, entry_bytes, gap_bytes, read_entry, settings_bytes, tier_bytes, HasSpelling, IsCollected, IsCopied, IsGap, IsSettings, IsShort, IsTier};
+ghost use Rattle.std.specs.Prelude.{◌≡◌, ◌<◌, ◌^◌, ◌++◌, ◌↔◌, true, length, Ok, Err, IsTrue, IfOk, OnOk, IsOkUnless};
+ghost use Rattle.entry_codec.specs.Entries.{collected_bytes, copied_bytes, entry_bytes, gap_bytes, is_collected_canonical, read_entry, settings_bytes, tier_bytes, HasSpelling, IsCollected, IsCopied, IsGap, IsSettings, IsShort, IsShortCollected, IsShortCopied, IsTier, IsWithinLimits};
 ghost use Rattle.entry_codec.specs.declared.entry.Entry.TheVariants as entry;
 
 use crate::entry::{Copied, Entry, Gap, Settings, TierSettings};
@@ -7,7 +7,7 @@ use crate::fault::EntryFault;
 use crate::{canonical, list};
 use field_codec::{ByteList, FieldFault, Writer};
 use history::NumberedBeat;
-use std::alloc::Global;
+use std::alloc::{AllocError, Global};
 
 #[tactic(auto, unfolding(crate::specs::Entries::tier_bytes))]
 fn put_tier(tier: &TierSettings, writer: &mut Writer) -> Result<(), FieldFault>
@@ -32,8 +32,9 @@ fn put_settings(settings: &Settings, writer: &mut Writer) -> Result<(), FieldFau
 
 #[tactic(auto, unfolding(crate::specs::Entries::collected_bytes))]
 fn put_collected(collected: &NumberedBeat, writer: &mut Writer) -> Result<(), FieldFault>
-    requires { IsCollected collected.now }
+    requires { IsShortCollected collected.now }
     ensures put { OnOk result (writer.new ≡ writer.old ++ collected_bytes collected.now) }
+    ensures collected { OnOk result (IsCollected collected.now) }
     ensures memory { IsOkUnless result FieldFault.Memory }
 {
     writer.put_u32(collected.moment)?;
@@ -44,7 +45,7 @@ fn put_collected(collected: &NumberedBeat, writer: &mut Writer) -> Result<(), Fi
 
 #[tactic(auto, unfolding(crate::specs::Entries::copied_bytes))]
 fn put_copied(copied: &Copied, writer: &mut Writer) -> Result<(), FieldFault>
-    requires { IsCopied copied.now }
+    requires { IsShortCopied copied.now }
     ensures put { OnOk result (writer.new ≡ writer.old ++ copied_bytes copied.now) }
     ensures memory { IsOkUnless result FieldFault.Memory }
 {
@@ -169,8 +170,9 @@ fn write_short(alloc: Global, entry: &Entry) -> Result<ByteList, FieldFault>
 
 #[tactic(auto, unfolding(crate::specs::Entries::entry_bytes, field_codec::specs::Spelling::u8_bytes))]
 fn write_short_collected(alloc: Global, beat: &NumberedBeat) -> Result<ByteList, FieldFault>
-    requires { IsCollected beat.now }
+    requires { IsShortCollected beat.now }
     ensures spelling { IfOk result (λ bytes. bytes ≡ entry_bytes (entry.Collected beat.now)) }
+    ensures collected { OnOk result (IsCollected beat.now) }
     ensures memory { IsOkUnless result FieldFault.Memory }
 {
     let mut writer = Writer::new(alloc);
@@ -179,25 +181,19 @@ fn write_short_collected(alloc: Global, beat: &NumberedBeat) -> Result<ByteList,
     Ok(writer.into_bytes())
 }
 
-/// Whether the entry of a numbered beat has a spelling.
+/// The one spelling of the entry of a numbered beat whose lists are in the order of their numbers, and
+/// which keeps to the limits of a registry. It has at most 33,579,025 bytes.
 #[tactic(auto, unfolding(crate::specs::Entries::is_canonical))]
-fn has_collected_spelling(beat: &NumberedBeat) -> bool
-    ensures { IsTrue result ↔ HasSpelling (entry.Collected beat.now) }
-{
-    is_collected(beat) && canonical::is_collected(beat)
-}
-
-/// The one spelling of the entry of a numbered beat. `NotCanonical` where it has none.
-pub fn write_collected(alloc: Global, beat: &NumberedBeat) -> Result<ByteList, EntryFault>
+pub fn write_collected(alloc: Global, beat: &NumberedBeat) -> Result<ByteList, AllocError>
+    requires canonical { is_collected_canonical beat.now ≡ true }
+    requires limits { IsWithinLimits beat.now }
     ensures spelling { IfOk result (λ bytes. bytes ≡ entry_bytes (entry.Collected beat.now)) }
     ensures written { OnOk result (HasSpelling (entry.Collected beat.now)) }
-    ensures refused { (result ≡ Err EntryFault.NotCanonical) ↔ (¬ (HasSpelling (entry.Collected beat.now))) }
-    ensures memory { HasSpelling (entry.Collected beat.now) → IsOkUnless result EntryFault.Memory }
 {
-    if !has_collected_spelling(beat) {
-        return Err(EntryFault::NotCanonical);
+    match write_short_collected(alloc, beat) {
+        Ok(bytes) => Ok(bytes),
+        Err(_) => Err(AllocError),
     }
-    Ok(write_short_collected(alloc, beat)?)
 }
 
 /// The one spelling of an entry. `NotCanonical` where it has none.

@@ -8,14 +8,14 @@ use crate::folder_lock::LockKind;
 use host_model::{Failed, File, Host};
 use std::alloc::{AllocError, Global};
 use std::fs::Files;
-use std::io::{BufWriter, Write};
+use std::io::Write;
 use std::{fs, io};
 
 /// The files of one folder and a writer, which is standard output in the program. It tells nothing.
 #[derive(Drop)]
 pub struct FileHost<R: Files<File = fs::File> + Drop, W: Write + Drop> {
     disk: Disk<R>,
-    output: BufWriter<W>,
+    output: W,
     disk_faults: Faults<DiskError>,
     tell_faults: Faults<io::Error>,
     reads: u64,
@@ -30,9 +30,11 @@ impl<R: Files<File = fs::File> + Drop, W: Write + Drop> FileHost<R, W> {
         lock: LockKind,
         output: W,
     ) -> Result<FileHost<R, W>, AllocError>
-        ensures disk { IfOk result (λ host. ⟦<FileHost<R, W> as Host>⟧.disk_faults host ≡ 0) }
-        ensures output { IfOk result (λ host. ⟦<FileHost<R, W> as Host>⟧.tell_faults host ≡ 0) }
-        ensures reads { IfOk result (λ host. ⟦<FileHost<R, W> as Host>⟧.reads host ≡ 0) }
+        ensures disk { IfOk result
+            (λ host. (⟦<FileHost<R, W> as Host>⟧.seen host).disk_faults ≡ 0) }
+        ensures output { IfOk result
+            (λ host. (⟦<FileHost<R, W> as Host>⟧.seen host).tell_faults ≡ 0) }
+        ensures reads { IfOk result (λ host. (⟦<FileHost<R, W> as Host>⟧.seen host).reads ≡ 0) }
     {
         FileHost::in_folder(alloc, system, ".", lock, output)
     }
@@ -45,13 +47,15 @@ impl<R: Files<File = fs::File> + Drop, W: Write + Drop> FileHost<R, W> {
         lock: LockKind,
         output: W,
     ) -> Result<FileHost<R, W>, AllocError>
-        ensures disk { IfOk result (λ host. ⟦<FileHost<R, W> as Host>⟧.disk_faults host ≡ 0) }
-        ensures output { IfOk result (λ host. ⟦<FileHost<R, W> as Host>⟧.tell_faults host ≡ 0) }
-        ensures reads { IfOk result (λ host. ⟦<FileHost<R, W> as Host>⟧.reads host ≡ 0) }
+        ensures disk { IfOk result
+            (λ host. (⟦<FileHost<R, W> as Host>⟧.seen host).disk_faults ≡ 0) }
+        ensures output { IfOk result
+            (λ host. (⟦<FileHost<R, W> as Host>⟧.seen host).tell_faults ≡ 0) }
+        ensures reads { IfOk result (λ host. (⟦<FileHost<R, W> as Host>⟧.seen host).reads ≡ 0) }
     {
         Ok(FileHost {
             disk: Disk::new(alloc, system, folder, lock)?,
-            output: BufWriter::new(alloc, output).map_err(|_| AllocError)?,
+            output,
             disk_faults: Faults::new(),
             tell_faults: Faults::new(),
             reads: 0,
@@ -60,14 +64,14 @@ impl<R: Files<File = fs::File> + Drop, W: Write + Drop> FileHost<R, W> {
 
     /// Why the first call on the disk that failed did.
     pub fn disk_error(&self) -> Option<DiskError>
-        ensures { IsSome result ↔ (0 < ⟦<FileHost<R, W> as Host>⟧.disk_faults self.now) }
+        ensures { IsSome result ↔ (0 < (⟦<FileHost<R, W> as Host>⟧.seen self.now).disk_faults) }
     {
         self.disk_faults.first()
     }
 
     /// Why the first call of `tell` that failed did.
     pub fn tell_error(&self) -> Option<io::Error>
-        ensures { IsSome result ↔ (0 < ⟦<FileHost<R, W> as Host>⟧.tell_faults self.now) }
+        ensures { IsSome result ↔ (0 < (⟦<FileHost<R, W> as Host>⟧.seen self.now).tell_faults) }
     {
         self.tell_faults.first()
     }
@@ -93,13 +97,12 @@ fn send<W: Write>(output: &mut W, bytes: &[u8]) -> io::Result<()> {
 impl<R: Files<File = fs::File> + Drop, W: Write + Drop> Host for FileHost<R, W> {
     ghost honest = { ⊥ };
 
-    ghost past = { λ _. [] };
-
-    ghost disk_faults = { λ host. host.disk_faults.count };
-
-    ghost tell_faults = { λ host. host.tell_faults.count };
-
-    ghost reads = { λ host. host.reads };
+    ghost seen = { λ host. record {
+      past = [];
+      disk_faults = host.disk_faults.count;
+      tell_faults = host.tell_faults.count;
+      reads = host.reads;
+    } };
 
     fn len(&mut self, file: File) -> Result<u64, Failed> {
         match self.disk.len(file) {

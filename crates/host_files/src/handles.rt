@@ -159,7 +159,7 @@ impl<R: Files<File = fs::File> + Drop> Handles<R> {
         self.find_or_make(file)?.set_len(len)
     }
 
-    /// Makes a file hold what it reads as. After an `Err` the file is lost.
+    /// Makes a file hold what it reads as. After a sync that failed the file is lost.
     pub(crate) fn sync(&mut self, file: File) -> io::Result<()> {
         self.find(file)?;
         let synced = match self.opened(file) {

@@ -3,6 +3,7 @@ use Rattle.host_model.specs.declared.file.File.{File}
 use Rattle.host_model.specs.Images.{Wrote, Cut, contents, written}
 use Rattle.host_model.specs.Past.{Event, On, of}
 use Rattle.host_model.specs.Calls.{raised}
+use Rattle.host_model.specs.Seen.{Seen}
 
 -- a host that tells what it has been through, and which of its calls fail
 pub record HostState : Type 0 where
@@ -22,6 +23,10 @@ pub record HostState : Type 0 where
   pub reads : ℕ
   -- how many calls have failed because memory was refused
   pub refusals : ℕ
+
+-- what contracts see of such a host
+abbrev pub seen_of : HostState → Seen
+seen_of host = record { past = host.past; disk_faults = host.disk_faults; tell_faults = host.tell_faults; reads = host.reads }
 
 -- a host before its first call
 abbrev pub new_host : List ℕ → Option ℕ → HostState

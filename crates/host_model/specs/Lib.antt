@@ -11,5 +11,6 @@ pub mod MemorySource
 pub mod Moments
 pub mod Past
 pub mod Replay
+pub mod Seen
 pub mod Source
 pub mod Status

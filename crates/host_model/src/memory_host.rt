@@ -327,16 +327,11 @@ impl MemoryHost {
 impl Host for MemoryHost {
     ghost use Rattle.host_model.specs.MemoryHost.{state_of};
     ghost use Rattle.host_model.specs.DiskLaw.{reads_an_image_of_record};
+    ghost use Rattle.host_model.specs.HostState.{seen_of};
 
     ghost honest = { Unit {0} };
 
-    ghost past = { λ host. (state_of host).past };
-
-    ghost disk_faults = { λ host. host.disk_faults };
-
-    ghost tell_faults = { λ host. host.tell_faults };
-
-    ghost reads = { λ host. host.reads };
+    ghost seen = { λ host. seen_of (state_of host) };
 
     fn len(&mut self, file: File) -> Result<u64, Failed>
         ensures cause { HasCause self.old.disk_faults self.new.disk_faults (IsErr result) }

@@ -9,17 +9,20 @@ use host_model::{Failed, File, Host};
 
 /// Opens a gate, and syncs it.
 pub(crate) fn open_gate<H: Host>(host: &mut H, file: File, gate: u64) -> Result<(), Failed>
-    requires stable { H.honest → IsSynced (of file (H.past host.old)) }
-    requires inside { H.honest → gate < length (contents (of file (H.past host.old))) }
-    ensures opened { OnOk result (H.honest → contents (of file (H.past host.new))
-        ≡ written (contents (of file (H.past host.old))) gate (1 ∷ [])) }
-    ensures synced { OnOk result (H.honest → IsSynced (of file (H.past host.new))) }
-    ensures any_moment { H.honest → Throughout (EveryImage file (KeepsBeside gate (contents (of file (H.past host.old)))))
-        (H.past host.old) (H.past host.new) }
-    ensures only_here { H.honest → OnlyOn file (H.past host.old) (H.past host.new) }
-    ensures cause { HasCause (H.disk_faults host.old) (H.disk_faults host.new) (IsErr result) }
-    ensures output { H.tell_faults host.new ≡ H.tell_faults host.old }
-    ensures reads { H.reads host.new ≡ H.reads host.old }
+    requires stable { H.honest → IsSynced (of file (H.seen host.old).past) }
+    requires inside { H.honest → gate < length (contents (of file (H.seen host.old).past)) }
+    ensures opened { OnOk result (H.honest → contents (of file (H.seen host.new).past)
+        ≡ written (contents (of file (H.seen host.old).past)) gate (1 ∷ [])) }
+    ensures synced { OnOk result (H.honest → IsSynced (of file (H.seen host.new).past)) }
+    ensures any_moment { H.honest
+        → Throughout (EveryImage file
+        (KeepsBeside gate (contents (of file (H.seen host.old).past))))
+        (H.seen host.old).past (H.seen host.new).past }
+    ensures only_here { H.honest → OnlyOn file (H.seen host.old).past (H.seen host.new).past }
+    ensures cause { HasCause (H.seen host.old).disk_faults (H.seen host.new).disk_faults
+        (IsErr result) }
+    ensures output { (H.seen host.new).tell_faults ≡ (H.seen host.old).tell_faults }
+    ensures reads { (H.seen host.new).reads ≡ (H.seen host.old).reads }
 {
     host.write_at(file, gate, &[1])?;
     host.sync(file)

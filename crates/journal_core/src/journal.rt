@@ -55,21 +55,30 @@ impl Journal {
         file: File,
         generation: u64,
     ) -> Result<(Journal, RecordList), JournalFault>
-        ensures opened { IfOk result (λ found. H.honest → IsOpen (of file (H.past host.new)) found.0 found.1) }
-        ensures journal { IfOk result (λ found. (found.0.file ≡ file) × (found.0.generation ≡ generation)) }
+        ensures opened { IfOk result
+            (λ found. H.honest → IsOpen (of file (H.seen host.new).past) found.0 found.1) }
+        ensures journal { IfOk result
+            (λ found. (found.0.file ≡ file) × (found.0.generation ≡ generation)) }
 
         // The bytes are no journal of this generation, and that is the first place at which none goes on.
-        ensures not_a_journal { (place : ℕ) → IsErrOf result (JournalFault.NotAJournal place) → H.honest
-            → FailsAt generation (contents (of file (H.past host.new))) place }
+        ensures not_a_journal { (place : ℕ) → IsErrOf result (JournalFault.NotAJournal place)
+            → H.honest
+            → FailsAt generation (contents (of file (H.seen host.new).past)) place }
 
         // It begins with a sync, and nothing else happens to the disk.
-        ensures begins { H.honest → IsErrOf result JournalFault.DiskFault ⊎ (H.past host.new ≡ On file Synced ∷ H.past host.old) }
-        ensures same_bytes { H.honest → contents (of file (H.past host.new)) ≡ contents (of file (H.past host.old)) }
-        ensures any_moment { H.honest → Throughout (EveryImage file (IsImage (of file (H.past host.old)))) (H.past host.old) (H.past host.new) }
-        ensures only_here { H.honest → OnlyOn file (H.past host.old) (H.past host.new) }
+        ensures begins { H.honest → IsErrOf result JournalFault.DiskFault
+            ⊎ ((H.seen host.new).past ≡ On file Synced ∷ (H.seen host.old).past) }
+        ensures same_bytes { H.honest
+            → contents (of file (H.seen host.new).past)
+            ≡ contents (of file (H.seen host.old).past) }
+        ensures any_moment { H.honest
+            → Throughout (EveryImage file (IsImage (of file (H.seen host.old).past)))
+            (H.seen host.old).past (H.seen host.new).past }
+        ensures only_here { H.honest → OnlyOn file (H.seen host.old).past (H.seen host.new).past }
         ensures not_too_long { IsErrOf result JournalFault.TooLong → ⊥ }
-        ensures cause { HasCause (H.disk_faults host.old) (H.disk_faults host.new) (IsErrOf result JournalFault.DiskFault) }
-        ensures output { H.tell_faults host.new ≡ H.tell_faults host.old }
+        ensures cause { HasCause (H.seen host.old).disk_faults (H.seen host.new).disk_faults
+            (IsErrOf result JournalFault.DiskFault) }
+        ensures output { (H.seen host.new).tell_faults ≡ (H.seen host.old).tell_faults }
     {
         if host.sync(file).is_err() {
             return Err(JournalFault::DiskFault);
@@ -88,24 +97,35 @@ impl Journal {
     /// the call, and the journal must be opened again.
     pub fn append<H: Host>(&mut self, host: &mut H, body: &[u8]) -> Result<(), JournalFault>
         requires room { self.old.bytes ≤ 2 ^ 60 }
-        requires open { H.honest → (records : List (List ℕ)) × IsOpen (of self.old.file (H.past host.old)) self.old records }
-        ensures stored { OnOk result (H.honest → (records : List (List ℕ)) → IsOpen (of self.old.file (H.past host.old)) self.old records
-            → IsOpen (of self.old.file (H.past host.new)) self.new (records ++ body.now ∷ [])) }
-        ensures any_moment { H.honest → (records : List (List ℕ)) → IsOpen (of self.old.file (H.past host.old)) self.old records
-            → Throughout (EveryImage self.old.file (StandsForEither self.old.generation records body.now)) (H.past host.old) (H.past host.new) }
+        requires open { H.honest → (records : List (List ℕ))
+            × IsOpen (of self.old.file (H.seen host.old).past) self.old records }
+        ensures stored { OnOk result
+            (H.honest → (records : List (List ℕ))
+            → IsOpen (of self.old.file (H.seen host.old).past) self.old records
+            → IsOpen (of self.old.file (H.seen host.new).past) self.new
+            (records ++ body.now ∷ [])) }
+        ensures any_moment { H.honest → (records : List (List ℕ))
+            → IsOpen (of self.old.file (H.seen host.old).past) self.old records
+            → Throughout (EveryImage self.old.file
+            (StandsForEither self.old.generation records body.now)) (H.seen host.old).past
+            (H.seen host.new).past }
 
         // The images of all other files and the output stay.
-        ensures only_here { H.honest → OnlyOn self.old.file (H.past host.old) (H.past host.new) }
-        ensures journal { OnOk result (self.new ≡ record self.old { bytes = self.old.bytes + 5 + length body.now }) }
+        ensures only_here { H.honest
+            → OnlyOn self.old.file (H.seen host.old).past (H.seen host.new).past }
+        ensures journal { OnOk result
+            (self.new ≡ record self.old { bytes = self.old.bytes + 5 + length body.now }) }
         ensures journal_stays { OnErr result (self.new ≡ self.old) }
 
         // A record that is too long is refused before the host is asked for anything.
         ensures too_long { IsErrOf result JournalFault.TooLong ↔ (2 ^ 26 < length body.now) }
         ensures untouched { IsErrOf result JournalFault.TooLong → host.new ≡ host.old }
-        ensures faults { IfErr result (λ fault. (fault ≡ JournalFault.DiskFault) ⊎ (fault ≡ JournalFault.TooLong)) }
-        ensures cause { HasCause (H.disk_faults host.old) (H.disk_faults host.new) (IsErrOf result JournalFault.DiskFault) }
-        ensures output { H.tell_faults host.new ≡ H.tell_faults host.old }
-        ensures reads { H.reads host.new ≡ H.reads host.old }
+        ensures faults { IfErr result
+            (λ fault. (fault ≡ JournalFault.DiskFault) ⊎ (fault ≡ JournalFault.TooLong)) }
+        ensures cause { HasCause (H.seen host.old).disk_faults (H.seen host.new).disk_faults
+            (IsErrOf result JournalFault.DiskFault) }
+        ensures output { (H.seen host.new).tell_faults ≡ (H.seen host.old).tell_faults }
+        ensures reads { (H.seen host.new).reads ≡ (H.seen host.old).reads }
     {
         if body.len() > LONGEST {
             return Err(JournalFault::TooLong);

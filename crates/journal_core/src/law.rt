@@ -5,7 +5,8 @@ ghost use Rattle.journal_core.specs.Form.{StandsFor, FailsAt};
 /// and those that are no journal fail at one place.
 pub fn any_journal()
     ensures records { (generation : ℕ) (bytes : List ℕ) (records others : List (List ℕ))
-        → StandsFor generation bytes records → StandsFor generation bytes others → records ≡ others }
+        → StandsFor generation bytes records → StandsFor generation bytes others
+        → records ≡ others }
     ensures place { (generation : ℕ) (bytes : List ℕ) (place other : ℕ)
         → FailsAt generation bytes place → FailsAt generation bytes other → place ≡ other }
 {}

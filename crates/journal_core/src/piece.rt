@@ -34,7 +34,8 @@ impl Piece {
 
     /// Whether the piece has so many bytes from a place on.
     pub(crate) fn covers(&self, place: u64, want: usize) -> bool
-        ensures { IsTrue result → (self.now.place ≤ place) × (place - self.now.place + want ≤ self.now.count) }
+        ensures { IsTrue result → (self.now.place ≤ place)
+            × (place - self.now.place + want ≤ self.now.count) }
     {
         if place < self.place {
             return false;
@@ -50,13 +51,17 @@ impl Piece {
         file: File,
         place: u64,
     ) -> Result<(), JournalFault>
-        ensures ahead { OnOk result (H.honest → ReadsAhead (contents (of file (H.past host.old))) self.new) }
+        ensures ahead { OnOk result
+            (H.honest → ReadsAhead (contents (of file (H.seen host.old).past)) self.new) }
         ensures place { OnOk result (self.new.place ≡ place) }
-        ensures count { OnOk result (H.honest → self.new.count ≡ min 4096 (length (contents (of file (H.past host.old))) - place)) }
-        ensures past { H.honest → H.past host.new ≡ H.past host.old }
+        ensures count { OnOk result
+            (H.honest → self.new.count
+            ≡ min 4096 (length (contents (of file (H.seen host.old).past)) - place)) }
+        ensures past { H.honest → (H.seen host.new).past ≡ (H.seen host.old).past }
         ensures faults { IfErr result (λ fault. fault ≡ JournalFault.DiskFault) }
-        ensures cause { HasCause (H.disk_faults host.old) (H.disk_faults host.new) (IsErrOf result JournalFault.DiskFault) }
-        ensures output { H.tell_faults host.new ≡ H.tell_faults host.old }
+        ensures cause { HasCause (H.seen host.old).disk_faults (H.seen host.new).disk_faults
+            (IsErrOf result JournalFault.DiskFault) }
+        ensures output { (H.seen host.new).tell_faults ≡ (H.seen host.old).tell_faults }
     {
         let Ok(count) = host.read(file, place, &mut self.bytes) else {
             return Err(JournalFault::DiskFault);
@@ -71,7 +76,8 @@ impl Piece {
         requires behind { self.now.place ≤ place }
         requires fits { want ≤ length into.old }
         ensures count { result ≡ min want (self.now.count - (place - self.now.place)) }
-        ensures bytes { take result into.new ≡ take result (drop (place - self.now.place) self.now.bytes) }
+        ensures bytes { take result into.new
+            ≡ take result (drop (place - self.now.place) self.now.bytes) }
     {
         let skip = place - self.place;
         if skip > self.count as u64 {

@@ -41,18 +41,21 @@ fn fill<H: Host>(
     into: &mut [u8],
 ) -> Result<usize, JournalFault>
     requires inside { place ≤ size }
-    requires size { H.honest → size ≡ length (contents (of file (H.past host.old))) }
-    requires ahead { H.honest → ReadsAhead (contents (of file (H.past host.old))) piece.old }
+    requires size { H.honest → size ≡ length (contents (of file (H.seen host.old).past)) }
+    requires ahead { H.honest → ReadsAhead (contents (of file (H.seen host.old).past)) piece.old }
     ensures count { IfOk result (λ count. count ≤ length into.old) }
     ensures within { IfOk result (λ count. place + count ≤ size) }
     ensures end { IfOk result (λ count. H.honest → count ≡ min (length into.old) (size - place)) }
     ensures bytes { IfOk result (λ count. H.honest
-        → take count into.new ≡ take count (drop place (contents (of file (H.past host.old))))) }
-    ensures ahead { OnOk result (H.honest → ReadsAhead (contents (of file (H.past host.old))) piece.new) }
-    ensures past { H.honest → H.past host.new ≡ H.past host.old }
+        → take count into.new ≡ take count
+        (drop place (contents (of file (H.seen host.old).past)))) }
+    ensures ahead { OnOk result
+        (H.honest → ReadsAhead (contents (of file (H.seen host.old).past)) piece.new) }
+    ensures past { H.honest → (H.seen host.new).past ≡ (H.seen host.old).past }
     ensures faults { IfErr result (λ fault. fault ≡ JournalFault.DiskFault) }
-    ensures cause { HasCause (H.disk_faults host.old) (H.disk_faults host.new) (IsErrOf result JournalFault.DiskFault) }
-    ensures output { H.tell_faults host.new ≡ H.tell_faults host.old }
+    ensures cause { HasCause (H.seen host.old).disk_faults (H.seen host.new).disk_faults
+        (IsErrOf result JournalFault.DiskFault) }
+    ensures output { (H.seen host.new).tell_faults ≡ (H.seen host.old).tell_faults }
 {
     let want = into.len().min((size - place) as usize);
     if want > AHEAD {
@@ -91,18 +94,20 @@ fn check_header<H: Host>(
     size: u64,
     generation: u64,
 ) -> Result<(), JournalFault>
-    requires size { H.honest → size ≡ length (contents (of file (H.past host.old))) }
-    requires ahead { H.honest → ReadsAhead (contents (of file (H.past host.old))) piece.old }
-    ensures header { OnOk result (H.honest → contents (of file (H.past host.old))
-        ≡ header generation ++ drop 16 (contents (of file (H.past host.old)))) }
+    requires size { H.honest → size ≡ length (contents (of file (H.seen host.old).past)) }
+    requires ahead { H.honest → ReadsAhead (contents (of file (H.seen host.old).past)) piece.old }
+    ensures header { OnOk result (H.honest → contents (of file (H.seen host.old).past)
+        ≡ header generation ++ drop 16 (contents (of file (H.seen host.old).past))) }
     ensures sized { OnOk result (16 ≤ size) }
     ensures broken { IfErr result (λ fault. IfNotAJournal fault (λ place. H.honest
-        → FailsAt generation (contents (of file (H.past host.old))) place)) }
-    ensures ahead { OnOk result (H.honest → ReadsAhead (contents (of file (H.past host.old))) piece.new) }
-    ensures past { H.honest → H.past host.new ≡ H.past host.old }
+        → FailsAt generation (contents (of file (H.seen host.old).past)) place)) }
+    ensures ahead { OnOk result
+        (H.honest → ReadsAhead (contents (of file (H.seen host.old).past)) piece.new) }
+    ensures past { H.honest → (H.seen host.new).past ≡ (H.seen host.old).past }
     ensures not_too_long { IsErrOf result JournalFault.TooLong → ⊥ }
-    ensures cause { HasCause (H.disk_faults host.old) (H.disk_faults host.new) (IsErrOf result JournalFault.DiskFault) }
-    ensures output { H.tell_faults host.new ≡ H.tell_faults host.old }
+    ensures cause { HasCause (H.seen host.old).disk_faults (H.seen host.new).disk_faults
+        (IsErrOf result JournalFault.DiskFault) }
+    ensures output { (H.seen host.new).tell_faults ≡ (H.seen host.old).tell_faults }
 {
     let mut seen = [0u8; 16];
     let count = fill(host, piece, file, 0, size, &mut seen)?;
@@ -145,15 +150,19 @@ fn gate_at<H: Host>(
     size: u64,
 ) -> Result<Next, JournalFault>
     requires inside { place ≤ size }
-    requires size { H.honest → size ≡ length (contents (of file (H.past host.old))) }
-    requires ahead { H.honest → ReadsAhead (contents (of file (H.past host.old))) piece.old }
-    ensures begins { IfOk result (λ next. H.honest → BeginsWith (drop place (contents (of file (H.past host.old)))) next) }
+    requires size { H.honest → size ≡ length (contents (of file (H.seen host.old).past)) }
+    requires ahead { H.honest → ReadsAhead (contents (of file (H.seen host.old).past)) piece.old }
+    ensures begins { IfOk result
+        (λ next. H.honest → BeginsWith
+        (drop place (contents (of file (H.seen host.old).past))) next) }
     ensures within { IfOk result (λ next. SeenWithin (size - place) next) }
-    ensures ahead { OnOk result (H.honest → ReadsAhead (contents (of file (H.past host.old))) piece.new) }
-    ensures past { H.honest → H.past host.new ≡ H.past host.old }
+    ensures ahead { OnOk result
+        (H.honest → ReadsAhead (contents (of file (H.seen host.old).past)) piece.new) }
+    ensures past { H.honest → (H.seen host.new).past ≡ (H.seen host.old).past }
     ensures faults { IfErr result (λ fault. fault ≡ JournalFault.DiskFault) }
-    ensures cause { HasCause (H.disk_faults host.old) (H.disk_faults host.new) (IsErrOf result JournalFault.DiskFault) }
-    ensures output { H.tell_faults host.new ≡ H.tell_faults host.old }
+    ensures cause { HasCause (H.seen host.old).disk_faults (H.seen host.new).disk_faults
+        (IsErrOf result JournalFault.DiskFault) }
+    ensures output { (H.seen host.new).tell_faults ≡ (H.seen host.old).tell_faults }
 {
     let mut seen = [0u8; 5];
     let count = fill(host, piece, file, place, size, &mut seen)?;
@@ -171,17 +180,20 @@ fn body_at<H: Host>(
     count: u32,
 ) -> Result<ByteList, JournalFault>
     requires inside { place ≤ size }
-    requires size { H.honest → size ≡ length (contents (of file (H.past host.old))) }
-    requires ahead { H.honest → ReadsAhead (contents (of file (H.past host.old))) piece.old }
+    requires size { H.honest → size ≡ length (contents (of file (H.seen host.old).past)) }
+    requires ahead { H.honest → ReadsAhead (contents (of file (H.seen host.old).past)) piece.old }
     ensures body { IfOk result (λ body. H.honest
-        → body ≡ take count (drop place (contents (of file (H.past host.old))))) }
+        → body ≡ take count (drop place (contents (of file (H.seen host.old).past)))) }
     ensures whole { IfOk result (λ body. (length body ≡ count) × (place + count ≤ size)) }
-    ensures cut { IfErr result (λ fault. IfNotAJournal fault (λ end. H.honest → (end ≡ size) × (size - place < count))) }
-    ensures ahead { OnOk result (H.honest → ReadsAhead (contents (of file (H.past host.old))) piece.new) }
-    ensures past { H.honest → H.past host.new ≡ H.past host.old }
+    ensures cut { IfErr result
+        (λ fault. IfNotAJournal fault (λ end. H.honest → (end ≡ size) × (size - place < count))) }
+    ensures ahead { OnOk result
+        (H.honest → ReadsAhead (contents (of file (H.seen host.old).past)) piece.new) }
+    ensures past { H.honest → (H.seen host.new).past ≡ (H.seen host.old).past }
     ensures not_too_long { IsErrOf result JournalFault.TooLong → ⊥ }
-    ensures cause { HasCause (H.disk_faults host.old) (H.disk_faults host.new) (IsErrOf result JournalFault.DiskFault) }
-    ensures output { H.tell_faults host.new ≡ H.tell_faults host.old }
+    ensures cause { HasCause (H.seen host.old).disk_faults (H.seen host.new).disk_faults
+        (IsErrOf result JournalFault.DiskFault) }
+    ensures output { (H.seen host.new).tell_faults ≡ (H.seen host.old).tell_faults }
 {
     if count as u64 > size - place {
         return Err(JournalFault::NotAJournal(size));
@@ -206,17 +218,21 @@ fn read_next<H: Host>(
     size: u64,
 ) -> Result<Option<ByteList>, JournalFault>
     requires inside { place ≤ size }
-    requires size { H.honest → size ≡ length (contents (of file (H.past host.old))) }
-    requires ahead { H.honest → ReadsAhead (contents (of file (H.past host.old))) piece.old }
-    ensures begins { IfOk result (λ next. H.honest → BeginsWithRecord (drop place (contents (of file (H.past host.old)))) next) }
+    requires size { H.honest → size ≡ length (contents (of file (H.seen host.old).past)) }
+    requires ahead { H.honest → ReadsAhead (contents (of file (H.seen host.old).past)) piece.old }
+    ensures begins { IfOk result
+        (λ next. H.honest → BeginsWithRecord
+        (drop place (contents (of file (H.seen host.old).past))) next) }
     ensures within { IfOk result (λ next. EndsWithin place size next) }
     ensures broken { IfErr result (λ fault. IfNotAJournal fault (λ end. H.honest
-        → FailsFrom place (contents (of file (H.past host.old))) end)) }
-    ensures ahead { OnOk result (H.honest → ReadsAhead (contents (of file (H.past host.old))) piece.new) }
-    ensures past { H.honest → H.past host.new ≡ H.past host.old }
+        → FailsFrom place (contents (of file (H.seen host.old).past)) end)) }
+    ensures ahead { OnOk result
+        (H.honest → ReadsAhead (contents (of file (H.seen host.old).past)) piece.new) }
+    ensures past { H.honest → (H.seen host.new).past ≡ (H.seen host.old).past }
     ensures not_too_long { IsErrOf result JournalFault.TooLong → ⊥ }
-    ensures cause { HasCause (H.disk_faults host.old) (H.disk_faults host.new) (IsErrOf result JournalFault.DiskFault) }
-    ensures output { H.tell_faults host.new ≡ H.tell_faults host.old }
+    ensures cause { HasCause (H.seen host.old).disk_faults (H.seen host.new).disk_faults
+        (IsErrOf result JournalFault.DiskFault) }
+    ensures output { (H.seen host.new).tell_faults ≡ (H.seen host.old).tell_faults }
 {
     match gate_at(host, piece, file, place, size)? {
         Next::Closed => Ok(None),
@@ -248,16 +264,18 @@ pub(crate) fn read_records<H: Host>(
     size: u64,
 ) -> Result<(u64, RecordList), JournalFault>
     requires inside { 16 ≤ size }
-    requires size { H.honest → size ≡ length (contents (of file (H.past host.old))) }
-    requires ahead { H.honest → ReadsAhead (contents (of file (H.past host.old))) piece.old }
-    ensures records { IfOk result (λ read. H.honest → Holds (contents (of file (H.past host.old))) read.0 read.1) }
+    requires size { H.honest → size ≡ length (contents (of file (H.seen host.old).past)) }
+    requires ahead { H.honest → ReadsAhead (contents (of file (H.seen host.old).past)) piece.old }
+    ensures records { IfOk result
+        (λ read. H.honest → Holds (contents (of file (H.seen host.old).past)) read.0 read.1) }
     ensures within { IfOk result (λ read. (16 ≤ read.0) × (read.0 < size)) }
     ensures broken { IfErr result (λ fault. IfNotAJournal fault (λ end. H.honest
-        → FailsFrom 16 (contents (of file (H.past host.old))) end)) }
-    ensures past { H.honest → H.past host.new ≡ H.past host.old }
+        → FailsFrom 16 (contents (of file (H.seen host.old).past)) end)) }
+    ensures past { H.honest → (H.seen host.new).past ≡ (H.seen host.old).past }
     ensures not_too_long { IsErrOf result JournalFault.TooLong → ⊥ }
-    ensures cause { HasCause (H.disk_faults host.old) (H.disk_faults host.new) (IsErrOf result JournalFault.DiskFault) }
-    ensures output { H.tell_faults host.new ≡ H.tell_faults host.old }
+    ensures cause { HasCause (H.seen host.old).disk_faults (H.seen host.new).disk_faults
+        (IsErrOf result JournalFault.DiskFault) }
+    ensures output { (H.seen host.new).tell_faults ≡ (H.seen host.old).tell_faults }
 {
     let mut records = RecordList::new(alloc);
     let mut place = 16;
@@ -275,15 +293,18 @@ pub(crate) fn read_journal<H: Host>(
     file: File,
     generation: u64,
 ) -> Result<(u64, RecordList), JournalFault>
-    ensures stands { IfOk result (λ read. H.honest → StandsFor generation (contents (of file (H.past host.old))) read.1) }
+    ensures stands { IfOk result
+        (λ read. H.honest → StandsFor generation
+        (contents (of file (H.seen host.old).past)) read.1) }
     ensures at_gate { IfOk result (λ read. H.honest → read.0 ≡ 16 + length (opened read.1)) }
     ensures within { IfOk result (λ read. (16 ≤ read.0) × (read.0 < 2 ^ 64 - 1)) }
     ensures broken { IfErr result (λ fault. IfNotAJournal fault (λ place. H.honest
-        → FailsAt generation (contents (of file (H.past host.old))) place)) }
-    ensures past { H.honest → H.past host.new ≡ H.past host.old }
+        → FailsAt generation (contents (of file (H.seen host.old).past)) place)) }
+    ensures past { H.honest → (H.seen host.new).past ≡ (H.seen host.old).past }
     ensures not_too_long { IsErrOf result JournalFault.TooLong → ⊥ }
-    ensures cause { HasCause (H.disk_faults host.old) (H.disk_faults host.new) (IsErrOf result JournalFault.DiskFault) }
-    ensures output { H.tell_faults host.new ≡ H.tell_faults host.old }
+    ensures cause { HasCause (H.seen host.old).disk_faults (H.seen host.new).disk_faults
+        (IsErrOf result JournalFault.DiskFault) }
+    ensures output { (H.seen host.new).tell_faults ≡ (H.seen host.old).tell_faults }
 {
     let Ok(size) = host.len(file) else {
         return Err(JournalFault::DiskFault);

@@ -11,20 +11,27 @@ use host_model::{Failed, File, Host};
 
 /// Makes a file an empty journal of this generation, whatever it held, and syncs it.
 pub fn prepare<H: Host>(host: &mut H, file: File, generation: u64) -> Result<(), JournalFault>
-    ensures empty { OnOk result (H.honest → StandsFor generation (contents (of file (H.past host.new))) []) }
-    ensures whole { OnOk result (H.honest → contents (of file (H.past host.new)) ≡ header generation ++ 0 ∷ []) }
-    ensures synced { OnOk result (H.honest → IsSynced (of file (H.past host.new))) }
+    ensures empty { OnOk result
+        (H.honest → StandsFor generation (contents (of file (H.seen host.new).past)) []) }
+    ensures whole { OnOk result
+        (H.honest → contents (of file (H.seen host.new).past) ≡ header generation ++ 0 ∷ []) }
+    ensures synced { OnOk result (H.honest → IsSynced (of file (H.seen host.new).past)) }
 
     // At every moment nothing has happened to any other file, and nothing was told.
-    ensures any_moment { H.honest → Throughout (OnlyOn file (H.past host.old)) (H.past host.old) (H.past host.new) }
+    ensures any_moment { H.honest
+        → Throughout (OnlyOn file (H.seen host.old).past) (H.seen host.old).past
+        (H.seen host.new).past }
 
     // Where the file was synced with at most the 17 bytes of an empty journal, no stop leaves more.
-    ensures short { H.honest → IsSynced (of file (H.past host.old)) → length (contents (of file (H.past host.old))) ≤ 17
-        → Throughout (EveryImage file (λ bytes. length bytes ≤ 17)) (H.past host.old) (H.past host.new) }
+    ensures short { H.honest → IsSynced (of file (H.seen host.old).past)
+        → length (contents (of file (H.seen host.old).past)) ≤ 17
+        → Throughout (EveryImage file (λ bytes. length bytes ≤ 17)) (H.seen host.old).past
+        (H.seen host.new).past }
     ensures faults { IfErr result (λ fault. fault ≡ JournalFault.DiskFault) }
-    ensures cause { HasCause (H.disk_faults host.old) (H.disk_faults host.new) (IsErrOf result JournalFault.DiskFault) }
-    ensures output { H.tell_faults host.new ≡ H.tell_faults host.old }
-    ensures reads { H.reads host.new ≡ H.reads host.old }
+    ensures cause { HasCause (H.seen host.old).disk_faults (H.seen host.new).disk_faults
+        (IsErrOf result JournalFault.DiskFault) }
+    ensures output { (H.seen host.new).tell_faults ≡ (H.seen host.old).tell_faults }
+    ensures reads { (H.seen host.new).reads ≡ (H.seen host.old).reads }
 {
     if put_down(host, file, header_of(generation)).is_err() {
         return Err(JournalFault::DiskFault);
@@ -34,14 +41,19 @@ pub fn prepare<H: Host>(host: &mut H, file: File, generation: u64) -> Result<(),
 
 /// Leaves a header and a closed gate in a file, and nothing else, and syncs it.
 fn put_down<H: Host>(host: &mut H, file: File, head: [u8; 16]) -> Result<(), Failed>
-    ensures whole { OnOk result (H.honest → contents (of file (H.past host.new)) ≡ head ++ 0 ∷ []) }
-    ensures synced { OnOk result (H.honest → IsSynced (of file (H.past host.new))) }
-    ensures any_moment { H.honest → Throughout (OnlyOn file (H.past host.old)) (H.past host.old) (H.past host.new) }
-    ensures short { H.honest → greatest (of file (H.past host.old)) ≤ 17
-        → Throughout (λ past. greatest (of file past) ≤ 17) (H.past host.old) (H.past host.new) }
-    ensures cause { HasCause (H.disk_faults host.old) (H.disk_faults host.new) (IsErr result) }
-    ensures output { H.tell_faults host.new ≡ H.tell_faults host.old }
-    ensures reads { H.reads host.new ≡ H.reads host.old }
+    ensures whole { OnOk result
+        (H.honest → contents (of file (H.seen host.new).past) ≡ head ++ 0 ∷ []) }
+    ensures synced { OnOk result (H.honest → IsSynced (of file (H.seen host.new).past)) }
+    ensures any_moment { H.honest
+        → Throughout (OnlyOn file (H.seen host.old).past) (H.seen host.old).past
+        (H.seen host.new).past }
+    ensures short { H.honest → greatest (of file (H.seen host.old).past) ≤ 17
+        → Throughout (λ past. greatest (of file past) ≤ 17) (H.seen host.old).past
+        (H.seen host.new).past }
+    ensures cause { HasCause (H.seen host.old).disk_faults (H.seen host.new).disk_faults
+        (IsErr result) }
+    ensures output { (H.seen host.new).tell_faults ≡ (H.seen host.old).tell_faults }
+    ensures reads { (H.seen host.new).reads ≡ (H.seen host.old).reads }
 {
     host.cut(file, 0)?;
     host.write_at(file, 0, &head)?;

@@ -16,19 +16,24 @@ use host_model::{Failed, File, Host};
 pub(crate) fn store<H: Host>(host: &mut H, file: File, gate: u64, body: &[u8]) -> Result<(), Failed>
     requires room { gate ≤ 2 ^ 60 }
     requires size { length body.now ≤ 2 ^ 26 }
-    requires stable { H.honest → IsSynced (of file (H.past host.old)) }
-    requires inside { H.honest → gate < length (contents (of file (H.past host.old))) }
+    requires stable { H.honest → IsSynced (of file (H.seen host.old).past) }
+    requires inside { H.honest → gate < length (contents (of file (H.seen host.old).past)) }
     ensures stored { OnOk result (H.honest → (generation : ℕ) (records : List (List ℕ))
-        → StandsFor generation (contents (of file (H.past host.old))) records → gate ≡ 16 + length (opened records)
-        → StandsFor generation (contents (of file (H.past host.new))) (records ++ body.now ∷ [])) }
-    ensures synced { OnOk result (H.honest → IsSynced (of file (H.past host.new))) }
+        → StandsFor generation (contents (of file (H.seen host.old).past)) records
+        → gate ≡ 16 + length (opened records)
+        → StandsFor generation (contents (of file (H.seen host.new).past))
+        (records ++ body.now ∷ [])) }
+    ensures synced { OnOk result (H.honest → IsSynced (of file (H.seen host.new).past)) }
     ensures any_moment { H.honest → (generation : ℕ) (records : List (List ℕ))
-        → StandsFor generation (contents (of file (H.past host.old))) records → gate ≡ 16 + length (opened records)
-        → Throughout (EveryImage file (StandsForEither generation records body.now)) (H.past host.old) (H.past host.new) }
-    ensures only_here { H.honest → OnlyOn file (H.past host.old) (H.past host.new) }
-    ensures cause { HasCause (H.disk_faults host.old) (H.disk_faults host.new) (IsErr result) }
-    ensures output { H.tell_faults host.new ≡ H.tell_faults host.old }
-    ensures reads { H.reads host.new ≡ H.reads host.old }
+        → StandsFor generation (contents (of file (H.seen host.old).past)) records
+        → gate ≡ 16 + length (opened records)
+        → Throughout (EveryImage file (StandsForEither generation records body.now))
+        (H.seen host.old).past (H.seen host.new).past }
+    ensures only_here { H.honest → OnlyOn file (H.seen host.old).past (H.seen host.new).past }
+    ensures cause { HasCause (H.seen host.old).disk_faults (H.seen host.new).disk_faults
+        (IsErr result) }
+    ensures output { (H.seen host.new).tell_faults ≡ (H.seen host.old).tell_faults }
+    ensures reads { (H.seen host.new).reads ≡ (H.seen host.old).reads }
 {
     stage(host, file, gate, body)?;
     open_gate(host, file, gate)
@@ -38,17 +43,20 @@ pub(crate) fn store<H: Host>(host: &mut H, file: File, gate: u64, body: &[u8]) -
 fn stage<H: Host>(host: &mut H, file: File, gate: u64, body: &[u8]) -> Result<(), Failed>
     requires room { gate ≤ 2 ^ 60 }
     requires size { length body.now ≤ 2 ^ 26 }
-    requires stable { H.honest → IsSynced (of file (H.past host.old)) }
-    requires inside { H.honest → gate < length (contents (of file (H.past host.old))) }
+    requires stable { H.honest → IsSynced (of file (H.seen host.old).past) }
+    requires inside { H.honest → gate < length (contents (of file (H.seen host.old).past)) }
     ensures staged { OnOk result (H.honest → Stages gate body.now
-        (contents (of file (H.past host.old))) (contents (of file (H.past host.new)))) }
-    ensures synced { OnOk result (H.honest → IsSynced (of file (H.past host.new))) }
-    ensures any_moment { H.honest → Throughout (EveryImage file (KeepsThrough gate (contents (of file (H.past host.old)))))
-        (H.past host.old) (H.past host.new) }
-    ensures only_here { H.honest → OnlyOn file (H.past host.old) (H.past host.new) }
-    ensures cause { HasCause (H.disk_faults host.old) (H.disk_faults host.new) (IsErr result) }
-    ensures output { H.tell_faults host.new ≡ H.tell_faults host.old }
-    ensures reads { H.reads host.new ≡ H.reads host.old }
+        (contents (of file (H.seen host.old).past)) (contents (of file (H.seen host.new).past))) }
+    ensures synced { OnOk result (H.honest → IsSynced (of file (H.seen host.new).past)) }
+    ensures any_moment { H.honest
+        → Throughout (EveryImage file
+        (KeepsThrough gate (contents (of file (H.seen host.old).past))))
+        (H.seen host.old).past (H.seen host.new).past }
+    ensures only_here { H.honest → OnlyOn file (H.seen host.old).past (H.seen host.new).past }
+    ensures cause { HasCause (H.seen host.old).disk_faults (H.seen host.new).disk_faults
+        (IsErr result) }
+    ensures output { (H.seen host.new).tell_faults ≡ (H.seen host.old).tell_faults }
+    ensures reads { (H.seen host.new).reads ≡ (H.seen host.old).reads }
 {
     let size = body.len();
     host.write_at(file, gate + 1, &length_bytes(size as u32))?;

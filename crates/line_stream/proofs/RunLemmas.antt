@@ -13,7 +13,7 @@ use Rattle.plugin_text.proofs.LongLemmas.{AllPass-front, AllPass-lines, HasNoLon
 use Rattle.plugin_text.proofs.OneLineLemmas.{parts-one_line}
 use Rattle.plugin_text.proofs.PartsLemmas.{parts_first, parts_whole, lines-append, rest-append}
 use Rattle.line_stream.specs.declared.stream.Stream.{Stream}
-use Rattle.line_stream.specs.Chain.{Acts, Chain, begins, pauses}
+use Rattle.line_stream.specs.Chain.{Acts, Chain, begins, pauses, not_begun, after_pause}
 use Rattle.line_stream.specs.Run.{input_limit, Ended, at_line, at_pause, at_long_line, at_end, at_fault, at_limit, at_want, Ran, Running, Steps, Stops, TookAll}
 use Rattle.line_stream.specs.Stream.{BrokeAt, HandsOver, HasTaken}
 
@@ -162,8 +162,9 @@ module _ {T H : Type 0} (acts : Acts T H) (start : T) (begin : H) where
     pub piece-taken : (stream' : Stream) (result : Result (Unit {0}) Status) (mid new : T) (host' host'' : H) → HasNoLongLine (stream.splitter.rest ++ piece) → Chain acts start begin (lines text ++ lines (stream.splitter.rest ++ piece)) mid host'
         → acts.pauses mid host' result new host'' → result ≡ Ok tt → stream'.splitter.refused ≡ None → stream'.splitter.rest ≡ rest (stream.splitter.rest ++ piece) → IsRest stream'.splitter.rest
         → stream'.count ≡ stream.count + length (lines (stream.splitter.rest ++ piece)) → HasTaken acts stream' start begin (text ++ piece) new host''
-    piece-taken stream' result mid new host' host'' more chain paused is going rest_is held count =
+    piece-taken stream' result mid new host' host'' more chain was is going rest_is held count =
         let all = all-taken mid host' more chain in
+        let last = subst (λ (r : Result (Unit {0}) Status). acts.pauses mid host' r new host'') is was in
         record {
           going = going;
           rest_is = rest_is ∙ ap (λ (r : List ℕ). rest (r ++ piece)) has.rest_is ∙ sym (rest-append text piece);
@@ -171,8 +172,9 @@ module _ {T H : Type 0} (acts : Acts T H) (start : T) (begin : H) where
           count = count ∙ omega (arith, has.count, ap (λ (l : List (List ℕ)). length l) lines-all, length-append (lines text) (lines (stream.splitter.rest ++ piece)));
           took = record {
             short = all.short;
-            chain = pauses (lines (text ++ piece)) mid new host' host'' all.chain (subst (λ (r : Result (Unit {0}) Status). acts.pauses mid host' r new host'') is paused);
+            chain = pauses (lines (text ++ piece)) mid new host' host'' all.chain last;
           };
+          paused = after_pause mid new host' host'' last;
         }
 
     -- there was no memory for the piece
@@ -197,7 +199,7 @@ module _ {T H : Type 0} (acts : Acts T H) where
   ended-later status taker host text taker' host' left rose rose' by (at_pause mid mid_host took paused) = at_pause mid mid_host took paused
   ended-later status taker host text taker' host' left rose rose' by (at_long_line front long more mid mid_host whole short fit chain overflows) = at_long_line front long more mid mid_host whole short fit chain overflows
   ended-later status taker host text taker' host' left rose rose' by (at_end mid mid_host room nothing took ends) = at_end mid mid_host room nothing took ends
-  ended-later status taker host text taker' host' left rose rose' by (at_fault is failed took) = at_fault is (by failed) took
+  ended-later status taker host text taker' host' left rose rose' by (at_fault is failed below took last) = at_fault is (by failed) below took last
   ended-later status taker host text taker' host' left rose rose' by (at_limit is size took) = at_limit is size took
   ended-later status taker host text taker' host' left rose rose' by (at_want front is took) = at_want front is took
 
@@ -221,6 +223,7 @@ module _ {T H : Type 0} (acts : Acts T H) where
     held = subst IsRest (sym rest_is) (record { no_line_feed = refl; short = refl });
     count = count;
     took = record { short = All-cons (λ (l : List ℕ). fits l ≡ true) [] [] refl (All-nil (λ (l : List ℕ). fits l ≡ true)); chain = begins };
+    paused = not_begun;
   }
 
   pub start-running : (Held : List ℕ → Type 0) (left : Option (List ℕ)) → Held [] → Running Held input_limit left left
@@ -243,7 +246,6 @@ module _ {T H : Type 0} (acts : Acts T H) where
     takes = Takes-append left middle right before.text step.bytes before.takes step.takes;
     within = step.within;
     ended = ended-later acts status start begin (before.text ++ step.bytes) taker' host' right (Rose sf' sf'') (Rose sf sf'') (rose-later sf sf' sf'' earlier later) step.ended;
-    full = step.full;
   }
 
   -- it took as much as it may
@@ -254,7 +256,6 @@ module _ {T H : Type 0} (acts : Acts T H) where
     takes = before.takes;
     within = omega (arith, before.spent);
     ended = at_limit refl (omega (arith, before.spent, none)) before.held.took;
-    full = λ taken. at_limit refl taken before.held.took;
   }
 
   -- there was no memory to begin
@@ -264,7 +265,6 @@ module _ {T H : Type 0} (acts : Acts T H) where
     takes = Takes-none left;
     within = omega arith;
     ended = at_want [] refl (record { begins = record { left = []; whole = refl; short = All-nil (λ (l : List ℕ). fits l ≡ true) }; chain = begins });
-    full = λ taken. absurd (omega (arith, taken));
   }
 
 -- a stream has handed over no more lines than bytes were taken
@@ -280,8 +280,7 @@ module _ {T H : Type 0} (acts : Acts T H) (start : T) (begin : H) (stream : Stre
     bytes = [];
     takes = subst (λ (l : Option (List ℕ)). Takes left [] l) (sym same) (Takes-none left);
     within = omega (arith, length-append text [], within);
-    ended = subst (λ (all : List ℕ). Ended acts ReadFault start begin all taker host left' source_rose) (sym (append-nil text)) (at_fault refl rose has.took);
-    full = λ taken. absurd (omega (arith, length-append text [], within, taken));
+    ended = subst (λ (all : List ℕ). Ended acts ReadFault start begin all taker host left' source_rose) (sym (append-nil text)) (at_fault refl rose within has.took has.paused);
   }
 
   -- the input ended
@@ -294,7 +293,6 @@ module _ {T H : Type 0} (acts : Acts T H) (start : T) (begin : H) (stream : Stre
     ended = subst (λ (all : List ℕ). Ended acts status start begin all new host' left' source_rose) (sym (append-nil text))
         (at_end taker host room nothing has.took
         (subst (λ (r : List ℕ). acts.ends taker host (length (lines text)) r status new host') (held_is ∙ has.rest_is) (subst (λ (n : ℕ). acts.ends taker host n held status new host') (counted ∙ has.count) ends)));
-    full = λ taken. absurd (omega (arith, length-append text [], room, taken));
   }
 
 -- the piece ended the run
@@ -305,7 +303,6 @@ piece-stops acts start begin status text bytes new host' left left' source_rose 
   takes = takes;
   within = omega (arith, length-append text bytes, within);
   ended = ended-later acts status start begin (text ++ bytes) new host' left' ⊥ source_rose (λ never. absurd never) ended;
-  full = λ _. ended;
 }
 
 -- the run goes on

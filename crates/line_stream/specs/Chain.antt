@@ -24,3 +24,8 @@ pub data Chain {T H : Type 0} (acts : Acts T H) (taker : T) (host : H) : List (L
       → acts.takes taker' host' (length lines + 1) line (Ok tt) taker'' host'' → Chain acts taker host (lines ++ line ∷ []) taker'' host''
   pauses : (lines : List (List ℕ)) (taker' taker'' : T) (host' host'' : H) → Chain acts taker host lines taker' host'
       → acts.pauses taker' host' (Ok tt) taker'' host'' → Chain acts taker host lines taker'' host''
+
+-- from a taker and a host nothing was done, or the last that was done is a pause
+pub data HasPaused {T H : Type 0} (acts : Acts T H) (taker : T) (host : H) : T → H → Type 0 where
+  not_begun : HasPaused acts taker host taker host
+  after_pause : (taker' taker'' : T) (host' host'' : H) → acts.pauses taker' host' (Ok tt) taker'' host'' → HasPaused acts taker host taker'' host''

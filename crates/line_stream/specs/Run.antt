@@ -5,7 +5,7 @@ use Rattle.host_model.specs.Source.{Takes}
 use Rattle.host_model.specs.declared.status.Status.{Status}
 use Rattle.host_model.specs.declared.status.Status.TheVariants.{ReadFault, InputLimit, Memory}
 use Rattle.plugin_text.specs.Lines.{parts, lines, rest, fits, HasNoLongLine, BeginsWithLines}
-use Rattle.line_stream.specs.Chain.{Acts, Chain}
+use Rattle.line_stream.specs.Chain.{Acts, Chain, HasPaused}
 
 -- 2^40 bytes: no run takes more of its input
 abbrev pub input_limit : ℕ
@@ -37,8 +37,9 @@ pub data Ended {T H : Type 0} (acts : Acts T H) (status : Status) (taker : T) (h
   -- the input ended
   at_end : (taker' : T) (host' : H) → length text < input_limit → IfSome left (λ bytes. bytes ≡ []) → TookAll acts taker host text taker' host'
       → acts.ends taker' host' (length (lines text)) (rest text) status taker'' host'' → Ended acts status taker host text taker'' host'' left source_rose
-  -- the source failed
-  at_fault : status ≡ ReadFault → source_rose → TookAll acts taker host text taker'' host'' → Ended acts status taker host text taker'' host'' left source_rose
+  -- the source failed behind a pause, before as many bytes were taken as may be
+  at_fault : status ≡ ReadFault → source_rose → length text < input_limit → TookAll acts taker host text taker'' host'' → HasPaused acts taker host taker'' host''
+      → Ended acts status taker host text taker'' host'' left source_rose
   -- as many bytes were taken as may be, and no end had come
   at_limit : status ≡ InputLimit → length text ≡ input_limit → TookAll acts taker host text taker'' host'' → Ended acts status taker host text taker'' host'' left source_rose
   -- there was no memory
@@ -50,8 +51,6 @@ pub record Ran {T H : Type 0} (acts : Acts T H) (status : Status) (taker : T) (h
   pub takes : Takes left text left'
   pub within : length text ≤ input_limit
   pub ended : Ended acts status taker host text taker' host' left' source_rose
-  -- behind as many bytes as may be taken, no failure of the source is why it ended
-  pub full : length text ≡ input_limit → Ended acts status taker host text taker' host' left' ⊥
 
 -- a run took so much of the source, and goes on
 pub record Running (Held : List ℕ → Type 0) (budget : ℕ) (left left' : Option (List ℕ)) : Type 0 where
@@ -73,4 +72,3 @@ pub record Stops {T H : Type 0} (acts : Acts T H) (status : Status) (taker : T) 
   pub takes : Takes left bytes left'
   pub within : length (text ++ bytes) ≤ input_limit
   pub ended : Ended acts status taker host (text ++ bytes) taker' host' left' source_rose
-  pub full : length (text ++ bytes) ≡ input_limit → Ended acts status taker host (text ++ bytes) taker' host' left' ⊥

@@ -3,7 +3,7 @@ use Rattle.std.specs.Prelude.{◌≡◌, ℕ, ◌+◌, List, ◌∷◌, ◌++◌
 use Rattle.host_model.specs.declared.status.Status.{Status}
 use Rattle.plugin_text.specs.Lines.{lines, rest, IsRest}
 use Rattle.line_stream.specs.declared.stream.Stream.{Stream}
-use Rattle.line_stream.specs.Chain.{Acts, Chain}
+use Rattle.line_stream.specs.Chain.{Acts, Chain, HasPaused}
 use Rattle.line_stream.specs.Run.{TookAll}
 
 -- one of these lines, behind those of the front, ended the run
@@ -29,3 +29,4 @@ pub record HasTaken {T H : Type 0} (acts : Acts T H) (stream : Stream) (taker : 
   pub held : IsRest stream.splitter.rest
   pub count : stream.count ≡ length (lines text)
   pub took : TookAll acts taker host text taker' host'
+  pub paused : HasPaused acts taker host taker' host'

@@ -1,4 +1,4 @@
-ghost use Rattle.std.specs.Prelude.{◌≡◌, ℕ, ◌+◌, ◌^◌, ◌<◌, ◌≤◌, ◌++◌, true, List, [], length, Option, None, OnOk, IfOk, IfErr};
+ghost use Rattle.std.specs.Prelude.{◌≡◌, ℕ, ◌+◌, ◌^◌, ◌<◌, ◌≤◌, ◌++◌, true, List, [], length, Option, None, IsErrOf, OnOk, IfOk, IfErr};
 ghost use Rattle.std.specs.List.{AllPass};
 ghost use Rattle.history.specs.Limits.{is_one_line};
 ghost use Rattle.host_model.specs.Cause.{Rose};
@@ -60,8 +60,10 @@ fn hand_over<H: Host, T: Taker<H>>(
     requires few { count.old + length lines.now ≤ 2 ^ 40 }
     requires short { AllPass fits lines.now }
     requires whole { AllPass is_one_line lines.now }
-    ensures handed { (start : T) (begin : H) (front : List (List ℕ)) → length front ≡ count.old → Chain (acts_of T.takes T.pauses T.ends T.overflows) start begin front taker.old host.old
-        → HandsOver (acts_of T.takes T.pauses T.ends T.overflows) start begin front lines.now result taker.new host.new }
+    ensures handed { (start : T) (begin : H) (front : List (List ℕ)) → length front ≡ count.old
+        → Chain (acts_of T.takes T.pauses T.ends T.overflows) start begin front taker.old host.old
+        → HandsOver
+        (acts_of T.takes T.pauses T.ends T.overflows) start begin front lines.now result taker.new host.new }
     ensures count { OnOk result (count.new ≡ count.old + length lines.now) }
     ensures ready { OnOk result (T.ready taker.new host.new (count.new + 1)) }
 {
@@ -91,11 +93,22 @@ impl Stream {
         piece: &[u8],
     ) -> Result<(), Status>
         requires ready { T.ready taker.old host.old (self.old.count + 1) }
-        requires room { (start : T) × (begin : H) × (text : List ℕ) × HasTaken (acts_of T.takes T.pauses T.ends T.overflows) self.old start begin text taker.old host.old × (length text + length piece.now ≤ input_limit) }
-        ensures goes_on { OnOk result ((start : T) (begin : H) (text : List ℕ) → HasTaken (acts_of T.takes T.pauses T.ends T.overflows) self.old start begin text taker.old host.old
-            → HasTaken (acts_of T.takes T.pauses T.ends T.overflows) self.new start begin (text ++ piece.now) taker.new host.new) }
-        ensures stops { IfErr result (λ status. (start : T) (begin : H) (text : List ℕ) → HasTaken (acts_of T.takes T.pauses T.ends T.overflows) self.old start begin text taker.old host.old
-            → (left : Option (List ℕ)) → Ended (acts_of T.takes T.pauses T.ends T.overflows) status start begin (text ++ piece.now) taker.new host.new left ⊥) }
+        requires room { (start : T) × (begin : H) × (text : List ℕ)
+            × HasTaken
+            (acts_of T.takes T.pauses T.ends T.overflows) self.old start begin text taker.old host.old × (length text + length piece.now ≤ input_limit) }
+        ensures goes_on { OnOk result
+            ((start : T) (begin : H) (text : List ℕ)
+            → HasTaken
+            (acts_of T.takes T.pauses T.ends T.overflows) self.old start begin text taker.old host.old
+            → HasTaken (acts_of T.takes T.pauses T.ends T.overflows) self.new start begin
+            (text ++ piece.now) taker.new host.new) }
+        ensures stops { IfErr result
+            (λ status. (start : T) (begin : H) (text : List ℕ)
+            → HasTaken
+            (acts_of T.takes T.pauses T.ends T.overflows) self.old start begin text taker.old host.old
+            → (left : Option (List ℕ))
+            → Ended (acts_of T.takes T.pauses T.ends T.overflows) status start begin
+            (text ++ piece.now) taker.new host.new left ⊥) }
         ensures ready { OnOk result (T.ready taker.new host.new (self.new.count + 1)) }
     {
         self.lines.clear();
@@ -123,15 +136,28 @@ fn take_next<S: Source, H: Host, T: Taker<H>>(
     host: &mut H,
 ) -> Result<usize, Status>
     requires ready { T.ready taker.old host.old (stream.old.count + 1) }
-    requires room { (start : T) × (begin : H) × (text : List ℕ) × HasTaken (acts_of T.takes T.pauses T.ends T.overflows) stream.old start begin text taker.old host.old × (length text + length piece.old ≤ input_limit) }
+    requires room { (start : T) × (begin : H) × (text : List ℕ)
+        × HasTaken
+        (acts_of T.takes T.pauses T.ends T.overflows) stream.old start begin text taker.old host.old
+        × (length text + length piece.old ≤ input_limit) }
     requires some { 0 < length piece.old }
-    ensures goes_on { IfOk result (λ n. (start : T) (begin : H) (text : List ℕ) → HasTaken (acts_of T.takes T.pauses T.ends T.overflows) stream.old start begin text taker.old host.old
-        → Steps (λ all. HasTaken (acts_of T.takes T.pauses T.ends T.overflows) stream.new start begin all taker.new host.new) n text (S.left source.old) (S.left source.new)) }
+    ensures goes_on { IfOk result
+        (λ n. (start : T) (begin : H) (text : List ℕ)
+        → HasTaken
+        (acts_of T.takes T.pauses T.ends T.overflows) stream.old start begin text taker.old host.old
+        → Steps (λ all. HasTaken
+        (acts_of T.takes T.pauses T.ends T.overflows) stream.new start begin all taker.new host.new) n text (S.left source.old) (S.left source.new)) }
     ensures within { IfOk result (λ n. (0 < n) × (n ≤ length piece.old)) }
-    ensures stops { IfErr result (λ status. (start : T) (begin : H) (text : List ℕ) → HasTaken (acts_of T.takes T.pauses T.ends T.overflows) stream.old start begin text taker.old host.old → length text + length piece.old ≤ input_limit
+    ensures stops { IfErr result
+        (λ status. (start : T) (begin : H) (text : List ℕ)
+        → HasTaken
+        (acts_of T.takes T.pauses T.ends T.overflows) stream.old start begin text taker.old host.old
+        → length text + length piece.old ≤ input_limit
         → Stops (acts_of T.takes T.pauses T.ends T.overflows) status start begin text taker.new host.new (S.left source.old) (S.left source.new) (Rose (S.faults source.old) (S.faults source.new))) }
     ensures ready { OnOk result (T.ready taker.new host.new (stream.new.count + 1)) }
     ensures count { S.faults source.old ≤ S.faults source.new }
+    ensures stays { (IsErrOf result Status.ReadFault → ⊥)
+        → S.faults source.new ≡ S.faults source.old }
 {
     match source.pull(piece) {
         Err(_) => Err(Status::ReadFault),
@@ -152,10 +178,14 @@ fn take_pieces<S: Source, H: Host, T: Taker<H>>(
     host: &mut H,
 ) -> Status
     requires ready { T.ready taker.old host.old 1 }
-    requires start { (stream.old.splitter.rest ≡ []) × (stream.old.splitter.refused ≡ None) × (stream.old.count ≡ 0) }
+    requires start { (stream.old.splitter.rest ≡ []) × (stream.old.splitter.refused ≡ None)
+        × (stream.old.count ≡ 0) }
     requires some { 0 < length piece.old }
-    ensures ran { Ran (acts_of T.takes T.pauses T.ends T.overflows) result taker.old host.old taker.new host.new (S.left source.old) (S.left source.new) (Rose (S.faults source.old) (S.faults source.new)) }
+    ensures ran { Ran (acts_of T.takes T.pauses T.ends T.overflows) result
+        taker.old host.old taker.new host.new (S.left source.old) (S.left source.new)
+        (Rose (S.faults source.old) (S.faults source.new)) }
     ensures count { S.faults source.old ≤ S.faults source.new }
+    ensures stays { (result ≡ Status.ReadFault → ⊥) → S.faults source.new ≡ S.faults source.old }
 {
     let mut budget = INPUT_LIMIT;
     while budget > 0 {
@@ -180,8 +210,11 @@ pub fn take_text<S: Source, H: Host, T: Taker<H>>(
     host: &mut H,
 ) -> Status
     requires { T.ready taker.old host.old 1 }
-    ensures ran { Ran (acts_of T.takes T.pauses T.ends T.overflows) result taker.old host.old taker.new host.new (S.left source.old) (S.left source.new) (Rose (S.faults source.old) (S.faults source.new)) }
+    ensures ran { Ran (acts_of T.takes T.pauses T.ends T.overflows) result
+        taker.old host.old taker.new host.new (S.left source.old) (S.left source.new)
+        (Rose (S.faults source.old) (S.faults source.new)) }
     ensures count { S.faults source.old ≤ S.faults source.new }
+    ensures stays { (result ≡ Status.ReadFault → ⊥) → S.faults source.new ≡ S.faults source.old }
 {
     let Ok(mut piece) = vec![in alloc; 0; PIECE_SIZE] else {
         return Status::Memory;

@@ -38,7 +38,8 @@ pub trait Taker<H: Host> {
     fn pause(&mut self, host: &mut H) -> Result<(), Status>
         requires ready { (number : ℕ) × ready self.old host.old number }
         ensures pauses { pauses self.old host.old result self.new host.new }
-        ensures ready { OnOk result ((number : ℕ) → ready self.old host.old number → ready self.new host.new number) };
+        ensures ready { OnOk result
+            ((number : ℕ) → ready self.old host.old number → ready self.new host.new number) };
 
     /// The input has ended after so many lines, with these bytes behind the last line feed. Says how the run
     /// ends.

@@ -56,12 +56,16 @@ impl Ending {
     /// What is left, and what is to be done.
     fn advice(&self) -> &'static str {
         match self.status {
+            // No line is written then.
             Status::Ok => "there is nothing to do",
             Status::Usage => "use one of these forms",
-            Status::Refused(..) =>
-                "the beats before it stand; mend it, and give the text again from there",
+            Status::Refused(..) => {
+                "the beats before it stand; mend it; run takes the text again from behind the MOMENT before it, convert from its start"
+            }
             Status::Limit(..) => "the beats before it stand; leave out what is too much",
-            Status::ReadFault => "the beats before stand; give the rest of the text again",
+            Status::ReadFault => {
+                "the beats before stand; run takes the text again from behind the last MOMENT that came, convert from its start"
+            }
             Status::TellFault => "more may be stored than was told; mend it, and run again",
             Status::DiskFault => advice_on(&self.disk),
             Status::LinkFault => "see that the other agent can be reached, and run again",
@@ -72,8 +76,9 @@ impl Ending {
             Status::LinkEnded => "what came before is stored; run again to go on from there",
             Status::SpawnFault => "see that its program is there and may be run",
             Status::Disabled => "what came before is stored; see what it says of itself",
-            Status::InputLimit =>
-                "the beats before stand; give the rest of the text to another run",
+            Status::InputLimit => {
+                "the beats before stand; another run takes the text from behind the last MOMENT that came"
+            }
             Status::Memory => "what was told as stored is kept; free some, and run again",
         }
     }

@@ -81,10 +81,6 @@ pub none_from : {X : Type 0} (o : Option X) → is_some o ≡ false → o ≡ No
 none_from None not = refl
 none_from (Some x) not = absurd cc
 
-pub not_some : {X : Type 0} (o : Option X) → is_some o ≡ true → o ≡ None → ⊥
-not_some None some none = absurd cc
-not_some (Some x) some none = cc
-
 -- a look-up after the page was given finds it
 pub lookup-given : (c : Cached) (key : PageKey) (page : List ℕ) → lookup (same_key key) (with_given c key page).entries ≡ Some page
 lookup-given c key page = lookup-put_entries same_key c key page same_key_equiv

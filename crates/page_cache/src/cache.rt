@@ -1,9 +1,10 @@
-ghost use Rattle.std.specs.Prelude.{◌≡◌, ℕ, ◌<◌, List, [], None, Some, true, false, IsOk, IsOkAnd, IsErrOf, IfOk, IfErr, IfSome, OnOk, OnErr};
+ghost use Rattle.std.specs.Prelude.{◌≡◌, ℕ, ◌<◌, ◌≤◌, List, [], None, Some, true, false, IsOk, IsOkAnd, IsErrOf, IfOk, IfErr, IfSome, OnOk, OnErr};
 ghost use Rattle.std.specs.Borrow.{sem};
 ghost use Rattle.std.specs.Map.{lookup};
-ghost use Rattle.host_model.specs.Cause.{HasCause};
+ghost use Rattle.host_model.specs.Cause.{HasCause, Rose};
 ghost use Rattle.lru.specs.LruCache.{lru_cache};
 ghost use Rattle.page_cache.specs.declared.fault.CacheFault.TheVariants.{FetchFault, Memory};
+ghost use Rattle.page_cache.specs.declared.key.PageKey.{PageKey as TheKey};
 ghost use Rattle.page_cache.specs.Cached.{same_key, with_given, with_room};
 
 use crate::fault::CacheFault;
@@ -96,9 +97,14 @@ impl PageCache {
     #[tactic(auto, using(crate::proofs::CachedLemmas::given_room))]
     fn fetched<F: Fetch>(&mut self, key: PageKey, fetch: &mut F) -> Result<(), CacheFault>
         requires { lookup (same_key key) self.old.entries ≡ None }
-        ensures ok { OnOk result ((page : List ℕ) × (self.new ≡ with_given self.old key page) × IfSome (F.bytes fetch.old key) (λ told. page ≡ told)) }
+        ensures ok { OnOk result ((page : List ℕ) × (self.new ≡ with_given self.old key page)
+            × IfSome (F.bytes fetch.old key) (λ told. page ≡ told)) }
         ensures err { OnErr result (self.new ≡ with_room self.old) }
-        ensures cause { HasCause (F.faults fetch.old) (F.faults fetch.new) (IsErrOf result FetchFault) }
+        ensures same { (other : TheKey) → F.bytes fetch.new other ≡ F.bytes fetch.old other }
+        ensures cause { HasCause (F.faults fetch.old) (F.faults fetch.new)
+            (IsErrOf result FetchFault) }
+        ensures reads { F.reads fetch.old ≤ F.reads fetch.new }
+        ensures read { OnOk result (Rose (F.reads fetch.old) (F.reads fetch.new)) }
     {
         self.make_room();
         let page = self.empty_page()?;
@@ -109,9 +115,12 @@ impl PageCache {
 
     /// Makes the page of a key the most recently used one, and says whether it is there.
     fn promote(&mut self, key: PageKey) -> bool
-        ensures there { result ≡ true → (page : List ℕ) → lookup (same_key key) self.old.entries ≡ Some page → self.new ≡ with_given self.old key page }
+        ensures there { result ≡ true → (page : List ℕ)
+            → lookup (same_key key) self.old.entries ≡ Some page
+            → self.new ≡ with_given self.old key page }
         ensures found { result ≡ true → lookup (same_key key) self.old.entries ≡ None → ⊥ }
-        ensures missing { result ≡ false → (lookup (same_key key) self.old.entries ≡ None) × (self.new ≡ self.old) }
+        ensures missing { result ≡ false
+            → (lookup (same_key key) self.old.entries ≡ None) × (self.new ≡ self.old) }
     {
         self.pages.promote(&key)
     }
@@ -120,10 +129,17 @@ impl PageCache {
     fn load<F: Fetch>(&mut self, key: PageKey, fetch: &mut F) -> Result<(), CacheFault>
         ensures hit { (page : List ℕ) → lookup (same_key key) self.old.entries ≡ Some page
             → IsOk result × (fetch.new ≡ fetch.old) × (self.new ≡ with_given self.old key page) }
-        ensures missed { lookup (same_key key) self.old.entries ≡ None → OnOk result ((page : List ℕ)
-            × (self.new ≡ with_given self.old key page) × IfSome (F.bytes fetch.old key) (λ told. page ≡ told)) }
+        ensures missed { lookup (same_key key) self.old.entries ≡ None
+            → OnOk result ((page : List ℕ)
+            × (self.new ≡ with_given self.old key page)
+            × IfSome (F.bytes fetch.old key) (λ told. page ≡ told)) }
         ensures err { OnErr result (self.new ≡ with_room self.old) }
-        ensures cause { HasCause (F.faults fetch.old) (F.faults fetch.new) (IsErrOf result FetchFault) }
+        ensures same { (other : TheKey) → F.bytes fetch.new other ≡ F.bytes fetch.old other }
+        ensures cause { HasCause (F.faults fetch.old) (F.faults fetch.new)
+            (IsErrOf result FetchFault) }
+        ensures reads { F.reads fetch.old ≤ F.reads fetch.new }
+        ensures fetched { lookup (same_key key) self.old.entries ≡ None
+            → OnOk result (Rose (F.reads fetch.old) (F.reads fetch.new)) }
     {
         if self.promote(key) {
             return Ok(());
@@ -141,7 +157,12 @@ impl PageCache {
             → IsOkAnd result (λ given. given.now ≡ page) × (fetch.new ≡ fetch.old) }
         ensures missed { lookup (same_key key) self.old.entries ≡ None
             → IfOk result (λ given. IfSome (F.bytes fetch.old key) (λ told. given.now ≡ told)) }
-        ensures cause { HasCause (F.faults fetch.old) (F.faults fetch.new) (IsErrOf result FetchFault) }
+        ensures same { (other : TheKey) → F.bytes fetch.new other ≡ F.bytes fetch.old other }
+        ensures cause { HasCause (F.faults fetch.old) (F.faults fetch.new)
+            (IsErrOf result FetchFault) }
+        ensures reads { F.reads fetch.old ≤ F.reads fetch.new }
+        ensures fetched { lookup (same_key key) self.old.entries ≡ None
+            → IfOk result (λ _. Rose (F.reads fetch.old) (F.reads fetch.new)) }
     {
         self.load(key, fetch)?;
         match self.pages.peek(&key) {

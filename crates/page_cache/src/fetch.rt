@@ -1,5 +1,5 @@
 ghost use Rattle.std.specs.Prelude.{◌≡◌, ℕ, ◌≤◌, List, Option, IsErr, IfOk, IfSome};
-ghost use Rattle.host_model.specs.Cause.{HasCause};
+ghost use Rattle.host_model.specs.Cause.{HasCause, Rose};
 ghost use Rattle.page_cache.specs.declared.key.PageKey.{PageKey as TheKey};
 
 use crate::key::PageKey;
@@ -22,5 +22,6 @@ pub trait Fetch {
         ensures bytes { IfOk result (λ read. IfSome (bytes self.old key) (λ told. read ≡ told)) }
         ensures same { (other : TheKey) → bytes self.new other ≡ bytes self.old other }
         ensures cause { HasCause (faults self.old) (faults self.new) (IsErr result) }
-        ensures reads { reads self.old ≤ reads self.new };
+        ensures reads { reads self.old ≤ reads self.new }
+        ensures read { IfOk result (λ _. Rose (reads self.old) (reads self.new)) };
 }

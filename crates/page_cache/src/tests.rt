@@ -1,4 +1,4 @@
-ghost use Rattle.std.specs.Prelude.{None};
+ghost use Rattle.std.specs.Prelude.{Some, [], ◌∷◌};
 
 use super::*;
 use host_model::Failed;
@@ -14,7 +14,7 @@ struct Tiers {
 }
 
 impl Fetch for Tiers {
-    ghost bytes = { λ _ _. None };
+    ghost bytes = { λ _ key. Some (key.tier ∷ []) };
 
     ghost faults = { λ tiers. tiers.faults };
 

@@ -1,5 +1,5 @@
 -- What a MOMENT that may stand there closes.
-use Rattle.std.proofs.Common.{◌≡◌, ◌<◌, ℕ, true, false, true≢false, List, [], ◌∷◌, ◌++◌, All, Option, Result, Ok, Err, OnOk, IfErr, is_err, refl, sym, ap, subst, ◌∙◌, arith}
+use Rattle.std.proofs.Common.{◌≡◌, ◌<◌, ℕ, true, List, [], ◌∷◌, ◌++◌, All, Option, Result, Ok, Err, OnOk, IfErr, refl, sym, ap, subst, ◌∙◌, arith}
 use Rattle.algorithms.specs.declared.last.Last.{Last}
 use Rattle.history.specs.declared.beat.OpenBeat.{OpenBeat}
 use Rattle.history.specs.declared.beat.OpenDim.{OpenDim}
@@ -12,7 +12,9 @@ use Rattle.history.specs.Looking.{beat}
 use Rattle.history.specs.Numbered.{numbered_beat}
 use Rattle.history.specs.Refusal.{has_chart}
 use Rattle.history.specs.Registry.{Registry, same_chart, same_dimension, with_definitions}
-use Rattle.chart_registry.specs.Defining.{nothing_open}
+use Rattle.chart_registry.specs.declared.fault.RegistryFault.{RegistryFault}
+use Rattle.chart_registry.specs.declared.fault.RegistryFault.TheVariants.{Memory}
+use Rattle.chart_registry.specs.Defining.{nothing_open, IsReasonOf}
 use Rattle.collect_block.specs.declared.step.Step.{Step}
 use Rattle.collect_block.specs.declared.step.Step.TheVariants as step
 use Rattle.collect_block.proofs.OpenLemmas.{grids, owners}
@@ -28,16 +30,13 @@ use Rattle.point_lines.specs.Judged.{every, history_of, placed}
 use Rattle.point_lines.specs.Reader.{Reads, ReadsOr}
 use Rattle.point_lines.specs.Steps.{Stepped}
 use Rattle.point_lines.specs.Told.{beat_lines, told_at}
+use Rattle.beat_points.proofs.RoomLemmas.{text-reason}
 use Rattle.beat_points.proofs.TextLemmas.{text-regular, text-before}
 use Rattle.chart_registry.proofs.OpenLemmas.{charts-apart, dimensions-apart}
 use Rattle.beat_entries.specs.Following.{AreOwned}
 use Rattle.beat_entries.specs.Defined.{IsDefinedIn}
 use Rattle.beat_entries.proofs.DefinedLemmas.{beat-defined}
 use Rattle.point_lines.proofs.StepLemmas.{placed-ok}
-
-pub on-ok : {T E P : Type 0} (r : Result T E) → is_err r ≡ false → OnOk r P → P
-on-ok (Ok x) is p = p
-on-ok (Err fault) is p = absurd (true≢false is)
 
 abbrev beat_in : Step → OpenBeat
 beat_in (step.Beat closed moment) = closed
@@ -62,6 +61,13 @@ module _ (reader : Reader) (past : List Line) (closed : OpenBeat) (moment : ℕ)
       subst (λ (registry : Registry). All (λ (dimension : OpenDim). has_chart registry closed dimension.chart ≡ true) closed.dimensions) (sym stepped.definitions)
       (subst (λ (closed : OpenBeat). All (λ (dimension : OpenDim). has_chart (registry_of (history_of past)) closed dimension.chart ≡ true) closed.dimensions) (sym closed-is)
       (owners every [] past))
+
+  -- the registry takes it where there is memory
+  pub closed-reason : (fault : RegistryFault) → IsReasonOf reader.registry closed fault → fault ≡ Memory
+  closed-reason fault reason =
+      text-reason every [] (omega arith) (omega arith) past few-none stepped.accepted fault
+      (subst (λ (closed : OpenBeat). IsReasonOf (registry_of (history_of past)) closed fault) closed-is
+      (subst (λ (registry : Registry). IsReasonOf registry closed fault) stepped.definitions reason))
 
   closed-owned : AreOwned reader.registry closed
   closed-owned = record {

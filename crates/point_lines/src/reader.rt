@@ -11,7 +11,7 @@ ghost use Rattle.point_lines.specs.Closing.{HasTaken, TellsOf};
 ghost use Rattle.point_lines.specs.Told.{told_at_end};
 
 use crate::refusal::Refusal;
-use crate::stop::{Stop, block_stop, line_stop};
+use crate::stop::{Stop, block_stop, line_stop, registry_stop};
 use crate::telling::push_points;
 use beat_entries::number_beat;
 use beat_points::LastRows;
@@ -73,7 +73,8 @@ impl Reader {
     /// `Disabled` the reader has read the line, and after another `Err` it is spent.
     pub fn take_line(&mut self, bytes: &[u8], out: &mut String) -> Result<(), Stop>
         requires room { HasRoom self.old }
-        ensures { ReadsOrStops self.old bytes.now result self.new (string_bytes out.old) (string_bytes out.new) }
+        ensures { ReadsOrStops self.old bytes.now result self.new (string_bytes out.old)
+            (string_bytes out.new) }
     {
         match read_line(self.alloc, bytes) {
             Ok(line) => self.take(line, out),
@@ -94,7 +95,8 @@ impl Reader {
 
     /// Adds what is told at the end of the text: how many lines were skipped, if any.
     pub fn push_skipped(&self, out: &mut String) -> Result<(), AllocError>
-        ensures { OnOk result ((past : List ALine) → IsReaderOf self.now past → string_bytes out.new ≡ string_bytes out.old ++ told_at_end past) }
+        ensures { OnOk result ((past : List ALine) → IsReaderOf self.now past
+            → string_bytes out.new ≡ string_bytes out.old ++ told_at_end past) }
     {
         if self.skipped == 0 {
             return Ok(());
@@ -105,7 +107,8 @@ impl Reader {
     // Reads a line that says this.
     fn take(&mut self, line: Line, out: &mut String) -> Result<(), Stop>
         requires room { HasRoom self.old }
-        ensures { TakesOr self.old line result self.new (string_bytes out.old) (string_bytes out.new) }
+        ensures { TakesOr self.old line result self.new (string_bytes out.old)
+            (string_bytes out.new) }
     {
         let skipped = is_skipped(&line);
         match self.feed.take_line(&self.registry, self.last, false, line) {
@@ -121,7 +124,8 @@ impl Reader {
     fn count(&mut self, skipped: bool)
         requires lines { self.old.lines < 2 ^ 63 }
         requires skips { self.old.skipped < 2 ^ 63 }
-        ensures { self.new ≡ record self.old { lines = self.old.lines + 1; skipped = self.old.skipped + one_if skipped } }
+        ensures { self.new
+            ≡ record self.old { lines = self.old.lines + 1; skipped = self.old.skipped + one_if skipped } }
     {
         self.lines += 1;
         if skipped {
@@ -132,7 +136,8 @@ impl Reader {
     // Takes what a line led to.
     fn take_step(&mut self, step: Step, out: &mut String) -> Result<(), Stop>
         requires { (past : List ALine) × (said : ALine) × Stepped self.old past said step }
-        ensures { (said : ALine) → StepsOr self.old said step result self.new (string_bytes out.old) (string_bytes out.new) }
+        ensures { (said : ALine) → StepsOr self.old said step result self.new (string_bytes out.old)
+            (string_bytes out.new) }
     {
         match step {
             Step::Nothing | Step::Query(_) => Ok(()),
@@ -143,11 +148,13 @@ impl Reader {
 
     // Takes a beat that a MOMENT closed, and tells its points.
     fn close(&mut self, beat: &OpenBeat, moment: u32, out: &mut String) -> Result<(), Stop>
-        requires { (past : List ALine) × Stepped self.old past (line.Moment moment) (step.Beat beat.now moment) }
-        ensures { StepsOr self.old (line.Moment moment) (step.Beat beat.now moment) result self.new (string_bytes out.old) (string_bytes out.new) }
+        requires { (past : List ALine)
+            × Stepped self.old past (line.Moment moment) (step.Beat beat.now moment) }
+        ensures { StepsOr self.old (line.Moment moment) (step.Beat beat.now moment) result self.new
+            (string_bytes out.old) (string_bytes out.new) }
     {
-        if self.registry.apply(beat).is_err() {
-            return Err(Stop::Memory);
+        if let Err(fault) = self.registry.apply(beat) {
+            return Err(registry_stop(fault));
         }
         match number_beat(self.alloc, &self.registry, moment, beat) {
             Ok(numbered) => self.take_beat(&numbered, out),
@@ -158,9 +165,14 @@ impl Reader {
     // Takes a beat by number, whose definitions the registry has, and tells its points.
     fn take_beat(&mut self, beat: &NumberedBeat, out: &mut String) -> Result<(), Stop>
         requires { IsThere self.old.registry beat.now }
-        ensures told { OnOk result (TellsOf self.old.registry self.old.last_rows beat.now (string_bytes out.old) (string_bytes out.new)) }
-        ensures taken { OnOk result (HasTaken self.old.registry self.old.last_rows self.new.last_rows beat.now) }
-        ensures same { OnOk result (self.new ≡ record self.old { last_rows = self.new.last_rows; last = beat.now.moment }) }
+        ensures told { OnOk result
+            (TellsOf self.old.registry self.old.last_rows beat.now (string_bytes out.old)
+            (string_bytes out.new)) }
+        ensures taken { OnOk result
+            (HasTaken self.old.registry self.old.last_rows self.new.last_rows beat.now) }
+        ensures same { OnOk result
+            (self.new
+            ≡ record self.old { last_rows = self.new.last_rows; last = beat.now.moment }) }
         ensures memory { IfErr result (λ fault. fault ≡ stop.Memory) }
     {
         if self.tell(beat, out).is_err() {
@@ -176,7 +188,8 @@ impl Reader {
     // Tells the points of a beat by number, whose definitions the registry has.
     fn tell(&self, beat: &NumberedBeat, out: &mut String) -> Result<(), AllocError>
         requires { IsThere self.now.registry beat.now }
-        ensures { OnOk result (TellsOf self.now.registry self.now.last_rows beat.now (string_bytes out.old) (string_bytes out.new)) }
+        ensures { OnOk result (TellsOf self.now.registry self.now.last_rows beat.now
+            (string_bytes out.old) (string_bytes out.new)) }
     {
         match self.last_rows.points(self.alloc, &self.registry, beat) {
             Ok(points) => {

@@ -1,8 +1,10 @@
 ghost use Rattle.std.specs.Prelude.{◌≡◌};
+ghost use Rattle.chart_registry.specs.declared.fault.RegistryFault.TheVariants as registry;
 ghost use Rattle.point_lines.specs.declared.stop.Stop.TheVariants.{Memory};
 ghost use Rattle.point_lines.specs.Steps.{line_stop, block_stop};
 
 use crate::refusal::Refusal;
+use chart_registry::RegistryFault;
 use history::BlockFault;
 use plugin_text::LineFault;
 
@@ -34,5 +36,18 @@ pub(crate) fn block_stop(fault: BlockFault) -> Stop
     match fault {
         BlockFault::Memory => Stop::Memory,
         _ => Stop::Refused(Refusal::Block(fault)),
+    }
+}
+
+/// Why the beat of lines that may stand where they do was not taken: there was no memory.
+pub(crate) fn registry_stop(fault: RegistryFault) -> Stop
+    requires { fault ≡ registry.Memory }
+    ensures { result ≡ Memory }
+{
+    match fault {
+        RegistryFault::Memory => Stop::Memory,
+        RegistryFault::GridChanged
+        | RegistryFault::TooManyCharts
+        | RegistryFault::TooManyDimensions => unreachable!(),
     }
 }

@@ -47,7 +47,8 @@ fn push_point(
     dimension: &str,
     word: u32,
 ) -> Result<(), AllocError>
-    ensures { OnOk result (string_bytes out.new ≡ string_bytes out.old ++ point_line moment chart.now dimension.now word) }
+    ensures { OnOk result (string_bytes out.new
+        ≡ string_bytes out.old ++ point_line moment chart.now dimension.now word) }
 {
     let value = word_text(alloc, word)?;
     writeln!(out, "{moment} {chart} {dimension} {}", value.as_str())
@@ -61,7 +62,8 @@ fn push_series(
     moment: u32,
     point: SeriesWord,
 ) -> Result<(), AllocError>
-    ensures { OnOk result (string_bytes out.new ≡ string_bytes out.old ++ series_line registry.now moment point) }
+    ensures { OnOk result (string_bytes out.new
+        ≡ string_bytes out.old ++ series_line registry.now moment point) }
 {
     if point.series >= registry.dimensions() {
         return Ok(());
@@ -86,7 +88,8 @@ pub(crate) fn push_points(
     moment: u32,
     points: &[SeriesWord],
 ) -> Result<(), AllocError>
-    ensures { OnOk result (string_bytes out.new ≡ string_bytes out.old ++ flat_map (series_line registry.now moment) points.now) }
+    ensures { OnOk result (string_bytes out.new
+        ≡ string_bytes out.old ++ flat_map (series_line registry.now moment) points.now) }
 {
     for point in points {
         push_series(alloc, out, registry, moment, *point)?;

@@ -39,7 +39,8 @@ fn read_cells<P: Points>(
         → cells ≡ map (λ one. cell group plan.floor start window (told one)) series.now) }
     ensures tiers { P.tiers points.new ≡ P.tiers points.old }
     ensures told { (told : ℕ → List APoint) → P.tells points.old told → P.tells points.new told }
-    ensures cause { HasCause (P.faults points.old) (P.faults points.new) (IsErrOf result PointFault.Disk) }
+    ensures cause { HasCause (P.faults points.old) (P.faults points.new)
+        (IsErrOf result PointFault.Disk) }
 {
     let mut cells = CellList::new(alloc);
     for one in series {
@@ -66,12 +67,14 @@ fn read_row<P: Points>(
     i: u32,
 ) -> Result<TableRow, PointFault>
     requires plan { IsPlan (P.tiers points.old) plan }
-    requires buckets { plan.tier ≢ 0 → (request.now.after % plan.step ≡ 0) × (request.now.window % plan.step ≡ 0) }
+    requires buckets { plan.tier ≢ 0
+        → (request.now.after % plan.step ≡ 0) × (request.now.window % plan.step ≡ 0) }
     ensures row { IfOk result (λ row. (told : ℕ → List APoint) → P.tells points.old told
         → row ≡ row_of plan.floor told request.now i) }
     ensures tiers { P.tiers points.new ≡ P.tiers points.old }
     ensures told { (told : ℕ → List APoint) → P.tells points.old told → P.tells points.new told }
-    ensures cause { HasCause (P.faults points.old) (P.faults points.new) (IsErrOf result PointFault.Disk) }
+    ensures cause { HasCause (P.faults points.old) (P.faults points.new)
+        (IsErrOf result PointFault.Disk) }
 {
     let start = start_of(request, i);
     let cells = read_cells(
@@ -93,10 +96,12 @@ pub fn answer<P: Points>(
     request: &Request,
 ) -> Result<Table, PointFault>
     ensures answered { IfOk result (λ table. (told : ℕ → List APoint) → P.tells points.old told
-        → table ≡ table_of (P.tiers points.old).widths (P.tiers points.old).floor told request.now) }
+        → table ≡ table_of (P.tiers points.old).widths
+        (P.tiers points.old).floor told request.now) }
     ensures tiers { P.tiers points.new ≡ P.tiers points.old }
     ensures told { (told : ℕ → List APoint) → P.tells points.old told → P.tells points.new told }
-    ensures cause { HasCause (P.faults points.old) (P.faults points.new) (IsErrOf result PointFault.Disk) }
+    ensures cause { HasCause (P.faults points.old) (P.faults points.new)
+        (IsErrOf result PointFault.Disk) }
 {
     let plan = plan::plan_for(points, request.after, request.window);
     let mut rows = TableRowList::new(alloc);

@@ -43,7 +43,8 @@ fn group_of(group: Group, points: Record) -> Units
 
 /// The group of the points of a record, where there are points.
 fn group_of_some(group: Group, points: Option<Record>) -> Option<Units>
-    ensures { IfSome points (λ points. 0 < points.count) → result ≡ option_map (group_of group) points }
+    ensures { IfSome points (λ points. 0 < points.count)
+        → result ≡ option_map (group_of group) points }
 {
     let points = points?;
     Some(group_of(group, points))
@@ -66,7 +67,8 @@ pub(crate) fn read_cell<P: Points>(
         → found ≡ cell group plan.floor start window (told series)) }
     ensures tiers { P.tiers points.new ≡ P.tiers points.old }
     ensures told { (told : ℕ → List APoint) → P.tells points.old told → P.tells points.new told }
-    ensures cause { HasCause (P.faults points.old) (P.faults points.new) (IsErrOf result PointFault.Disk) }
+    ensures cause { HasCause (P.faults points.old) (P.faults points.new)
+        (IsErrOf result PointFault.Disk) }
 {
     if start < u64::from(plan.floor) {
         return Ok(None);

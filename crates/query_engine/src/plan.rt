@@ -28,8 +28,10 @@ fn divides(width: u32, after: u32, window: u32) -> bool
 fn lower_tier<P: Points>(points: &P, after: u32, window: u32, tier: u8, other: u8) -> u8
     requires first { 0 < other }
     requires inside { other < length (P.tiers points.now).widths }
-    requires lowest { let tiers = P.tiers points.now in IsLowestTier tiers.floor (may_read tiers.widths after window) other tier }
-    ensures { let tiers = P.tiers points.now in IsLowestTier tiers.floor (may_read tiers.widths after window) (other + 1) result }
+    requires lowest { let tiers = P.tiers points.now in IsLowestTier tiers.floor
+        (may_read tiers.widths after window) other tier }
+    ensures { let tiers = P.tiers points.now in IsLowestTier tiers.floor
+        (may_read tiers.widths after window) (other + 1) result }
 {
     let width = points.widths()[other as usize];
     if divides(width, after, window) && points.floor(other) <= points.floor(tier) {
@@ -54,7 +56,8 @@ fn lowest_tier<P: Points>(points: &P, after: u32, window: u32) -> u8
 /// How to read the windows of a request.
 pub(crate) fn plan_for<P: Points>(points: &P, after: u32, window: u32) -> Plan
     ensures plan { IsPlan (P.tiers points.now) result }
-    ensures tier { let tiers = P.tiers points.now in result.tier ≡ tier_for tiers.widths tiers.floor after window }
+    ensures tier { let tiers = P.tiers points.now in result.tier
+        ≡ tier_for tiers.widths tiers.floor after window }
     ensures buckets { result.tier ≢ 0 → (after % result.step ≡ 0) × (window % result.step ≡ 0) }
 {
     let tier = lowest_tier(points, after, window);

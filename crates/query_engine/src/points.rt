@@ -42,7 +42,8 @@ pub trait Points {
             → found ≡ points_between ((tiers self.old).floor 0) from to (told series)) }
         ensures tiers { tiers self.new ≡ tiers self.old }
         ensures told { (told : ℕ → List APoint) → tells self.old told → tells self.new told }
-        ensures cause { HasCause (faults self.old) (faults self.new) (IsErrOf result PointFault.Disk) };
+        ensures cause { HasCause (faults self.old) (faults self.new)
+            (IsErrOf result PointFault.Disk) };
 
     /// The record of a bucket of a tier that is there and not tier 0. `None` where the bucket has no
     /// point, or starts below the tier's floor.
@@ -56,10 +57,12 @@ pub trait Points {
         requires tier { tier < length (tiers self.old).widths }
         requires records { tier ≢ 0 }
         ensures found { IfOk result (λ found. (told : ℕ → List APoint) → tells self.old told
-            → found ≡ record_at (slice_index (tiers self.old).widths tier) ((tiers self.old).floor tier) bucket (told series)) }
+            → found ≡ record_at (slice_index (tiers self.old).widths tier)
+            ((tiers self.old).floor tier) bucket (told series)) }
         ensures tiers { tiers self.new ≡ tiers self.old }
         ensures told { (told : ℕ → List APoint) → tells self.old told → tells self.new told }
-        ensures cause { HasCause (faults self.old) (faults self.new) (IsErrOf result PointFault.Disk) };
+        ensures cause { HasCause (faults self.old) (faults self.new)
+            (IsErrOf result PointFault.Disk) };
 
     /// The first width is a second, they rise, and a byte numbers each.
     ghost rising_widths: { (source : Self) → IsTrue (are_widths (tiers source).widths) };

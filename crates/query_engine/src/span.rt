@@ -15,7 +15,8 @@ fn is_between(from: u64, to: u64, moment: u32) -> bool
 
 /// A record with a further point, where the point lies from one moment to before another.
 fn with_point(before: Option<Record>, from: u64, to: u64, point: Point) -> Option<Record>
-    ensures { let more = record_of_one from to point in HaveRoom before more → result ≡ joined before more }
+    ensures { let more = record_of_one from to point in HaveRoom before more
+        → result ≡ joined before more }
 {
     let more = if is_between(from, to, point.moment) {
         joining::record_of_point(point)
@@ -27,7 +28,8 @@ fn with_point(before: Option<Record>, from: u64, to: u64, point: Point) -> Optio
 
 /// What the points from one moment to before another come to.
 pub(crate) fn record_between(points: &[Point], from: u64, to: u64) -> Option<Record>
-    ensures { IsTrue (are_series points.now) → to < from + 2 ^ 32 → result ≡ record_between from to points.now }
+    ensures { IsTrue (are_series points.now) → to < from + 2 ^ 32
+        → result ≡ record_between from to points.now }
 {
     let mut record = None;
     for point in points {

@@ -26,7 +26,8 @@ fn read_points<P: Points>(
         → (P.tiers points.old).floor 0 ≤ from → found ≡ record_between from to (told series)) }
     ensures tiers { P.tiers points.new ≡ P.tiers points.old }
     ensures told { (told : ℕ → List APoint) → P.tells points.old told → P.tells points.new told }
-    ensures cause { HasCause (P.faults points.old) (P.faults points.new) (IsErrOf result PointFault.Disk) }
+    ensures cause { HasCause (P.faults points.old) (P.faults points.new)
+        (IsErrOf result PointFault.Disk) }
 {
     let last = (to - 1).min(u64::from(u32::MAX));
     let found = points.points(alloc, series, from as u32, last as u32)?;
@@ -51,7 +52,8 @@ fn read_piece<P: Points>(
         → plan.floor ≤ from → found ≡ record_between from to (told series)) }
     ensures tiers { P.tiers points.new ≡ P.tiers points.old }
     ensures told { (told : ℕ → List APoint) → P.tells points.old told → P.tells points.new told }
-    ensures cause { HasCause (P.faults points.old) (P.faults points.new) (IsErrOf result PointFault.Disk) }
+    ensures cause { HasCause (P.faults points.old) (P.faults points.new)
+        (IsErrOf result PointFault.Disk) }
 {
     if plan.tier == 0 {
         read_points(alloc, points, series, from, to)
@@ -76,7 +78,8 @@ pub(crate) fn read_window<P: Points>(
         → plan.floor ≤ start → found ≡ record_between start (start + window) (told series)) }
     ensures tiers { P.tiers points.new ≡ P.tiers points.old }
     ensures told { (told : ℕ → List APoint) → P.tells points.old told → P.tells points.new told }
-    ensures cause { HasCause (P.faults points.old) (P.faults points.new) (IsErrOf result PointFault.Disk) }
+    ensures cause { HasCause (P.faults points.old) (P.faults points.new)
+        (IsErrOf result PointFault.Disk) }
 {
     let end = start + u64::from(window);
     let mut record = None;

@@ -15,7 +15,8 @@ use std::alloc::{AllocError, Global};
 fn is_of(registry: &Registry, chart: u32, series: u32) -> bool
     requires chart { chart < length registry.now.charts }
     requires series { series < length registry.now.dimensions }
-    ensures { IfSome (slice_get registry.now.dimensions series) (λ dimension. result ≡ is_of (chart_id registry.now chart) dimension) }
+    ensures { IfSome (slice_get registry.now.dimensions series)
+        (λ dimension. result ≡ is_of (chart_id registry.now chart) dimension) }
 {
     registry.chart(chart).id == registry.chart(registry.owner(series)).id
 }
@@ -31,7 +32,8 @@ fn is_shown(pattern: &Pattern, def: &DimDef) -> bool
 fn is_column(registry: &Registry, chart: u32, pattern: &Pattern, series: u32) -> bool
     requires chart { chart < length registry.now.charts }
     requires series { series < length registry.now.dimensions }
-    ensures { IfSome (slice_get registry.now.dimensions series) (λ dimension. result ≡ is_column (chart_id registry.now chart) pattern.now dimension) }
+    ensures { IfSome (slice_get registry.now.dimensions series)
+        (λ dimension. result ≡ is_column (chart_id registry.now chart) pattern.now dimension) }
 {
     is_of(registry, chart, series) && is_shown(pattern, registry.dimension(series))
 }
@@ -55,7 +57,8 @@ pub fn read_columns(
     pattern: &Pattern,
 ) -> Result<SeriesList, QueryFault>
     requires { chart < length registry.now.charts }
-    ensures columns { IfOk result (λ series. series ≡ columns registry.now (chart_id registry.now chart) pattern.now) }
+    ensures columns { IfOk result
+        (λ series. series ≡ columns registry.now (chart_id registry.now chart) pattern.now) }
     ensures within { IfOk result (All (λ series. series < length registry.now.dimensions)) }
     ensures memory { IsOkUnless result QueryFault.Memory }
 {

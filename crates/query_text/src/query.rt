@@ -48,7 +48,8 @@ fn read_chart(registry: &Registry, id: &str) -> Result<u32, QueryFault>
 fn read_request(alloc: Global, registry: &Registry, words: &[Text]) -> Result<Request, QueryFault>
     ensures request { IfOk result (λ request. request_read registry.now words.now ≡ Ok request) }
     ensures fault { IfErr result (IsFaultFor (request_read registry.now words.now)) }
-    ensures within { IfOk result (λ request. All (λ series. series < length registry.now.dimensions) request.series) }
+    ensures within { IfOk result
+        (λ request. All (λ series. series < length registry.now.dimensions) request.series) }
     ensures window { IfOk result (λ request. 0 < request.window) }
     ensures few { IfOk result (λ request. request.rows ≤ MOST_WINDOWS) }
 {
@@ -83,7 +84,8 @@ pub fn read_query(alloc: Global, text: &str, registry: &Registry) -> Result<Requ
     ensures fault { IfErr result (IsFaultFor (query_read registry.now text.now)) }
 
     // What the request asks of is there, and it asks for a table that can be given.
-    ensures within { IfOk result (λ request. All (λ series. series < length registry.now.dimensions) request.series) }
+    ensures within { IfOk result
+        (λ request. All (λ series. series < length registry.now.dimensions) request.series) }
     ensures window { IfOk result (λ request. 0 < request.window) }
     ensures few { IfOk result (λ request. request.rows ≤ MOST_WINDOWS) }
 {

@@ -5,11 +5,11 @@ use Rattle.std.proofs.lemmas.List.{append-nil}
 use Rattle.std.proofs.lemmas.List.Concat.{flat_map-cons}
 use Rattle.field_codec.specs.Field.{IsBytes, IsField}
 use Rattle.field_codec.specs.Reading.{ReadOf, read_as}
-use Rattle.field_codec.specs.Spelling.{sized_bytes, u32_bytes}
+use Rattle.field_codec.specs.Spelling.{sized_bytes, u32_bytes, list_bytes}
 use Rattle.field_codec.proofs.Combined.{as_field}
 use Rattle.field_codec.proofs.Fields.{bytes_field, u32_field}
-use Rattle.entry_codec.specs.Lists.{list_bytes}
 use Rattle.entry_codec.proofs.Fields.{◌⊗◌, list_field}
+use Rattle.entry_codec.proofs.Lengths.{length-u32_bytes}
 use Rattle.store_core.specs.declared.beat.Beat.{Beat}
 use Rattle.store_core.specs.declared.beat.BeatPoint.{BeatPoint}
 use Rattle.store_core.specs.Beats.{beat_bytes, beat_in, beat_of, has_form, moment_bytes, moment_number, moment_of, point_bytes, point_of, read_fields, read_moment, read_point, whole_beat, InForm, IsMoment, IsPoint, IsShort}
@@ -97,10 +97,6 @@ length-points (p ∷ points) =
       length-point_bytes p,
       length-points points,
     )
-
-length-u32_bytes : (n : ℕ) → length (u32_bytes n) ≡ 4
-unfolding u32_bytes
-length-u32_bytes n = refl
 
 pub beat_size : (b : Beat) → length (beat_bytes b) ≡ 12 + 12 * length b.points + length b.note
 unfolding beat_bytes moment_bytes list_bytes sized_bytes

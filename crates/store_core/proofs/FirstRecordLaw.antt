@@ -4,14 +4,14 @@ use Rattle.std.specs.Prelude.{nat_le}
 use Rattle.std.specs.List.{list_all}
 use Rattle.std.proofs.lemmas.Bool.{and_parts, leb-true}
 use Rattle.field_codec.specs.Field.{IsBytes}
-use Rattle.field_codec.specs.Spelling.{sized_bytes, u8_bytes, u32_bytes, u64_bytes}
+use Rattle.field_codec.specs.Spelling.{sized_bytes, u8_bytes, u32_bytes, u64_bytes, list_bytes}
 use Rattle.entry_codec.specs.declared.entry.Entry.{Entry}
 use Rattle.entry_codec.specs.declared.entry.Entry.TheVariants.{Settings as ASettings, Collected, Copied, Health, Gap}
 use Rattle.entry_codec.specs.declared.entry.Settings.{Settings}
 use Rattle.entry_codec.specs.declared.entry.TierSettings.{TierSettings}
 use Rattle.entry_codec.specs.declared.fault.EntryFault.{EntryFault}
 use Rattle.entry_codec.specs.Entries.{entry_bytes, is_canonical, read_entry, settings_bytes, tier_bytes, HasSpelling, IsSettings, IsTier}
-use Rattle.entry_codec.specs.Lists.{is_ascending, list_bytes}
+use Rattle.entry_codec.specs.Lists.{is_ascending}
 use Rattle.entry_codec.proofs.EntriesLaw.{reads_back, is_read}
 use Rattle.store_core.specs.declared.beat.Beat.{Beat}
 use Rattle.store_core.specs.declared.beat.BeatPoint.{BeatPoint}

@@ -3,8 +3,8 @@ use Rattle.std.specs.Prelude.{◌≡◌, ℕ, zero, suc, ◌<◌, ◌^◌, Bool,
 use Rattle.std.specs.List.{list_all}
 use Rattle.storage_number.specs.Word.{is_word}
 use Rattle.field_codec.specs.Reading.{ReadOf, read_as, read_u32, read_bytes}
-use Rattle.field_codec.specs.Spelling.{u32_bytes, sized_bytes}
-use Rattle.entry_codec.specs.Lists.{◌>>◌, is_ascending, list_bytes, read_list, IsShortListOf}
+use Rattle.field_codec.specs.Spelling.{u32_bytes, sized_bytes, list_bytes}
+use Rattle.entry_codec.specs.Lists.{◌>>◌, is_ascending, read_list, IsShortListOf}
 use Rattle.store_core.specs.declared.beat.Beat.{Beat}
 use Rattle.store_core.specs.declared.beat.BeatPoint.{BeatPoint}
 

@@ -25,10 +25,12 @@ const MOST: u64 = 1 << 60;
 
 /// Whether there is a database on the disk.
 pub(crate) fn is_made<H: Host>(host: &mut H) -> Result<bool, Failed>
-    ensures value { IfOk result (λ made. H.honest → made ≡ is_made (reads_as (H.past host.old))) }
-    ensures past { H.honest → H.past host.new ≡ H.past host.old }
-    ensures cause { HasCause (H.disk_faults host.old) (H.disk_faults host.new) (IsErr result) }
-    ensures output { H.tell_faults host.new ≡ H.tell_faults host.old }
+    ensures value { IfOk result
+        (λ made. H.honest → made ≡ is_made (reads_as (H.seen host.old).past)) }
+    ensures past { H.honest → (H.seen host.new).past ≡ (H.seen host.old).past }
+    ensures cause { HasCause (H.seen host.old).disk_faults (H.seen host.new).disk_faults
+        (IsErr result) }
+    ensures output { (H.seen host.new).tell_faults ≡ (H.seen host.old).tell_faults }
 {
     if host.len(File::JournalA)? <= EMPTY {
         return Ok(false);
@@ -40,12 +42,17 @@ pub(crate) fn is_made<H: Host>(host: &mut H) -> Result<bool, Failed>
 
 /// Cuts the file to the length of an empty journal, where it has more.
 fn cut_down<H: Host>(host: &mut H) -> Result<(), Failed>
-    ensures any_moment { H.honest → EveryImage File.JournalA (λ bytes. is_begun bytes ≡ false) (H.past host.old)
-        → Throughout (EveryImage File.JournalA (λ bytes. is_begun bytes ≡ false)) (H.past host.old) (H.past host.new) }
-    ensures short { OnOk result (H.honest → length (contents (of File.JournalA (H.past host.new))) ≤ 17) }
-    ensures only_here { H.honest → OnlyOn File.JournalA (H.past host.old) (H.past host.new) }
-    ensures cause { HasCause (H.disk_faults host.old) (H.disk_faults host.new) (IsErr result) }
-    ensures output { H.tell_faults host.new ≡ H.tell_faults host.old }
+    ensures any_moment { H.honest
+        → EveryImage File.JournalA (λ bytes. is_begun bytes ≡ false) (H.seen host.old).past
+        → Throughout (EveryImage File.JournalA (λ bytes. is_begun bytes ≡ false))
+        (H.seen host.old).past (H.seen host.new).past }
+    ensures short { OnOk result
+        (H.honest → length (contents (of File.JournalA (H.seen host.new).past)) ≤ 17) }
+    ensures only_here { H.honest
+        → OnlyOn File.JournalA (H.seen host.old).past (H.seen host.new).past }
+    ensures cause { HasCause (H.seen host.old).disk_faults (H.seen host.new).disk_faults
+        (IsErr result) }
+    ensures output { (H.seen host.new).tell_faults ≡ (H.seen host.old).tell_faults }
 {
     if host.len(File::JournalA)? <= EMPTY {
         return Ok(());
@@ -55,13 +62,18 @@ fn cut_down<H: Host>(host: &mut H) -> Result<(), Failed>
 
 /// Makes the file hold at most as many bytes as an empty journal.
 fn shorten<H: Host>(host: &mut H) -> Result<(), Failed>
-    ensures any_moment { H.honest → EveryImage File.JournalA (λ bytes. is_begun bytes ≡ false) (H.past host.old)
-        → Throughout (EveryImage File.JournalA (λ bytes. is_begun bytes ≡ false)) (H.past host.old) (H.past host.new) }
-    ensures short { OnOk result (H.honest → length (contents (of File.JournalA (H.past host.new))) ≤ 17) }
-    ensures synced { OnOk result (H.honest → IsSynced (of File.JournalA (H.past host.new))) }
-    ensures only_here { H.honest → OnlyOn File.JournalA (H.past host.old) (H.past host.new) }
-    ensures cause { HasCause (H.disk_faults host.old) (H.disk_faults host.new) (IsErr result) }
-    ensures output { H.tell_faults host.new ≡ H.tell_faults host.old }
+    ensures any_moment { H.honest
+        → EveryImage File.JournalA (λ bytes. is_begun bytes ≡ false) (H.seen host.old).past
+        → Throughout (EveryImage File.JournalA (λ bytes. is_begun bytes ≡ false))
+        (H.seen host.old).past (H.seen host.new).past }
+    ensures short { OnOk result
+        (H.honest → length (contents (of File.JournalA (H.seen host.new).past)) ≤ 17) }
+    ensures synced { OnOk result (H.honest → IsSynced (of File.JournalA (H.seen host.new).past)) }
+    ensures only_here { H.honest
+        → OnlyOn File.JournalA (H.seen host.old).past (H.seen host.new).past }
+    ensures cause { HasCause (H.seen host.old).disk_faults (H.seen host.new).disk_faults
+        (IsErr result) }
+    ensures output { (H.seen host.new).tell_faults ≡ (H.seen host.old).tell_faults }
 {
     cut_down(host)?;
     host.sync(File::JournalA)
@@ -69,15 +81,20 @@ fn shorten<H: Host>(host: &mut H) -> Result<(), Failed>
 
 /// Makes an empty journal, whatever the file held. No stop leaves a database.
 pub(crate) fn start<H: Host>(host: &mut H) -> Result<Journal, StoreFault>
-    ensures any_moment { H.honest → EveryImage File.JournalA (λ bytes. is_begun bytes ≡ false) (H.past host.old)
-        → Throughout (EveryImage File.JournalA (λ bytes. is_begun bytes ≡ false)) (H.past host.old) (H.past host.new) }
-    ensures started { IfOk result (λ journal. H.honest → IsOpen (of File.JournalA (H.past host.new)) journal []) }
+    ensures any_moment { H.honest
+        → EveryImage File.JournalA (λ bytes. is_begun bytes ≡ false) (H.seen host.old).past
+        → Throughout (EveryImage File.JournalA (λ bytes. is_begun bytes ≡ false))
+        (H.seen host.old).past (H.seen host.new).past }
+    ensures started { IfOk result
+        (λ journal. H.honest → IsOpen (of File.JournalA (H.seen host.new).past) journal []) }
     ensures place { IfOk result IsPlaced }
     ensures size { IfOk result (λ journal. journal.bytes ≡ 17) }
-    ensures only_here { H.honest → OnlyOn File.JournalA (H.past host.old) (H.past host.new) }
+    ensures only_here { H.honest
+        → OnlyOn File.JournalA (H.seen host.old).past (H.seen host.new).past }
     ensures faults { IfErr result (λ fault. fault ≡ StoreFault.DiskFault) }
-    ensures cause { HasCause (H.disk_faults host.old) (H.disk_faults host.new) (IsErrOf result StoreFault.DiskFault) }
-    ensures output { H.tell_faults host.new ≡ H.tell_faults host.old }
+    ensures cause { HasCause (H.seen host.old).disk_faults (H.seen host.new).disk_faults
+        (IsErrOf result StoreFault.DiskFault) }
+    ensures output { (H.seen host.new).tell_faults ≡ (H.seen host.old).tell_faults }
 {
     if shorten(host).is_err() {
         return Err(StoreFault::DiskFault);
@@ -97,19 +114,26 @@ pub(crate) fn append<H: Host>(
 ) -> Result<(), StoreFault>
     requires place { IsPlaced journal.old }
     requires size { length body.now ≤ 2 ^ 26 }
-    requires open { H.honest → (records : List (List ℕ)) × IsOpen (of File.JournalA (H.past host.old)) journal.old records }
-    ensures any_moment { H.honest → (records : List (List ℕ)) → IsOpen (of File.JournalA (H.past host.old)) journal.old records
-        → Throughout (EveryImage File.JournalA (StandsForEither 0 records body.now)) (H.past host.old) (H.past host.new) }
-    ensures stored { OnOk result (H.honest → (records : List (List ℕ)) → IsOpen (of File.JournalA (H.past host.old)) journal.old records
-        → IsOpen (of File.JournalA (H.past host.new)) journal.new (records ++ body.now ∷ [])) }
+    requires open { H.honest → (records : List (List ℕ))
+        × IsOpen (of File.JournalA (H.seen host.old).past) journal.old records }
+    ensures any_moment { H.honest → (records : List (List ℕ))
+        → IsOpen (of File.JournalA (H.seen host.old).past) journal.old records
+        → Throughout (EveryImage File.JournalA (StandsForEither 0 records body.now))
+        (H.seen host.old).past (H.seen host.new).past }
+    ensures stored { OnOk result
+        (H.honest → (records : List (List ℕ))
+        → IsOpen (of File.JournalA (H.seen host.old).past) journal.old records
+        → IsOpen (of File.JournalA (H.seen host.new).past) journal.new (records ++ body.now ∷ [])) }
     ensures place { IsPlaced journal.new }
     ensures stays { OnErr result (journal.new ≡ journal.old) }
-    ensures only_here { H.honest → OnlyOn File.JournalA (H.past host.old) (H.past host.new) }
+    ensures only_here { H.honest
+        → OnlyOn File.JournalA (H.seen host.old).past (H.seen host.new).past }
     ensures faults { IfErr result IsStepFault }
     ensures untouched { IsErrOf result StoreFault.Memory → host.new ≡ host.old }
-    ensures cause { HasCause (H.disk_faults host.old) (H.disk_faults host.new) (IsErrOf result StoreFault.DiskFault) }
-    ensures output { H.tell_faults host.new ≡ H.tell_faults host.old }
-    ensures reads { H.reads host.new ≡ H.reads host.old }
+    ensures cause { HasCause (H.seen host.old).disk_faults (H.seen host.new).disk_faults
+        (IsErrOf result StoreFault.DiskFault) }
+    ensures output { (H.seen host.new).tell_faults ≡ (H.seen host.old).tell_faults }
+    ensures reads { (H.seen host.new).reads ≡ (H.seen host.old).reads }
 {
     if journal.bytes() > MOST {
         return Err(StoreFault::Memory);
@@ -124,14 +148,20 @@ pub(crate) fn append<H: Host>(
 /// the journal with the record.
 pub(crate) fn make<H: Host>(host: &mut H, body: &[u8]) -> Result<Journal, StoreFault>
     requires { length body.now ≤ 2 ^ 26 }
-    ensures any_moment { H.honest → EveryImage File.JournalA (λ bytes. is_begun bytes ≡ false) (H.past host.old)
-        → Throughout (EveryImage File.JournalA (HoldsIfBegun body.now)) (H.past host.old) (H.past host.new) }
-    ensures made { IfOk result (λ journal. H.honest → IsOpen (of File.JournalA (H.past host.new)) journal (body.now ∷ [])) }
+    ensures any_moment { H.honest
+        → EveryImage File.JournalA (λ bytes. is_begun bytes ≡ false) (H.seen host.old).past
+        → Throughout (EveryImage File.JournalA (HoldsIfBegun body.now)) (H.seen host.old).past
+        (H.seen host.new).past }
+    ensures made { IfOk result
+        (λ journal. H.honest → IsOpen (of File.JournalA (H.seen host.new).past) journal
+        (body.now ∷ [])) }
     ensures place { IfOk result IsPlaced }
-    ensures only_here { H.honest → OnlyOn File.JournalA (H.past host.old) (H.past host.new) }
+    ensures only_here { H.honest
+        → OnlyOn File.JournalA (H.seen host.old).past (H.seen host.new).past }
     ensures faults { IfErr result (λ fault. fault ≡ StoreFault.DiskFault) }
-    ensures cause { HasCause (H.disk_faults host.old) (H.disk_faults host.new) (IsErrOf result StoreFault.DiskFault) }
-    ensures output { H.tell_faults host.new ≡ H.tell_faults host.old }
+    ensures cause { HasCause (H.seen host.old).disk_faults (H.seen host.new).disk_faults
+        (IsErrOf result StoreFault.DiskFault) }
+    ensures output { (H.seen host.new).tell_faults ≡ (H.seen host.old).tell_faults }
 {
     let mut journal = start(host)?;
     if journal.append(host, body).is_err() {
@@ -145,15 +175,23 @@ pub(crate) fn open<H: Host>(
     alloc: Global,
     host: &mut H,
 ) -> Result<(Journal, RecordList), StoreFault>
-    ensures opened { IfOk result (λ found. H.honest → IsOpen (of File.JournalA (H.past host.new)) found.0 found.1) }
+    ensures opened { IfOk result
+        (λ found. H.honest → IsOpen (of File.JournalA (H.seen host.new).past) found.0 found.1) }
     ensures place { IfOk result (λ found. IsPlaced found.0) }
-    ensures any_moment { H.honest → Throughout (EveryImage File.JournalA (IsImage (of File.JournalA (H.past host.old)))) (H.past host.old) (H.past host.new) }
-    ensures same_bytes { H.honest → contents (of File.JournalA (H.past host.new)) ≡ contents (of File.JournalA (H.past host.old)) }
-    ensures only_here { H.honest → OnlyOn File.JournalA (H.past host.old) (H.past host.new) }
-    ensures damaged { (part : ℕ) → IsErrOf result (StoreFault.Damaged part) → H.honest → IsJournal 0 (contents (of File.JournalA (H.past host.old))) → ⊥ }
+    ensures any_moment { H.honest
+        → Throughout (EveryImage File.JournalA (IsImage (of File.JournalA (H.seen host.old).past)))
+        (H.seen host.old).past (H.seen host.new).past }
+    ensures same_bytes { H.honest
+        → contents (of File.JournalA (H.seen host.new).past)
+        ≡ contents (of File.JournalA (H.seen host.old).past) }
+    ensures only_here { H.honest
+        → OnlyOn File.JournalA (H.seen host.old).past (H.seen host.new).past }
+    ensures damaged { (part : ℕ) → IsErrOf result (StoreFault.Damaged part) → H.honest
+        → IsJournal 0 (contents (of File.JournalA (H.seen host.old).past)) → ⊥ }
     ensures faults { IfErr result IsReadFault }
-    ensures cause { HasCause (H.disk_faults host.old) (H.disk_faults host.new) (IsErrOf result StoreFault.DiskFault) }
-    ensures output { H.tell_faults host.new ≡ H.tell_faults host.old }
+    ensures cause { HasCause (H.seen host.old).disk_faults (H.seen host.new).disk_faults
+        (IsErrOf result StoreFault.DiskFault) }
+    ensures output { (H.seen host.new).tell_faults ≡ (H.seen host.old).tell_faults }
 {
     match Journal::open(alloc, host, File::JournalA, 0) {
         Ok(found) => Ok(found),

@@ -17,14 +17,19 @@ ghost use Rattle.store_core.specs.Store.{IsStoreAt, IsStoreOf, StoreState};
 pub fn any_database()
     ensures once { (set other : ASettings) (beats others : List ABeat) (disk : AFile → List ℕ)
         → Stands set beats disk → Stands other others disk → (set ≡ other) × (beats ≡ others) }
-    ensures made { (set : ASettings) (beats : List ABeat) (disk : AFile → List ℕ) → Stands set beats disk → is_made disk ≡ true }
+    ensures made { (set : ASettings) (beats : List ABeat) (disk : AFile → List ℕ)
+        → Stands set beats disk → is_made disk ≡ true }
     ensures images { (past : List Event) (store : StoreState) (set : ASettings) (beats : List ABeat)
         → IsStoreOf past store set beats → EveryDisk (Stands set beats) past }
-    ensures told { (sent : List ℕ) (past : List Event) (store : StoreState) (set : ASettings) (beats rest : List ABeat)
+    ensures told { (sent : List ℕ) (past : List Event) (store : StoreState) (set : ASettings)
+        (beats rest : List ABeat)
         → IsStoreAt past store set beats rest → IsStoreAt (Told sent ∷ past) store set beats rest }
     ensures beat_again { (beat : ABeat) → InForm beat → beat_in (beat_bytes beat) ≡ Some beat }
-    ensures beat_form { (bytes : List ℕ) (beat : ABeat) → IsBytes bytes → beat_in bytes ≡ Some beat → InForm beat }
-    ensures beat_spelt { (bytes : List ℕ) (beat : ABeat) → IsBytes bytes → beat_in bytes ≡ Some beat → bytes ≡ beat_bytes beat }
-    ensures records_again { (set : ASettings) (rest : List ABeat) → InLimits set → AreBeats (with_all [] rest)
+    ensures beat_form { (bytes : List ℕ) (beat : ABeat) → IsBytes bytes → beat_in bytes ≡ Some beat
+        → InForm beat }
+    ensures beat_spelt { (bytes : List ℕ) (beat : ABeat) → IsBytes bytes → beat_in bytes ≡ Some beat
+        → bytes ≡ beat_bytes beat }
+    ensures records_again { (set : ASettings) (rest : List ABeat) → InLimits set
+        → AreBeats (with_all [] rest)
         → history_in (records set (with_all [] rest)) ≡ Some (set, rest) }
 {}

@@ -46,7 +46,8 @@ fn take_points(
     count: u32,
     reader: &mut Reader<'_>,
 ) -> Result<BeatPointList, FieldFault>
-    ensures taken { IfOk result (λ points. read_items read_point count reader.old ≡ Ok (points, reader.new)) }
+    ensures taken { IfOk result
+        (λ points. read_items read_point count reader.old ≡ Ok (points, reader.new)) }
     ensures fault { IfErr result (IsRefusal (read_items read_point count reader.old)) }
 {
     let mut points = BeatPointList::new(alloc);
@@ -59,7 +60,8 @@ fn take_points(
 
 #[tactic(auto, unfolding(entry_codec::specs::Lists::read_list))]
 fn take_list(alloc: Global, reader: &mut Reader<'_>) -> Result<BeatPointList, FieldFault>
-    ensures taken { IfOk result (λ points. read_list read_point reader.old ≡ Ok (points, reader.new)) }
+    ensures taken { IfOk result
+        (λ points. read_list read_point reader.old ≡ Ok (points, reader.new)) }
     ensures fault { IfErr result (IsRefusal (read_list read_point reader.old)) }
 {
     let count = reader.take_u32()?;

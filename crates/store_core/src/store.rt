@@ -70,23 +70,31 @@ impl Store {
         settings: &Settings,
     ) -> Result<Store, StoreFault>
         requires { InLimits settings.now }
-        ensures created { IfOk result (λ store. H.honest → IsStoreOf (H.past host.new) store settings.now []) }
-        ensures ready { IfOk result (IsReady H.honest (H.past host.new)) }
+        ensures created { IfOk result
+            (λ store. H.honest → IsStoreOf (H.seen host.new).past store settings.now []) }
+        ensures ready { IfOk result (IsReady H.honest (H.seen host.new).past) }
         ensures new { IfOk result (IsNew settings.now) }
 
-        ensures any_moment { H.honest → EveryDisk (λ disk. is_made disk ≡ false) (H.past host.old)
-            → Throughout (EveryDisk (StandsIfMade settings.now)) (H.past host.old) (H.past host.new) }
-        ensures only_here { H.honest → OnlyOn File.JournalA (H.past host.old) (H.past host.new) }
+        ensures any_moment { H.honest
+            → EveryDisk (λ disk. is_made disk ≡ false) (H.seen host.old).past
+            → Throughout (EveryDisk (StandsIfMade settings.now)) (H.seen host.old).past
+            (H.seen host.new).past }
+        ensures only_here { H.honest
+            → OnlyOn File.JournalA (H.seen host.old).past (H.seen host.new).past }
 
         // Exactly where there is a database it is refused, or the disk failed, and nothing has happened.
-        ensures exists { IsErrOf result StoreFault.Exists → H.honest → is_made (reads_as (H.past host.old)) ≡ true }
-        ensures none { OnOk result (H.honest → is_made (reads_as (H.past host.old)) ≡ false) }
-        ensures made { H.honest → is_made (reads_as (H.past host.old)) ≡ true
-            → (IsErrOf result StoreFault.Exists ⊎ IsErrOf result StoreFault.DiskFault) × (H.past host.new ≡ H.past host.old) }
-        ensures memory { IsErrOf result StoreFault.Memory → H.honest → H.past host.new ≡ H.past host.old }
+        ensures exists { IsErrOf result StoreFault.Exists → H.honest
+            → is_made (reads_as (H.seen host.old).past) ≡ true }
+        ensures none { OnOk result (H.honest → is_made (reads_as (H.seen host.old).past) ≡ false) }
+        ensures made { H.honest → is_made (reads_as (H.seen host.old).past) ≡ true
+            → (IsErrOf result StoreFault.Exists ⊎ IsErrOf result StoreFault.DiskFault)
+            × ((H.seen host.new).past ≡ (H.seen host.old).past) }
+        ensures memory { IsErrOf result StoreFault.Memory → H.honest
+            → (H.seen host.new).past ≡ (H.seen host.old).past }
         ensures faults { IfErr result IsCreateFault }
-        ensures cause { HasCause (H.disk_faults host.old) (H.disk_faults host.new) (IsErrOf result StoreFault.DiskFault) }
-        ensures output { H.tell_faults host.new ≡ H.tell_faults host.old }
+        ensures cause { HasCause (H.seen host.old).disk_faults (H.seen host.new).disk_faults
+            (IsErrOf result StoreFault.DiskFault) }
+        ensures output { (H.seen host.new).tell_faults ≡ (H.seen host.old).tell_faults }
     {
         let Ok(made) = file::is_made(host) else {
             return Err(StoreFault::DiskFault);
@@ -115,23 +123,33 @@ impl Store {
     /// settings and beats.
     pub fn open<H: Host>(alloc: Global, host: &mut H) -> Result<Store, StoreFault>
         ensures opened { IfOk result (λ store. H.honest → (set : ASettings) (beats : List ABeat)
-            → Stands set beats (reads_as (H.past host.old)) → OpensAt (H.past host.new) store set beats) }
-        ensures ready { IfOk result (IsReady H.honest (H.past host.new)) }
+            → Stands set beats (reads_as (H.seen host.old).past)
+            → OpensAt (H.seen host.new).past store set beats) }
+        ensures ready { IfOk result (IsReady H.honest (H.seen host.new).past) }
         ensures going { IfOk result (λ store. store.fault ≡ None) }
         ensures new { IfOk result (λ store. (store.count ≡ 0) × (store.last ≡ 0)) }
 
         // Every image at every moment is one from before, and what the files read as stays.
-        ensures any_moment { H.honest → Throughout (EveryDisk (IsDisk (H.past host.old))) (H.past host.old) (H.past host.new) }
-        ensures same { H.honest → (file : AFile) → reads_as (H.past host.new) file ≡ reads_as (H.past host.old) file }
-        ensures only_here { H.honest → OnlyOn File.JournalA (H.past host.old) (H.past host.new) }
+        ensures any_moment { H.honest
+            → Throughout (EveryDisk (IsDisk (H.seen host.old).past)) (H.seen host.old).past
+            (H.seen host.new).past }
+        ensures same { H.honest → (file : AFile)
+            → reads_as (H.seen host.new).past file ≡ reads_as (H.seen host.old).past file }
+        ensures only_here { H.honest
+            → OnlyOn File.JournalA (H.seen host.old).past (H.seen host.new).past }
 
-        ensures none { IsErrOf result StoreFault.NotADatabase → H.honest → is_made (reads_as (H.past host.old)) ≡ false }
-        ensures some { OnOk result (H.honest → is_made (reads_as (H.past host.old)) ≡ true) }
-        ensures stands { IfOk result (λ store. H.honest → (set : ASettings) × (beats : List ABeat) × Stands set beats (reads_as (H.past host.old))) }
-        ensures damaged { (part : ℕ) → IsErrOf result (StoreFault.Damaged part) → H.honest → IsDamaged (reads_as (H.past host.old)) }
+        ensures none { IsErrOf result StoreFault.NotADatabase → H.honest
+            → is_made (reads_as (H.seen host.old).past) ≡ false }
+        ensures some { OnOk result (H.honest → is_made (reads_as (H.seen host.old).past) ≡ true) }
+        ensures stands { IfOk result
+            (λ store. H.honest → (set : ASettings) × (beats : List ABeat)
+            × Stands set beats (reads_as (H.seen host.old).past)) }
+        ensures damaged { (part : ℕ) → IsErrOf result (StoreFault.Damaged part) → H.honest
+            → IsDamaged (reads_as (H.seen host.old).past) }
         ensures faults { IfErr result IsOpenFault }
-        ensures cause { HasCause (H.disk_faults host.old) (H.disk_faults host.new) (IsErrOf result StoreFault.DiskFault) }
-        ensures output { H.tell_faults host.new ≡ H.tell_faults host.old }
+        ensures cause { HasCause (H.seen host.old).disk_faults (H.seen host.new).disk_faults
+            (IsErrOf result StoreFault.DiskFault) }
+        ensures output { (H.seen host.new).tell_faults ≡ (H.seen host.old).tell_faults }
     {
         let Ok(made) = file::is_made(host) else {
             return Err(StoreFault::DiskFault);
@@ -185,7 +203,8 @@ impl Store {
 
     /// Counts a beat of this moment.
     fn apply(&mut self, moment: Option<u32>)
-        ensures { self.new ≡ record self.old { count = raised self.old.count; last = last_after self.old.last moment } }
+        ensures { self.new
+            ≡ record self.old { count = raised self.old.count; last = last_after self.old.last moment } }
     {
         self.count = self.count.saturating_add(1);
         self.last = last_after(self.last, moment);
@@ -195,12 +214,14 @@ impl Store {
     ///
     /// After `Memory` the database must be opened again.
     pub fn replay(&mut self) -> Result<Option<Beat>, StoreFault>
-        ensures next { (past : List Event) (set : ASettings) (beats rest : List ABeat) → IsStoreAt past self.old set beats rest
+        ensures next { (past : List Event) (set : ASettings) (beats rest : List ABeat)
+            → IsStoreAt past self.old set beats rest
             → IfOk result (Replays past self.new set beats rest) }
 
         // The same, of a store that is of no beats.
         ensures takes { IfOk result (λ next. TakesFirst self.old.waiting next self.new.waiting) }
-        ensures stays { OnErr result ((self.new.count ≡ self.old.count) × (self.new.last ≡ self.old.last)) }
+        ensures stays { OnErr result
+            ((self.new.count ≡ self.old.count) × (self.new.last ≡ self.old.last)) }
         ensures settings { self.new.settings ≡ self.old.settings }
         ensures journal { self.new.journal ≡ self.old.journal }
 
@@ -217,7 +238,8 @@ impl Store {
     }
 
     fn apply_next(&mut self) -> Option<Beat>
-        ensures next { (past : List Event) (set : ASettings) (beats rest : List ABeat) → IsStoreAt past self.old set beats rest
+        ensures next { (past : List Event) (set : ASettings) (beats rest : List ABeat)
+            → IsStoreAt past self.old set beats rest
             → Replays past self.new set beats rest result }
         ensures takes { TakesFirst self.old.waiting result self.new.waiting }
         ensures settings { self.new.settings ≡ self.old.settings }
@@ -240,19 +262,25 @@ impl Store {
     /// `DiskFault` or `Memory` the database must be opened again. Past 2^60 bytes of the journal the answer
     /// is `Memory`.
     pub fn commit<H: Host>(&mut self, host: &mut H, beat: &Beat) -> Result<(), StoreFault>
-        requires ready { IsReady H.honest (H.past host.old) self.old }
+        requires ready { IsReady H.honest (H.seen host.old).past self.old }
         requires replayed { IsReplayed self.old }
         requires form { InForm beat.now }
         requires size { length (beat_bytes beat.now) ≤ 2 ^ 26 }
-        ensures any_moment { H.honest → (set : ASettings) (beats : List ABeat) → IsStoreOf (H.past host.old) self.old set beats
-            → Throughout (EveryDisk (StandsAround set beats beat.now)) (H.past host.old) (H.past host.new) }
-        ensures stored { OnOk result (H.honest → (set : ASettings) (beats : List ABeat) → IsStoreOf (H.past host.old) self.old set beats
-            → IsStoreOf (H.past host.new) self.new set (beat.now ∷ beats)) }
+        ensures any_moment { H.honest → (set : ASettings) (beats : List ABeat)
+            → IsStoreOf (H.seen host.old).past self.old set beats
+            → Throughout (EveryDisk (StandsAround set beats beat.now)) (H.seen host.old).past
+            (H.seen host.new).past }
+        ensures stored { OnOk result
+            (H.honest → (set : ASettings) (beats : List ABeat)
+            → IsStoreOf (H.seen host.old).past self.old set beats
+            → IsStoreOf (H.seen host.new).past self.new set (beat.now ∷ beats)) }
 
         // Nothing has changed where the moment is not above the last one, or an earlier call was refused.
         ensures order { IsErrOf result StoreFault.MomentOrder
-            ↔ ((self.old.fault ≡ None) × IsSomeAnd beat.now.moment (λ moment. moment ≤ self.old.last)) }
-        ensures unchanged { IfErr result (λ fault. LeavesAll fault → (self.new ≡ self.old) × (host.new ≡ host.old)) }
+            ↔ ((self.old.fault ≡ None)
+            × IsSomeAnd beat.now.moment (λ moment. moment ≤ self.old.last)) }
+        ensures unchanged { IfErr result
+            (λ fault. LeavesAll fault → (self.new ≡ self.old) × (host.new ≡ host.old)) }
         ensures same_host { IsErrOf result StoreFault.Memory → host.new ≡ host.old }
 
         // After a refusal each call answers Reopen with its cause.
@@ -261,17 +289,20 @@ impl Store {
         ensures faults { IfErr result IsCommitFault }
 
         // What a later call requires and answers.
-        ensures ready { IsReady H.honest (H.past host.new) self.new }
+        ensures ready { IsReady H.honest (H.seen host.new).past self.new }
         ensures replayed { IsReplayed self.new }
         ensures count { OnOk result (self.new.count ≡ raised self.old.count) }
         ensures last { OnOk result (self.new.last ≡ last_after self.old.last beat.now.moment) }
-        ensures stays { OnErr result ((self.new.count ≡ self.old.count) × (self.new.last ≡ self.old.last)) }
+        ensures stays { OnErr result
+            ((self.new.count ≡ self.old.count) × (self.new.last ≡ self.old.last)) }
         ensures settings { self.new.settings ≡ self.old.settings }
 
-        ensures only_here { H.honest → OnlyOn File.JournalA (H.past host.old) (H.past host.new) }
-        ensures cause { HasCause (H.disk_faults host.old) (H.disk_faults host.new) (IsErrOf result StoreFault.DiskFault) }
-        ensures output { H.tell_faults host.new ≡ H.tell_faults host.old }
-        ensures reads { H.reads host.new ≡ H.reads host.old }
+        ensures only_here { H.honest
+            → OnlyOn File.JournalA (H.seen host.old).past (H.seen host.new).past }
+        ensures cause { HasCause (H.seen host.old).disk_faults (H.seen host.new).disk_faults
+            (IsErrOf result StoreFault.DiskFault) }
+        ensures output { (H.seen host.new).tell_faults ≡ (H.seen host.old).tell_faults }
+        ensures reads { (H.seen host.new).reads ≡ (H.seen host.old).reads }
     {
         if let Some(why) = self.fault {
             return Err(StoreFault::Reopen(why));
@@ -290,16 +321,20 @@ impl Store {
 
     /// Adds a beat that may follow the others.
     fn add<H: Host>(&mut self, host: &mut H, beat: &Beat) -> Result<(), StoreFault>
-        requires ready { IsReady H.honest (H.past host.old) self.old }
+        requires ready { IsReady H.honest (H.seen host.old).past self.old }
         requires going { self.old.fault ≡ None }
         requires form { InForm beat.now }
         requires size { length (beat_bytes beat.now) ≤ 2 ^ 26 }
         requires later { is_later self.old.last beat.now.moment ≡ true }
-        ensures any_moment { H.honest → (set : ASettings) (beats : List ABeat) → IsStoreOf (H.past host.old) self.old set beats
-            → Throughout (EveryDisk (StandsAround set beats beat.now)) (H.past host.old) (H.past host.new) }
-        ensures stored { OnOk result (H.honest → (set : ASettings) (beats : List ABeat) → IsStoreOf (H.past host.old) self.old set beats
-            → IsStoreOf (H.past host.new) self.new set (beat.now ∷ beats)) }
-        ensures ready { OnOk result (IsReady H.honest (H.past host.new) self.new) }
+        ensures any_moment { H.honest → (set : ASettings) (beats : List ABeat)
+            → IsStoreOf (H.seen host.old).past self.old set beats
+            → Throughout (EveryDisk (StandsAround set beats beat.now)) (H.seen host.old).past
+            (H.seen host.new).past }
+        ensures stored { OnOk result
+            (H.honest → (set : ASettings) (beats : List ABeat)
+            → IsStoreOf (H.seen host.old).past self.old set beats
+            → IsStoreOf (H.seen host.new).past self.new set (beat.now ∷ beats)) }
+        ensures ready { OnOk result (IsReady H.honest (H.seen host.new).past self.new) }
         ensures place { IsPlaced self.new.journal }
         ensures applied { OnOk result (self.new ≡ record self.old {
           count = raised self.old.count;
@@ -307,12 +342,14 @@ impl Store {
           journal = self.new.journal;
         }) }
         ensures stays { OnErr result (self.new ≡ self.old) }
-        ensures only_here { H.honest → OnlyOn File.JournalA (H.past host.old) (H.past host.new) }
+        ensures only_here { H.honest
+            → OnlyOn File.JournalA (H.seen host.old).past (H.seen host.new).past }
         ensures faults { IfErr result IsStepFault }
         ensures untouched { IsErrOf result StoreFault.Memory → host.new ≡ host.old }
-        ensures cause { HasCause (H.disk_faults host.old) (H.disk_faults host.new) (IsErrOf result StoreFault.DiskFault) }
-        ensures output { H.tell_faults host.new ≡ H.tell_faults host.old }
-        ensures reads { H.reads host.new ≡ H.reads host.old }
+        ensures cause { HasCause (H.seen host.old).disk_faults (H.seen host.new).disk_faults
+            (IsErrOf result StoreFault.DiskFault) }
+        ensures output { (H.seen host.new).tell_faults ≡ (H.seen host.old).tell_faults }
+        ensures reads { (H.seen host.new).reads ≡ (H.seen host.old).reads }
     {
         let body = match write_beat(self.alloc, beat) {
             Ok(body) => body,

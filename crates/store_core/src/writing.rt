@@ -2,7 +2,8 @@
 
 ghost use Rattle.std.specs.Prelude.{◌≡◌, ◌++◌, IfOk, OnOk, IsOkUnless};
 ghost use Rattle.std.specs.List.{flat_map, AllByRecursion};
-ghost use Rattle.entry_codec.specs.Lists.{list_bytes, IsShortListOf};
+ghost use Rattle.entry_codec.specs.Lists.{IsShortListOf};
+ghost use Rattle.field_codec.specs.Spelling.{list_bytes};
 ghost use Rattle.store_core.specs.Beats.{beat_bytes, moment_bytes, point_bytes, IsPoint, IsShort};
 
 use crate::beat::{Beat, BeatPoint};
@@ -38,7 +39,7 @@ fn put_points(points: &[BeatPoint], writer: &mut Writer) -> Result<(), FieldFaul
     Ok(())
 }
 
-#[tactic(auto, unfolding(entry_codec::specs::Lists::list_bytes))]
+#[tactic(auto, unfolding(field_codec::specs::Spelling::list_bytes))]
 fn put_list(points: &[BeatPoint], writer: &mut Writer) -> Result<(), FieldFault>
     requires { IsShortListOf IsPoint points.now }
     ensures put { OnOk result (writer.new ≡ writer.old ++ list_bytes point_bytes points.now) }

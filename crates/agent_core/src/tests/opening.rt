@@ -54,7 +54,8 @@ fn note(
 /// Makes a database with two beats.
 fn two_notes(alloc: Global, host: &mut MemoryHost, first: &Beat, second: &Beat) -> Result<(), Fail>
     requires forms { InForm first.now × InForm second.now }
-    requires sizes { (length (beat_bytes first.now) ≤ 2 ^ 26) × (length (beat_bytes second.now) ≤ 2 ^ 26) }
+    requires sizes { (length (beat_bytes first.now) ≤ 2 ^ 26)
+        × (length (beat_bytes second.now) ≤ 2 ^ 26) }
 {
     if !is_in_limits(&SETTINGS) {
         return Err(Fail::from(StoreFault::Memory));
@@ -171,7 +172,8 @@ fn a_copied_beat_that_does_not_go_on_is_damage(rt: HostRuntime) -> Result<(), Fa
 /// What opening answers where there are two beats with these notes.
 fn opened_two(alloc: Global, first: &Beat, second: &Beat) -> Result<Option<AgentFault>, Fail>
     requires forms { InForm first.now × InForm second.now }
-    requires sizes { (length (beat_bytes first.now) ≤ 2 ^ 26) × (length (beat_bytes second.now) ≤ 2 ^ 26) }
+    requires sizes { (length (beat_bytes first.now) ≤ 2 ^ 26)
+        × (length (beat_bytes second.now) ≤ 2 ^ 26) }
 {
     let mut host = host_of(alloc, &[])?;
     two_notes(alloc, &mut host, first, second)?;

@@ -72,8 +72,10 @@ fn a_short_write_goes_on_where_it_was(rt: HostRuntime) -> Result<(), Fail> {
 #[test]
 fn a_file_whose_sync_failed_is_lost(rt: HostRuntime) -> Result<(), Fail> {
     let mut files = Handles::new(rt.alloc(), &rt, ".", Use::ReadAndWrite)?;
-    files.handles[2] = Handle::Lost;
+    // What has no disk below it cannot be synced.
+    files.handles[2] = Handle::Open(fs::open(&rt, "/dev/null")?);
     let mut bytes = [0; 1];
+    assert!(rt; files.sync(File::JournalA).is_err());
     assert!(rt; files.len(File::JournalA).is_err());
     assert!(rt; files.read(File::JournalA, 0, &mut bytes).is_err());
     assert!(rt; files.write_at(File::JournalA, 0, b"a").is_err());

@@ -18,7 +18,7 @@ fn each_status_of_an_input_has_its_line(rt: HostRuntime) -> Result<(), Fail> {
         ),
         (
             Status::Refused(12, 13),
-            "line 12 is refused with 13, a quote that is left open; the beats before it stand; mend it, and give the text again from there",
+            "line 12 is refused with 13, a quote that is left open; the beats before it stand; mend it; run takes the text again from behind the MOMENT before it, convert from its start",
         ),
         (
             Status::Limit(7, 32),
@@ -26,7 +26,7 @@ fn each_status_of_an_input_has_its_line(rt: HostRuntime) -> Result<(), Fail> {
         ),
         (
             Status::ReadFault,
-            "standard input cannot be read; the beats before stand; give the rest of the text again",
+            "standard input cannot be read; the beats before stand; run takes the text again from behind the last MOMENT that came, convert from its start",
         ),
         (
             Status::TellFault,
@@ -34,7 +34,7 @@ fn each_status_of_an_input_has_its_line(rt: HostRuntime) -> Result<(), Fail> {
         ),
         (
             Status::InputLimit,
-            "2^40 bytes of input were taken, and no end had come; the beats before stand; give the rest of the text to another run",
+            "2^40 bytes of input were taken, and no end had come; the beats before stand; another run takes the text from behind the last MOMENT that came",
         ),
         (
             Status::Memory,
@@ -112,7 +112,7 @@ fn a_failure_has_the_reason_of_the_system(rt: HostRuntime) -> Result<(), Fail> {
     assert_says(
         &rt,
         &ending,
-        "standard input cannot be read: Is a directory (os error 21); the beats before stand; give the rest of the text again",
+        "standard input cannot be read: Is a directory (os error 21); the beats before stand; run takes the text again from behind the last MOMENT that came, convert from its start",
     )?;
     ending.status = Status::TellFault;
     assert_says(

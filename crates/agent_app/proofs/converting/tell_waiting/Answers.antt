@@ -1,5 +1,5 @@
 use Rattle.std.proofs.Common.{sym, subst}
-use Rattle.agent_core.specs.Calls.{Seen}
+use Rattle.host_model.specs.Seen.{Seen}
 use Rattle.agent_app.specs.Convert.{LeavesDisk}
 use Rattle.std.proofs.lemmas.Result.{err_from_is_err_and}
 use Rattle.agent_app.proofs.ConvertingLemmas.{front_told}
@@ -14,18 +14,18 @@ returns-in_err-tell-clause-torn g c =
 
 pub returns-in_err-tell-clause-disk : goal.returns-in_err-tell-clause-disk
 returns-in_err-tell-clause-disk g c =
-    let host : Seen = record { past = g.H.Host.past c.args.host.now; disk_faults = g.H.Host.disk_faults c.args.host.now; tell_faults = g.H.Host.tell_faults c.args.host.now } in
-    let host' : Seen = record { past = g.H.Host.past c.tell.new.self; disk_faults = g.H.Host.disk_faults c.tell.new.self; tell_faults = g.H.Host.tell_faults c.tell.new.self } in
+    let host : Seen = g.H.Host.seen c.args.host.now in
+    let host' : Seen = g.H.Host.seen c.tell.new.self in
     torn-leaves g.H.Host.honest host host' c.as_bytes.result.now (λ honest. c.in_err-tell.ensures.torn honest) c.tell.ensures.disk
 
 pub returns-clause-disk : goal.returns-clause-disk
 returns-clause-disk g c =
-    let host : Seen = record { past = g.H.Host.past c.args.host.now; disk_faults = g.H.Host.disk_faults c.args.host.now; tell_faults = g.H.Host.tell_faults c.args.host.now } in
+    let host : Seen = g.H.Host.seen c.args.host.now in
     elim c.if-not-is_empty.branch [
       | then-not-is_empty+in_ok-tell w ↦
-          let host' : Seen = record { past = g.H.Host.past w.tell.new.self; disk_faults = g.H.Host.disk_faults w.tell.new.self; tell_faults = g.H.Host.tell_faults w.tell.new.self } in
-          subst (λ h. LeavesDisk g.H.Host.honest host (record { past = g.H.Host.past h; disk_faults = g.H.Host.disk_faults h; tell_faults = g.H.Host.tell_faults h })) (sym w.host-is)
+          let host' : Seen = g.H.Host.seen w.tell.new.self in
+          subst (λ h. LeavesDisk g.H.Host.honest host (g.H.Host.seen h)) (sym w.host-is)
           (told-leaves g.H.Host.honest host host' w.as_bytes.result.now (λ honest. w.in_ok-tell.ensures.done honest) w.tell.ensures.disk)
       | else-not-is_empty w ↦
-          subst (λ h. LeavesDisk g.H.Host.honest host (record { past = g.H.Host.past h; disk_faults = g.H.Host.disk_faults h; tell_faults = g.H.Host.tell_faults h })) (sym w.host-is) (leaves-none g.H.Host.honest host)
+          subst (λ h. LeavesDisk g.H.Host.honest host (g.H.Host.seen h)) (sym w.host-is) (leaves-none g.H.Host.honest host)
     ]

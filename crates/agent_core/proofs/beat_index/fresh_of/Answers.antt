@@ -2,7 +2,7 @@ use Rattle.std.proofs.Common.{sym, ap, ◌∙◌}
 use Rattle.history.specs.Put.{put}
 use Rattle.history.specs.Refusal.{is_new_dimension}
 use Rattle.history.specs.Registry.{same_dimension}
-use Rattle.agent_core.proofs.DefinedLemmas.{dimensions-sameness}
+use Rattle.beat_entries.proofs.DefinedLemmas.{dimension-alike, dimension-itself}
 use Rattle.agent_core.proofs.IndexLemmas.{none-next, put-next_passing}
 use Rattle.agent_core.proofs.beat_index.fresh_of.Goals as goal
 use Rattle.agent_core.proofs.beat_index.fresh_of.Goals.{then-is_new_dimension+in_ok-clone+in_ok-clone-2+in_ok-define, else-is_new_dimension}
@@ -18,7 +18,7 @@ loop-dimension-preserved c =
           w.table-is ∙ w.in_ok-define.ensures.ok
           ∙ (λ i. put same_dimension c.loop-dimension.table (record { chart = w.in_ok-clone.ensures.cases i; def = w.in_ok-clone-2.ensures.cases i }))
           ∙ ap (λ table. put same_dimension table dimension) c.loop-dimension.invariant
-          ∙ put-next_passing same_dimension dimensions-sameness dimensions index dimension c.requires c.loop-dimension-test.true (sym c.dimension-item.is) test
+          ∙ put-next_passing same_dimension dimension-itself dimension-alike dimensions index dimension c.requires c.loop-dimension-test.true (sym c.dimension-item.is) test
           (sym c.is_new_dimension.ensures ∙ w.if-is_new_dimension.true)
       | else-is_new_dimension w ↦
           w.table-is ∙ c.loop-dimension.invariant

@@ -3,6 +3,8 @@ use Rattle.host_model.specs.Moments.{begins}
 use Rattle.history.specs.Registry.{Registry, same_chart, same_dimension}
 use Rattle.history.specs.Regular.{AreApart}
 use Rattle.store_core.specs.Records.{last_after}
+use Rattle.beat_points.specs.Text.{HasFew}
+use Rattle.agent_core.specs.Rules.{HasGrids}
 use Rattle.agent_core.proofs.DefinedLemmas.{charts-apart, dimensions-apart}
 use Rattle.agent_core.proofs.KeptLemmas.{climbs, holds-more, kept-after, next-after, rows-taken, spelt-after, stays}
 use Rattle.agent_core.proofs.Outcomes.{always, on_ok}
@@ -10,11 +12,11 @@ use Rattle.agent_core.proofs.keeping.add.Goals as goal
 
 pub returns-in_default-clause-any_moment : goal.returns-in_default-clause-any_moment
 returns-in_default-clause-any_moment g c true_host set h holds follows =
-    begins (λ disk images. inl (stays (g.H.Host.past c.args.host.now) c.args.store.now c.args.registry.now c.args.last_rows.now set h holds disk images))
+    begins (λ disk images. inl (stays (g.H.Host.seen c.args.host.now).past c.args.store.now c.args.registry.now c.args.last_rows.now set h holds disk images))
 
 pub returns-in_err-commit-clause-any_moment : goal.returns-in_err-commit-clause-any_moment
 returns-in_err-commit-clause-any_moment g c true_host set h holds follows =
-    let past = g.H.Host.past c.args.host.now in
+    let past = (g.H.Host.seen c.args.host.now).past in
     let store = c.args.store.now in
     let registry = c.args.registry.now in
     let lasts = c.args.last_rows.now in
@@ -22,11 +24,11 @@ returns-in_err-commit-clause-any_moment g c true_host set h holds follows =
     let kept = c.in-Ok.kept.beat in
     let is_kept = kept-after past store registry lasts set h holds c.args.moment beat follows kept c.keep.new.registry c.in-Ok.ensures.applied c.in-Ok.ensures.kept in
     let spelt = spelt-after past store registry lasts set h holds c.args.moment beat follows c.keep.new.registry c.in-Ok.ensures.applied c.in-Ok.ensures.spelt in
-    climbs past store registry lasts set h holds c.args.moment beat follows kept is_kept spelt (g.H.Host.past c.commit.new.host) (c.commit.ensures.any_moment true_host set holds.beats holds.store_of)
+    climbs past store registry lasts set h holds c.args.moment beat follows kept is_kept spelt (g.H.Host.seen c.commit.new.host).past (c.commit.ensures.any_moment true_host set holds.beats holds.store_of)
 
 pub returns-clause-any_moment : goal.returns-clause-any_moment
 returns-clause-any_moment g c true_host set h holds follows =
-    let past = g.H.Host.past c.args.host.now in
+    let past = (g.H.Host.seen c.args.host.now).past in
     let store = c.args.store.now in
     let registry = c.args.registry.now in
     let lasts = c.args.last_rows.now in
@@ -34,11 +36,11 @@ returns-clause-any_moment g c true_host set h holds follows =
     let kept = c.in-Ok.kept.beat in
     let is_kept = kept-after past store registry lasts set h holds c.args.moment beat follows kept c.keep.new.registry c.in-Ok.ensures.applied c.in-Ok.ensures.kept in
     let spelt = spelt-after past store registry lasts set h holds c.args.moment beat follows c.keep.new.registry c.in-Ok.ensures.applied c.in-Ok.ensures.spelt in
-    climbs past store registry lasts set h holds c.args.moment beat follows kept is_kept spelt (g.H.Host.past c.commit.new.host) (c.commit.ensures.any_moment true_host set holds.beats holds.store_of)
+    climbs past store registry lasts set h holds c.args.moment beat follows kept is_kept spelt (g.H.Host.seen c.commit.new.host).past (c.commit.ensures.any_moment true_host set holds.beats holds.store_of)
 
 pub returns-clause-done : goal.returns-clause-done
 returns-clause-done g c =
-    let past = g.H.Host.past c.args.host.now in
+    let past = (g.H.Host.seen c.args.host.now).past in
     let store = c.args.store.now in
     let registry = c.args.registry.now in
     let lasts = c.args.last_rows.now in
@@ -48,7 +50,7 @@ returns-clause-done g c =
     let applied = c.in-Ok.ensures.applied in
     let is_kept = kept-after past store registry lasts set h holds c.args.moment beat follows kept c.keep.new.registry applied c.in-Ok.ensures.kept in
     let spelt = spelt-after past store registry lasts set h holds c.args.moment beat follows c.keep.new.registry applied c.in-Ok.ensures.spelt in
-    holds-more past store registry lasts set h holds c.args.moment beat follows kept is_kept spelt (g.H.Host.past c.commit.new.host) c.commit.new.store c.keep.new.registry c.take_rows.new.last_rows
+    holds-more past store registry lasts set h holds c.args.moment beat follows kept is_kept spelt (g.H.Host.seen c.commit.new.host).past c.commit.new.store c.keep.new.registry c.take_rows.new.last_rows
     (c.in_ok-commit.ensures.stored true_host set holds.beats holds.store_of) applied
     (let next = next-after past store registry lasts set h holds c.args.moment beat follows c.keep.new.registry applied in
     rows-taken c.keep.new.registry lasts c.take_rows.new.last_rows h c.args.moment beat c.in-Ok.kept.numbered c.in-Ok.ensures.numbered taken next c.in-Ok.ensures.regular))
@@ -66,3 +68,9 @@ pub returns-clause-dimensions : goal.returns-clause-dimensions
 returns-clause-dimensions g c =
     always (AreApart same_dimension c.keep.new.registry.dimensions) c.take_rows.result
     (subst (λ (r : Registry). AreApart same_dimension r.dimensions) (sym c.in-Ok.ensures.applied) (dimensions-apart c.args.registry.now c.args.beat.now c.requires.dimensions))
+
+pub returns-clause-grids : goal.returns-clause-grids
+returns-clause-grids g c = always (HasGrids c.keep.new.registry) c.take_rows.result c.in-Ok.ensures.grids
+
+pub returns-clause-each : goal.returns-clause-each
+returns-clause-each g c = always (HasFew c.keep.new.registry) c.take_rows.result c.in-Ok.ensures.each

@@ -1,9 +1,16 @@
-use Rattle.std.proofs.Common.{sym, subst}
-use Rattle.history.specs.Registry.{Registry}
+use Rattle.std.proofs.Common.{◌≤◌, length, sym, subst}
+use Rattle.history.specs.Numbered.{numbered_beat}
+use Rattle.history.specs.Registry.{Registry, with_definitions}
 use Rattle.history.specs.Regular.{IsRegular}
+use Rattle.entry_codec.specs.Entries.{IsWithinLimits}
 use Rattle.beat_entries.specs.Defined.{IsDefinedIn}
+use Rattle.beat_entries.proofs.LimitLemmas.{within-limits}
+use Rattle.beat_points.specs.Text.{HasFew}
+use Rattle.agent_core.specs.Rules.{HasGrids}
 use Rattle.agent_core.proofs.DefinedLemmas.{defined-after, regular-after}
+use Rattle.agent_core.proofs.FormLemmas.{grids-after}
 use Rattle.agent_core.proofs.Outcomes.{always}
+use Rattle.agent_core.proofs.Within.{few-after, few-charts, few-dimensions, tested-memory}
 use Rattle.agent_core.proofs.keeping.keep.Goals as goal
 
 pub kept_of-requires-clause-regular : goal.kept_of-requires-clause-regular
@@ -21,3 +28,32 @@ returns-in-Ok-clause-regular c =
     always (IsRegular c.apply.new.self c.args.beat.now) c.kept_of.result
     (subst (λ (r : Registry). IsRegular r c.args.beat.now) (sym c.in-Ok.ensures.ok)
     (regular-after c.args.registry.now c.args.beat.now c.requires.is_open c.requires.has_charts c.requires.has_dimensions c.requires.few))
+
+pub kept_of-requires-clause-limits : goal.kept_of-requires-clause-limits
+kept_of-requires-clause-limits c =
+    let old = c.args.registry.now in
+    let beat = c.args.beat.now in
+    subst (λ (r : Registry). IsWithinLimits (numbered_beat r c.args.moment beat)) (sym c.in-Ok.ensures.ok)
+    (within-limits (with_definitions old beat.charts beat.dimensions) beat
+    (defined-after old beat c.requires.is_open c.requires.has_charts c.requires.charts c.requires.dimensions)
+    c.args.moment c.requires.is_open.chart_limits c.requires.is_open.dimension_limits (few-charts old beat c.requires.few_charts) (few-dimensions old beat c.requires.few))
+
+pub kept_of-requires-clause-grids : goal.kept_of-requires-clause-grids
+kept_of-requires-clause-grids c = subst HasGrids (sym c.in-Ok.ensures.ok) (grids-after c.args.registry.now c.args.beat.now c.requires.is_open c.requires.grids)
+
+pub kept_of-requires-clause-few : goal.kept_of-requires-clause-few
+kept_of-requires-clause-few c = subst (λ (r : Registry). length r.dimensions ≤ 65536) (sym c.in-Ok.ensures.ok) (few-dimensions c.args.registry.now c.args.beat.now c.requires.few)
+
+pub returns-in-Ok-clause-grids : goal.returns-in-Ok-clause-grids
+returns-in-Ok-clause-grids c =
+    always (HasGrids c.apply.new.self) c.kept_of.result
+    (subst HasGrids (sym c.in-Ok.ensures.ok) (grids-after c.args.registry.now c.args.beat.now c.requires.is_open c.requires.grids))
+
+pub untaken-requires : goal.untaken-requires
+untaken-requires c =
+    tested-memory c.args.registry.now c.args.beat.now c.requires.charts c.requires.is_open.apart_charts c.requires.each c.requires.kept_grids c.requires.few_charts c.requires.few c.in-Err.fault c.in-Err.ensures.refused
+
+pub returns-in-Ok-clause-each : goal.returns-in-Ok-clause-each
+returns-in-Ok-clause-each c =
+    always (HasFew c.apply.new.self) c.kept_of.result
+    (subst HasFew (sym c.in-Ok.ensures.ok) (few-after c.args.registry.now c.args.beat.now c.requires.each c.requires.few))

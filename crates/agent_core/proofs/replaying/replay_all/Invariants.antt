@@ -6,6 +6,8 @@ use Rattle.history.specs.Regular.{AreApart}
 use Rattle.entry_codec.specs.declared.entry.Settings.{Settings}
 use Rattle.store_core.specs.declared.beat.Beat.{Beat as StoreBeat}
 use Rattle.agent_core.specs.Replay.{HasTaken, IsReplaying}
+use Rattle.beat_points.specs.Text.{HasFew}
+use Rattle.agent_core.specs.Rules.{HasGrids}
 use Rattle.agent_core.proofs.replaying.replay_all.Given as goal
 
 abbrev pub decreases-loop : goal.decreases-loop
@@ -20,4 +22,6 @@ invariant-loop l = record {
   journal : l.store.journal ≡ l.initial.store.journal;
   charts : AreApart same_chart l.left.registry.charts;
   dimensions : AreApart same_dimension l.left.registry.dimensions;
+  grids : HasGrids l.left.registry;
+  each : HasFew l.left.registry;
 }

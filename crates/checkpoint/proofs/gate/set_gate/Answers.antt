@@ -12,8 +12,8 @@ pub returns-in_err-write_at-clause-any_moment : goal.returns-in_err-write_at-cla
 returns-in_err-write_at-clause-any_moment g c h =
     let file = c.args.file in
     let bytes = c.args.gate ∷ [] in
-    let old = g.H.Host.past c.args.host.now in
-    let new = g.H.Host.past c.write_at.new.self in
+    let old = (g.H.Host.seen c.args.host.now).past in
+    let new = (g.H.Host.seen c.write_at.new.self).past in
     behind_moments file old new (c.requires.inside h)
     (write_within g.H.Host.honest c.write_at.result file 0 1 0 bytes (written (contents (of file old)) 0 bytes) old old new h (omega arith) (omega arith)
     c.write_at.ensures.done c.write_at.ensures.torn
@@ -23,9 +23,9 @@ pub returns-clause-any_moment : goal.returns-clause-any_moment
 returns-clause-any_moment g c h =
     let file = c.args.file in
     let bytes = c.args.gate ∷ [] in
-    let old = g.H.Host.past c.args.host.now in
-    let set = g.H.Host.past c.write_at.new.self in
-    then_sync (KeepsBehindGate (contents (of file old))) g.H.Host.honest c.sync.result file old set (g.H.Host.past c.sync.new.self) h c.sync.ensures.done c.sync.ensures.torn
+    let old = (g.H.Host.seen c.args.host.now).past in
+    let set = (g.H.Host.seen c.write_at.new.self).past in
+    then_sync (KeepsBehindGate (contents (of file old))) g.H.Host.honest c.sync.result file old set (g.H.Host.seen c.sync.new.self).past h c.sync.ensures.done c.sync.ensures.torn
     (g.met.H.Host.reads_an_image c.write_at.new.self file h)
     (behind_moments file old set (c.requires.inside h)
     (write_within g.H.Host.honest c.write_at.result file 0 1 0 bytes (written (contents (of file old)) 0 bytes) old old set h (omega arith) (omega arith)
@@ -36,17 +36,17 @@ pub returns-in_err-write_at-clause-bound : goal.returns-in_err-write_at-clause-b
 returns-in_err-write_at-clause-bound g c size fits h short =
     let file = c.args.file in
     let bytes = c.args.gate ∷ [] in
-    let old = g.H.Host.past c.args.host.now in
-    within_write g.H.Host.honest c.write_at.result size file 0 1 (written (contents (of file old)) 0 bytes) old old (g.H.Host.past c.write_at.new.self) h (omega arith) c.write_at.ensures.done c.write_at.ensures.torn
+    let old = (g.H.Host.seen c.args.host.now).past in
+    within_write g.H.Host.honest c.write_at.result size file 0 1 (written (contents (of file old)) 0 bytes) old old (g.H.Host.seen c.write_at.new.self).past h (omega arith) c.write_at.ensures.done c.write_at.ensures.torn
     (begins short)
 
 pub returns-clause-bound : goal.returns-clause-bound
 returns-clause-bound g c size fits h short =
     let file = c.args.file in
     let bytes = c.args.gate ∷ [] in
-    let old = g.H.Host.past c.args.host.now in
-    let set = g.H.Host.past c.write_at.new.self in
-    within_sync g.H.Host.honest c.sync.result size file old set (g.H.Host.past c.sync.new.self) h c.sync.ensures.done c.sync.ensures.torn
+    let old = (g.H.Host.seen c.args.host.now).past in
+    let set = (g.H.Host.seen c.write_at.new.self).past in
+    within_sync g.H.Host.honest c.sync.result size file old set (g.H.Host.seen c.sync.new.self).past h c.sync.ensures.done c.sync.ensures.torn
     (g.met.H.Host.reads_an_image c.write_at.new.self file h)
     (within_write g.H.Host.honest c.write_at.result size file 0 1 (written (contents (of file old)) 0 bytes) old old set h (omega arith) c.write_at.ensures.done c.write_at.ensures.torn
     (begins short))

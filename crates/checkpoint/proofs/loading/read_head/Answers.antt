@@ -7,11 +7,11 @@ use Rattle.checkpoint.proofs.loading.read_head.Goals as goal
 pub returns-then-branch-lt-HEAD-clause-head : goal.returns-then-branch-lt-HEAD-clause-head
 returns-then-branch-lt-HEAD-clause-head g c h =
     let end = c.in_ok-read.ensures.end h in
-    sym (head_in-shut c.args.odd (contents (of c.args.file (g.H.Host.past c.args.host.now))) (inl (omega (arith, end, c.if-branch-lt-HEAD.true))))
+    sym (head_in-shut c.args.odd (contents (of c.args.file (g.H.Host.seen c.args.host.now).past)) (inl (omega (arith, end, c.if-branch-lt-HEAD.true))))
 
 pub returns-clause-head : goal.returns-clause-head
 returns-clause-head g c h =
     let end = c.in_ok-read.ensures.end h in
     c.head_of.ensures
-    ∙ head_in-read c.args.odd c.in_ok-read.field-0 (contents (of c.args.file (g.H.Host.past c.args.host.now))) c.read.new.into _
+    ∙ head_in-read c.args.odd c.in_ok-read.field-0 (contents (of c.args.file (g.H.Host.seen c.args.host.now).past)) c.read.new.into _
     (omega (arith, end, c.if-branch-lt-HEAD.false)) (omega (arith, end, c.if-branch-lt-HEAD.false)) refl (c.in_ok-read.ensures.bytes h)

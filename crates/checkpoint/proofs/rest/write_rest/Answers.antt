@@ -14,8 +14,8 @@ pub returns-in_err-write_at-clause-any_moment : goal.returns-in_err-write_at-cla
 returns-in_err-write_at-clause-any_moment g c h =
     let file = c.args.file in
     let head = c.args.head in
-    let old = g.H.Host.past c.args.host.now in
-    let first = g.H.Host.past c.write_at.new.self in
+    let old = (g.H.Host.seen c.args.host.now).past in
+    let first = (g.H.Host.seen c.write_at.new.self).past in
     gate_moments file old first (c.requires.inside h)
     (then_from g.H.Host.honest c.write_at.result file 1 1 head (written (contents (of file old)) 1 head) old old first h (omega arith) c.write_at.ensures.done c.write_at.ensures.torn
     (begins (RunsFrom-start file 1 old (c.requires.stable h))))
@@ -25,9 +25,9 @@ returns-in_err-write_at-2-clause-any_moment g c h =
     let file = c.args.file in
     let head = c.args.head in
     let body = c.args.body.now in
-    let old = g.H.Host.past c.args.host.now in
-    let first = g.H.Host.past c.write_at.new.self in
-    let second = g.H.Host.past c.write_at-2.new.self in
+    let old = (g.H.Host.seen c.args.host.now).past in
+    let first = (g.H.Host.seen c.write_at.new.self).past in
+    let second = (g.H.Host.seen c.write_at-2.new.self).past in
     gate_moments file old second (c.requires.inside h)
     (then_from g.H.Host.honest c.write_at-2.result file 1 17 body (written (contents (of file first)) 17 body) old first second h (omega arith) c.write_at-2.ensures.done c.write_at-2.ensures.torn
     (then_from g.H.Host.honest c.write_at.result file 1 1 head (written (contents (of file old)) 1 head) old old first h (omega arith) c.write_at.ensures.done c.write_at.ensures.torn
@@ -38,9 +38,9 @@ cut-requires g c h =
     let file = c.args.file in
     let head = c.args.head in
     let body = c.args.body.now in
-    let old = g.H.Host.past c.args.host.now in
-    let first = g.H.Host.past c.write_at.new.self in
-    let second = g.H.Host.past c.write_at-2.new.self in
+    let old = (g.H.Host.seen c.args.host.now).past in
+    let first = (g.H.Host.seen c.write_at.new.self).past in
+    let second = (g.H.Host.seen c.write_at-2.new.self).past in
     rest_reaches head body (contents (of file old)) (contents (of file first)) (contents (of file second)) (search rules) (c.requires.inside h)
     (reads_after file (Wrote 1 (length head) (written (contents (of file old)) 1 head)) old first (c.in_ok-write_at.ensures.done h))
     (reads_after file (Wrote 17 (length body) (written (contents (of file first)) 17 body)) first second (c.in_ok-write_at-2.ensures.done h))
@@ -50,10 +50,10 @@ returns-in_err-cut-clause-any_moment g c h =
     let file = c.args.file in
     let head = c.args.head in
     let body = c.args.body.now in
-    let old = g.H.Host.past c.args.host.now in
-    let first = g.H.Host.past c.write_at.new.self in
-    let second = g.H.Host.past c.write_at-2.new.self in
-    let third = g.H.Host.past c.cut.new.self in
+    let old = (g.H.Host.seen c.args.host.now).past in
+    let first = (g.H.Host.seen c.write_at.new.self).past in
+    let second = (g.H.Host.seen c.write_at-2.new.self).past in
+    let third = (g.H.Host.seen c.cut.new.self).past in
     gate_moments file old third (c.requires.inside h)
     (then_cut g.H.Host.honest c.cut.result file 1 (17 + length body) (take (17 + length body) (contents (of file second))) old second third h (omega arith) c.cut.ensures.done c.cut.ensures.torn
     (then_from g.H.Host.honest c.write_at-2.result file 1 17 body (written (contents (of file first)) 17 body) old first second h (omega arith) c.write_at-2.ensures.done c.write_at-2.ensures.torn
@@ -65,11 +65,11 @@ returns-clause-any_moment g c h =
     let file = c.args.file in
     let head = c.args.head in
     let body = c.args.body.now in
-    let old = g.H.Host.past c.args.host.now in
-    let first = g.H.Host.past c.write_at.new.self in
-    let second = g.H.Host.past c.write_at-2.new.self in
-    let third = g.H.Host.past c.cut.new.self in
-    then_sync (KeepsGate (contents (of file old))) g.H.Host.honest c.sync.result file old third (g.H.Host.past c.sync.new.self) h c.sync.ensures.done c.sync.ensures.torn
+    let old = (g.H.Host.seen c.args.host.now).past in
+    let first = (g.H.Host.seen c.write_at.new.self).past in
+    let second = (g.H.Host.seen c.write_at-2.new.self).past in
+    let third = (g.H.Host.seen c.cut.new.self).past in
+    then_sync (KeepsGate (contents (of file old))) g.H.Host.honest c.sync.result file old third (g.H.Host.seen c.sync.new.self).past h c.sync.ensures.done c.sync.ensures.torn
     (g.met.H.Host.reads_an_image c.cut.new.self file h)
     (gate_moments file old third (c.requires.inside h)
     (then_cut g.H.Host.honest c.cut.result file 1 (17 + length body) (take (17 + length body) (contents (of file second))) old second third h (omega arith) c.cut.ensures.done c.cut.ensures.torn
@@ -82,13 +82,13 @@ returns-clause-whole g c =
     let file = c.args.file in
     let head = c.args.head in
     let body = c.args.body.now in
-    let old = g.H.Host.past c.args.host.now in
-    let first = g.H.Host.past c.write_at.new.self in
-    let second = g.H.Host.past c.write_at-2.new.self in
-    let third = g.H.Host.past c.cut.new.self in
+    let old = (g.H.Host.seen c.args.host.now).past in
+    let first = (g.H.Host.seen c.write_at.new.self).past in
+    let second = (g.H.Host.seen c.write_at-2.new.self).past in
+    let third = (g.H.Host.seen c.cut.new.self).past in
     on_ok_weaker c.sync.result
     (λ synced h.
-    reads_after file Synced third (g.H.Host.past c.sync.new.self) (synced h)
+    reads_after file Synced third (g.H.Host.seen c.sync.new.self).past (synced h)
     ∙ rested head body (contents (of file old)) (contents (of file first)) (contents (of file second)) (contents (of file third))
     (search rules) (c.requires.inside h)
     (reads_after file (Wrote 1 (length head) (written (contents (of file old)) 1 head)) old first (c.in_ok-write_at.ensures.done h))
@@ -102,8 +102,8 @@ returns-in_err-write_at-clause-bound g c size fits h short =
     let head = c.args.head in
     let body = c.args.body.now in
     let head_size : length head ≡ 16 = search rules in
-    let old = g.H.Host.past c.args.host.now in
-    let first = g.H.Host.past c.write_at.new.self in
+    let old = (g.H.Host.seen c.args.host.now).past in
+    let first = (g.H.Host.seen c.write_at.new.self).past in
     within_write g.H.Host.honest c.write_at.result size file 1 (length head) (written (contents (of file old)) 1 head) old old first h (omega arith) c.write_at.ensures.done c.write_at.ensures.torn
     (begins short)
 
@@ -113,9 +113,9 @@ returns-in_err-write_at-2-clause-bound g c size fits h short =
     let head = c.args.head in
     let body = c.args.body.now in
     let head_size : length head ≡ 16 = search rules in
-    let old = g.H.Host.past c.args.host.now in
-    let first = g.H.Host.past c.write_at.new.self in
-    let second = g.H.Host.past c.write_at-2.new.self in
+    let old = (g.H.Host.seen c.args.host.now).past in
+    let first = (g.H.Host.seen c.write_at.new.self).past in
+    let second = (g.H.Host.seen c.write_at-2.new.self).past in
     within_write g.H.Host.honest c.write_at-2.result size file 17 (length body) (written (contents (of file first)) 17 body) old first second h (omega arith) c.write_at-2.ensures.done c.write_at-2.ensures.torn
     (within_write g.H.Host.honest c.write_at.result size file 1 (length head) (written (contents (of file old)) 1 head) old old first h (omega arith) c.write_at.ensures.done c.write_at.ensures.torn
     (begins short))
@@ -126,10 +126,10 @@ returns-in_err-cut-clause-bound g c size fits h short =
     let head = c.args.head in
     let body = c.args.body.now in
     let head_size : length head ≡ 16 = search rules in
-    let old = g.H.Host.past c.args.host.now in
-    let first = g.H.Host.past c.write_at.new.self in
-    let second = g.H.Host.past c.write_at-2.new.self in
-    let third = g.H.Host.past c.cut.new.self in
+    let old = (g.H.Host.seen c.args.host.now).past in
+    let first = (g.H.Host.seen c.write_at.new.self).past in
+    let second = (g.H.Host.seen c.write_at-2.new.self).past in
+    let third = (g.H.Host.seen c.cut.new.self).past in
     within_cut g.H.Host.honest c.cut.result size file (17 + length body) (take (17 + length body) (contents (of file second))) old second third h c.cut.ensures.done c.cut.ensures.torn
     (within_write g.H.Host.honest c.write_at-2.result size file 17 (length body) (written (contents (of file first)) 17 body) old first second h (omega arith) c.write_at-2.ensures.done c.write_at-2.ensures.torn
     (within_write g.H.Host.honest c.write_at.result size file 1 (length head) (written (contents (of file old)) 1 head) old old first h (omega arith) c.write_at.ensures.done c.write_at.ensures.torn
@@ -141,11 +141,11 @@ returns-clause-bound g c size fits h short =
     let head = c.args.head in
     let body = c.args.body.now in
     let head_size : length head ≡ 16 = search rules in
-    let old = g.H.Host.past c.args.host.now in
-    let first = g.H.Host.past c.write_at.new.self in
-    let second = g.H.Host.past c.write_at-2.new.self in
-    let third = g.H.Host.past c.cut.new.self in
-    within_sync g.H.Host.honest c.sync.result size file old third (g.H.Host.past c.sync.new.self) h c.sync.ensures.done c.sync.ensures.torn
+    let old = (g.H.Host.seen c.args.host.now).past in
+    let first = (g.H.Host.seen c.write_at.new.self).past in
+    let second = (g.H.Host.seen c.write_at-2.new.self).past in
+    let third = (g.H.Host.seen c.cut.new.self).past in
+    within_sync g.H.Host.honest c.sync.result size file old third (g.H.Host.seen c.sync.new.self).past h c.sync.ensures.done c.sync.ensures.torn
     (g.met.H.Host.reads_an_image c.cut.new.self file h)
     (within_cut g.H.Host.honest c.cut.result size file (17 + length body) (take (17 + length body) (contents (of file second))) old second third h c.cut.ensures.done c.cut.ensures.torn
     (within_write g.H.Host.honest c.write_at-2.result size file 17 (length body) (written (contents (of file first)) 17 body) old first second h (omega arith) c.write_at-2.ensures.done c.write_at-2.ensures.torn

@@ -8,14 +8,14 @@ use Rattle.checkpoint.proofs.switching.replace.Goals as goal
 
 pub returns-in_err-close_gate-clause-any_moment : goal.returns-in_err-close_gate-clause-any_moment
 returns-in_err-close_gate-clause-any_moment g c h =
-    let past = of c.args.file (g.H.Host.past c.args.host.now) in
+    let past = of c.args.file (g.H.Host.seen c.args.host.now).past in
     weakened (λ _ held bytes image. closing_replaced past (1 ∷ (c.args.head ++ c.args.body.now)) bytes (held bytes image)) (c.close_gate.ensures.any_moment h)
 
 pub returns-in_err-write_rest-clause-any_moment : goal.returns-in_err-write_rest-clause-any_moment
 returns-in_err-write_rest-clause-any_moment g c h =
     let file = c.args.file in
-    let past = of file (g.H.Host.past c.args.host.now) in
-    let closed = contents (of file (g.H.Host.past c.close_gate.new.host)) in
+    let past = of file (g.H.Host.seen c.args.host.now).past in
+    let closed = contents (of file (g.H.Host.seen c.close_gate.new.host).past) in
     joined
     (weakened (λ _ held bytes image. closing_replaced past (1 ∷ (c.args.head ++ c.args.body.now)) bytes (held bytes image)) (c.close_gate.ensures.any_moment h))
     (weakened (λ _ held bytes image. inr (inl (closed_still closed bytes (c.in_ok-close_gate.ensures.closed h) (held bytes image)))) (c.write_rest.ensures.any_moment h))
@@ -24,9 +24,9 @@ pub returns-clause-any_moment : goal.returns-clause-any_moment
 returns-clause-any_moment g c h =
     let file = c.args.file in
     let rest = c.args.head ++ c.args.body.now in
-    let past = of file (g.H.Host.past c.args.host.now) in
-    let closed = contents (of file (g.H.Host.past c.close_gate.new.host)) in
-    let behind = contents (of file (g.H.Host.past c.write_rest.new.host)) in
+    let past = of file (g.H.Host.seen c.args.host.now).past in
+    let closed = contents (of file (g.H.Host.seen c.close_gate.new.host).past) in
+    let behind = contents (of file (g.H.Host.seen c.write_rest.new.host).past) in
     joined
     (joined
     (weakened (λ _ held bytes image. closing_replaced past (1 ∷ rest) bytes (held bytes image)) (c.close_gate.ensures.any_moment h))
@@ -36,10 +36,10 @@ returns-clause-any_moment g c h =
 pub returns-clause-whole : goal.returns-clause-whole
 returns-clause-whole g c =
     let file = c.args.file in
-    let closed = contents (of file (g.H.Host.past c.close_gate.new.host)) in
-    let behind = contents (of file (g.H.Host.past c.write_rest.new.host)) in
+    let closed = contents (of file (g.H.Host.seen c.close_gate.new.host).past) in
+    let behind = contents (of file (g.H.Host.seen c.write_rest.new.host).past) in
     on_ok_weaker c.set_gate.result
-    (λ set h. whole_open (c.args.head ++ c.args.body.now) closed behind (contents (of file (g.H.Host.past c.set_gate.new.host))) (c.in_ok-close_gate.ensures.reaches h) (c.in_ok-write_rest.ensures.whole h) (set h))
+    (λ set h. whole_open (c.args.head ++ c.args.body.now) closed behind (contents (of file (g.H.Host.seen c.set_gate.new.host).past)) (c.in_ok-close_gate.ensures.reaches h) (c.in_ok-write_rest.ensures.whole h) (set h))
     c.set_gate.ensures.set
 
 pub returns-in_err-close_gate-clause-bound : goal.returns-in_err-close_gate-clause-bound

@@ -13,7 +13,7 @@ returns-then-is_err-clause-any_moment g c h before held next =
     let number = c.args.number in
     let body = c.args.body.now in
     let head = c.head_bytes-head.result in
-    switch_moments_of number body (1 ∷ (head ++ body)) c.slot_file_of.result (g.H.Host.past c.args.host.now) (g.H.Host.past c.replace.new.host) before
+    switch_moments_of number body (1 ∷ (head ++ body)) c.slot_file_of.result (g.H.Host.seen c.args.host.now).past (g.H.Host.seen c.replace.new.host).past before
     c.slot_file_of.ensures (whole_bytes number head body c.head_bytes-head.ensures.bytes)
     c.ranges.number.fits c.head_bytes-head.ensures.fits next
     (g.met.H.Host.reads_an_image c.args.host.now c.slot_file_of.result h) (c.replace.ensures.only_here h) held (c.replace.ensures.any_moment h)
@@ -23,7 +23,7 @@ returns-clause-any_moment g c h before held next =
     let number = c.args.number in
     let body = c.args.body.now in
     let head = c.head_bytes-head.result in
-    switch_moments_of number body (1 ∷ (head ++ body)) c.slot_file_of.result (g.H.Host.past c.args.host.now) (g.H.Host.past c.replace.new.host) before
+    switch_moments_of number body (1 ∷ (head ++ body)) c.slot_file_of.result (g.H.Host.seen c.args.host.now).past (g.H.Host.seen c.replace.new.host).past before
     c.slot_file_of.ensures (whole_bytes number head body c.head_bytes-head.ensures.bytes)
     c.ranges.number.fits c.head_bytes-head.ensures.fits next
     (g.met.H.Host.reads_an_image c.args.host.now c.slot_file_of.result h) (c.replace.ensures.only_here h) held (c.replace.ensures.any_moment h)
@@ -33,7 +33,7 @@ returns-clause-switched g c h before held next =
     let number = c.args.number in
     let body = c.args.body.now in
     let head = c.head_bytes-head.result in
-    switch_done_of number body (1 ∷ (head ++ body)) c.slot_file_of.result (g.H.Host.past c.args.host.now) (g.H.Host.past c.replace.new.host) before
+    switch_done_of number body (1 ∷ (head ++ body)) c.slot_file_of.result (g.H.Host.seen c.args.host.now).past (g.H.Host.seen c.replace.new.host).past before
     c.slot_file_of.ensures (whole_bytes number head body c.head_bytes-head.ensures.bytes)
     c.ranges.number.fits c.head_bytes-head.ensures.fits next
     (g.met.H.Host.reads_an_image c.args.host.now c.slot_file_of.result h) (c.replace.ensures.only_here h) held
@@ -44,18 +44,18 @@ pub returns-clause-whole : goal.returns-clause-whole
 returns-clause-whole g c h =
     let body = c.args.body.now in
     let head = c.head_bytes-head.result in
-    let new = g.H.Host.past c.replace.new.host in
+    let new = (g.H.Host.seen c.replace.new.host).past in
     subst (λ (file : File). contents (of file new) ≡ slot_bytes 1 c.args.number body) c.slot_file_of.ensures
     (on_ok_here c.replace.result (sym c.if-is_err.ensures.value) c.replace.ensures.whole h ∙ whole_bytes c.args.number head body c.head_bytes-head.ensures.bytes)
 
 pub returns-then-is_err-clause-bound : goal.returns-then-is_err-clause-bound
 returns-then-is_err-clause-bound g c size fits h =
-    let old = g.H.Host.past c.args.host.now in
-    subst (λ (file : File). greatest (of file old) ≤ size → Throughout (λ (past : List Event). greatest (of file past) ≤ size) old (g.H.Host.past c.replace.new.host)) c.slot_file_of.ensures
+    let old = (g.H.Host.seen c.args.host.now).past in
+    subst (λ (file : File). greatest (of file old) ≤ size → Throughout (λ (past : List Event). greatest (of file past) ≤ size) old (g.H.Host.seen c.replace.new.host).past) c.slot_file_of.ensures
     (c.replace.ensures.bound size fits h)
 
 pub returns-clause-bound : goal.returns-clause-bound
 returns-clause-bound g c size fits h =
-    let old = g.H.Host.past c.args.host.now in
-    subst (λ (file : File). greatest (of file old) ≤ size → Throughout (λ (past : List Event). greatest (of file past) ≤ size) old (g.H.Host.past c.replace.new.host)) c.slot_file_of.ensures
+    let old = (g.H.Host.seen c.args.host.now).past in
+    subst (λ (file : File). greatest (of file old) ≤ size → Throughout (λ (past : List Event). greatest (of file past) ≤ size) old (g.H.Host.seen c.replace.new.host).past) c.slot_file_of.ensures
     (c.replace.ensures.bound size fits h)

@@ -10,8 +10,8 @@ pub returns-in_err-write_at-clause-any_moment : goal.returns-in_err-write_at-cla
 returns-in_err-write_at-clause-any_moment g c h =
     let file = c.args.file in
     let gate = c.args.gate in
-    let old = g.H.Host.past c.args.host.now in
-    let new = g.H.Host.past c.write_at.new.self in
+    let old = (g.H.Host.seen c.args.host.now).past in
+    let new = (g.H.Host.seen c.write_at.new.self).past in
     beside_moments file gate old new (c.requires.inside h)
     (write_within g.H.Host.honest c.write_at.result file gate (gate + 1) gate (1 ∷ []) (written (contents (of file old)) gate (1 ∷ [])) old old new h (omega arith) (omega arith)
     c.write_at.ensures.done c.write_at.ensures.torn
@@ -21,9 +21,9 @@ pub returns-clause-any_moment : goal.returns-clause-any_moment
 returns-clause-any_moment g c h =
     let file = c.args.file in
     let gate = c.args.gate in
-    let old = g.H.Host.past c.args.host.now in
-    let set_open = g.H.Host.past c.write_at.new.self in
-    then_sync (KeepsBeside gate (contents (of file old))) g.H.Host.honest c.sync.result file old set_open (g.H.Host.past c.sync.new.self) h c.sync.ensures.done c.sync.ensures.torn
+    let old = (g.H.Host.seen c.args.host.now).past in
+    let set_open = (g.H.Host.seen c.write_at.new.self).past in
+    then_sync (KeepsBeside gate (contents (of file old))) g.H.Host.honest c.sync.result file old set_open (g.H.Host.seen c.sync.new.self).past h c.sync.ensures.done c.sync.ensures.torn
     (g.met.H.Host.reads_an_image c.write_at.new.self file h)
     (beside_moments file gate old set_open (c.requires.inside h)
     (write_within g.H.Host.honest c.write_at.result file gate (gate + 1) gate (1 ∷ []) (written (contents (of file old)) gate (1 ∷ [])) old old set_open h (omega arith) (omega arith)

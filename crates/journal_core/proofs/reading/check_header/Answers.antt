@@ -7,7 +7,7 @@ use Rattle.journal_core.proofs.reading.check_header.Goals as goal
 
 pub returns-then-same-lt16-clause-broken : goal.returns-then-same-lt16-clause-broken
 returns-then-same-lt16-clause-broken g c h =
-    let bytes = contents (of c.args.file (g.H.Host.past c.args.host.now)) in
+    let bytes = contents (of c.args.file (g.H.Host.seen c.args.host.now).past) in
     let count = c.in_ok-count.count in
     let same = c.same_front-same.result in
     let head : c.header_of.result ≡ header c.args.generation = c.header_of.ensures in

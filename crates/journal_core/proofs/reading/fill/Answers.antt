@@ -9,7 +9,7 @@ use Rattle.journal_core.proofs.reading.fill.Goals.{then-not-covers+in_ok-read, e
 
 pub returns-clause-bytes : goal.returns-clause-bytes
 returns-clause-bytes g c h =
-    let bytes = contents (of c.args.file (g.H.Host.past c.args.host.now)) in
+    let bytes = contents (of c.args.file (g.H.Host.seen c.args.host.now).past) in
     let piece = c.if-not-covers.piece in
     let ahead : ReadsAhead bytes piece =
     elim c.if-not-covers.branch [

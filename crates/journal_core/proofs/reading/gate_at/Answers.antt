@@ -6,7 +6,7 @@ use Rattle.journal_core.proofs.reading.gate_at.Goals as goal
 
 pub returns-clause-begins : goal.returns-clause-begins
 returns-clause-begins g c h =
-    let bytes = contents (of c.args.file (g.H.Host.past c.args.host.now)) in
+    let bytes = contents (of c.args.file (g.H.Host.seen c.args.host.now).past) in
     let rest = drop c.args.place bytes in
     let is_count = c.in_ok-count.ensures.end h in
     let count : c.in_ok-count.count ≡ min 5 (length rest) = is_count ∙ ap (λ (n : ℕ). min 5 n) (omega (arith, c.requires.size h, length-drop c.args.place bytes)) in

@@ -10,7 +10,7 @@ use Rattle.journal_core.proofs.reading.read_journal.Goals as goal
 pub returns-clause-broken : goal.returns-clause-broken
 returns-clause-broken g c =
     let file = c.args.file in
-    let old = g.H.Host.past c.args.host.now in
+    let old = (g.H.Host.seen c.args.host.now).past in
     MatchResult-weaker c.read_records.result c.read_records.ensures.broken
     (λ read here. here)
     (λ fault. IfNotAJournal-weaker fault

@@ -9,7 +9,7 @@ use Rattle.journal_core.proofs.reading.read_records.Goals as goal
 
 pub returns-in_err-body-clause-broken : goal.returns-in_err-body-clause-broken
 returns-in_err-body-clause-broken g c =
-    let bytes = contents (of c.args.file (g.H.Host.past c.args.host.now)) in
+    let bytes = contents (of c.args.file (g.H.Host.seen c.args.host.now).past) in
     let place = c.loop-records.place in
     let p = err_from_is_err_and c.from_residual.result c.from_residual.ensures.1 in
     rw (p.1, p.2)
@@ -30,7 +30,7 @@ loop-records-preserved g c =
       read_ahead = λ h.
           subst (λ (past : List Event). ReadsAhead (contents (of c.args.file past)) c.read_next.new.piece) (c.loop-records.invariant.same h) (c.in_ok-body.ensures.ahead h);
       read = λ h.
-          let bytes = contents (of c.args.file (g.H.Host.past c.args.host.now)) in
+          let bytes = contents (of c.args.file (g.H.Host.seen c.args.host.now).past) in
           let body = c.in-Some.body in
           let begins = rw c.in-Some.is at (c.in_ok-body.ensures.begins h) in
           let here =
@@ -38,6 +38,6 @@ loop-records-preserved g c =
           subst (λ (n : ℕ). Reached bytes (place + (5 + n)) c.keep.new.records) (sym c.len.ensures)
           (subst (Reached bytes (place + (5 + length body))) (sym c.in_ok-keep.ensures.kept)
           (reached_more bytes place c.loop-records.records body (c.loop-records.invariant.read h) here within.0));
-      later = omega (arith, c.loop-records.invariant.later, c.read_next.ensures.cause.later);
+      unfailed = c.in_ok-body.ensures.cause.stays (λ e. absurd cc) ∙ c.loop-records.invariant.unfailed;
       said = c.read_next.ensures.output ∙ c.loop-records.invariant.said;
     }

@@ -12,16 +12,16 @@ pub record Keeps (honest : Type 0) (behind inside past : Type 0) (ahead reached 
   pub same : honest → past
   pub read_ahead : honest → ahead
   pub read : honest → reached
-  pub later : faults
+  pub unfailed : faults
   pub said : output
 
 abbrev pub invariant-loop-records : goal.invariant-loop-records
 invariant-loop-records g l =
-    Keeps g.H.Host.honest (16 ≤ l.place) (l.place ≤ l.size) (g.H.Host.past l.host ≡ g.H.Host.past l.fn.host)
-    (ReadsAhead (contents (of l.file (g.H.Host.past l.fn.host))) l.piece)
-    (Reached (contents (of l.file (g.H.Host.past l.fn.host))) l.place l.records)
-    (g.H.Host.disk_faults l.fn.host ≤ g.H.Host.disk_faults l.host)
-    (g.H.Host.tell_faults l.host ≡ g.H.Host.tell_faults l.fn.host)
+    Keeps g.H.Host.honest (16 ≤ l.place) (l.place ≤ l.size) ((g.H.Host.seen l.host).past ≡ (g.H.Host.seen l.fn.host).past)
+    (ReadsAhead (contents (of l.file (g.H.Host.seen l.fn.host).past)) l.piece)
+    (Reached (contents (of l.file (g.H.Host.seen l.fn.host).past)) l.place l.records)
+    ((g.H.Host.seen l.host).disk_faults ≡ (g.H.Host.seen l.fn.host).disk_faults)
+    ((g.H.Host.seen l.host).tell_faults ≡ (g.H.Host.seen l.fn.host).tell_faults)
 
 abbrev pub decreases-loop-records : goal.decreases-loop-records
 decreases-loop-records g l = l.size - l.place

@@ -12,26 +12,26 @@ use Rattle.journal_core.proofs.start.put_down.Goals as goal
 pub returns-in_err-cut-clause-any_moment : goal.returns-in_err-cut-clause-any_moment
 returns-in_err-cut-clause-any_moment g c h =
     let file = c.args.file in
-    let old = g.H.Host.past c.args.host.now in
-    only_changed g.H.Host.honest c.cut.result file (Cut 0 (take 0 (contents (of file old)))) (λ now. Cut 0 now) old old (g.H.Host.past c.cut.new.self) h c.cut.ensures.done c.cut.ensures.torn
+    let old = (g.H.Host.seen c.args.host.now).past in
+    only_changed g.H.Host.honest c.cut.result file (Cut 0 (take 0 (contents (of file old)))) (λ now. Cut 0 now) old old (g.H.Host.seen c.cut.new.self).past h c.cut.ensures.done c.cut.ensures.torn
     (begins (OnlyOn-same file old))
 
 pub returns-in_err-write_at-clause-any_moment : goal.returns-in_err-write_at-clause-any_moment
 returns-in_err-write_at-clause-any_moment g c h =
     let file = c.args.file in
-    let old = g.H.Host.past c.args.host.now in
-    let cut = g.H.Host.past c.cut.new.self in
-    only_changed g.H.Host.honest c.write_at.result file (Wrote 0 (length c.args.head) (written (contents (of file cut)) 0 c.args.head)) (λ now. Wrote 0 (length c.args.head) now) old cut (g.H.Host.past c.write_at.new.self) h c.write_at.ensures.done c.write_at.ensures.torn
+    let old = (g.H.Host.seen c.args.host.now).past in
+    let cut = (g.H.Host.seen c.cut.new.self).past in
+    only_changed g.H.Host.honest c.write_at.result file (Wrote 0 (length c.args.head) (written (contents (of file cut)) 0 c.args.head)) (λ now. Wrote 0 (length c.args.head) now) old cut (g.H.Host.seen c.write_at.new.self).past h c.write_at.ensures.done c.write_at.ensures.torn
     (only_changed g.H.Host.honest c.cut.result file (Cut 0 (take 0 (contents (of file old)))) (λ now. Cut 0 now) old old cut h c.cut.ensures.done c.cut.ensures.torn
     (begins (OnlyOn-same file old)))
 
 pub returns-in_err-write_at-2-clause-any_moment : goal.returns-in_err-write_at-2-clause-any_moment
 returns-in_err-write_at-2-clause-any_moment g c h =
     let file = c.args.file in
-    let old = g.H.Host.past c.args.host.now in
-    let cut = g.H.Host.past c.cut.new.self in
-    let headed = g.H.Host.past c.write_at.new.self in
-    only_changed g.H.Host.honest c.write_at-2.result file (Wrote 16 1 (written (contents (of file headed)) 16 (0 ∷ []))) (λ now. Wrote 16 1 now) old headed (g.H.Host.past c.write_at-2.new.self) h c.write_at-2.ensures.done c.write_at-2.ensures.torn
+    let old = (g.H.Host.seen c.args.host.now).past in
+    let cut = (g.H.Host.seen c.cut.new.self).past in
+    let headed = (g.H.Host.seen c.write_at.new.self).past in
+    only_changed g.H.Host.honest c.write_at-2.result file (Wrote 16 1 (written (contents (of file headed)) 16 (0 ∷ []))) (λ now. Wrote 16 1 now) old headed (g.H.Host.seen c.write_at-2.new.self).past h c.write_at-2.ensures.done c.write_at-2.ensures.torn
     (only_changed g.H.Host.honest c.write_at.result file (Wrote 0 (length c.args.head) (written (contents (of file cut)) 0 c.args.head)) (λ now. Wrote 0 (length c.args.head) now) old cut headed h c.write_at.ensures.done c.write_at.ensures.torn
     (only_changed g.H.Host.honest c.cut.result file (Cut 0 (take 0 (contents (of file old)))) (λ now. Cut 0 now) old old cut h c.cut.ensures.done c.cut.ensures.torn
     (begins (OnlyOn-same file old))))
@@ -39,11 +39,11 @@ returns-in_err-write_at-2-clause-any_moment g c h =
 pub returns-clause-any_moment : goal.returns-clause-any_moment
 returns-clause-any_moment g c h =
     let file = c.args.file in
-    let old = g.H.Host.past c.args.host.now in
-    let cut = g.H.Host.past c.cut.new.self in
-    let headed = g.H.Host.past c.write_at.new.self in
-    let gated = g.H.Host.past c.write_at-2.new.self in
-    only_settled g.H.Host.honest c.sync.result file old gated (g.H.Host.past c.sync.new.self) h c.sync.ensures.done c.sync.ensures.torn
+    let old = (g.H.Host.seen c.args.host.now).past in
+    let cut = (g.H.Host.seen c.cut.new.self).past in
+    let headed = (g.H.Host.seen c.write_at.new.self).past in
+    let gated = (g.H.Host.seen c.write_at-2.new.self).past in
+    only_settled g.H.Host.honest c.sync.result file old gated (g.H.Host.seen c.sync.new.self).past h c.sync.ensures.done c.sync.ensures.torn
     (only_changed g.H.Host.honest c.write_at-2.result file (Wrote 16 1 (written (contents (of file headed)) 16 (0 ∷ []))) (λ now. Wrote 16 1 now) old headed gated h c.write_at-2.ensures.done c.write_at-2.ensures.torn
     (only_changed g.H.Host.honest c.write_at.result file (Wrote 0 (length c.args.head) (written (contents (of file cut)) 0 c.args.head)) (λ now. Wrote 0 (length c.args.head) now) old cut headed h c.write_at.ensures.done c.write_at.ensures.torn
     (only_changed g.H.Host.honest c.cut.result file (Cut 0 (take 0 (contents (of file old)))) (λ now. Cut 0 now) old old cut h c.cut.ensures.done c.cut.ensures.torn
@@ -59,13 +59,13 @@ put_down_reads head first second third size none headed gated =
 pub returns-clause-whole : goal.returns-clause-whole
 returns-clause-whole g c =
     let file = c.args.file in
-    let old = g.H.Host.past c.args.host.now in
-    let cut = g.H.Host.past c.cut.new.self in
-    let headed = g.H.Host.past c.write_at.new.self in
-    let gated = g.H.Host.past c.write_at-2.new.self in
+    let old = (g.H.Host.seen c.args.host.now).past in
+    let cut = (g.H.Host.seen c.cut.new.self).past in
+    let headed = (g.H.Host.seen c.write_at.new.self).past in
+    let gated = (g.H.Host.seen c.write_at-2.new.self).past in
     on_ok_weaker c.sync.result
     (λ synced h.
-    reads_after file Synced gated (g.H.Host.past c.sync.new.self) (synced h)
+    reads_after file Synced gated (g.H.Host.seen c.sync.new.self).past (synced h)
     ∙ put_down_reads c.args.head (contents (of file cut)) (contents (of file headed)) (contents (of file gated)) (search rules)
     (reads_after file (Cut 0 (take 0 (contents (of file old)))) old cut (c.in_ok-cut.ensures.done h))
     (reads_after file (Wrote 0 (length c.args.head) (written (contents (of file cut)) 0 c.args.head)) cut headed (c.in_ok-write_at.ensures.done h))
@@ -75,26 +75,26 @@ returns-clause-whole g c =
 pub returns-in_err-cut-clause-short : goal.returns-in_err-cut-clause-short
 returns-in_err-cut-clause-short g c h short =
     let file = c.args.file in
-    let old = g.H.Host.past c.args.host.now in
-    within_cut g.H.Host.honest c.cut.result 17 file 0 (take 0 (contents (of file old))) old old (g.H.Host.past c.cut.new.self) h c.cut.ensures.done c.cut.ensures.torn
+    let old = (g.H.Host.seen c.args.host.now).past in
+    within_cut g.H.Host.honest c.cut.result 17 file 0 (take 0 (contents (of file old))) old old (g.H.Host.seen c.cut.new.self).past h c.cut.ensures.done c.cut.ensures.torn
     (begins short)
 
 pub returns-in_err-write_at-clause-short : goal.returns-in_err-write_at-clause-short
 returns-in_err-write_at-clause-short g c h short =
     let file = c.args.file in
-    let old = g.H.Host.past c.args.host.now in
-    let cut = g.H.Host.past c.cut.new.self in
-    within_write g.H.Host.honest c.write_at.result 17 file 0 (length c.args.head) (written (contents (of file cut)) 0 c.args.head) old cut (g.H.Host.past c.write_at.new.self) h (search rules) c.write_at.ensures.done c.write_at.ensures.torn
+    let old = (g.H.Host.seen c.args.host.now).past in
+    let cut = (g.H.Host.seen c.cut.new.self).past in
+    within_write g.H.Host.honest c.write_at.result 17 file 0 (length c.args.head) (written (contents (of file cut)) 0 c.args.head) old cut (g.H.Host.seen c.write_at.new.self).past h (search rules) c.write_at.ensures.done c.write_at.ensures.torn
     (within_cut g.H.Host.honest c.cut.result 17 file 0 (take 0 (contents (of file old))) old old cut h c.cut.ensures.done c.cut.ensures.torn
     (begins short))
 
 pub returns-in_err-write_at-2-clause-short : goal.returns-in_err-write_at-2-clause-short
 returns-in_err-write_at-2-clause-short g c h short =
     let file = c.args.file in
-    let old = g.H.Host.past c.args.host.now in
-    let cut = g.H.Host.past c.cut.new.self in
-    let headed = g.H.Host.past c.write_at.new.self in
-    within_write g.H.Host.honest c.write_at-2.result 17 file 16 1 (written (contents (of file headed)) 16 (0 ∷ [])) old headed (g.H.Host.past c.write_at-2.new.self) h (omega arith) c.write_at-2.ensures.done c.write_at-2.ensures.torn
+    let old = (g.H.Host.seen c.args.host.now).past in
+    let cut = (g.H.Host.seen c.cut.new.self).past in
+    let headed = (g.H.Host.seen c.write_at.new.self).past in
+    within_write g.H.Host.honest c.write_at-2.result 17 file 16 1 (written (contents (of file headed)) 16 (0 ∷ [])) old headed (g.H.Host.seen c.write_at-2.new.self).past h (omega arith) c.write_at-2.ensures.done c.write_at-2.ensures.torn
     (within_write g.H.Host.honest c.write_at.result 17 file 0 (length c.args.head) (written (contents (of file cut)) 0 c.args.head) old cut headed h (search rules) c.write_at.ensures.done c.write_at.ensures.torn
     (within_cut g.H.Host.honest c.cut.result 17 file 0 (take 0 (contents (of file old))) old old cut h c.cut.ensures.done c.cut.ensures.torn
     (begins short)))
@@ -102,11 +102,11 @@ returns-in_err-write_at-2-clause-short g c h short =
 pub returns-clause-short : goal.returns-clause-short
 returns-clause-short g c h short =
     let file = c.args.file in
-    let old = g.H.Host.past c.args.host.now in
-    let cut = g.H.Host.past c.cut.new.self in
-    let headed = g.H.Host.past c.write_at.new.self in
-    let gated = g.H.Host.past c.write_at-2.new.self in
-    within_sync g.H.Host.honest c.sync.result 17 file old gated (g.H.Host.past c.sync.new.self) h c.sync.ensures.done c.sync.ensures.torn
+    let old = (g.H.Host.seen c.args.host.now).past in
+    let cut = (g.H.Host.seen c.cut.new.self).past in
+    let headed = (g.H.Host.seen c.write_at.new.self).past in
+    let gated = (g.H.Host.seen c.write_at-2.new.self).past in
+    within_sync g.H.Host.honest c.sync.result 17 file old gated (g.H.Host.seen c.sync.new.self).past h c.sync.ensures.done c.sync.ensures.torn
     (g.met.H.Host.reads_an_image c.write_at-2.new.self file h)
     (within_write g.H.Host.honest c.write_at-2.result 17 file 16 1 (written (contents (of file headed)) 16 (0 ∷ [])) old headed gated h (omega arith) c.write_at-2.ensures.done c.write_at-2.ensures.torn
     (within_write g.H.Host.honest c.write_at.result 17 file 0 (length c.args.head) (written (contents (of file cut)) 0 c.args.head) old cut headed h (search rules) c.write_at.ensures.done c.write_at.ensures.torn

@@ -14,8 +14,8 @@ returns-in_err-write_at-clause-any_moment g c h =
     let file = c.args.file in
     let gate = c.args.gate in
     let field = c.length_bytes.result in
-    let old = g.H.Host.past c.args.host.now in
-    let first = g.H.Host.past c.write_at.new.self in
+    let old = (g.H.Host.seen c.args.host.now).past in
+    let first = (g.H.Host.seen c.write_at.new.self).past in
     through_moments file gate old first (c.requires.inside h)
     (then_from g.H.Host.honest c.write_at.result file (gate + 1) (gate + 1) field (written (contents (of file old)) (gate + 1) field) old old first h (omega arith) c.write_at.ensures.done c.write_at.ensures.torn
     (begins (RunsFrom-start file (gate + 1) old (c.requires.stable h))))
@@ -26,9 +26,9 @@ returns-in_err-write_at-2-clause-any_moment g c h =
     let gate = c.args.gate in
     let field = c.length_bytes.result in
     let body = c.args.body.now in
-    let old = g.H.Host.past c.args.host.now in
-    let first = g.H.Host.past c.write_at.new.self in
-    let second = g.H.Host.past c.write_at-2.new.self in
+    let old = (g.H.Host.seen c.args.host.now).past in
+    let first = (g.H.Host.seen c.write_at.new.self).past in
+    let second = (g.H.Host.seen c.write_at-2.new.self).past in
     through_moments file gate old second (c.requires.inside h)
     (then_from g.H.Host.honest c.write_at-2.result file (gate + 1) (gate + 5) body (written (contents (of file first)) (gate + 5) body) old first second h (omega arith) c.write_at-2.ensures.done c.write_at-2.ensures.torn
     (then_from g.H.Host.honest c.write_at.result file (gate + 1) (gate + 1) field (written (contents (of file old)) (gate + 1) field) old old first h (omega arith) c.write_at.ensures.done c.write_at.ensures.torn
@@ -41,10 +41,10 @@ returns-in_err-write_at-3-clause-any_moment g c h =
     let field = c.length_bytes.result in
     let body = c.args.body.now in
     let end = gate + 5 + length body in
-    let old = g.H.Host.past c.args.host.now in
-    let first = g.H.Host.past c.write_at.new.self in
-    let second = g.H.Host.past c.write_at-2.new.self in
-    let third = g.H.Host.past c.write_at-3.new.self in
+    let old = (g.H.Host.seen c.args.host.now).past in
+    let first = (g.H.Host.seen c.write_at.new.self).past in
+    let second = (g.H.Host.seen c.write_at-2.new.self).past in
+    let third = (g.H.Host.seen c.write_at-3.new.self).past in
     through_moments file gate old third (c.requires.inside h)
     (then_from g.H.Host.honest c.write_at-3.result file (gate + 1) end (0 ∷ []) (written (contents (of file second)) end (0 ∷ [])) old second third h (omega arith) c.write_at-3.ensures.done c.write_at-3.ensures.torn
     (then_from g.H.Host.honest c.write_at-2.result file (gate + 1) (gate + 5) body (written (contents (of file first)) (gate + 5) body) old first second h (omega arith) c.write_at-2.ensures.done c.write_at-2.ensures.torn
@@ -58,11 +58,11 @@ returns-clause-any_moment g c h =
     let field = c.length_bytes.result in
     let body = c.args.body.now in
     let end = gate + 5 + length body in
-    let old = g.H.Host.past c.args.host.now in
-    let first = g.H.Host.past c.write_at.new.self in
-    let second = g.H.Host.past c.write_at-2.new.self in
-    let third = g.H.Host.past c.write_at-3.new.self in
-    then_sync (KeepsThrough gate (contents (of file old))) g.H.Host.honest c.sync.result file old third (g.H.Host.past c.sync.new.self) h c.sync.ensures.done c.sync.ensures.torn
+    let old = (g.H.Host.seen c.args.host.now).past in
+    let first = (g.H.Host.seen c.write_at.new.self).past in
+    let second = (g.H.Host.seen c.write_at-2.new.self).past in
+    let third = (g.H.Host.seen c.write_at-3.new.self).past in
+    then_sync (KeepsThrough gate (contents (of file old))) g.H.Host.honest c.sync.result file old third (g.H.Host.seen c.sync.new.self).past h c.sync.ensures.done c.sync.ensures.torn
     (g.met.H.Host.reads_an_image c.write_at-3.new.self file h)
     (through_moments file gate old third (c.requires.inside h)
     (then_from g.H.Host.honest c.write_at-3.result file (gate + 1) end (0 ∷ []) (written (contents (of file second)) end (0 ∷ [])) old second third h (omega arith) c.write_at-3.ensures.done c.write_at-3.ensures.torn
@@ -77,13 +77,13 @@ returns-clause-staged g c =
     let field = c.length_bytes.result in
     let body = c.args.body.now in
     let end = gate + 5 + length body in
-    let old = g.H.Host.past c.args.host.now in
-    let first = g.H.Host.past c.write_at.new.self in
-    let second = g.H.Host.past c.write_at-2.new.self in
-    let third = g.H.Host.past c.write_at-3.new.self in
+    let old = (g.H.Host.seen c.args.host.now).past in
+    let first = (g.H.Host.seen c.write_at.new.self).past in
+    let second = (g.H.Host.seen c.write_at-2.new.self).past in
+    let third = (g.H.Host.seen c.write_at-3.new.self).past in
     on_ok_weaker c.sync.result
     (λ synced h.
-    subst (λ (new : List ℕ). Stages gate body (contents (of file old)) new) (sym (reads_after file Synced third (g.H.Host.past c.sync.new.self) (synced h)))
+    subst (λ (new : List ℕ). Stages gate body (contents (of file old)) new) (sym (reads_after file Synced third (g.H.Host.seen c.sync.new.self).past (synced h)))
     (staged gate field body (contents (of file old)) (contents (of file first)) (contents (of file second)) (contents (of file third))
     c.length_bytes.ensures (c.requires.inside h)
     (reads_after file (Wrote (gate + 1) (length field) (written (contents (of file old)) (gate + 1) field)) old first (c.in_ok-write_at.ensures.done h))

@@ -1,4 +1,4 @@
-use Rattle.std.proofs.Common.{ℕ, arith, length-take}
+use Rattle.std.proofs.Common.{ℕ, ◌∙◌, refl, arith, length-take}
 use Rattle.line_stream.specs.Chain.{acts_of}
 use Rattle.line_stream.proofs.RunLemmas.{start-taken, start-running, step-running, stop-ran, limit-ran}
 use Rattle.line_stream.proofs.stream.take_pieces.Goals as goal
@@ -8,7 +8,7 @@ loop-budget-init g c =
     let acts = acts_of g.T.Taker.takes g.T.Taker.pauses g.T.Taker.ends g.T.Taker.overflows in
     let start = c.requires.start in (
       start-running acts _ (g.S.Source.left c.args.source.now) (start-taken acts c.args.stream.now c.args.taker.now c.args.host.now start.0 start.1 start.2),
-      omega arith,
+      refl,
       rw start.2 c.requires.ready,
     )
 
@@ -18,7 +18,7 @@ loop-budget-preserved g c =
     let before = c.loop-budget.invariant.0 in (
       step-running acts _ _ c.loop-budget.budget c.in-Ok.taken _ _ _ before (c.in-Ok.ensures.goes_on c.args.taker.now c.args.host.now before.text before.held)
           (omega (arith, c.in-Ok.ensures.within, c.min-room.ensures, length-take {A = ℕ} c.min-room.result c.loop-budget.piece)),
-      omega (arith, c.loop-budget.invariant.1, c.in-Ok.ensures.count),
+      c.in-Ok.ensures.stays (λ e. cc) ∙ c.loop-budget.invariant.1,
       c.in-Ok.ensures.ready,
     )
 
@@ -26,7 +26,7 @@ pub returns-in-Err-clause-ran : goal.returns-in-Err-clause-ran
 returns-in-Err-clause-ran g c =
     let acts = acts_of g.T.Taker.takes g.T.Taker.pauses g.T.Taker.ends g.T.Taker.overflows in
     let before = c.loop-budget.invariant.0 in
-    stop-ran acts _ c.in-Err.status c.args.taker.now c.take_next.new.taker c.args.host.now c.take_next.new.host c.loop-budget.budget _ _ _ _ _ _ before c.loop-budget.invariant.1
+    stop-ran acts _ c.in-Err.status c.args.taker.now c.take_next.new.taker c.args.host.now c.take_next.new.host c.loop-budget.budget _ _ _ _ _ _ before (omega (arith, c.loop-budget.invariant.1))
     (c.in-Err.ensures.stops c.args.taker.now c.args.host.now before.text before.held (omega (arith, before.spent, c.min-room.ensures, length-take {A = ℕ} c.min-room.result c.loop-budget.piece))) c.in-Err.ensures.count
 
 pub returns-clause-ran : goal.returns-clause-ran

@@ -7,7 +7,7 @@ pub loop-i-preserved : goal.loop-i-preserved
 loop-i-preserved g c = record {
   same = c.read_row.ensures.tiers ∙ c.loop-i.invariant.same;
   still = λ told tells. c.read_row.ensures.told told (c.loop-i.invariant.still told tells);
-  later = omega (arith, c.loop-i.invariant.later, c.read_row.ensures.cause.later);
+  unfailed = c.in_ok-row.ensures.cause.stays (λ e. absurd cc) ∙ c.loop-i.invariant.unfailed;
   so_far = λ told tells.
       rows_more (row_of c.plan_for-plan.result.floor told c.args.request.now) c.loop-i.i c.loop-i.rows c.push.new.self c.in_ok-row.row
       (c.loop-i.invariant.so_far told tells) (c.in_ok-row.ensures.row told (c.loop-i.invariant.still told tells)) c.in_ok-push.ensures.ok;

@@ -11,7 +11,7 @@ loop-from-init g c = record {
   same = refl;
   still = λ told tells. tells;
   record_so_far = λ told tells high. empty_span c.args.start (told c.args.series);
-  later = omega arith;
+  unfailed = refl;
 }
 
 pub read_piece-requires-clause-bucket : goal.read_piece-requires-clause-bucket
@@ -51,7 +51,7 @@ loop-from-preserved g c =
           window_more c.args.start c.loop-from.from to (told c.args.series) c.loop-from.record c.in_ok-piece.piece c.joined-record.result
           rising low forward short
           (c.loop-from.invariant.record_so_far told tells high) (c.in_ok-piece.ensures.found told (c.loop-from.invariant.still told tells) above) c.joined-record.ensures;
-      later = omega (arith, c.loop-from.invariant.later, c.read_piece.ensures.cause.later);
+      unfailed = c.in_ok-piece.ensures.cause.stays (λ e. absurd cc) ∙ c.loop-from.invariant.unfailed;
     }
 
 pub returns-else-from-clause-found : goal.returns-else-from-clause-found

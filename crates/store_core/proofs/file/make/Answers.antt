@@ -8,16 +8,16 @@ use Rattle.store_core.proofs.file.make.Goals as goal
 
 pub returns-in_err-journal-clause-any_moment : goal.returns-in_err-journal-clause-any_moment
 returns-in_err-journal-clause-any_moment g c h none =
-    begun_moments (g.H.Host.past c.args.host.now) (g.H.Host.past c.start.new.host) c.args.body.now (c.start.ensures.any_moment h none)
+    begun_moments (g.H.Host.seen c.args.host.now).past (g.H.Host.seen c.start.new.host).past c.args.body.now (c.start.ensures.any_moment h none)
 
 pub append-requires-clause-room : goal.append-requires-clause-room
 append-requires-clause-room g c = omega (arith, c.in_ok-journal.ensures.size)
 
 pub returns-then-is_err-clause-any_moment : goal.returns-then-is_err-clause-any_moment
 returns-then-is_err-clause-any_moment g c h none =
-    let old = g.H.Host.past c.args.host.now in
-    let middle = g.H.Host.past c.start.new.host in
-    let new = g.H.Host.past c.append.new.host in
+    let old = (g.H.Host.seen c.args.host.now).past in
+    let middle = (g.H.Host.seen c.start.new.host).past in
+    let new = (g.H.Host.seen c.append.new.host).past in
     let journal = c.in_ok-journal.journal in
     let body = c.args.body.now in
     joined (begun_moments old middle body (c.start.ensures.any_moment h none))
@@ -25,9 +25,9 @@ returns-then-is_err-clause-any_moment g c h none =
 
 pub returns-clause-any_moment : goal.returns-clause-any_moment
 returns-clause-any_moment g c h none =
-    let old = g.H.Host.past c.args.host.now in
-    let middle = g.H.Host.past c.start.new.host in
-    let new = g.H.Host.past c.append.new.host in
+    let old = (g.H.Host.seen c.args.host.now).past in
+    let middle = (g.H.Host.seen c.start.new.host).past in
+    let new = (g.H.Host.seen c.append.new.host).past in
     let journal = c.in_ok-journal.journal in
     let body = c.args.body.now in
     joined (begun_moments old middle body (c.start.ensures.any_moment h none))

@@ -14,7 +14,7 @@ returns-then-is_err-2-clause-any_moment g c h none =
 
 pub returns-then-is_err-2-clause-only_here : goal.returns-then-is_err-2-clause-only_here
 returns-then-is_err-2-clause-only_here g c h =
-    OnlyOn-joined JournalA (g.H.Host.past c.args.host.now) (g.H.Host.past c.shorten.new.host) (g.H.Host.past c.prepare.new.host)
+    OnlyOn-joined JournalA (g.H.Host.seen c.args.host.now).past (g.H.Host.seen c.shorten.new.host).past (g.H.Host.seen c.prepare.new.host).past
     (c.shorten.ensures.only_here h) (at_end (c.prepare.ensures.any_moment h))
 
 pub returns-clause-any_moment : goal.returns-clause-any_moment
@@ -26,5 +26,5 @@ returns-clause-any_moment g c h none =
 
 pub returns-clause-only_here : goal.returns-clause-only_here
 returns-clause-only_here g c h =
-    OnlyOn-joined JournalA (g.H.Host.past c.args.host.now) (g.H.Host.past c.shorten.new.host) (g.H.Host.past c.prepare.new.host)
+    OnlyOn-joined JournalA (g.H.Host.seen c.args.host.now).past (g.H.Host.seen c.shorten.new.host).past (g.H.Host.seen c.prepare.new.host).past
     (c.shorten.ensures.only_here h) (at_end (c.prepare.ensures.any_moment h))

@@ -1,18 +1,18 @@
-use Rattle.agent_core.specs.Calls.{Seen}
-use Rattle.agent_app.proofs.TakeLemmas.{bad-line, fault-is, told-counts, want-line}
+use Rattle.host_model.specs.Seen.{Seen}
+use Rattle.agent_app.proofs.TakeLemmas.{bad-line, fault-is, want-line}
 use Rattle.agent_app.proofs.running.Running.refuse.Goals as goal
 
 pub returns-in-Memory : goal.returns-in-Memory
 returns-in-Memory g c =
-    let host : Seen = record { past = g.H.Host.past c.args.host.now; disk_faults = g.H.Host.disk_faults c.args.host.now; tell_faults = g.H.Host.tell_faults c.args.host.now } in
+    let host : Seen = g.H.Host.seen c.args.host.now in
     record { takes = λ bytes is short. want-line g.H.Host.honest c.args.self.now host c.args.number bytes short }
 
 pub returns-in_default : goal.returns-in_default
 returns-in_default g c =
-    let host : Seen = record { past = g.H.Host.past c.args.host.now; disk_faults = g.H.Host.disk_faults c.args.host.now; tell_faults = g.H.Host.tell_faults c.args.host.now } in
-    let host' : Seen = record { past = g.H.Host.past c.tell_refusal.new.host; disk_faults = g.H.Host.disk_faults c.tell_refusal.new.host; tell_faults = g.H.Host.tell_faults c.tell_refusal.new.host } in
+    let host : Seen = g.H.Host.seen c.args.host.now in
+    let host' : Seen = g.H.Host.seen c.tell_refusal.new.host in
     record {
       takes = λ bytes is short.
           bad-line g.H.Host.honest c.args.self.now host c.args.number bytes short c.tell_refusal.result host' c.args.fault (fault-is bytes c.args.fault is c.in_default.not-Memory) c.tell_refusal.ensures.tells
-          (told-counts host host' c.tell_refusal.ensures.count c.tell_refusal.ensures.disk);
+          c.tell_refusal.ensures.cause c.tell_refusal.ensures.disk;
     }

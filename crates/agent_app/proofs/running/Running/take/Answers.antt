@@ -1,10 +1,12 @@
-use Rattle.std.proofs.Common.{◌≡◌, ap, refl, sym, Result, Ok, Err, ◌∙◌, true≢false}
+use Rattle.std.proofs.Common.{◌≡◌, ap, refl, sym, Result, Ok, Err, IsErrOf, ◌∙◌, arith}
+use Rattle.std.proofs.lemmas.Result.{IfErr-at_err}
 use Rattle.host_model.specs.declared.status.Status.TheVariants.{DiskFault, Memory}
 use Rattle.agent_core.specs.declared.fault.AgentFault.{AgentFault}
+use Rattle.agent_core.specs.declared.fault.AgentFault.TheVariants as agent_fault
 use Rattle.agent_core.specs.declared.reply.Said.{Said}
 use Rattle.agent_core.specs.declared.reply.Said.TheVariants.{Disabled, Nothing}
-use Rattle.agent_core.specs.Calls.{Seen}
-use Rattle.agent_app.proofs.TakeLemmas.{asked-said, block-line, disabled-said, last-line, nothing-said, quiet-line, stored-line, stored-said, told-counts, torn-line}
+use Rattle.host_model.specs.Seen.{Seen}
+use Rattle.agent_app.proofs.TakeLemmas.{block-line, disabled-said, last-line, nothing-said, quiet-line, stored-line, stored-said, torn-line}
 use Rattle.agent_app.proofs.running.Running.take.Goals as goal
 
 abbrev answered : Said → Result Said AgentFault
@@ -15,51 +17,50 @@ as_ok same = ap answered same
 
 pub returns-in-Ok-Nothing-clause-takes : goal.returns-in-Ok-Nothing-clause-takes
 returns-in-Ok-Nothing-clause-takes g c bytes is short =
-    let host : Seen = record { past = g.H.Host.past c.args.host.now; disk_faults = g.H.Host.disk_faults c.args.host.now; tell_faults = g.H.Host.tell_faults c.args.host.now } in
-    let middle : Seen = record { past = g.H.Host.past c.take_line.new.host; disk_faults = g.H.Host.disk_faults c.take_line.new.host; tell_faults = g.H.Host.tell_faults c.take_line.new.host } in
+    let host : Seen = g.H.Host.seen c.args.host.now in
+    let middle : Seen = g.H.Host.seen c.take_line.new.host in
     quiet-line g.H.Host.honest c.args.self.now host c.args.number bytes short c.args.said is c.requires.answer c.take_line.result middle c.take_line.new.self c.take_line.new.feed c.take_line.ensures Nothing (c.in-Ok-Nothing.is ∙ as_ok c.in-Ok-Nothing.field-0-is)
     (nothing-said c.take_line.new.self.count c.args.said (sym c.in-Ok-Nothing.field-0-is ∙ c.in-Ok-Nothing.ensures.said))
 
-pub returns-in-Ok-Asked-clause-takes : goal.returns-in-Ok-Asked-clause-takes
-returns-in-Ok-Asked-clause-takes g c bytes is short =
-    absurd (true≢false (sym (asked-said c.take_line.new.self.count c.args.said c.in-Ok-Asked.field-0-0 (sym c.in-Ok-Asked.field-0-is ∙ c.in-Ok-Asked.ensures.said)) ∙ c.requires.answer))
-
 pub returns-in-Ok-Stored-clause-takes : goal.returns-in-Ok-Stored-clause-takes
 returns-in-Ok-Stored-clause-takes g c bytes is short =
-    let host : Seen = record { past = g.H.Host.past c.args.host.now; disk_faults = g.H.Host.disk_faults c.args.host.now; tell_faults = g.H.Host.tell_faults c.args.host.now } in
-    let middle : Seen = record { past = g.H.Host.past c.take_line.new.host; disk_faults = g.H.Host.disk_faults c.take_line.new.host; tell_faults = g.H.Host.tell_faults c.take_line.new.host } in
-    let host' : Seen = record { past = g.H.Host.past c.tell_stored.new.host; disk_faults = g.H.Host.disk_faults c.tell_stored.new.host; tell_faults = g.H.Host.tell_faults c.tell_stored.new.host } in
+    let host : Seen = g.H.Host.seen c.args.host.now in
+    let middle : Seen = g.H.Host.seen c.take_line.new.host in
+    let host' : Seen = g.H.Host.seen c.tell_stored.new.host in
     let said = stored-said c.take_line.new.self.count c.args.said c.in-Ok-Stored.reply (sym c.in-Ok-Stored.field-0-is ∙ c.in-Ok-Stored.ensures.said) in
     stored-line g.H.Host.honest c.args.self.now host c.args.number bytes short c.args.said is c.requires.answer c.take_line.result middle c.take_line.new.self c.take_line.new.feed c.take_line.ensures said.moment said.is c.in-Ok-Stored.reply (c.in-Ok-Stored.is ∙ as_ok c.in-Ok-Stored.field-0-is) said.reply_is
-    c.tell_stored.result host' c.tell_stored.ensures.done c.tell_stored.ensures.torn (told-counts middle host' c.tell_stored.ensures.count c.tell_stored.ensures.disk)
+    c.tell_stored.result host' c.tell_stored.ensures.done c.tell_stored.ensures.torn c.tell_stored.ensures.cause c.tell_stored.ensures.disk
 
 pub returns-in-Ok-Disabled-clause-takes : goal.returns-in-Ok-Disabled-clause-takes
 returns-in-Ok-Disabled-clause-takes g c bytes is short =
-    let host : Seen = record { past = g.H.Host.past c.args.host.now; disk_faults = g.H.Host.disk_faults c.args.host.now; tell_faults = g.H.Host.tell_faults c.args.host.now } in
-    let middle : Seen = record { past = g.H.Host.past c.take_line.new.host; disk_faults = g.H.Host.disk_faults c.take_line.new.host; tell_faults = g.H.Host.tell_faults c.take_line.new.host } in
+    let host : Seen = g.H.Host.seen c.args.host.now in
+    let middle : Seen = g.H.Host.seen c.take_line.new.host in
     last-line g.H.Host.honest c.args.self.now host c.args.number bytes short c.args.said is c.requires.answer c.take_line.result middle c.take_line.new.self c.take_line.new.feed c.take_line.ensures Disabled (c.in-Ok-Disabled.is ∙ as_ok c.in-Ok-Disabled.field-0-is)
     (disabled-said c.take_line.new.self.count c.args.said (sym c.in-Ok-Disabled.field-0-is ∙ c.in-Ok-Disabled.ensures.said))
 
 pub returns-in-Err-Refused-clause-takes : goal.returns-in-Err-Refused-clause-takes
 returns-in-Err-Refused-clause-takes g c bytes is short =
-    let host : Seen = record { past = g.H.Host.past c.args.host.now; disk_faults = g.H.Host.disk_faults c.args.host.now; tell_faults = g.H.Host.tell_faults c.args.host.now } in
-    let middle : Seen = record { past = g.H.Host.past c.take_line.new.host; disk_faults = g.H.Host.disk_faults c.take_line.new.host; tell_faults = g.H.Host.tell_faults c.take_line.new.host } in
-    let host' : Seen = record { past = g.H.Host.past c.tell_refusal.new.host; disk_faults = g.H.Host.disk_faults c.tell_refusal.new.host; tell_faults = g.H.Host.tell_faults c.tell_refusal.new.host } in
+    let host : Seen = g.H.Host.seen c.args.host.now in
+    let middle : Seen = g.H.Host.seen c.take_line.new.host in
+    let host' : Seen = g.H.Host.seen c.tell_refusal.new.host in
     block-line g.H.Host.honest c.args.self.now host c.args.number bytes short c.args.said is c.requires.answer c.take_line.result middle c.take_line.new.self c.take_line.new.feed c.take_line.ensures c.in-Err-Refused.fault (c.in-Err-Refused.is ∙ ap (λ (f : AgentFault). Err f) c.in-Err-Refused.field-0-is)
-    c.tell_refusal.result host' c.tell_refusal.ensures.tells (told-counts middle host' c.tell_refusal.ensures.count c.tell_refusal.ensures.disk)
+    c.tell_refusal.result host' c.tell_refusal.ensures.tells c.tell_refusal.ensures.cause c.tell_refusal.ensures.disk
 
 pub returns-in-Err-DiskFault-clause-takes : goal.returns-in-Err-DiskFault-clause-takes
 returns-in-Err-DiskFault-clause-takes g c bytes is short =
-    let host : Seen = record { past = g.H.Host.past c.args.host.now; disk_faults = g.H.Host.disk_faults c.args.host.now; tell_faults = g.H.Host.tell_faults c.args.host.now } in
-    let middle : Seen = record { past = g.H.Host.past c.take_line.new.host; disk_faults = g.H.Host.disk_faults c.take_line.new.host; tell_faults = g.H.Host.tell_faults c.take_line.new.host } in
-    let rose = c.take_line.ensures.cause.failed (c.in-Err-DiskFault.is ∙ ap (λ (f : AgentFault). Err f) c.in-Err-DiskFault.field-0-is) in
-    torn-line g.H.Host.honest c.args.self.now host c.args.number bytes short c.args.said is c.requires.answer c.take_line.result middle c.take_line.new.self c.take_line.new.feed c.take_line.ensures DiskFault refl rose (λ ended ending text. rose)
+    let host : Seen = g.H.Host.seen c.args.host.now in
+    let middle : Seen = g.H.Host.seen c.take_line.new.host in
+    let failed = c.in-Err-DiskFault.is ∙ ap (λ (f : AgentFault). Err f) c.in-Err-DiskFault.field-0-is in
+    torn-line g.H.Host.honest c.args.self.now host c.args.number bytes short c.args.said is c.requires.answer c.take_line.result middle c.take_line.new.self c.take_line.new.feed c.take_line.ensures DiskFault refl tt (λ e. cc) (λ _. failed) (λ _. refl) (λ ended ending text. c.take_line.ensures.cause.failed failed)
 
 pub returns : goal.returns
 returns g c = record {
   takes = λ bytes is short.
-      let host : Seen = record { past = g.H.Host.past c.args.host.now; disk_faults = g.H.Host.disk_faults c.args.host.now; tell_faults = g.H.Host.tell_faults c.args.host.now } in
-      let middle : Seen = record { past = g.H.Host.past c.take_line.new.host; disk_faults = g.H.Host.disk_faults c.take_line.new.host; tell_faults = g.H.Host.tell_faults c.take_line.new.host } in
-      torn-line g.H.Host.honest c.args.self.now host c.args.number bytes short c.args.said is c.requires.answer c.take_line.result middle c.take_line.new.self c.take_line.new.feed c.take_line.ensures Memory refl tt (λ ended ending text. tt);
+      let host : Seen = g.H.Host.seen c.args.host.now in
+      let middle : Seen = g.H.Host.seen c.take_line.new.host in
+      let is_disk : IsErrOf c.take_line.result agent_fault.DiskFault → c.in-Err.field-0 ≡ agent_fault.DiskFault
+      = λ failed. IfErr-at_err (λ (f : AgentFault). f ≡ agent_fault.DiskFault) (sym failed ∙ c.in-Err.is) refl in
+      let other : IsErrOf c.take_line.result agent_fault.DiskFault → ⊥ = λ failed. let same = is_disk failed in grind (arith, same) in
+      torn-line g.H.Host.honest c.args.self.now host c.args.number bytes short c.args.said is c.requires.answer c.take_line.result middle c.take_line.new.self c.take_line.new.feed c.take_line.ensures Memory refl tt (λ e. cc) (λ e. cc) (λ failed. absurd (other failed)) (λ ended ending text. tt);
   ready = tt;
 }

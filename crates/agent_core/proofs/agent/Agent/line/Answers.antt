@@ -7,7 +7,8 @@ use Rattle.collect_block.specs.declared.step.Step.{Step}
 use Rattle.collect_block.specs.Feed.{ClosesNone, CountsAt, CountsFor, CountsPast, IsFeedOf, RefusedBy}
 use Rattle.agent_core.specs.declared.fault.AgentFault.TheVariants.{Memory}
 use Rattle.agent_core.specs.Agent.{AgentState}
-use Rattle.agent_core.specs.Calls.{Lines, Seen}
+use Rattle.agent_core.specs.Calls.{Lines}
+use Rattle.host_model.specs.Seen.{Seen}
 use Rattle.agent_core.proofs.FedLemmas.{fed-step}
 use Rattle.agent_core.proofs.StepLemmas.{line-refused, line-short, line-taken, refused-reason, short_of}
 use Rattle.agent_core.proofs.agent.Agent.line.Goals as goal
@@ -17,8 +18,8 @@ take_step-requires-clause-is_open g c = fed-step c.args.feed.now c.args.line.now
 
 pub returns-in-Ok : goal.returns-in-Ok
 returns-in-Ok g c =
-    let host : Seen = record { past = g.H.Host.past c.args.host.now; disk_faults = g.H.Host.disk_faults c.args.host.now; tell_faults = g.H.Host.tell_faults c.args.host.now } in
-    let host' : Seen = record { past = g.H.Host.past c.take_step.new.host; disk_faults = g.H.Host.disk_faults c.take_step.new.host; tell_faults = g.H.Host.tell_faults c.take_step.new.host } in
+    let host : Seen = g.H.Host.seen c.args.host.now in
+    let host' : Seen = g.H.Host.seen c.take_step.new.host in
     let agent = c.args.self.now in
     let feed = c.args.feed.now in
     let line = c.args.line.now in
@@ -34,7 +35,7 @@ failing fault = Err fault
 
 pub returns-in-Memory : goal.returns-in-Memory
 returns-in-Memory g c =
-    let host : Seen = record { past = g.H.Host.past c.args.host.now; disk_faults = g.H.Host.disk_faults c.args.host.now; tell_faults = g.H.Host.tell_faults c.args.host.now } in
+    let host : Seen = g.H.Host.seen c.args.host.now in
     let feed = c.args.feed.now in
     let line = c.args.line.now in
     let inside : AgentState = record {
@@ -55,7 +56,7 @@ returns-in-Memory g c =
 
 pub returns-in_default-fault : goal.returns-in_default-fault
 returns-in_default-fault g c =
-    let host : Seen = record { past = g.H.Host.past c.args.host.now; disk_faults = g.H.Host.disk_faults c.args.host.now; tell_faults = g.H.Host.tell_faults c.args.host.now } in
+    let host : Seen = g.H.Host.seen c.args.host.now in
     let agent = c.args.self.now in
     let feed = c.args.feed.now in
     let line = c.args.line.now in

@@ -8,32 +8,32 @@ use Rattle.agent_core.proofs.agent.Agent.load.Goals as goal
 
 pub returns-in-Ok-clause-opened : goal.returns-in-Ok-clause-opened
 returns-in-Ok-clause-opened g c =
-    let disk = reads_as (g.H.Host.past c.args.host.now) in
-    let past = g.H.Host.past c.open_store.new.host in
+    let disk = reads_as (g.H.Host.seen c.args.host.now).past in
+    let past = (g.H.Host.seen c.open_store.new.host).past in
     IfOk-weaker c.replayed.result _ _ (λ agent is_of true_host set h stands.
     is_of past set h (opened-for disk past c.in-Ok.store (c.in-Ok.ensures.opened true_host) set h stands)) c.replayed.ensures.of
 
 pub returns-in-Ok-clause-stands : goal.returns-in-Ok-clause-stands
 returns-in-Ok-clause-stands g c true_host set h stands =
-    let disk = reads_as (g.H.Host.past c.args.host.now) in
-    let past = g.H.Host.past c.open_store.new.host in
+    let disk = reads_as (g.H.Host.seen c.args.host.now).past in
+    let past = (g.H.Host.seen c.open_store.new.host).past in
     err-weaker c.replayed.result _ _ (λ fault memory.
     inr (memory past set h (opened-for disk past c.in-Ok.store (c.in-Ok.ensures.opened true_host) set h stands))) c.replayed.ensures.stands
 
 pub returns-in-Ok-clause-notes : goal.returns-in-Ok-clause-notes
 returns-in-Ok-clause-notes g c =
-    let disk = reads_as (g.H.Host.past c.args.host.now) in
-    let past = g.H.Host.past c.open_store.new.host in
+    let disk = reads_as (g.H.Host.seen c.args.host.now).past in
+    let past = (g.H.Host.seen c.open_store.new.host).past in
     on_ok_weaker c.replayed.result (λ all true_host.
     noted true disk past c.in-Ok.store (c.in-Ok.ensures.opened true_host) (c.in-Ok.ensures.found true_host) all) c.replayed.ensures.notes
 
 pub returns-in-Ok-clause-damaged_notes : goal.returns-in-Ok-clause-damaged_notes
 returns-in-Ok-clause-damaged_notes g c is true_host =
-    let disk = reads_as (g.H.Host.past c.args.host.now) in
-    let past = g.H.Host.past c.open_store.new.host in
+    let disk = reads_as (g.H.Host.seen c.args.host.now).past in
+    let past = (g.H.Host.seen c.open_store.new.host).past in
     noted false disk past c.in-Ok.store (c.in-Ok.ensures.opened true_host) (c.in-Ok.ensures.found true_host) (IfErr-at_err _ is c.replayed.ensures.broken refl)
 
 pub returns-in-Ok-clause-left : goal.returns-in-Ok-clause-left
 returns-in-Ok-clause-left g c =
-    let past = g.H.Host.past c.open_store.new.host in
+    let past = (g.H.Host.seen c.open_store.new.host).past in
     IfOk-weaker c.replayed.result _ _ (λ agent left true_host set beats stands. left past set beats (c.in-Ok.ensures.opened true_host set beats stands)) c.replayed.ensures.left

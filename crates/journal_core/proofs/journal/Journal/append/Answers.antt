@@ -8,16 +8,16 @@ use Rattle.journal_core.proofs.journal.Journal.append.Goals as goal
 
 pub returns-then-body-gt-LONGEST-clause-any_moment : goal.returns-then-body-gt-LONGEST-clause-any_moment
 returns-then-body-gt-LONGEST-clause-any_moment g c h records is_open =
-    begins (λ bytes image. inl (open_stands c.args.self.now (g.H.Host.past c.args.host.now) records is_open bytes image))
+    begins (λ bytes image. inl (open_stands c.args.self.now (g.H.Host.seen c.args.host.now).past records is_open bytes image))
 
 pub store-requires-clause-inside : goal.store-requires-clause-inside
 store-requires-clause-inside g c h =
-    let old = g.H.Host.past c.args.host.now in
+    let old = (g.H.Host.seen c.args.host.now).past in
     let now_open = c.requires.open h in
     let is_open = subst (λ (journal : JournalState). IsOpen (of journal.file old) journal now_open.0) (sym c.self.view_is) now_open.1 in
     gate_inside c.self.inside.generation (contents (of c.self.inside.file old)) now_open.0 (c.self.inside.bytes - 1) is_open.stands (omega (arith, is_open.size))
 
 pub returns-clause-stored : goal.returns-clause-stored
 returns-clause-stored g c h records is_open =
-    after_store g.H.Host.honest c.store.result (record { file = c.self.inside.file; generation = c.self.inside.generation; bytes = c.self.inside.bytes }) c.args.self.now (g.H.Host.past c.args.host.now) (g.H.Host.past c.store.new.host) records c.args.body.now
+    after_store g.H.Host.honest c.store.result (record { file = c.self.inside.file; generation = c.self.inside.generation; bytes = c.self.inside.bytes }) c.args.self.now (g.H.Host.seen c.args.host.now).past (g.H.Host.seen c.store.new.host).past records c.args.body.now
     c.self.view_is (sym c.if-is_err.ensures.value) h c.store.ensures.stored c.store.ensures.synced is_open

@@ -14,7 +14,14 @@ returns-in_err-load g c =
         ends = tt;
         hit = λ page at. absurd (let not : false ≡ true = (c.in_err-load.ensures.hit page at).0 in cc);
         missed = λ at. tt;
-        cause = record { later = c.in_err-load.ensures.cause.later; failed = λ e. c.in_err-load.ensures.cause.failed (search (rules, e)) };
+        same = c.in_err-load.ensures.same;
+        cause = record {
+          later = c.in_err-load.ensures.cause.later;
+          failed = λ e. c.in_err-load.ensures.cause.failed (search (rules, e));
+          stays = λ not. c.in_err-load.ensures.cause.stays (λ e. not (search (rules, e)));
+        };
+        reads = c.in_err-load.ensures.reads;
+        fetched = λ at. tt;
       },
     )
 
@@ -36,6 +43,9 @@ returns g c =
         ends = tt;
         hit = λ page at. let was = ok.hit page at in (at_key page was.2, was.1);
         missed = λ at. let got = ok.missed at in subst (λ (p : List ℕ). IfSome (g.F.Fetch.bytes c.args.fetch.now key) (λ told. p ≡ told)) (sym (at_key got.0 got.1)) got.2;
-        cause = record { later = ok.cause.later; failed = λ e. absurd cc };
+        same = ok.same;
+        cause = record { later = ok.cause.later; failed = λ e. absurd cc; stays = λ not. ok.cause.stays (λ e. absurd cc) };
+        reads = ok.reads;
+        fetched = λ at. ok.fetched at;
       },
     )

@@ -11,17 +11,17 @@ use Rattle.store_core.proofs.store.Store.create.Goals as goal
 
 pub returns-in_default-clause-any_moment : goal.returns-in_default-clause-any_moment
 returns-in_default-clause-any_moment g c h none =
-    unmoved (EveryDisk (StandsIfMade c.args.settings.now)) (g.H.Host.past c.args.host.now) (g.H.Host.past c.is_made.new.host) (c.is_made.ensures.past h)
+    unmoved (EveryDisk (StandsIfMade c.args.settings.now)) (g.H.Host.seen c.args.host.now).past (g.H.Host.seen c.is_made.new.host).past (c.is_made.ensures.past h)
     (λ disk images. inl (none disk images))
 
 pub returns-then-made-clause-any_moment : goal.returns-then-made-clause-any_moment
 returns-then-made-clause-any_moment g c h none =
-    unmoved (EveryDisk (StandsIfMade c.args.settings.now)) (g.H.Host.past c.args.host.now) (g.H.Host.past c.is_made.new.host) (c.is_made.ensures.past h)
+    unmoved (EveryDisk (StandsIfMade c.args.settings.now)) (g.H.Host.seen c.args.host.now).past (g.H.Host.seen c.is_made.new.host).past (c.is_made.ensures.past h)
     (λ disk images. inl (none disk images))
 
 pub returns-in_default-write_settings-clause-any_moment : goal.returns-in_default-write_settings-clause-any_moment
 returns-in_default-write_settings-clause-any_moment g c h none =
-    unmoved (EveryDisk (StandsIfMade c.args.settings.now)) (g.H.Host.past c.args.host.now) (g.H.Host.past c.is_made.new.host) (c.is_made.ensures.past h)
+    unmoved (EveryDisk (StandsIfMade c.args.settings.now)) (g.H.Host.seen c.args.host.now).past (g.H.Host.seen c.is_made.new.host).past (c.is_made.ensures.past h)
     (λ disk images. inl (none disk images))
 
 pub make-requires : goal.make-requires
@@ -30,9 +30,9 @@ make-requires g c =
 
 pub returns-in_err-journal-clause-any_moment : goal.returns-in_err-journal-clause-any_moment
 returns-in_err-journal-clause-any_moment g c h none =
-    let old = g.H.Host.past c.args.host.now in
-    let middle = g.H.Host.past c.is_made.new.host in
-    let new = g.H.Host.past c.make.new.host in
+    let old = (g.H.Host.seen c.args.host.now).past in
+    let middle = (g.H.Host.seen c.is_made.new.host).past in
+    let new = (g.H.Host.seen c.make.new.host).past in
     let set = c.args.settings.now in
     let none_here = subst (EveryDisk (λ disk. is_made disk ≡ false)) (sym (c.is_made.ensures.past h)) none in
     let begun = no_image_begun middle (λ file. g.met.H.Host.reads_an_image c.is_made.new.host file h) none_here in
@@ -41,9 +41,9 @@ returns-in_err-journal-clause-any_moment g c h none =
 
 pub returns-clause-any_moment : goal.returns-clause-any_moment
 returns-clause-any_moment g c h none =
-    let old = g.H.Host.past c.args.host.now in
-    let middle = g.H.Host.past c.is_made.new.host in
-    let new = g.H.Host.past c.make.new.host in
+    let old = (g.H.Host.seen c.args.host.now).past in
+    let middle = (g.H.Host.seen c.is_made.new.host).past in
+    let new = (g.H.Host.seen c.make.new.host).past in
     let set = c.args.settings.now in
     let none_here = subst (EveryDisk (λ disk. is_made disk ≡ false)) (sym (c.is_made.ensures.past h)) none in
     let begun = no_image_begun middle (λ file. g.met.H.Host.reads_an_image c.is_made.new.host file h) none_here in

@@ -12,42 +12,42 @@ use Rattle.store_core.proofs.store.Store.open.Goals as goal
 
 pub returns-in_default-clause-any_moment : goal.returns-in_default-clause-any_moment
 returns-in_default-clause-any_moment g c h =
-    let old = g.H.Host.past c.args.host.now in
-    unmoved (EveryDisk (IsDisk old)) old (g.H.Host.past c.is_made.new.host) (c.is_made.ensures.past h) (λ disk images. images)
+    let old = (g.H.Host.seen c.args.host.now).past in
+    unmoved (EveryDisk (IsDisk old)) old (g.H.Host.seen c.is_made.new.host).past (c.is_made.ensures.past h) (λ disk images. images)
 
 pub returns-then-not-made-clause-any_moment : goal.returns-then-not-made-clause-any_moment
 returns-then-not-made-clause-any_moment g c h =
-    let old = g.H.Host.past c.args.host.now in
-    unmoved (EveryDisk (IsDisk old)) old (g.H.Host.past c.is_made.new.host) (c.is_made.ensures.past h) (λ disk images. images)
+    let old = (g.H.Host.seen c.args.host.now).past in
+    unmoved (EveryDisk (IsDisk old)) old (g.H.Host.seen c.is_made.new.host).past (c.is_made.ensures.past h) (λ disk images. images)
 
 pub returns-in_err-journal-clause-any_moment : goal.returns-in_err-journal-clause-any_moment
 returns-in_err-journal-clause-any_moment g c h =
-    let new = g.H.Host.past c.open.new.host in
+    let new = (g.H.Host.seen c.open.new.host).past in
     subst (λ (past : List Event). Throughout (EveryDisk (IsDisk past)) past new) (c.is_made.ensures.past h)
-    (disks_from_before (g.H.Host.past c.is_made.new.host) new (c.open.ensures.only_here h) (c.open.ensures.any_moment h))
+    (disks_from_before (g.H.Host.seen c.is_made.new.host).past new (c.open.ensures.only_here h) (c.open.ensures.any_moment h))
 
 pub returns-in-Err-clause-any_moment : goal.returns-in-Err-clause-any_moment
 returns-in-Err-clause-any_moment g c h =
-    let new = g.H.Host.past c.open.new.host in
+    let new = (g.H.Host.seen c.open.new.host).past in
     subst (λ (past : List Event). Throughout (EveryDisk (IsDisk past)) past new) (c.is_made.ensures.past h)
-    (disks_from_before (g.H.Host.past c.is_made.new.host) new (c.open.ensures.only_here h) (c.open.ensures.any_moment h))
+    (disks_from_before (g.H.Host.seen c.is_made.new.host).past new (c.open.ensures.only_here h) (c.open.ensures.any_moment h))
 
 pub returns-in-Ok-None-clause-any_moment : goal.returns-in-Ok-None-clause-any_moment
 returns-in-Ok-None-clause-any_moment g c h =
-    let new = g.H.Host.past c.open.new.host in
+    let new = (g.H.Host.seen c.open.new.host).past in
     subst (λ (past : List Event). Throughout (EveryDisk (IsDisk past)) past new) (c.is_made.ensures.past h)
-    (disks_from_before (g.H.Host.past c.is_made.new.host) new (c.open.ensures.only_here h) (c.open.ensures.any_moment h))
+    (disks_from_before (g.H.Host.seen c.is_made.new.host).past new (c.open.ensures.only_here h) (c.open.ensures.any_moment h))
 
 pub returns-clause-any_moment : goal.returns-clause-any_moment
 returns-clause-any_moment g c h =
-    let new = g.H.Host.past c.open.new.host in
+    let new = (g.H.Host.seen c.open.new.host).past in
     subst (λ (past : List Event). Throughout (EveryDisk (IsDisk past)) past new) (c.is_made.ensures.past h)
-    (disks_from_before (g.H.Host.past c.is_made.new.host) new (c.open.ensures.only_here h) (c.open.ensures.any_moment h))
+    (disks_from_before (g.H.Host.seen c.is_made.new.host).past new (c.open.ensures.only_here h) (c.open.ensures.any_moment h))
 
 pub returns-in-Ok-None-clause-damaged : goal.returns-in-Ok-None-clause-damaged
 returns-in-Ok-None-clause-damaged g c part is h =
-    let middle = g.H.Host.past c.is_made.new.host in
-    let new = g.H.Host.past c.open.new.host in
+    let middle = (g.H.Host.seen c.is_made.new.host).past in
+    let new = (g.H.Host.seen c.open.new.host).past in
     let journal = c.in_ok-journal.journal in
     let bodies = c.in_ok-journal.records in
     let found : WasFound middle new journal bodies =
@@ -61,8 +61,8 @@ returns-in-Ok-None-clause-damaged g c part is h =
 
 pub returns-clause-opened : goal.returns-clause-opened
 returns-clause-opened g c h set beats stands =
-    let middle = g.H.Host.past c.is_made.new.host in
-    let new = g.H.Host.past c.open.new.host in
+    let middle = (g.H.Host.seen c.is_made.new.host).past in
+    let new = (g.H.Host.seen c.open.new.host).past in
     let journal = c.in_ok-journal.journal in
     let bodies = c.in_ok-journal.records in
     let found : WasFound middle new journal bodies =
@@ -72,8 +72,8 @@ returns-clause-opened g c h set beats stands =
 
 pub returns-clause-stands : goal.returns-clause-stands
 returns-clause-stands g c h =
-    let middle = g.H.Host.past c.is_made.new.host in
-    let new = g.H.Host.past c.open.new.host in
+    let middle = (g.H.Host.seen c.is_made.new.host).past in
+    let new = (g.H.Host.seen c.open.new.host).past in
     let journal = c.in_ok-journal.journal in
     let bodies = c.in_ok-journal.records in
     let set = c.in-Ok-Some.settings in
