@@ -1,0 +1,6 @@
+pub mod FindLemmas
+pub mod NameLemmas
+pub mod SeriesLemmas
+pub mod LookupLemmas
+pub mod ValueLemmas
+pub mod PairLemmas

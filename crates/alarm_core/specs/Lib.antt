@@ -1,0 +1,9 @@
+pub mod Series
+pub mod Variables
+pub mod Within
+pub mod Verdict
+pub mod Delay
+pub mod Step
+pub mod Lookups
+pub mod Gathering
+pub mod Pairs

@@ -1,0 +1,48 @@
+-- One step of an alarm of a chart.
+use Rattle.std.specs.Prelude.{ℕ, ◌/◌, ◌==◌, max, Bool, not, if◌then◌else◌, List, Option, None}
+use Rattle.std.specs.Option.{option_map, option_or}
+use Rattle.health_expr.specs.declared.value.Value.{Value}
+use Rattle.query_engine.specs.declared.point.Point.{Point}
+use Rattle.alarm_events.specs.declared.status.Status.{Status}
+use Rattle.alarm_events.specs.Status.{number}
+use Rattle.alarm_core.specs.declared.delay.Delay.{Delay}
+use Rattle.alarm_core.specs.declared.scene.Scene.{Scene}
+use Rattle.alarm_core.specs.declared.step.Step.{Step}
+use Rattle.alarm_core.specs.Verdict.{value_at, status_at}
+use Rattle.alarm_core.specs.Delay.{new_delay}
+use Rattle.alarm_core.specs.Lookups.{looked_up}
+
+-- which span of so many seconds a moment lies in; spans of 0 seconds count as of 1
+abbrev pub span_of : ℕ → ℕ → ℕ
+span_of every moment = moment / max every 1
+
+-- an alarm is stepped on a beat that lies in another span than the beat before
+abbrev pub is_stepped : Scene → Bool
+is_stepped scene = not (span_of scene.alarm.now.every scene.moment == span_of scene.alarm.now.every scene.latest.now.before)
+
+abbrev pub is_same : Status → Status → Bool
+is_same one other = number one == number other
+
+-- the delay of a change of status, where there is a change that is to be told
+abbrev pub delay_of_change : Scene → Option Delay → Status → Option Delay
+delay_of_change scene before status =
+    if is_same scene.status status then None else new_delay scene.alarm.now before scene.moment scene.status status
+
+-- a step to this value and this status; what is not told leaves the delay
+abbrev pub step_to : Scene → Option Delay → Value → Status → Step
+step_to scene before value status = record {
+  value = value;
+  status = status;
+  delay = option_or (delay_of_change scene before status) before;
+  due = option_map (λ delay. delay.due) (delay_of_change scene before status);
+}
+
+-- what the alarm of a scene looks up, by the floor and the points of each series
+abbrev pub found_by : Scene → ℕ → (ℕ → List Point) → Option Value
+found_by scene floor told =
+    option_map (λ lookup. looked_up scene.registry.now scene.chart lookup scene.moment floor told) scene.alarm.now.lookup
+
+-- the step of an alarm that looked this up, and had this value and this delay
+abbrev pub stepped : Scene → Option Value → Value → Option Delay → Step
+stepped scene found value delay =
+    let now = value_at scene found value in step_to scene delay now (status_at scene now)

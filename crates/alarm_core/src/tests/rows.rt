@@ -1,0 +1,191 @@
+use super::*;
+use std::process::Abort;
+use std::test::Fail;
+
+/// A moment, the values of a and b then, and what comes: a value, a status and a due moment.
+type Beat = (u32, [Option<i32>; 2], Value, Status, Option<u32>);
+
+fn whole(number: i32) -> Value {
+    Value::Fixed(Units::from(number) * 10_000_000)
+}
+
+/// Steps an alarm through beats.
+fn run(
+    rt: &impl Abort,
+    alloc: Global,
+    text: &str,
+    first: Step,
+    beats: &[Beat],
+) -> Result<(), Fail> {
+    let mut registry = Registry::new(alloc);
+    define(
+        alloc,
+        &mut registry,
+        "test.one",
+        &[("a", "used", false), ("b", "avail", false)],
+    )?;
+    let config = Config::read(alloc, text.as_bytes())?;
+    let alarm = first_alarm(&config)?;
+    let mut step = first;
+    for (moment, values, value, status, due) in beats {
+        let latest = latest(alloc, *moment, values)?;
+        step = step_after(alloc, &registry, &latest, alarm, *moment, &step)?;
+        assert_eq!(rt; step.value, *value, "{moment}");
+        assert_eq!(rt; step.status, *status, "{moment}");
+        assert_eq!(rt; step.due, *due, "{moment}");
+    }
+    Ok(())
+}
+
+#[test]
+fn raised_and_cleared(rt: HostRuntime) -> Result<(), Fail> {
+    let text =
+        "alarm: high\non: test.one\ncalc: $a\nevery: 1s\nwarn: $this > (($status >= $WARNING) ? (75) : (85))\n";
+    let beats = [
+        (1, [Some(80), None], whole(80), Status::Clear, None),
+        (2, [Some(86), None], whole(86), Status::Warning, Some(2)),
+        (3, [Some(80), None], whole(80), Status::Warning, None),
+        (4, [Some(74), None], whole(74), Status::Clear, Some(4)),
+    ];
+    run(&rt, rt.alloc(), text, FRESH, beats.as_slice())
+}
+
+#[test]
+fn delays_grow(rt: HostRuntime) -> Result<(), Fail> {
+    let text =
+        "alarm: d\non: test.one\ncalc: $a\nevery: 1s\nwarn: $this > 0\ndelay: up 10s down 60s multiplier 1.5 max 5m\n";
+    let clear = Step {
+        status: Status::Clear,
+        ..FRESH
+    };
+    let beats = [
+        (100, [Some(1), None], whole(1), Status::Warning, Some(110)),
+        (105, [Some(0), None], whole(0), Status::Clear, Some(195)),
+        (110, [Some(1), None], whole(1), Status::Warning, Some(132)),
+    ];
+    run(&rt, rt.alloc(), text, clear, beats.as_slice())
+}
+
+#[test]
+fn an_infinite_value_is_undefined(rt: HostRuntime) -> Result<(), Fail> {
+    let text = "alarm: q\non: test.one\ncalc: $a / $b\nevery: 1s\nwarn: $this > 1\n";
+    let beats = [
+        (
+            1,
+            [Some(5), Some(0)],
+            Value::Inf(false),
+            Status::Undefined,
+            None,
+        ),
+        (
+            2,
+            [Some(5), Some(0)],
+            Value::Inf(false),
+            Status::Undefined,
+            None,
+        ),
+        (3, [None, Some(0)], Value::Nan, Status::Undefined, None),
+        (4, [Some(6), Some(2)], whole(3), Status::Warning, Some(4)),
+    ];
+    run(&rt, rt.alloc(), text, FRESH, beats.as_slice())
+}
+
+#[test]
+fn a_disk_fills_up(rt: HostRuntime) -> Result<(), Fail> {
+    let text =
+        "alarm: disk\non: test.one\ncalc: $used * 100 / ($avail + $used)\nevery: 1m\nwarn: $this > (($status >= $WARNING ) ? (80) : (90))\ncrit: ($this > (($status == $CRITICAL) ? (90) : (98))) && $avail < 5\ndelay: up 1m down 15m multiplier 1.5 max 1h\n";
+    let beats = [
+        (
+            60,
+            [Some(95), Some(5)],
+            whole(95),
+            Status::Warning,
+            Some(120),
+        ),
+        (
+            120,
+            [Some(99), Some(1)],
+            whole(99),
+            Status::Critical,
+            Some(210),
+        ),
+        (
+            180,
+            [Some(85), Some(15)],
+            whole(85),
+            Status::Warning,
+            Some(2_205),
+        ),
+    ];
+    run(&rt, rt.alloc(), text, FRESH, beats.as_slice())
+}
+
+#[test]
+fn conditions_that_are_nan_tell_nothing(rt: HostRuntime) -> Result<(), Fail> {
+    let text = "alarm: n\non: test.one\ncalc: $a\nevery: 1s\nwarn: $b\ncrit: $b - 5\n";
+    let beats = [
+        (1, [Some(1), None], whole(1), Status::Undefined, None),
+        (2, [Some(1), Some(0)], whole(1), Status::Critical, Some(2)),
+        (3, [Some(1), Some(5)], whole(1), Status::Warning, Some(3)),
+        (4, [None, Some(5)], Value::Nan, Status::Undefined, None),
+    ];
+    run(&rt, rt.alloc(), text, FRESH, beats.as_slice())
+}
+
+/// A name, and what it is worth.
+type Name = (&'static str, Value);
+
+const NAMES: [Name; 22] = [
+    ("$this", Value::Fixed(70_000_000)),
+    ("$status", Value::Fixed(0)),
+    ("$REMOVED", Value::Fixed(-20_000_000)),
+    ("$UNDEFINED", Value::Fixed(-10_000_000)),
+    ("$UNINITIALIZED", Value::Fixed(0)),
+    ("$CLEAR", Value::Fixed(10_000_000)),
+    ("$WARNING", Value::Fixed(30_000_000)),
+    ("$CRITICAL", Value::Fixed(40_000_000)),
+    ("$now", Value::Fixed(600_000_000)),
+    ("$update_every", Value::Fixed(50_000_000)),
+    ("$last_collected_t", Value::Fixed(600_000_000)),
+    ("$green", Value::Fixed(15_000_000)),
+    ("$red", Value::Nan),
+    ("$a", Value::Fixed(110_000_000)),
+    ("$used", Value::Fixed(110_000_000)),
+    ("$a_raw", Value::Fixed(100_000_000)),
+    ("$used_raw", Value::Fixed(100_000_000)),
+    ("$b_raw", Value::Fixed(230_000_000)),
+    ("$b", Value::Fixed(220_000_000)),
+    ("${a b}", Value::Nan),
+    ("$c", Value::Nan),
+    ("$_raw", Value::Nan),
+];
+
+// Dimension b_raw has its own last value, which goes before the collected one of b.
+#[test]
+fn names_are_worth_what_they_say(rt: HostRuntime) -> Result<(), Fail> {
+    let alloc = rt.alloc();
+    let mut registry = Registry::new(alloc);
+    let dimensions = [
+        ("a", "used", false),
+        ("b", "this", false),
+        ("b_raw", "a", false),
+        ("c", "free", false),
+    ];
+    define(alloc, &mut registry, "test.one", dimensions.as_slice())?;
+    let values = [Some(11), Some(22), Some(23), None];
+    let latest = latest(alloc, 60, values.as_slice())?;
+    let before = Step {
+        value: Value::Fixed(70_000_000),
+        ..FRESH
+    };
+    for (name, want) in &NAMES {
+        let text = format!(in alloc;
+            "alarm: v\non: test.one\nevery: 1s\ngreen: 1.5\ncalc: {name}\n"
+        )?;
+        let config = Config::read(alloc, text.as_bytes())?;
+        let alarm = first_alarm(&config)?;
+        let step = step_after(alloc, &registry, &latest, alarm, 60, &before)?;
+        assert_eq!(rt; step.value, *want, "{name}");
+    }
+    Ok(())
+}

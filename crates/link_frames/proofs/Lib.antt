@@ -1,0 +1,4 @@
+pub mod FieldsLaw
+pub mod FramesLaw
+pub mod Lengths
+pub mod StreamLaw

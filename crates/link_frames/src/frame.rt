@@ -1,0 +1,23 @@
+use fixed_num::ListOf;
+use replication::{Ask, Data};
+
+/// How many bytes the body of a frame may have.
+pub const BODY_LIMIT: u32 = 1 << 24;
+
+/// Frames, the first one first.
+pub type FrameList = ListOf<Frame>;
+
+/// What one end of a link says to the other.
+#[derive(Debug, Drop)]
+pub enum Frame {
+    /// A child begins, and tells its id.
+    Hello(u64),
+    /// A parent asks a child for what comes above a moment.
+    Ask(Ask),
+    /// A child tells its next beats.
+    Data(Data),
+    /// A parent has all up to this moment, in seconds.
+    Have(u32),
+    /// An end goes, and tells why: 0 where it is done, 1 where the child is another one, 2 where a frame was bad.
+    Bye(u8),
+}

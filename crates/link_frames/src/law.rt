@@ -1,0 +1,56 @@
+ghost use Rattle.std.specs.Prelude.{◌≡◌, ℕ, ◌+◌, ◌<◌, ◌≤◌, List, [], ◌++◌, length};
+ghost use Rattle.replication.specs.declared.message.Data.{Data};
+ghost use Rattle.link_frames.specs.declared.frame.Frame.{Frame};
+ghost use Rattle.link_frames.specs.declared.frame.Frame.TheVariants as frame;
+ghost use Rattle.link_frames.specs.DataForm.{IsData};
+ghost use Rattle.link_frames.specs.Frames.{body_bytes, body_limit, frame_bytes, HasSpelling};
+ghost use Rattle.link_frames.specs.Stream.{HandsOut, HasNoFrame, IsBad, IsOpen, IsTooLong};
+
+/// The laws of spellings: no two frames share one, and none is the front of another. It does nothing.
+pub fn every_frame()
+    ensures one_frame { (a b : Frame) → HasSpelling a → HasSpelling b
+        → frame_bytes a ≡ frame_bytes b → a ≡ b }
+    ensures no_front { (a b : Frame) (more : List ℕ) → HasSpelling a → HasSpelling b
+        → frame_bytes a ++ more ≡ frame_bytes b → more ≡ [] }
+{}
+
+/// The laws of bytes that are cut in two at any place. It does nothing.
+pub fn any_cut()
+    // What is handed out of two pieces, one after the other, is what is handed out of both together.
+    ensures onward { (bytes more rest end : List ℕ) (first second third : List Frame)
+        → HandsOut bytes first second rest → HandsOut (rest ++ more) second third end
+        → HandsOut (bytes ++ more) first third end }
+
+    // Bytes have one list of frames that goes to where no frame stands.
+    ensures one_list { (bytes rest end : List ℕ) (before first second : List Frame)
+        → HandsOut bytes before first rest → HasNoFrame rest
+        → HandsOut bytes before second end → HasNoFrame end → first ≡ second }
+    ensures one_rest { (bytes rest end : List ℕ) (before first second : List Frame)
+        → HandsOut bytes before first rest → HasNoFrame rest
+        → HandsOut bytes before second end → HasNoFrame end → rest ≡ end }
+
+    // No frame stands where one is under way, and where a length or a body is refused.
+    ensures open { (bytes : List ℕ) → IsOpen bytes → HasNoFrame bytes }
+    ensures long { (bytes : List ℕ) → IsTooLong bytes → HasNoFrame bytes }
+    ensures bad { (bytes : List ℕ) → IsBad bytes → HasNoFrame bytes }
+
+    // Only one of these is so.
+    ensures open_or_long { (bytes : List ℕ) → IsOpen bytes → IsTooLong bytes → ⊥ }
+    ensures open_or_bad { (bytes : List ℕ) → IsOpen bytes → IsBad bytes → ⊥ }
+    ensures long_or_bad { (bytes : List ℕ) → IsTooLong bytes → IsBad bytes → ⊥ }
+
+    // A refused length or body stays one, however the bytes go on.
+    ensures long_stays { (bytes more : List ℕ) → IsTooLong bytes → IsTooLong (bytes ++ more) }
+    ensures bad_stays { (bytes more : List ℕ) → IsBad bytes → IsBad (bytes ++ more) }
+
+    // A frame that is under way is shorter than the longest one.
+    ensures held { (bytes : List ℕ) → IsOpen bytes → length bytes < body_limit + 4 }
+{}
+
+/// The law of the length of a Data in form that has one beat, at most 4,096 charts and at most 65,536 dimensions: its
+/// body has at most 2^24 bytes. It does nothing.
+pub fn one_beat()
+    ensures { (message : Data) → IsData message → length message.beats ≡ 1
+        → length message.names.charts ≤ 4096 → length message.names.dimensions ≤ 65536
+        → length (body_bytes (frame.Data message)) ≤ body_limit }
+{}
