@@ -1,9 +1,10 @@
 -- Until when telling a change of status waits.
-use Rattle.std.specs.Prelude.{ℕ, ◌+◌, ◌-◌, ◌*◌, ◌/◌, ◌^◌, min, max, Bool, not, ◌&&◌, ◌||◌, nat_le, nat_lt, if◌then◌else◌, Option, Some, None, unwrap_or, ℤ, unsigned_abs}
+use Rattle.std.specs.Prelude.{ℕ, ◌+◌, ◌-◌, ◌*◌, ◌/◌, ◌^◌, min, max, Bool, true, false, not, ◌&&◌, ◌||◌, nat_le, nat_lt, if◌then◌else◌, Option, Some, None, unwrap_or, ℤ, unsigned_abs}
 use Rattle.fixed_num.specs.Units.{one}
 use Rattle.health_config.specs.declared.entity.Entity.{Entity}
 use Rattle.alarm_events.specs.declared.status.Status.{Status}
-use Rattle.alarm_events.specs.Status.{number, is_raised, is_clear}
+use Rattle.alarm_events.specs.declared.status.Status.TheVariants.{Clear}
+use Rattle.alarm_events.specs.Status.{number, is_raised}
 use Rattle.alarm_core.specs.declared.delay.Delay.{Delay}
 
 -- the last moment, and the longest time
@@ -38,6 +39,10 @@ next_down alarm (Some delay) moment = min (if grows delay moment then grown alar
 
 abbrev pub rises : Status → Status → Bool
 rises old new = nat_lt (number old) (number new)
+
+abbrev pub is_clear : Status → Bool
+is_clear Clear = true
+is_clear _ = false
 
 -- a change that is to be told has a due moment: to a raised status, and from one back to clear, unless
 -- the alarm says that this is not told

@@ -1,5 +1,5 @@
 -- What the variables of an alarm's expressions are worth.
-use Rattle.std.specs.Prelude.{ℕ, ◌*◌, ◌==◌, if◌then◌else◌, List, slice_get, slice_index, slice_index_or, codes, Option, Some, None, unwrap_or, option_and_then, ℤ, pos, ◌*ℤ◌}
+use Rattle.std.specs.Prelude.{ℕ, ◌*◌, ◌==◌, if◌then◌else◌, List, slice_get, slice_index, slice_index_or, codes, Option, Some, None, unwrap_or, option_and_then, ℤ, pos, ◌-ℤ◌, ◌*ℤ◌}
 use Rattle.std.specs.Option.{option_map_or, option_or, option_map}
 use Rattle.std.specs.Str.{bytes_eq}
 use Rattle.fixed_num.specs.Units.{one}
@@ -12,7 +12,7 @@ use Rattle.storage_number.specs.declared.point.Point.{Point as Read}
 use Rattle.storage_number.specs.Word.{point_of}
 use Rattle.alarm_events.specs.declared.status.Status.{Status}
 use Rattle.alarm_events.specs.declared.status.Status.TheVariants.{Removed, Undefined, Uninitialized, Clear, Warning, Critical}
-use Rattle.alarm_events.specs.Status.{status_units}
+use Rattle.alarm_events.specs.Status.{number}
 use Rattle.alarm_core.specs.declared.latest.Latest.{Latest}
 use Rattle.alarm_core.specs.declared.scene.Scene.{Scene}
 use Rattle.alarm_core.specs.Series.{meant, before_raw}
@@ -38,8 +38,9 @@ capped (Fixed units) = fixed units
 
 -- ---- statuses
 
+-- `$CLEAR` is 1
 abbrev pub status_worth : Status → Value
-status_worth status = Fixed (status_units status)
+status_worth status = Fixed ((pos (number status) -ℤ pos 2) *ℤ pos one)
 
 abbrev pub status_named : List ℕ → Option Status
 status_named name =
