@@ -31,7 +31,7 @@ IsBytes-rest front rest bytes e fits =
     subst IsBytes at (λ place. rw get_or-drop (fits (length front + place)))
 
 -- what was read before the value was made of it
-read_as-ok : {X Y : Type 0} (f : X → Y) (read : ReadOf X) (y : Y) (rest : List ℕ) → read_as f read ≡ Ok (y, rest)
+pub read_as-ok : {X Y : Type 0} (f : X → Y) (read : ReadOf X) (y : Y) (rest : List ℕ) → read_as f read ≡ Ok (y, rest)
     → (x : X) × (read ≡ Ok (x, rest)) × (f x ≡ y)
 read_as-ok {X} {Y} f (Ok found) y rest e =
     let same = done_is (f found.0, found.1) (y, rest) e in
@@ -63,7 +63,7 @@ pub ◌⊗◌ : {X Y : Type 0} {V : X → Type 0} {W : Y → Type 0} {s : X → 
     ))
 
 -- what is made of fields
-made_of : {X Y : Type 0} {V : X → Type 0} {s : X → List ℕ} {r : List ℕ → ReadOf X} (W : Y → Type 0) (to : X → Y) (from : Y → X) → IsField V s r
+pub made_of : {X Y : Type 0} {V : X → Type 0} {s : X → List ℕ} {r : List ℕ → ReadOf X} (W : Y → Type 0) (to : X → Y) (from : Y → X) → IsField V s r
     → ((x : X) → V x → W (to x) × (from (to x) ≡ x)) → ((y : Y) → W y → V (from y) × (to (from y) ≡ y))
     → IsField W (λ y. s (from y)) (λ bytes. read_as to (r bytes))
 made_of {V = V} {s = s} {r = r} W to from field there back = as_field V W s r to from there back field

@@ -81,10 +81,10 @@ all-kept keeps P each (x ∷ items) all = (each x all.0, all-kept keeps P each i
 
 -- ---- charts and dimensions
 
-short-length : (text : List ℕ) → is_short text ≡ true → length text ≤ 200
+pub short-length : (text : List ℕ) → is_short text ≡ true → length text ≤ 200
 short-length text short = leb-true (length text) 200 short
 
-id-length : (text : List ℕ) → is_id text ≡ true → length text ≤ 200
+pub id-length : (text : List ℕ) → is_id text ≡ true → length text ≤ 200
 id-length text is =
     let within = (and_parts (nat_lt 0 (length text) && nat_le (length text) ID_LIMIT) (is_one_line text) is).0 in
     leb-true (length text) 200 (and_parts (nat_lt 0 (length text)) (nat_le (length text) ID_LIMIT) within).1

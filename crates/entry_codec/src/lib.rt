@@ -25,7 +25,7 @@ mod list;
 mod marks;
 mod reading;
 mod rows;
-mod text;
+pub mod text;
 mod words;
 mod writing;
 
