@@ -1,15 +1,12 @@
 pub mod BeatLemmas
 pub mod CountLemmas
-pub mod FewLemmas
 pub mod Growing
 pub mod LastLemmas
 pub mod LawLemmas
 pub mod NumberedLemmas
 pub mod OnceLemmas
 pub mod OrderLemmas
-pub mod RoomLemmas
 pub mod RowLemmas
-pub mod Rows
 pub mod StorageWords
 pub mod TakingLemmas
 pub mod TextLemmas

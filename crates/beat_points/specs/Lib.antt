@@ -1,4 +1,3 @@
 pub mod LastRows
 pub mod Numbered
 pub mod Points
-pub mod Text

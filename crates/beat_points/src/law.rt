@@ -8,10 +8,10 @@ ghost use Rattle.history.specs.History.{Beat, collected, last, registry_of};
 ghost use Rattle.history.specs.Looking.{beat as open_beat};
 ghost use Rattle.history.specs.Points.{points};
 ghost use Rattle.history.specs.Read.{history_at};
+ghost use Rattle.chart_registry.specs.Accepted.{AreAccepted, HasFew};
 ghost use Rattle.beat_points.specs.declared.series_word.SeriesWord.{SeriesWord};
 ghost use Rattle.beat_points.specs.Points.{IsBefore, beat_points};
 ghost use Rattle.history.specs.Regular.{IsRegular};
-ghost use Rattle.beat_points.specs.Text.{AreAccepted, HasFew};
 
 /// The law of the points of a history with one more collected beat: a series has the beat's moment with its
 /// word in front where the beat gives it a point, and else the points that it had. It does nothing.

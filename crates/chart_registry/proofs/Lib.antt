@@ -1,12 +1,16 @@
+pub mod AcceptedLemmas
+pub mod AcceptedRows
 pub mod ApartLemmas
 pub mod Applying
 pub mod ChartsLemmas
 pub mod DefiningLemmas
 pub mod DimensionsLemmas
+pub mod FewLemmas
 pub mod Finding
 pub mod Growing
 pub mod OpenLemmas
 pub mod Places
 pub mod ReasonLemmas
 pub mod RegistryLemmas
+pub mod RoomLemmas
 pub mod RowsLemmas

@@ -1,3 +1,4 @@
+pub mod Accepted
 pub mod Defining
 pub mod Kept
 pub mod Rows

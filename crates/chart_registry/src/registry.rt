@@ -3,6 +3,7 @@ ghost use Rattle.std.specs.List.{list_any};
 ghost use Rattle.std.specs.Option.{option_and_then, option_map};
 ghost use Rattle.history.specs.Registry.{empty, is_chart, is_of, is_dimension, chart_of, series_of, with_definitions};
 ghost use Rattle.history.specs.Refusal.{has_chart, chart_refusal, dimension_refusal, dimensions_full};
+ghost use Rattle.chart_registry.specs.Accepted.{IsWithin};
 ghost use Rattle.chart_registry.specs.Defining.{nothing_open, chart_id, defines, IsReasonOf, RefusedBy};
 
 use crate::charts::{self, Chart};
@@ -193,7 +194,8 @@ impl Registry {
     }
 
     /// Takes the definitions of a beat, the charts first, each list in its order. Each error but Memory is the
-    /// reason of one of the definitions. After an `Err` it may have taken a part of them.
+    /// reason of one of the definitions. After an `Err` it may have taken a part of them. Whatever it answers,
+    /// the registry had no more charts and dimensions than there may be.
     pub fn apply(&mut self, beat: &OpenBeat) -> Result<(), RegistryFault>
         requires grids { All (λ def. 0 < def.update_every) beat.now.charts }
         requires owned { All
@@ -201,7 +203,10 @@ impl Registry {
         ensures ok { OnOk result
             (self.new ≡ with_definitions self.old beat.now.charts beat.now.dimensions) }
         ensures refused { IfErr result (IsReasonOf self.old beat.now) }
+        ensures few { IsWithin self.old }
     {
+        // To have read the fields tells the prover how much they hold at most.
+        let _ = &self.dimensions;
         self.define_charts(beat.charts.as_slice())?;
         self.define_dimensions(beat.dimensions.as_slice())
     }

@@ -11,7 +11,11 @@ use Rattle.history.specs.Looking.{beat}
 use Rattle.history.specs.Read.{history_at, accepted, ending}
 use Rattle.history.specs.Refusal.{has_chart}
 use Rattle.history.specs.Registry.{Registry}
-use Rattle.chart_registry.specs.Defining.{nothing_open}
+use Rattle.chart_registry.specs.declared.fault.RegistryFault.{RegistryFault}
+use Rattle.chart_registry.specs.declared.fault.RegistryFault.TheVariants.{Memory}
+use Rattle.chart_registry.specs.Accepted.{IsWithin}
+use Rattle.chart_registry.specs.Defining.{nothing_open, IsReasonOf}
+use Rattle.chart_registry.proofs.RoomLemmas.{text-short}
 use Rattle.collect_block.specs.declared.step.Step.{Step}
 use Rattle.collect_block.specs.declared.step.Step.TheVariants.{Beat}
 use Rattle.collect_block.specs.declared.text.Reader.{Reader}
@@ -36,6 +40,14 @@ module _ (reader : Reader) (registry : Registry) (every : ℕ) (h : List Stored)
       subst (λ (registry : Registry). All (λ (dimension : OpenDim). has_chart registry closed dimension.chart ≡ true) closed.dimensions) (sym stepped.holds.at.definitions)
       (subst (λ (closed : OpenBeat). All (λ (dimension : OpenDim). has_chart (registry_of (history_at every h past)) closed dimension.chart ≡ true) closed.dimensions) (sym closed-is)
       (owners every h past))
+
+  -- the registry takes it where there is memory
+  pub closed-short : IsWithin registry → (fault : RegistryFault) → IsReasonOf registry closed fault → fault ≡ Memory
+  closed-short within fault reason =
+      let now = registry_of (history_at every h past) in
+      text-short every h past (subst IsWithin stepped.holds.at.definitions within) stepped.accepted fault
+      (subst (λ (closed : OpenBeat). IsReasonOf now closed fault) closed-is
+      (subst (λ (registry : Registry). IsReasonOf registry closed fault) stepped.holds.at.definitions reason))
 
 -- a reader took so many lines of these, and none ended the text
 pub record TookSome (every : ℕ) (h : List Stored) (lines : List Line) (n : ℕ) (reader : Reader) (registry : Registry) : Type 0 where

@@ -4,6 +4,7 @@ use Rattle.history.specs.History.{Beat, child, last, registry_of}
 use Rattle.history.specs.Read.{Item as TextItem, End as TextEnd, accepted, ending, history_at, items, refusal_at}
 use Rattle.history.specs.Read as text
 use Rattle.history.specs.Registry.{Registry}
+use Rattle.chart_registry.specs.Accepted.{AreAccepted}
 use Rattle.collect_block.specs.declared.text.End.{End}
 use Rattle.collect_block.specs.declared.text.End.TheVariants.{Open, Ended, Disabled, Refused}
 use Rattle.collect_block.specs.declared.text.Item.{Item}
@@ -37,12 +38,14 @@ pub record Holds (reader : Reader) (registry : Registry) (every : ℕ) (h : List
 pub record IsReaderOf (reader : Reader) (registry : Registry) (every : ℕ) (h : List Beat) (past : List Line) : Type 0 where
   pub feed : IsFeedOf reader.feed every past
   pub counts : CountsFor reader.feed registry
+  pub accepted : AreAccepted every h past
   pub holds : Holds reader registry every h past
 
 -- a reader of these lines, whose feed has taken one more that may stand there and leads to this step
 pub record Stepped (reader : Reader) (registry : Registry) (every : ℕ) (h : List Beat) (past : List Line) (line : Line) (step : Step) : Type 0 where
   pub feed : IsFeedOf reader.feed every (line ∷ past)
   pub counts : CountsPast line reader.feed registry
+  pub accepted : AreAccepted every h past
   pub accepted_line : refusal_at every h past line ≡ None
   pub step_is : step ≡ step_of every past line
   pub holds : Holds reader registry every h past

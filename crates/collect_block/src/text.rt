@@ -2,6 +2,7 @@ ghost use Rattle.std.specs.Prelude.{◌≡◌, ◌<◌, ◌≤◌, ◌+◌, ℕ,
 ghost use Rattle.history.specs.History.{Beat, registry_of};
 ghost use Rattle.history.specs.Read.{history_at, accepted, ending, read};
 ghost use Rattle.history.specs.declared.line.Line.{Line as ALine};
+ghost use Rattle.chart_registry.specs.declared.fault.RegistryFault.TheVariants as registry_fault;
 ghost use Rattle.collect_block.specs.Text.{IsAt, IsReaderOf, HasRead, Stepped, Took, TookAll, item_of, end_of};
 ghost use Rattle.collect_block.specs.Feed.{IsFeedOf};
 ghost use Rattle.collect_block.specs.declared.step.Step.TheVariants as step;
@@ -9,7 +10,7 @@ ghost use Rattle.history.specs.declared.line.Line.TheVariants as line;
 
 use crate::feed::Feed;
 use crate::step::Step;
-use chart_registry::Registry;
+use chart_registry::{Registry, RegistryFault};
 use fixed_num::{ListOf, Text};
 use history::{BlockFault, Line, OpenBeat};
 use std::alloc::{AllocError, Global};
@@ -44,6 +45,18 @@ pub enum End {
 pub struct ReadText {
     pub items: ItemList,
     pub end: End,
+}
+
+/// Why a registry did not take the beat of lines that may stand where they do: there was no memory.
+fn untaken(fault: RegistryFault) -> AllocError
+    requires { fault ≡ registry_fault.Memory }
+{
+    match fault {
+        RegistryFault::Memory => AllocError,
+        RegistryFault::GridChanged
+        | RegistryFault::TooManyCharts
+        | RegistryFault::TooManyDimensions => unreachable!(),
+    }
 }
 
 /// What is kept while a text is read.
@@ -190,8 +203,8 @@ impl Reader {
             (step.Beat beat moment)
             → IsReaderOf self.new registry.new every h (line.Moment moment ∷ past)) }
     {
-        if registry.apply(&beat).is_err() {
-            return Err(AllocError);
+        if let Err(fault) = registry.apply(&beat) {
+            return Err(untaken(fault));
         }
         self.items.push(Item::Closed(beat, moment))?;
         self.last = moment;

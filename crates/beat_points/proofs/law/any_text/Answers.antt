@@ -1,4 +1,5 @@
-use Rattle.beat_points.proofs.TextLemmas.{text-regular, text-few, text-before}
+use Rattle.chart_registry.proofs.AcceptedLemmas.{text-regular, text-few}
+use Rattle.beat_points.proofs.TextLemmas.{text-before}
 use Rattle.beat_points.proofs.law.any_text.Goals as goal
 
 pub returns-clause-regular : goal.returns-clause-regular

@@ -7,6 +7,7 @@ use Rattle.history.specs.Registry.{Registry as Definitions, is_chart, with_defin
 use Rattle.chart_registry.specs.Defining.{defines, IsReasonOf}
 use Rattle.chart_registry.proofs.Applying.{has_chart-applied}
 use Rattle.chart_registry.proofs.ReasonLemmas.{charts-wider, dimensions-wider}
+use Rattle.chart_registry.proofs.RegistryLemmas.{kept-within}
 use Rattle.chart_registry.proofs.registry.Registry.apply.Goals as goal
 
 pub define_dimensions-requires : goal.define_dimensions-requires
@@ -37,3 +38,9 @@ returns-clause-refused c =
     IfErr-weaker c.define_dimensions.result (IsReasonOf c.define_charts.new.self (defines [] c.as_slice-2.result.now)) (IsReasonOf registry beat)
     (λ fault reason. dimensions-wider registry beat c.define_charts.new.self made fault
     (subst (λ (dimensions : List OpenDim). IsReasonOf c.define_charts.new.self (defines [] dimensions) fault) c.as_slice-2.ensures reason)) c.define_dimensions.ensures.refused
+
+pub returns-in_err-define_charts-clause-few : goal.returns-in_err-define_charts-clause-few
+returns-in_err-define_charts-clause-few c = kept-within c.self.inside c.args.self.now c.self.view_is c.self.invariant
+
+pub returns-clause-few : goal.returns-clause-few
+returns-clause-few c = kept-within c.self.inside c.args.self.now c.self.view_is c.self.invariant

@@ -17,7 +17,7 @@ use Rattle.history.specs.Looking.{beat, charts, dimensions, last_chart, open_blo
 use Rattle.history.specs.Put.{put, put_all}
 use Rattle.history.specs.Read.{history_at}
 use Rattle.history.specs.Refusal.{chart_now, chart_refusal, charts_full, dimension_refusal, dimensions_full, has_dimension, is_new_chart, is_new_dimension}
-use Rattle.history.specs.Registry.{Registry, is_chart, is_dimension, same_chart, same_dimension, with_definitions}
+use Rattle.history.specs.Registry.{Registry, is_chart, is_dimension, is_of, same_chart, same_dimension, with_definitions}
 use Rattle.history.specs.Regular.{AreApart}
 use Rattle.chart_registry.specs.declared.fault.RegistryFault.{RegistryFault}
 use Rattle.chart_registry.specs.declared.fault.RegistryFault.TheVariants.{GridChanged, TooManyCharts, TooManyDimensions, Memory}
@@ -25,13 +25,14 @@ use Rattle.chart_registry.specs.Defining.{changes_grids, other_grid, IsReasonOf}
 use Rattle.chart_registry.proofs.ApartLemmas.{apart-charts, same-parts, turned}
 use Rattle.chart_registry.proofs.Applying.{all-put, has_chart-any, same_chart-alike}
 use Rattle.chart_registry.proofs.Finding.{found-all, found-passes, nat_eq_same, one_if}
-use Rattle.chart_registry.proofs.Growing.{same_dimension-alike}
+use Rattle.chart_registry.proofs.Growing.{length-put_all as length-grown, more_definitions, same_dimension-alike}
 use Rattle.chart_registry.proofs.OpenLemmas.{chart-left, chart-same, charts-apart}
+use Rattle.chart_registry.proofs.ReasonLemmas.{count-put_all as count-grown, of-alike}
 use Rattle.chart_registry.proofs.RegistryLemmas.{or_false}
 use Rattle.chart_registry.proofs.RowsLemmas.{same_text}
-use Rattle.beat_points.specs.Text.{AreAccepted, HasFew}
-use Rattle.beat_points.proofs.FewLemmas.{count-cons, count-put_all, count_of, few-closed}
-use Rattle.beat_points.proofs.TextLemmas.{passed, text-open_few, wanted}
+use Rattle.chart_registry.specs.Accepted.{AreAccepted, HasFew, IsWithin}
+use Rattle.chart_registry.proofs.FewLemmas.{count-cons, count-put_all, count_of, few-closed}
+use Rattle.chart_registry.proofs.AcceptedLemmas.{passed, text-open_few, wanted}
 
 -- ---- how long a list is that takes more
 count-all : {A : Type 0} (xs : List A) → count_by (λ (x : A). true) xs ≡ length xs
@@ -259,3 +260,32 @@ module _ (every : ℕ) (h : List Beat) (few_charts : length (registry_of h).char
       (room-charts (now past) (charts every past) (dimensions past) (rows past) room)
       (room-dimensions (now past) (charts every past) (dimensions past) (rows past) room)
       (λ chart. omega (arith, few-closed (now past) (dimensions past) chart, text-open_few every h past few accepted chart))
+
+-- ---- a registry before it took definitions
+within-before : (registry : Registry) (cs : List ChartDef) (ds : List OpenDim) → IsWithin (with_definitions registry cs ds) → IsWithin registry
+within-before registry cs ds within = record {
+  charts = omega (arith, length-grown same_chart (is_chart []) (same_chart-alike []) registry.charts cs, within.charts);
+  dimensions = omega (arith, more_definitions registry cs ds, within.dimensions);
+  each = λ chart. omega (arith, count-grown same_dimension (is_of chart) (of-alike chart) registry.dimensions ds, within.each chart);
+}
+
+module _ (every : ℕ) (h : List Beat) where
+  text-before : (past : List Line) → IsWithin (registry_of (history_at every h past)) → IsWithin (registry_of h)
+  text-before [] within = within
+  text-before (line.Moment moment ∷ past) within = text-before past (within-before (registry_of (history_at every h past)) (charts every past) (dimensions past) within)
+  text-before (line.Chart def ∷ past) within = text-before past within
+  text-before (line.Dimension def ∷ past) within = text-before past within
+  text-before (line.Begin chart ∷ past) within = text-before past within
+  text-before (line.Set id value anomalous ∷ past) within = text-before past within
+  text-before (line.End ∷ past) within = text-before past within
+  text-before (line.Flush ∷ past) within = text-before past within
+  text-before (line.Disable ∷ past) within = text-before past within
+  text-before (line.Query text ∷ past) within = text-before past within
+  text-before (line.Skipped ∷ past) within = text-before past within
+
+  -- a registry that has no more than it may have takes the open beat where there is memory
+  pub text-short : (past : List Line) → IsWithin (registry_of (history_at every h past)) → AreAccepted every h past
+      → (fault : RegistryFault) → IsReasonOf (registry_of (history_at every h past)) (beat every past) fault → fault ≡ Memory
+  text-short past within accepted =
+      let before = text-before past within in
+      text-reason every h before.charts before.dimensions past before.each accepted

@@ -7,7 +7,7 @@ use Rattle.history.specs.declared.fault.BlockFault.TheVariants.{SecondBlock}
 use Rattle.history.specs.declared.line.Line.{Line}
 use Rattle.history.specs.declared.line.Line.TheVariants.{Chart, Dimension, Begin, Set, End, Moment}
 use Rattle.history.specs.History.{registry_of}
-use Rattle.beat_points.specs.Text.{AreAccepted, HasFew}
+use Rattle.chart_registry.specs.Accepted.{AreAccepted, HasFew}
 
 -- a chart of one dimension, the latest line first
 module _ (chart : ChartDef) (dimension : DimDef) where

@@ -1,4 +1,5 @@
-use Rattle.std.specs.Prelude.{◌≡◌, ◌≤◌, ℕ, List, [], ◌∷◌, count_by, None}
+-- Lines of a text that may stand where they do, and what a registry may have.
+use Rattle.std.specs.Prelude.{◌≡◌, ◌≤◌, ℕ, List, [], ◌∷◌, length, count_by, None}
 use Rattle.history.specs.declared.line.Line.{Line}
 use Rattle.history.specs.History.{Beat}
 use Rattle.history.specs.Read.{refusal_at}
@@ -12,3 +13,9 @@ AreAccepted every h (line ∷ past) = (refusal_at every h past line ≡ None) ×
 -- no chart has more dimensions than a chart may have
 abbrev pub HasFew : Registry → Type 0
 HasFew registry = (chart : List ℕ) → count_by (is_of chart) registry.dimensions ≤ 1024
+
+-- no more charts and dimensions than there may be, in all and of a chart
+pub record IsWithin (registry : Registry) : Type 0 where
+  pub charts : length registry.charts ≤ 4096
+  pub dimensions : length registry.dimensions ≤ 65536
+  pub each : HasFew registry
