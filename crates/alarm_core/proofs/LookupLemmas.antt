@@ -20,7 +20,7 @@ use Rattle.tier_rollup.specs.Buckets.{Added, limit, least, greatest, total, anom
 use Rattle.tier_rollup.specs.Growing.{single}
 use Rattle.tier_rollup.specs.Rolling.{AreWithin}
 use Rattle.tier_rollup.proofs.RecordLemmas.{single_is, abs-add, anomalous-le, total_bound}
-use Rattle.query_engine.specs.declared.point.Point.{Point}
+use Rattle.tier_rollup.specs.declared.point.Point.{Point}
 use Rattle.query_engine.specs.Points.{are_rising_from, values}
 use Rattle.query_engine.specs.Joining.{joined, HaveRoom}
 use Rattle.query_engine.specs.Windows.{members_between, group_of}

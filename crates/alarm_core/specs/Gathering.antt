@@ -5,7 +5,7 @@ use Rattle.fixed_num.specs.declared.units.Record.{Record}
 use Rattle.health_config.specs.declared.lookup.Lookup.{Lookup}
 use Rattle.history.specs.Registry.{Registry}
 use Rattle.tier_rollup.specs.Growing.{single}
-use Rattle.query_engine.specs.declared.point.Point.{Point}
+use Rattle.tier_rollup.specs.declared.point.Point.{Point}
 use Rattle.query_engine.specs.Joining.{joined, HaveRoom}
 use Rattle.alarm_core.specs.declared.gather.Gathered.{Gathered}
 use Rattle.alarm_core.specs.Lookups.{is_taken, numbers, come_to}

@@ -15,7 +15,7 @@ use Rattle.health_config.specs.declared.lookup.Method.TheVariants as method
 use Rattle.history.specs.declared.dimension.DimDef.{DimDef}
 use Rattle.history.specs.Registry.{Registry}
 use Rattle.tier_rollup.specs.Buckets.{Added, record_of}
-use Rattle.query_engine.specs.declared.point.Point.{Point}
+use Rattle.tier_rollup.specs.declared.point.Point.{Point}
 use Rattle.query_engine.specs.declared.request.Group.{Group}
 use Rattle.query_engine.specs.declared.request.Group.TheVariants.{Average, Min, Max, Sum, Count, AnomalyRate}
 use Rattle.query_engine.specs.Points.{values}

@@ -2,7 +2,7 @@
 use Rattle.std.specs.Prelude.{ℕ, ◌/◌, ◌==◌, max, Bool, not, if◌then◌else◌, List, Option, None}
 use Rattle.std.specs.Option.{option_map, option_or}
 use Rattle.health_expr.specs.declared.value.Value.{Value}
-use Rattle.query_engine.specs.declared.point.Point.{Point}
+use Rattle.tier_rollup.specs.declared.point.Point.{Point}
 use Rattle.alarm_events.specs.declared.status.Status.{Status}
 use Rattle.alarm_events.specs.Status.{number}
 use Rattle.alarm_core.specs.declared.delay.Delay.{Delay}

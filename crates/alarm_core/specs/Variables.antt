@@ -7,7 +7,7 @@ use Rattle.health_expr.specs.declared.value.Value.{Value}
 use Rattle.health_expr.specs.declared.value.Value.TheVariants.{Nan, Inf, Fixed}
 use Rattle.health_expr.specs.Value.{fixed}
 use Rattle.history.specs.Registry.{Registry}
-use Rattle.query_engine.specs.declared.point.Point.{Point}
+use Rattle.tier_rollup.specs.declared.point.Point.{Point}
 use Rattle.storage_number.specs.declared.point.Point.{Point as Read}
 use Rattle.storage_number.specs.Word.{point_of}
 use Rattle.alarm_events.specs.declared.status.Status.{Status}

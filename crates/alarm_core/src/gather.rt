@@ -1,7 +1,7 @@
 //! The numbers of a chart's dimensions in a lookup.
 ghost use Rattle.std.specs.Prelude.{◌≡◌, ℕ, ◌≤◌, List, IfOk, IsErrOf};
 ghost use Rattle.host_model.specs.Cause.{HasCause};
-ghost use Rattle.query_engine.specs.declared.point.Point.{Point as APoint};
+ghost use Rattle.tier_rollup.specs.declared.point.Point.{Point as APoint};
 ghost use Rattle.query_engine.specs.Joining.{joined, HaveRoom};
 ghost use Rattle.alarm_core.specs.Gathering.{one_of, HasRoomFor, Adds, IsGathered};
 ghost use Rattle.alarm_core.specs.Lookups.{accepts, is_accepted, is_taken, number};

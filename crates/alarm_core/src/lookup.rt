@@ -2,7 +2,7 @@
 ghost use Rattle.std.specs.Prelude.{◌≡◌, ◌≢◌, ℕ, ◌<◌, ◌^◌, List, pos, unsigned_abs, ◌||◌, IfOk, IfSome, IsErrOf};
 ghost use Rattle.fixed_num.specs.Rounding.{nearest};
 ghost use Rattle.host_model.specs.Cause.{HasCause};
-ghost use Rattle.query_engine.specs.declared.point.Point.{Point as APoint};
+ghost use Rattle.tier_rollup.specs.declared.point.Point.{Point as APoint};
 ghost use Rattle.alarm_core.specs.Lookups as spec;
 ghost use Rattle.alarm_core.specs.Step.{found_by};
 

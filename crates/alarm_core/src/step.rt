@@ -1,7 +1,7 @@
 //! One step of an alarm of a chart.
 ghost use Rattle.std.specs.Prelude.{◌≡◌, ℕ, List, option_map, IfOk, IsErrOf};
 ghost use Rattle.host_model.specs.Cause.{HasCause};
-ghost use Rattle.query_engine.specs.declared.point.Point.{Point as APoint};
+ghost use Rattle.tier_rollup.specs.declared.point.Point.{Point as APoint};
 ghost use Rattle.alarm_core.specs.Step as spec;
 
 use crate::delay::{Delay, new_delay};

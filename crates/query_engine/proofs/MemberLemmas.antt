@@ -8,7 +8,7 @@ use Rattle.storage_number.specs.declared.point.Point.{Point as Value}
 use Rattle.storage_number.specs.Word.{point_of}
 use Rattle.tier_rollup.specs.Buckets.{Added, IsWithinLimit}
 use Rattle.tier_rollup.specs.Rolling.{AreWithin}
-use Rattle.query_engine.specs.declared.point.Point.{Point}
+use Rattle.tier_rollup.specs.declared.point.Point.{Point}
 use Rattle.query_engine.specs.Points.{are_rising_from, value_of, values}
 use Rattle.query_engine.specs.Windows.{is_between, members_between}
 use Rattle.query_engine.proofs.WordLemmas.{word_within}

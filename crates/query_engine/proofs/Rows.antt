@@ -1,7 +1,7 @@
 -- what the definitions say of small requests, worked out by hand
 use Rattle.std.proofs.Common.{◌≡◌, ℕ, ◌*◌, ◌^◌, List, [], ◌∷◌, get_or, Option, Some, None, ℤ, pos, neg_ℤ, refl}
 use Rattle.storage_number.specs.Step.{steps}
-use Rattle.query_engine.specs.declared.point.Point.{Point}
+use Rattle.tier_rollup.specs.declared.point.Point.{Point}
 use Rattle.query_engine.specs.declared.request.Group.{Group}
 use Rattle.query_engine.specs.declared.request.Group.TheVariants.{Average, Min, Max, Sum, Count, AnomalyRate}
 use Rattle.query_engine.specs.declared.request.Request.{Request}

@@ -12,7 +12,7 @@ use Rattle.storage_number.specs.Word.{point_of}
 use Rattle.tier_rollup.specs.Buckets.{Added, IsWithinLimit, holds, members, record_of, bucket_record}
 use Rattle.tier_rollup.specs.Rolling.{IsAfter, IsRising, AreWithin}
 use Rattle.tier_rollup.proofs.RecordLemmas.{same_parts}
-use Rattle.query_engine.specs.declared.point.Point.{Point}
+use Rattle.tier_rollup.specs.declared.point.Point.{Point}
 use Rattle.query_engine.specs.Points.{are_rising_from, values}
 use Rattle.query_engine.specs.Joining.{joined}
 use Rattle.query_engine.proofs.JoinLemmas.{record_of-append}

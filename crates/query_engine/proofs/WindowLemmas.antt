@@ -11,7 +11,7 @@ use Rattle.tier_rollup.specs.Buckets.{Added, record_of}
 use Rattle.tier_rollup.specs.Growing.{single}
 use Rattle.tier_rollup.specs.Rolling.{AreWithin}
 use Rattle.tier_rollup.proofs.RecordLemmas.{single_is}
-use Rattle.query_engine.specs.declared.point.Point.{Point}
+use Rattle.tier_rollup.specs.declared.point.Point.{Point}
 use Rattle.query_engine.specs.Points.{are_rising_from, values, is_asked, points_between, record_at}
 use Rattle.query_engine.specs.Joining.{joined, record_of_one, HaveRoom}
 use Rattle.query_engine.specs.Windows.{is_between, members_between, record_between}

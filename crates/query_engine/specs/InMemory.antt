@@ -2,7 +2,7 @@ use Rattle.std.specs.Prelude.{◌≡◌, ℕ, zero, suc, List, [], ◌∷◌, sl
 use Rattle.std.specs.List.{list_all}
 use Rattle.std.proofs.Common.{subst, sym}
 use Rattle.std.proofs.lemmas.Bool.{and_parts}
-use Rattle.query_engine.specs.declared.point.Point.{Point}
+use Rattle.tier_rollup.specs.declared.point.Point.{Point}
 use Rattle.query_engine.specs.Points.{Tiers, are_series}
 
 -- the points of a series, of which there are none past the last series

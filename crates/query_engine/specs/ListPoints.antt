@@ -1,6 +1,6 @@
 use Rattle.std.specs.Prelude.{ℕ, List}
 use Rattle.query_engine.specs.declared.list_points.ListPoints.{ListPoints}
-use Rattle.query_engine.specs.declared.point.Point.{Point}
+use Rattle.tier_rollup.specs.declared.point.Point.{Point}
 use Rattle.query_engine.specs.InMemory.{series_in, tiers_in}
 use Rattle.query_engine.specs.Points.{Tiers}
 

@@ -5,7 +5,7 @@ use Rattle.fixed_num.specs.declared.units.Record.{Record}
 use Rattle.storage_number.specs.declared.point.Point.{Point as Value}
 use Rattle.storage_number.specs.Word.{point_of}
 use Rattle.tier_rollup.specs.Buckets.{Added, bucket_record}
-use Rattle.query_engine.specs.declared.point.Point.{Point}
+use Rattle.tier_rollup.specs.declared.point.Point.{Point}
 
 -- Each list of points is earliest first.
 

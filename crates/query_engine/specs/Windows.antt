@@ -5,7 +5,7 @@ use Rattle.fixed_num.specs.declared.units.Record.{Record}
 use Rattle.fixed_num.specs.Rounding.{nearest}
 use Rattle.fixed_num.specs.Units.{one}
 use Rattle.tier_rollup.specs.Buckets.{Added, record_of}
-use Rattle.query_engine.specs.declared.point.Point.{Point}
+use Rattle.tier_rollup.specs.declared.point.Point.{Point}
 use Rattle.query_engine.specs.declared.request.Group.{Group}
 use Rattle.query_engine.specs.declared.request.Group.TheVariants.{Average, Min, Max, Sum, Count, AnomalyRate}
 use Rattle.query_engine.specs.declared.request.Request.{Request}

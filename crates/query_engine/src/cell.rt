@@ -2,7 +2,7 @@ ghost use Rattle.std.specs.Prelude.{◌≡◌, ◌≢◌, ℕ, ◌+◌, ◌*◌,
 ghost use Rattle.std.specs.Option.{option_map};
 ghost use Rattle.fixed_num.specs.Rounding.{nearest};
 ghost use Rattle.host_model.specs.Cause.{HasCause};
-ghost use Rattle.query_engine.specs.declared.point.Point.{Point as APoint};
+ghost use Rattle.tier_rollup.specs.declared.point.Point.{Point as APoint};
 ghost use Rattle.query_engine.specs.Planning.{IsPlan};
 ghost use Rattle.query_engine.specs.Windows.{group_of, cell};
 

@@ -1,7 +1,7 @@
 ghost use Rattle.std.specs.Prelude.{◌≡◌, ℕ, ◌≤◌, List, length, reverse, true, IsTrue};
 ghost use Rattle.tier_rollup.specs.Buckets.{bucket_record};
 ghost use Rattle.tier_rollup.specs.Rolling.{AreWithin, IsRising};
-ghost use Rattle.query_engine.specs.declared.point.Point.{Point as APoint};
+ghost use Rattle.tier_rollup.specs.declared.point.Point.{Point as APoint};
 ghost use Rattle.query_engine.specs.declared.request.Group.{Group as AGroup};
 ghost use Rattle.query_engine.specs.declared.request.Request.{Request as ARequest};
 ghost use Rattle.query_engine.specs.Points.{are_series, values};

@@ -1,6 +1,6 @@
 ghost use Rattle.std.specs.Prelude.{◌≡◌, ◌≢◌, ℕ, ◌+◌, ◌%◌, ◌^◌, ◌<◌, ◌≤◌, List, IfOk, IsErrOf};
 ghost use Rattle.host_model.specs.Cause.{HasCause};
-ghost use Rattle.query_engine.specs.declared.point.Point.{Point as APoint};
+ghost use Rattle.tier_rollup.specs.declared.point.Point.{Point as APoint};
 ghost use Rattle.query_engine.specs.Planning.{IsPlan};
 ghost use Rattle.query_engine.specs.Windows.{record_between};
 

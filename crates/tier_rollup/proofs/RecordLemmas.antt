@@ -1,11 +1,11 @@
-use Rattle.std.proofs.Common.{◌≡◌, ℕ, suc, ◌+◌, ◌*◌, ◌-◌, ◌^◌, ◌<◌, ◌≤◌, min, Bool, true, false, cond, ltb, List, [], ◌∷◌, length, Some, ℤ, pos, negsuc, ◌+ℤ◌, unsigned_abs, arith, refl, ap, subst, ◌∙◌}
+use Rattle.std.proofs.Common.{◌≡◌, ℕ, suc, ◌+◌, ◌*◌, ◌-◌, ◌^◌, ◌<◌, ◌≤◌, min, Bool, true, false, cond, ltb, List, [], ◌∷◌, length, Some, ℤ, pos, negsuc, ◌+ℤ◌, unsigned_abs, arith, refl, ap, subst, sym, ◌∙◌}
 use Rattle.std.specs.Int.{int_min, int_max, saturate_to_bits, from_bool}
 use Rattle.std.proofs.Math.IntN.{+ℤ_idr}
 use Rattle.std.proofs.lemmas.Bool.{ltb-true, cond_both}
 use Rattle.std.proofs.lemmas.Option.{same_Some, none-some}
 use Rattle.fixed_num.specs.declared.units.Record.{Record}
 use Rattle.tier_rollup.specs.Buckets.{Added, limit, IsWithinLimit, holds, members, least, greatest, total, one_if, anomalous_count, record_of}
-use Rattle.tier_rollup.specs.Growing.{single, grown, HasRoom}
+use Rattle.tier_rollup.specs.Growing.{single, grown, grown_within, HasRoom}
 use Rattle.tier_rollup.specs.Rolling.{AreWithin}
 
 -- a record by its five parts
@@ -112,3 +112,16 @@ counted count one sum e small = omega arith
 pub from_one : (anomalous : Bool) (count one sum : ℕ) → one ≡ from_bool anomalous → sum ≡ min (count + one) (2 ^ 32 - 1) → count + 1 < 2 ^ 32 → sum ≡ count + one_if anomalous
 from_one true count one sum o e small = omega arith
 from_one false count one sum o e small = omega arith
+
+pub marked : (anomalous : Bool) → from_bool anomalous ≡ one_if anomalous
+marked true = refl
+marked false = refl
+
+pub within_is : (before : Record) (units : ℤ) (anomalous : Bool) → HasRoom before units → grown_within before units anomalous ≡ grown before units anomalous
+within_is before units anomalous has =
+    same_parts (int_min units before.min) (int_min units before.min) (int_max units before.max) (int_max units before.max)
+    (saturate_to_bits 127 (units +ℤ before.sum)) (units +ℤ before.sum) (min (before.count + 1) (2 ^ 32 - 1)) (before.count + 1)
+    (min (before.anomalies + one_if anomalous) (2 ^ 32 - 1)) (before.anomalies + one_if anomalous)
+    refl refl (unsaturated (units +ℤ before.sum) has.sum_room)
+    (omega (arith, has.count_room))
+    (from_one anomalous before.anomalies (one_if anomalous) (min (before.anomalies + one_if anomalous) (2 ^ 32 - 1)) (sym (marked anomalous)) refl has.anomalies_room)

@@ -1,7 +1,8 @@
-ghost use Rattle.std.specs.Prelude.{◌≡◌, ℕ, ◌/◌, ◌≤◌, List, ◌∷◌, Some, true};
+ghost use Rattle.std.specs.Prelude.{◌≡◌, ℕ, ◌+◌, ◌^◌, ◌/◌, ◌<◌, ◌≤◌, List, [], ◌∷◌, length, Some, None, true};
 ghost use Rattle.fixed_num.specs.declared.units.Record.{Record};
-ghost use Rattle.tier_rollup.specs.Buckets.{Added, AreFalling, buckets, holds};
-ghost use Rattle.tier_rollup.specs.Rolling.{HasRolled, IsRising};
+ghost use Rattle.tier_rollup.specs.Buckets.{Added, AreFalling, IsWithinLimit, buckets, holds, record_of};
+ghost use Rattle.tier_rollup.specs.Growing.{with_value};
+ghost use Rattle.tier_rollup.specs.Rolling.{AreWithin, HasRolled, IsRising};
 
 /// The law of buckets: a moment lies in the bucket that its quotient by the width numbers, and in no
 /// other. It does nothing.
@@ -16,4 +17,15 @@ pub fn any_points()
     ensures once { (width : ℕ) (points : List Added) → 1 ≤ width → IsRising points → AreFalling (buckets width points) }
     ensures last { (width bucket : ℕ) (kept : Record) (last : Added) (points : List Added) (handed : List ℕ)
         → HasRolled width (Some (bucket, kept)) (last ∷ points) handed → bucket ≡ last.moment / width }
+{}
+
+/// The laws of the record of some points with a further one: where there are fewer than 2^32 of them, each
+/// within the limit, `with_value` gives it. It does nothing.
+pub fn any_record()
+    ensures first { (point : Added) → record_of (point ∷ [])
+        ≡ Some (with_value None point.units point.anomalous) }
+    ensures next { (before : Record) (point : Added) (points : List Added)
+        → record_of points ≡ Some before → AreWithin points → IsWithinLimit point
+        → length points + 1 < 2 ^ 32
+        → record_of (point ∷ points) ≡ Some (with_value (Some before) point.units point.anomalous) }
 {}

@@ -16,11 +16,14 @@
 #![tactic(auto)]
 
 mod law;
+mod point;
 mod record;
 mod roller;
 mod rolling;
 #[cfg(test)]
 mod tests;
 
-pub use law::{any_bucket, any_points};
+pub use law::{any_bucket, any_points, any_record};
+pub use point::{Point, PointList};
+pub use record::with_value;
 pub use roller::Roller;

@@ -1,5 +1,5 @@
 ghost use Rattle.std.specs.Prelude.{◌≡◌, IfSome, IfNone};
-ghost use Rattle.tier_rollup.specs.Growing.{single, grown, HasRoom};
+ghost use Rattle.tier_rollup.specs.Growing.{single, grown, grown_within, with_value, HasRoom};
 
 use fixed_num::{Record, Units};
 
@@ -18,7 +18,8 @@ fn single(units: Units, anomalous: bool) -> Record
 
 /// The record with a further point. The sum and the counts stop at the limits of their types.
 fn grown(before: Record, units: Units, anomalous: bool) -> Record
-    ensures { HasRoom before units → result ≡ grown before units anomalous }
+    ensures within { result ≡ grown_within before units anomalous }
+    ensures exact { HasRoom before units → result ≡ grown before units anomalous }
 {
     Record {
         min: units.min(before.min),
@@ -26,6 +27,17 @@ fn grown(before: Record, units: Units, anomalous: bool) -> Record
         sum: units.saturating_add(before.sum),
         count: before.count.saturating_add(1),
         anomalies: before.anomalies.saturating_add(u32::from(anomalous)),
+    }
+}
+
+/// The record of a bucket with a further point. The sum and the counts stop at the limits of their types,
+/// which no record of points whose moments rise comes near (`any_record`).
+pub fn with_value(before: Option<Record>, units: Units, anomalous: bool) -> Record
+    ensures { result ≡ with_value before units anomalous }
+{
+    match before {
+        Some(before) => grown(before, units, anomalous),
+        None => single(units, anomalous),
     }
 }
 

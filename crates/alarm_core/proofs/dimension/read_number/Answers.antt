@@ -3,7 +3,7 @@ use Rattle.std.specs.Bool.{IsTrue}
 use Rattle.std.specs.Option.{option_map}
 use Rattle.fixed_num.specs.declared.units.Record.{Record}
 use Rattle.tier_rollup.specs.Buckets.{Added, record_of}
-use Rattle.query_engine.specs.declared.point.Point.{Point}
+use Rattle.tier_rollup.specs.declared.point.Point.{Point}
 use Rattle.query_engine.specs.Points.{are_series, points_between}
 use Rattle.query_engine.specs.Windows.{group_of}
 use Rattle.query_engine.proofs.JoinLemmas.{counted}

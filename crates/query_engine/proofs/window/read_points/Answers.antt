@@ -1,6 +1,6 @@
 use Rattle.std.proofs.Common.{◌≡◌, ◌-◌, ◌^◌, ◌≤◌, min, List, arith, sym, ap, subst, ◌∙◌}
 use Rattle.std.specs.Bool.{IsTrue}
-use Rattle.query_engine.specs.declared.point.Point.{Point}
+use Rattle.tier_rollup.specs.declared.point.Point.{Point}
 use Rattle.query_engine.specs.Points.{are_series, points_between}
 use Rattle.query_engine.specs.Windows.{record_between}
 use Rattle.query_engine.proofs.WindowLemmas.{points_asked, asked_rising}

@@ -1,5 +1,5 @@
 use Rattle.std.proofs.Common.{◌≡◌, ◌≢◌, ℕ, ◌-◌, ◌%◌, ◌≤◌, List}
-use Rattle.query_engine.specs.declared.point.Point.{Point}
+use Rattle.tier_rollup.specs.declared.point.Point.{Point}
 use Rattle.query_engine.specs.Points.{Tiers}
 use Rattle.query_engine.specs.Windows.{record_between}
 use Rattle.query_engine.proofs.window.read_window.Given as goal
