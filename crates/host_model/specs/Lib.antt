@@ -6,7 +6,9 @@ pub mod Entry
 pub mod HostState
 pub mod Images
 pub mod Keep
+pub mod Link
 pub mod MemoryHost
+pub mod MemoryLink
 pub mod MemorySource
 pub mod Moments
 pub mod Past

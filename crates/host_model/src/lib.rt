@@ -1,4 +1,4 @@
-//! What the agent asks of the world outside: its input, its files and its output.
+//! What the agent asks of the world outside: its input, its files, its output and its links.
 //!
 //! Every object of the outside may fail at any call, and counts its failures, so that a caller can be
 //! held to the truth about whose fault a refusal was. An object may tell what it holds, as those in
@@ -14,7 +14,9 @@ mod entry;
 mod file;
 mod host;
 mod keep;
+mod link;
 mod memory_host;
+mod memory_link;
 mod memory_source;
 mod replay;
 mod source;
@@ -24,7 +26,9 @@ pub use calls::{CallList, ModelFault};
 pub use file::File;
 pub use host::{Failed, Host};
 pub use keep::Keep;
+pub use link::Link;
 pub use memory_host::MemoryHost;
+pub use memory_link::MemoryLink;
 pub use memory_source::MemorySource;
 pub use source::Source;
 pub use status::Status;

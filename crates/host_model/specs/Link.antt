@@ -1,0 +1,9 @@
+use Rattle.std.specs.Prelude.{◌≡◌, ℕ, List, ◌++◌, take, Option, option_map}
+
+-- these bytes were put behind what was sent; a silent link stays silent
+abbrev pub Sends : Option (List ℕ) → List ℕ → Option (List ℕ) → Type 0
+Sends before bytes after = after ≡ option_map (λ sent. sent ++ bytes) before
+
+-- a part of these bytes from the front was put behind what was sent, which may be none or all
+abbrev pub SendsFront : Option (List ℕ) → List ℕ → Option (List ℕ) → Type 0
+SendsFront before bytes after = (n : ℕ) × Sends before (take n bytes) after
