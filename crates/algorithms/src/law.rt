@@ -11,9 +11,11 @@ ghost use Rattle.algorithms.specs.Cells.{before_of, cell_of, last_of, numbered};
 /// does nothing.
 pub fn any_last()
     ensures earlier { (chart : ChartDef) (moment : ℕ) (last : Collected) → last.moment < moment
-        → before_of chart.update_every chart.store_first moment (Some (last_of last)) ≡ before_at chart moment (Some last) }
+        → before_of chart.update_every chart.store_first moment (Some (last_of last))
+        ≡ before_at chart moment (Some last) }
     ensures later { (chart : ChartDef) (moment : ℕ) (last : Collected) → moment ≤ last.moment
-        → before_of chart.update_every chart.store_first moment (Some (last_of last)) ≡ before_at chart moment None }
+        → before_of chart.update_every chart.store_first moment (Some (last_of last))
+        ≡ before_at chart moment None }
     ensures none { (chart : ChartDef) (moment : ℕ)
         → before_of chart.update_every chart.store_first moment None ≡ before_at chart moment None }
 {}

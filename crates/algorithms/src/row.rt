@@ -33,7 +33,8 @@ fn samples_of(
 ) -> Result<Vec<Sample>, AlgoFault>
     requires lasts { length last.now ≡ length now.now }
     requires defs { length dims.now ≡ length now.now }
-    ensures { IfOk result (λ samples. map cell_at samples.items ≡ cells update_every store_first moment now.now last.now dims.now) }
+    ensures { IfOk result (λ samples. map cell_at samples.items
+        ≡ cells update_every store_first moment now.now last.now dims.now) }
 {
     let mut samples = Vec::with_capacity(alloc, now.len())?;
     for (i, value) in now.iter().enumerate() {

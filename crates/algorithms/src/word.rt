@@ -58,7 +58,8 @@ fn packed(num: i128, den: i128, anomalous: bool, reset: bool) -> u32
 
 /// The word of a value as it is: at most 2^63 times 2^31, over at most 2^31.
 fn absolute(sample: &Sample) -> u32
-    ensures { result ≡ packed (ratio (sample.now.value *ℤ sample.now.multiplier) sample.now.divisor) sample.now.anomalous false }
+    ensures { result
+        ≡ packed (ratio (sample.now.value *ℤ sample.now.multiplier) sample.now.divisor) sample.now.anomalous false }
 {
     let num = times(i128::from(sample.value), sample.multiplier);
     packed(num, i128::from(sample.divisor), sample.anomalous, false)
@@ -98,7 +99,8 @@ fn share(part: i128, whole: i128, anomalous: bool, reset: bool) -> u32
 /// The word of the share of a value's rise in the rises of its row.
 fn share_of_rises(sample: &Sample, rises: i128) -> Option<u32>
     requires { unsigned_abs rises ≤ 2 ^ 74 }
-    ensures { result ≡ word_by packed Algorithm.PercentageOfIncrementalRow (pos 0) rises (cell_at sample.now) }
+    ensures { result
+        ≡ word_by packed Algorithm.PercentageOfIncrementalRow (pos 0) rises (cell_at sample.now) }
 {
     match sample.difference() {
         Some(difference) => {

@@ -263,8 +263,3 @@ switch_done_of number body whole file old new before is_file is_whole small fits
     held
     (subst (λ (f : File). IsSynced (of f new)) is_file stable)
     (subst (λ (f : File). contents (of f new) ≡ slot_bytes 1 number body) is_file (is_new ∙ is_whole))
-
--- what holds of a call that went well
-pub on_ok_here : {T E P : Type 0} (result : Result T E) → is_err result ≡ false → OnOk result P → P
-on_ok_here (Ok value) fine held = held
-on_ok_here (Err fault) failed held = absurd cc

@@ -107,7 +107,7 @@ drop_after (d ∷ ds) rest = drop_after ds rest
 size_within_ok : (whole part places n : ℕ) → places ≤ 7 → size_of whole part places ≡ n → n ≤ limit → size_within whole part places ≡ Ok n
 size_within_ok whole part places n short e within = grind arith
 
-numeral_ok : (ds : List ℕ) → all_ascii_digits ds ≡ true → 0 < length ds → is_numeral ds ≡ true
+pub numeral_ok : (ds : List ℕ) → all_ascii_digits ds ≡ true → 0 < length ds → is_numeral ds ≡ true
 numeral_ok ds digits some = and_from (ltb 0 (length ds)) (all_ascii_digits ds) (lt-ltb 0 (length ds) some) digits
 
 reads_plain : (ds : List ℕ) (n : ℕ) → all_ascii_digits ds ≡ true → 0 < length ds → digits_value 10 ds * one ≡ n → n ≤ limit → size_read ds ≡ Ok n
@@ -133,10 +133,10 @@ reads_dotted ds part n digits some part_digits part_some short value within =
     ∙ ap (λ d. size_by true ds d) rest
     ∙ sized
 
-fraction_text-none : (part : ℕ) → part ≡ 0 → fraction_text part ≡ []
+pub fraction_text-none : (part : ℕ) → part ≡ 0 → fraction_text part ≡ []
 fraction_text-none part none = rw none refl
 
-fraction_text-some : (part : ℕ) → (part ≡ 0 → ⊥) → fraction_text part ≡ 46 ∷ decimals 7 part
+pub fraction_text-some : (part : ℕ) → (part ≡ 0 → ⊥) → fraction_text part ≡ 46 ∷ decimals 7 part
 fraction_text-some part more = rw (ne_eqb part 0 more) refl
 
 size_reads : (n : ℕ) → n ≤ limit → size_read (size_text n) ≡ Ok n

@@ -61,8 +61,10 @@ pub fn round_half_even(f: Frac) -> i128
     requires { pos 0 <ℤ f.den }
     ensures value { result ≡ nearest f.num f.den }
     ensures near { IsNearest (unsigned_abs f.num) (unsigned_abs f.den) (unsigned_abs result) }
-    ensures unique { (m : ℕ) → IsNearest (unsigned_abs f.num) (unsigned_abs f.den) m → unsigned_abs result ≡ m }
-    ensures monotone { (n d : ℤ) → pos 0 <ℤ d → (f.num *ℤ d) ≤ℤ (n *ℤ f.den) → result ≤ℤ nearest n d }
+    ensures unique { (m : ℕ) → IsNearest (unsigned_abs f.num) (unsigned_abs f.den) m
+        → unsigned_abs result ≡ m }
+    ensures monotone { (n d : ℤ) → pos 0 <ℤ d → (f.num *ℤ d) ≤ℤ (n *ℤ f.den)
+        → result ≤ℤ nearest n d }
 {
     let size = half_even(f.num.unsigned_abs(), f.den.unsigned_abs());
     signed(f.num.is_negative(), size)

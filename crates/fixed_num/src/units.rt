@@ -57,7 +57,8 @@ fn within_limit(negative: bool, size: u128) -> Option<Units>
 fn product(a: u128, b: u128) -> Option<u128>
     requires a_size { a ≤ limit }
     requires b_size { b ≤ limit }
-    ensures { MatchOption result (limit < half_even (a * b) one) (λ size. size ≡ half_even (a * b) one) }
+    ensures { MatchOption result (limit < half_even (a * b) one) (λ size. size
+        ≡ half_even (a * b) one) }
 {
     let part = a * (b % ONE);
     let whole = a.checked_mul(b / ONE)?.checked_add(part / ONE)?;

@@ -86,7 +86,8 @@ fn split_sign(text: &[u8]) -> (bool, &[u8])
 /// The number that digits are, or the largest of 128 bits where it is above that. `None` where a byte
 /// is no digit, or none is there.
 fn digits(bytes: &[u8]) -> Option<u128>
-    ensures { result ≡ (if is_numeral bytes.now then Some (min (digits_value 10 bytes.now) (2 ^ 128 - 1)) else None) }
+    ensures { result
+        ≡ (if is_numeral bytes.now then Some (min (digits_value 10 bytes.now) (2 ^ 128 - 1)) else None) }
 {
     if bytes.is_empty() {
         return None;

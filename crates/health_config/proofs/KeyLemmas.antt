@@ -8,21 +8,8 @@ use Rattle.std.proofs.lemmas.Str.{IsCharBoundary-start, IsCharBoundary-end, IsCh
 use Rattle.std.specs.List.{prefix_len}
 use Rattle.std.specs.Str.{IsUtf8, IsCharBoundary, is_utf8}
 use Rattle.words.specs.Words.{is_blank}
+use Rattle.health_expr.proofs.Boundaries.{is_blank-ascii}
 use Rattle.health_config.specs.Key.{is_colon}
-
-blank_ascii : (byte : ℕ) → is_blank byte ≡ true → byte < 128
-blank_ascii byte e = grind (arith, nat_tests)
-
-front_step : (text : List ℕ) (n m : ℕ) → IsUtf8 text → n ≡ prefix_len is_blank text → n ≡ m + 1 → IsCharBoundary text n
-front_step text n m utf8 e after =
-    let within = prefix_len-le-length is_blank text in
-    let passes = prefix_len_passes is_blank text m 0 (omega arith) in
-    subst (IsCharBoundary text) (sym after) (IsCharBoundary-after_ascii text m utf8 (omega arith) (blank_ascii _ passes))
-
--- behind the blanks in front
-pub behind_blanks : (text : List ℕ) (n : ℕ) → IsUtf8 text → n ≡ prefix_len is_blank text → IsCharBoundary text n
-behind_blanks text zero utf8 e = IsCharBoundary-start text utf8
-behind_blanks text (suc n) utf8 e = front_step text (suc n) n utf8 e (omega arith)
 
 back_step : (text : List ℕ) (n m : ℕ) → n ≡ prefix_len is_blank (reverse text) → n ≡ m + 1 → IsCharBoundary text (length text - n)
 back_step text n m e after =
@@ -31,7 +18,7 @@ back_step text n m e after =
     let passes = prefix_len_passes is_blank (reverse text) m 0 (omega arith) in
     let place : length text - 1 - m ≡ length text - n = omega arith in
     let here : get_or (reverse text) m 0 ≡ get_or text (length text - n) 0 = get_or-reverse text m 0 (omega arith) ∙ ap (λ (k : ℕ). get_or text k 0) place in
-    IsCharBoundary-before_ascii text (length text - n) (omega arith) (blank_ascii _ (subst (λ (byte : ℕ). is_blank byte ≡ true) here passes))
+    IsCharBoundary-before_ascii text (length text - n) (omega arith) (is_blank-ascii _ (subst (λ (byte : ℕ). is_blank byte ≡ true) here passes))
 
 -- before the blanks at the end
 pub before_blanks : (text : List ℕ) (n : ℕ) → n ≡ prefix_len is_blank (reverse text) → IsCharBoundary text (length text - n)
@@ -52,10 +39,3 @@ pub behind_colon : (line : List ℕ) (place : ℕ) → IsUtf8 line → Some plac
 behind_colon line place utf8 e =
     let at = colon_at line place e in
     IsCharBoundary-after_ascii line place utf8 at.0 at.1
-
-not_utf8_by : (line : List ℕ) (b : Bool) → is_utf8 line ≡ b → (IsUtf8 line → ⊥) → b ≡ false
-not_utf8_by line true is other = absurd (other (IsUtf8-from_is_utf8 line is))
-not_utf8_by line false is other = refl
-
-pub not_utf8 : (line : List ℕ) → (IsUtf8 line → ⊥) → is_utf8 line ≡ false
-not_utf8 line other = not_utf8_by line _ refl other

@@ -10,7 +10,7 @@ use Rattle.std.specs.Str.{IsUtf8, IsCharBoundary}
 use Rattle.words.specs.Words.{is_blank}
 use Rattle.health_expr.specs.Cut.{is_letter, digits_len, decimals_len, number_len}
 
-is_blank-ascii : (byte : ℕ) → is_blank byte ≡ true → byte < 128
+pub is_blank-ascii : (byte : ℕ) → is_blank byte ≡ true → byte < 128
 is_blank-ascii byte e = grind (arith, nat_tests)
 
 is_letter-ascii : (byte : ℕ) → is_letter byte ≡ true → byte < 128

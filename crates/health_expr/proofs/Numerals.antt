@@ -16,6 +16,7 @@ use Rattle.fixed_num.specs.declared.units.NumberFault.TheVariants.{TooWide}
 use Rattle.fixed_num.specs.Rounding.{signed}
 use Rattle.fixed_num.specs.UnitsText.{is_dot, is_numeral, size_of, size_within, size_by, size_read, units_read}
 use Rattle.health_expr.specs.Cut.{digits_len, decimals_len, number_len}
+use Rattle.fixed_num.proofs.ReadsBack.{numeral_ok}
 
 -- it is refused only as too wide
 abbrev pub IsOnlyTooWide : List ℕ → Type 0
@@ -50,9 +51,6 @@ unsigned (digit ∷ digits) rest all some =
     let apart = digit_apart digit (and_parts (is_ascii_digit digit) (all_ascii_digits digits) all).0 in
     rw (apart.1, apart.2) refl
 
-is_numeral-digits : (digits : List ℕ) → all_ascii_digits digits ≡ true → 0 < length digits → is_numeral digits ≡ true
-is_numeral-digits digits all some = and_from (ltb 0 (length digits)) (all_ascii_digits digits) (lt-ltb 0 (length digits) some) all
-
 drop-past : (xs : List ℕ) (y : ℕ) (ys : List ℕ) → drop (suc (length xs)) (xs ++ y ∷ ys) ≡ ys
 drop-past [] y ys = refl
 drop-past (x ∷ xs) y ys = drop-past xs y ys
@@ -64,7 +62,7 @@ plain_only_wide digits all some =
     let same = append-nil digits in
     let whole = unsigned digits [] all some in
     let dotless : list_any is_dot (digits ++ []) ≡ false = past.0 in
-    let numeral = is_numeral-digits digits all some in
+    let numeral = numeral_ok digits all some in
     subst IsOnlyTooWide same
     (only_wide_by (digits ++ []) (digits_value 10 digits) 0 0
     (ap size_read whole
@@ -80,7 +78,7 @@ dotted_only_wide digits part all some part_all part_some =
     let text : List ℕ = digits ++ 46 ∷ part in
     let past = past_digits digits (46 ∷ part) all in
     let at : position_or_len is_dot text ≡ length digits = past.1 ∙ add-zero (length digits) in
-    let both = and_from (is_numeral part) (is_numeral digits) (is_numeral-digits part part_all part_some) (is_numeral-digits digits all some) in
+    let both = and_from (is_numeral part) (is_numeral digits) (numeral_ok part part_all part_some) (numeral_ok digits all some) in
     only_wide_by text (digits_value 10 digits) (digits_value 10 part) (length part)
     (ap size_read (unsigned digits (46 ∷ part) all some)
     ∙ ap (λ dot. size_by dot (before_first is_dot text) (after_first is_dot text)) past.0

@@ -28,6 +28,7 @@ use Rattle.health_expr.specs.Words.{Placed, end_at, placed, words_from, words_of
 use Rattle.health_expr.specs.Written.{Lexeme, plain, open_word, close_word, question_word, colon_word, operator_word, number_word, name_word, enclosed, words_in, text_of_words, text_of, levels_in, IsLiteral, IsWritable}
 use Rattle.health_expr.proofs.Rereads.{laid, Ends, quiet_end, rereads}
 use Rattle.health_expr.proofs.WordsLemmas.{front}
+use Rattle.fixed_num.proofs.ReadsBack.{fraction_text-none, fraction_text-some}
 
 -- ---- what may follow a word: a blank, or nothing
 
@@ -257,21 +258,15 @@ decimals_all (suc places) part below =
 decimals_some : (part : ℕ) → 0 < part → 0 < length (decimals 7 part)
 decimals_some part positive = subst (λ (ds : List ℕ). 0 < length ds) (sym (decimals-more 6 part positive)) (omega arith)
 
-fraction_none : (part : ℕ) → part ≡ 0 → fraction_text part ≡ []
-fraction_none part none = rw none refl
-
-fraction_some : (part : ℕ) → (part ≡ 0 → ⊥) → fraction_text part ≡ 46 ∷ decimals 7 part
-fraction_some part more = rw (ne_eqb part 0 more) refl
-
 size_numeral : (n : ℕ) → n / one < 10 ^ 64 → n % one < 10 ^ 7 → IsNumeral (size_text n)
 size_numeral n below part_below =
     let digits = decimal_is_IsNumeral_wide (n / one) below in
     let all : all_ascii_digits (decimal (n / one)) ≡ true = (numerals_by_value _ tells_all_ascii_digits).from (decimal (n / one)) digits.0.1 in
     elim (cases_eq (n % one) 0) [
-      | inl none ↦ subst (λ (bytes : List ℕ). IsNumeral bytes) (sym (ap (λ (t : List ℕ). decimal (n / one) ++ t) (fraction_none (n % one) none) ∙ append-nil (decimal (n / one)))) (plain_numeral (decimal (n / one)) all digits.0.0)
+      | inl none ↦ subst (λ (bytes : List ℕ). IsNumeral bytes) (sym (ap (λ (t : List ℕ). decimal (n / one) ++ t) (fraction_text-none (n % one) none) ∙ append-nil (decimal (n / one)))) (plain_numeral (decimal (n / one)) all digits.0.0)
       | inr more ↦
           let positive : 0 < n % one = omega arith in
-          subst (λ (bytes : List ℕ). IsNumeral bytes) (sym (ap (λ (t : List ℕ). decimal (n / one) ++ t) (fraction_some (n % one) more)))
+          subst (λ (bytes : List ℕ). IsNumeral bytes) (sym (ap (λ (t : List ℕ). decimal (n / one) ++ t) (fraction_text-some (n % one) more)))
           (dotted_numeral (decimal (n / one)) (decimals 7 (n % one)) all digits.0.0 (decimals_all 7 (n % one) part_below) (decimals_some (n % one) positive))
     ]
 

@@ -1,6 +1,6 @@
 -- the moments of one call of a host, from what the call ensures
-use Rattle.std.proofs.Common.{◌≡◌, ℕ, ◌≤◌, List, ◌∷◌, ◌++◌, length, min, take, Result, Ok, Err, sym, ap, ◌∙◌, subst, inl, inr, ⊎_elim, arith}
-use Rattle.std.specs.Result.{OnOk, OnErr}
+use Rattle.std.proofs.Common.{◌≡◌, ℕ, ◌≤◌, false, List, ◌∷◌, ◌++◌, length, min, take, Result, Ok, Err, sym, ap, ◌∙◌, subst, inl, inr, ⊎_elim, arith}
+use Rattle.std.specs.Result.{OnOk, OnErr, is_err}
 use Rattle.std.proofs.Math.Nat.{min-eq_left, min-eq_right}
 use Rattle.std.proofs.lemmas.Bool.{cases_lt}
 use Rattle.std.proofs.lemmas.List.{take_all, take-take, length-take}
@@ -9,6 +9,11 @@ use Rattle.host_model.specs.Images.{Change, Synced, contents}
 use Rattle.host_model.specs.Past.{Event, On, Told, of, told, IsDisk, MayAdd}
 use Rattle.host_model.specs.Moments.{Throughout, begins, goes_on, EveryStop, OnlyOn}
 use Rattle.host_model.proofs.MomentLemmas.{at_end, joined, of-on_same, OnlyOn-change}
+
+-- what a call that did not fail ensures
+pub ok_part : {T E P : Type 0} (result : Result T E) → is_err result ≡ false → OnOk result P → P
+ok_part (Ok value) fine held = held
+ok_part (Err fault) failed held = absurd cc
 
 -- nothing happened
 pub unmoved : (P : List Event → Type 0) (old new : List Event) → new ≡ old → P old → Throughout P old new

@@ -42,7 +42,8 @@ pub(crate) fn rest_from(bytes: &[u8], at: usize) -> &[u8]
 fn fill_range(kept: &mut [u8], at: usize, end: usize, byte: u8)
     requires in_order { at ≤ end }
     requires within { end ≤ length kept.old }
-    ensures kept { (place : ℕ) → ((place < at) ⊎ (end ≤ place)) → slice_index kept.new place ≡ slice_index kept.old place }
+    ensures kept { (place : ℕ) → ((place < at) ⊎ (end ≤ place))
+        → slice_index kept.new place ≡ slice_index kept.old place }
     ensures filled { (place : ℕ) → at ≤ place → place < end → slice_index kept.new place ≡ byte }
 {
     for place in at..end {

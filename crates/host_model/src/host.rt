@@ -28,9 +28,11 @@ pub trait Host {
 
     /// The length of a file in bytes.
     fn len(&mut self, file: File) -> Result<u64, Failed>
-        ensures len { IfOk result (λ n. honest → n ≡ length (contents (of file (seen self.old).past))) }
+        ensures len { IfOk result (λ n. honest
+            → n ≡ length (contents (of file (seen self.old).past))) }
         ensures past { honest → (seen self.new).past ≡ (seen self.old).past }
-        ensures cause { HasCause (seen self.old).disk_faults (seen self.new).disk_faults (IsErr result) }
+        ensures cause { HasCause (seen self.old).disk_faults (seen self.new).disk_faults
+            (IsErr result) }
         ensures output { (seen self.new).tell_faults ≡ (seen self.old).tell_faults }
         ensures reads { (seen self.new).reads ≡ (seen self.old).reads };
 
@@ -41,9 +43,11 @@ pub trait Host {
         ensures end { IfOk result (λ n. honest
             → n ≡ min (length into.old) (length (contents (of file (seen self.old).past)) - at)) }
         ensures bytes { IfOk result (λ n. honest
-            → into.new ≡ take n (drop at (contents (of file (seen self.old).past))) ++ drop n into.old) }
+            → into.new ≡ take n (drop at (contents (of file (seen self.old).past)))
+            ++ drop n into.old) }
         ensures past { honest → (seen self.new).past ≡ (seen self.old).past }
-        ensures cause { HasCause (seen self.old).disk_faults (seen self.new).disk_faults (IsErr result) }
+        ensures cause { HasCause (seen self.old).disk_faults (seen self.new).disk_faults
+            (IsErr result) }
         ensures output { (seen self.new).tell_faults ≡ (seen self.old).tell_faults }
         ensures reads { Rose (seen self.old).reads (seen self.new).reads };
 
@@ -52,10 +56,14 @@ pub trait Host {
     fn write_at(&mut self, file: File, at: u64, bytes: &[u8]) -> Result<(), Failed>
         requires { honest → at ≤ length (contents (of file (seen self.old).past)) }
         ensures done { OnOk result (honest → (seen self.new).past
-            ≡ On file (Wrote at (length bytes.now) (written (contents (of file (seen self.old).past)) at bytes.now)) ∷ (seen self.old).past) }
+            ≡ On file (Wrote at (length bytes.now)
+            (written (contents (of file (seen self.old).past)) at bytes.now))
+            ∷ (seen self.old).past) }
         ensures torn { OnErr result (honest
-            → MayAdd (λ now. On file (Wrote at (length bytes.now) now)) (seen self.old).past (seen self.new).past) }
-        ensures cause { HasCause (seen self.old).disk_faults (seen self.new).disk_faults (IsErr result) }
+            → MayAdd (λ now. On file (Wrote at (length bytes.now) now))
+            (seen self.old).past (seen self.new).past) }
+        ensures cause { HasCause (seen self.old).disk_faults (seen self.new).disk_faults
+            (IsErr result) }
         ensures output { (seen self.new).tell_faults ≡ (seen self.old).tell_faults }
         ensures reads { (seen self.new).reads ≡ (seen self.old).reads };
 
@@ -63,30 +71,38 @@ pub trait Host {
     fn cut(&mut self, file: File, len: u64) -> Result<(), Failed>
         requires { honest → len ≤ length (contents (of file (seen self.old).past)) }
         ensures done { OnOk result (honest → (seen self.new).past
-            ≡ On file (Cut len (take len (contents (of file (seen self.old).past)))) ∷ (seen self.old).past) }
+            ≡ On file (Cut len (take len (contents (of file (seen self.old).past))))
+            ∷ (seen self.old).past) }
         ensures torn { OnErr result (honest
             → MayAdd (λ now. On file (Cut len now)) (seen self.old).past (seen self.new).past) }
-        ensures cause { HasCause (seen self.old).disk_faults (seen self.new).disk_faults (IsErr result) }
+        ensures cause { HasCause (seen self.old).disk_faults (seen self.new).disk_faults
+            (IsErr result) }
         ensures output { (seen self.new).tell_faults ≡ (seen self.old).tell_faults }
         ensures reads { (seen self.new).reads ≡ (seen self.old).reads };
 
     /// Makes a file hold what it reads as, whatever happens then. After `Failed` nothing is known to
     /// have been made to hold.
     fn sync(&mut self, file: File) -> Result<(), Failed>
-        ensures done { OnOk result (honest → (seen self.new).past ≡ On file Synced ∷ (seen self.old).past) }
+        ensures done { OnOk result (honest
+            → (seen self.new).past ≡ On file Synced ∷ (seen self.old).past) }
         ensures torn { OnErr result (honest → (seen self.new).past ≡ (seen self.old).past) }
-        ensures cause { HasCause (seen self.old).disk_faults (seen self.new).disk_faults (IsErr result) }
+        ensures cause { HasCause (seen self.old).disk_faults (seen self.new).disk_faults
+            (IsErr result) }
         ensures output { (seen self.new).tell_faults ≡ (seen self.old).tell_faults }
         ensures reads { (seen self.new).reads ≡ (seen self.old).reads };
 
     /// Sends `bytes` to the output. After `Failed` a part from the front may have been sent.
     fn tell(&mut self, bytes: &[u8]) -> Result<(), Failed>
-        ensures done { OnOk result (honest → (seen self.new).past ≡ Told bytes.now ∷ (seen self.old).past) }
-        ensures torn { OnErr result (honest → MayAdd (λ n. Told (take n bytes.now)) (seen self.old).past (seen self.new).past) }
-        ensures cause { HasCause (seen self.old).tell_faults (seen self.new).tell_faults (IsErr result) }
+        ensures done { OnOk result (honest
+            → (seen self.new).past ≡ Told bytes.now ∷ (seen self.old).past) }
+        ensures torn { OnErr result (honest
+            → MayAdd (λ n. Told (take n bytes.now)) (seen self.old).past (seen self.new).past) }
+        ensures cause { HasCause (seen self.old).tell_faults (seen self.new).tell_faults
+            (IsErr result) }
         ensures disk { (seen self.new).disk_faults ≡ (seen self.old).disk_faults }
         ensures reads { (seen self.new).reads ≡ (seen self.old).reads };
 
     /// A file as it reads is one of its images.
-    ghost reads_an_image: { (host : Self) (file : AFile) → honest → IsImage (of file (seen host).past) (contents (of file (seen host).past)) };
+    ghost reads_an_image: { (host : Self) (file : AFile) → honest
+        → IsImage (of file (seen host).past) (contents (of file (seen host).past)) };
 }

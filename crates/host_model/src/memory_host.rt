@@ -83,7 +83,8 @@ impl MemoryHost {
             → IsLeftBy keep (of file (state_of self).past) (contents (of file (state_of host).past))) }
         ensures image { IfOk result (λ host.
             IsDisk (state_of self).past (λ file. contents (of file (state_of host).past))) }
-        ensures synced { IfOk result (λ host. (file : AFile) → IsSynced (of file (state_of host).past)) }
+        ensures synced { IfOk result (λ host. (file : AFile)
+            → IsSynced (of file (state_of host).past)) }
         ensures told { IfOk result (λ host. told (state_of host).past ≡ []) }
         ensures fresh { IfOk result (λ host.
             state_of host ≡ record (new_host [] None) { past = (state_of host).past }) }
@@ -129,7 +130,8 @@ fn record_write(
     at: usize,
     bytes: &[u8],
 ) -> Result<(), AllocError>
-    ensures entry { OnOk result (entries.new.items ≡ entries.old.items ++ Entry.Write file at bytes.now ∷ []) }
+    ensures entry { OnOk result (entries.new.items
+        ≡ entries.old.items ++ Entry.Write file at bytes.now ∷ []) }
     ensures done { OnOk result (kept.new ≡ written kept.old at bytes.now) }
     ensures same_entries { OnErr result (entries.new.items ≡ entries.old.items) }
     ensures same_file { OnErr result (kept.new ≡ kept.old) }
@@ -150,7 +152,8 @@ fn record_cut(
     file: File,
     len: usize,
 ) -> Result<(), AllocError>
-    ensures entry { OnOk result (entries.new.items ≡ entries.old.items ++ Entry.CutTo file len ∷ []) }
+    ensures entry { OnOk result (entries.new.items
+        ≡ entries.old.items ++ Entry.CutTo file len ∷ []) }
     ensures done { OnOk result (kept.new ≡ take len kept.old) }
     ensures same_entries { OnErr result (entries.new.items ≡ entries.old.items) }
     ensures same_file { OnErr result (kept.new ≡ kept.old) }
@@ -167,7 +170,8 @@ fn record_tell(
     output: &mut Vec<u8>,
     bytes: &[u8],
 ) -> Result<(), AllocError>
-    ensures entry { OnOk result (entries.new.items ≡ entries.old.items ++ Entry.Tell bytes.now ∷ []) }
+    ensures entry { OnOk result (entries.new.items
+        ≡ entries.old.items ++ Entry.Tell bytes.now ∷ []) }
     ensures output { OnOk result (output.new.items ≡ output.old.items ++ bytes.now) }
     ensures same_entries { OnErr result (entries.new.items ≡ entries.old.items) }
     ensures same_output { OnErr result (output.new.items ≡ output.old.items) }
@@ -188,7 +192,8 @@ impl MemoryHost {
     /// Counts a call, and says whether it is to fail.
     fn begin(&mut self) -> bool
         ensures fails { IsTrue result ↔ FailsNext (state_of self.old) }
-        ensures counted { state_of self.new ≡ after_call (state_of self.old) (state_of self.old).past }
+        ensures counted { state_of self.new
+            ≡ after_call (state_of self.old) (state_of self.old).past }
         ensures disk_faults { self.new.disk_faults ≡ self.old.disk_faults }
         ensures tell_faults { self.new.tell_faults ≡ self.old.tell_faults }
     {
@@ -295,7 +300,8 @@ impl MemoryHost {
     /// Puts down what a file holds at the start, and makes it hold.
     fn settle(&mut self, file: File, bytes: &[u8]) -> Result<(), AllocError>
         ensures { OnOk result (state_of self.new ≡ record (state_of self.old) {
-          past = On file Synced ∷ write_event file 0 bytes.now (state_of self.old).past ∷ (state_of self.old).past;
+          past = On file Synced ∷ write_event file 0 bytes.now (state_of self.old).past
+              ∷ (state_of self.old).past;
         }) }
     {
         self.write(file, 0, bytes)?;
@@ -339,8 +345,10 @@ impl Host for MemoryHost {
         // Exactly the calls that are to fail fail.
         ensures fails { IsErr result ↔ FailsNext (state_of self.old) }
         ensures len { IfOk result (λ n. n ≡ length (contents (of file (state_of self.old).past))) }
-        ensures done { OnOk result (state_of self.new ≡ after_call (state_of self.old) (state_of self.old).past) }
-        ensures failed { OnErr result (state_of self.new ≡ after_disk_fault (state_of self.old) (state_of self.old).past) }
+        ensures done { OnOk result (state_of self.new
+            ≡ after_call (state_of self.old) (state_of self.old).past) }
+        ensures failed { OnErr result (state_of self.new
+            ≡ after_disk_fault (state_of self.old) (state_of self.old).past) }
     {
         if self.begin() {
             return Err(self.fail_disk(false));
@@ -383,7 +391,8 @@ impl Host for MemoryHost {
             (write_event file at bytes.now (state_of self.old).past ∷ (state_of self.old).past)) }
         ensures failed { OnErr result ((FailsNext (state_of self.old)
             × (state_of self.new ≡ after_disk_fault (state_of self.old)
-            (failed_write_event file at (length bytes.now) (state_of self.old).past ∷ (state_of self.old).past)))
+            (failed_write_event file at (length bytes.now) (state_of self.old).past
+            ∷ (state_of self.old).past)))
             ⊎ (state_of self.new ≡ after_disk_refusal (state_of self.old))) }
     {
         if self.begin() {

@@ -64,7 +64,8 @@ impl Replay {
     /// After a cut to `len` bytes.
     fn cut(&mut self, len: usize, fill: Option<u8>) -> Result<(), AllocError>
         ensures now { self.new.now ≡ take len self.old.now }
-        ensures left { OnOk result (Touches fill (min len (length self.old.left)) (length self.old.left) self.old.left self.new.left) }
+        ensures left { OnOk result (Touches fill (min len (length self.old.left))
+            (length self.old.left) self.old.left self.new.left) }
     {
         self.now.cut(len);
         self.fail_cut(len, fill)
@@ -73,7 +74,8 @@ impl Replay {
     /// After a cut to `len` bytes that failed.
     fn fail_cut(&mut self, len: usize, fill: Option<u8>) -> Result<(), AllocError>
         ensures now { self.new.now ≡ self.old.now }
-        ensures left { OnOk result (Touches fill (min len (length self.old.left)) (length self.old.left) self.old.left self.new.left) }
+        ensures left { OnOk result (Touches fill (min len (length self.old.left))
+            (length self.old.left) self.old.left self.new.left) }
     {
         let end = self.left.len();
         touch(&mut self.left, fill, len.min(end), end)
@@ -97,7 +99,8 @@ impl Replay {
         fill: Option<u8>,
     ) -> Result<(), AllocError>
         ensures { (past : List Event) → Replays fill file past self.old.now self.old.left
-            → OnOk result (Replays fill file (event_of past entry.now ∷ past) self.new.now self.new.left) }
+            → OnOk result (Replays fill file (event_of past entry.now
+            ∷ past) self.new.now self.new.left) }
     {
         match entry {
             Entry::Write(other, at, bytes) => {

@@ -95,7 +95,8 @@ impl Stream {
         requires ready { T.ready taker.old host.old (self.old.count + 1) }
         requires room { (start : T) × (begin : H) × (text : List ℕ)
             × HasTaken
-            (acts_of T.takes T.pauses T.ends T.overflows) self.old start begin text taker.old host.old × (length text + length piece.now ≤ input_limit) }
+            (acts_of T.takes T.pauses T.ends T.overflows) self.old start begin text taker.old host.old
+            × (length text + length piece.now ≤ input_limit) }
         ensures goes_on { OnOk result
             ((start : T) (begin : H) (text : List ℕ)
             → HasTaken
@@ -146,14 +147,17 @@ fn take_next<S: Source, H: Host, T: Taker<H>>(
         → HasTaken
         (acts_of T.takes T.pauses T.ends T.overflows) stream.old start begin text taker.old host.old
         → Steps (λ all. HasTaken
-        (acts_of T.takes T.pauses T.ends T.overflows) stream.new start begin all taker.new host.new) n text (S.left source.old) (S.left source.new)) }
+        (acts_of T.takes T.pauses T.ends T.overflows) stream.new start begin all taker.new host.new)
+        n text (S.left source.old) (S.left source.new)) }
     ensures within { IfOk result (λ n. (0 < n) × (n ≤ length piece.old)) }
     ensures stops { IfErr result
         (λ status. (start : T) (begin : H) (text : List ℕ)
         → HasTaken
         (acts_of T.takes T.pauses T.ends T.overflows) stream.old start begin text taker.old host.old
         → length text + length piece.old ≤ input_limit
-        → Stops (acts_of T.takes T.pauses T.ends T.overflows) status start begin text taker.new host.new (S.left source.old) (S.left source.new) (Rose (S.faults source.old) (S.faults source.new))) }
+        → Stops (acts_of T.takes T.pauses T.ends T.overflows) status start begin text
+        taker.new host.new (S.left source.old) (S.left source.new)
+        (Rose (S.faults source.old) (S.faults source.new))) }
     ensures ready { OnOk result (T.ready taker.new host.new (stream.new.count + 1)) }
     ensures count { S.faults source.old ≤ S.faults source.new }
     ensures stays { (IsErrOf result Status.ReadFault → ⊥)

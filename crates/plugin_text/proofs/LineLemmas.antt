@@ -11,6 +11,7 @@ use Rattle.plugin_text.specs.Block.{begin, set, moment}
 use Rattle.plugin_text.specs.Chart.{chart, chart_of}
 use Rattle.plugin_text.specs.Dimension.{dimension}
 use Rattle.plugin_text.specs.Line.{line, text_line, known_line, said}
+use Rattle.words.proofs.Boundaries.{not_utf8}
 
 -- no line reads more than its first ten words
 
@@ -79,10 +80,6 @@ pub line-text : (bytes : List ℕ) → IsUtf8 bytes → text_line bytes ≡ line
 unfolding line
 line-text bytes utf8 = rw (is_utf8-from_IsUtf8 bytes utf8) refl
 
-not_utf8 : (bytes : List ℕ) (b : Bool) → is_utf8 bytes ≡ b → (IsUtf8 bytes → ⊥) → b ≡ false
-not_utf8 bytes true is other = absurd (other (IsUtf8-from_is_utf8 bytes is))
-not_utf8 bytes false is other = refl
-
 pub line-other : (bytes : List ℕ) → (IsUtf8 bytes → ⊥) → line bytes ≡ Err NotText
 unfolding line
-line-other bytes other = rw (not_utf8 bytes (is_utf8 bytes) refl other) refl
+line-other bytes other = rw (not_utf8 bytes other) refl

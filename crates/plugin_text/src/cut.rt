@@ -12,7 +12,8 @@ use memchr::memchr;
 /// What stands before the first line feed, and what stands after it.
 fn split_at_line_feed(text: &[u8]) -> Option<(&[u8], &[u8])>
     ensures { MatchOption result (parts text.now ≡ text.now ∷ [])
-        (λ halves. (parts text.now ≡ halves.0.now ∷ parts halves.1.now) × (length halves.1.now < length text.now)) }
+        (λ halves. (parts text.now ≡ halves.0.now ∷ parts halves.1.now)
+        × (length halves.1.now < length text.now)) }
 {
     let at = memchr(b'\n', text)?;
     Some((&text[..at], &text[at + 1..]))
@@ -61,9 +62,11 @@ pub fn cut_lines(held: &mut ByteList, piece: &[u8], out: &mut LineList) -> Resul
     ensures held { IsRest held.new }
     ensures only { IfErr result EndsSplitting }
     ensures long { IsErrOf result LineFault.LineTooLong
-        → (handed : List (List ℕ)) × (out.new ≡ out.old ++ handed) × IsLongAfter (held.old ++ piece.now) handed }
+        → (handed : List (List ℕ)) × (out.new ≡ out.old ++ handed)
+        × IsLongAfter (held.old ++ piece.now) handed }
     ensures memory { IsErrOf result LineFault.Memory
-        → (handed : List (List ℕ)) × (out.new ≡ out.old ++ handed) × BeginsWithLines (held.old ++ piece.now) handed }
+        → (handed : List (List ℕ)) × (out.new ≡ out.old ++ handed)
+        × BeginsWithLines (held.old ++ piece.now) handed }
 {
     let mut ahead = piece;
     while let Some((end, left)) = split_at_line_feed(ahead) {

@@ -32,7 +32,8 @@ fn keep_dimension(
     multiplier: i32,
     divisor: i32,
 ) -> Result<DimDef, AllocError>
-    ensures { IfOk result (λ dimension. dimension ≡ dimension_def (texts fields.now.items) multiplier divisor) }
+    ensures { IfOk result (λ dimension. dimension
+        ≡ dimension_def (texts fields.now.items) multiplier divisor) }
 {
     let id = field(fields, 0);
     let options = field(fields, 5);

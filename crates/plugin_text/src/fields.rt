@@ -52,7 +52,8 @@ pub fn keep_field_or(
     fields: &Fields,
     place: usize,
 ) -> Result<Text, AllocError>
-    ensures { IfOk result (λ kept. kept ≡ shortened (word_or other.now (field place (texts fields.now.items)))) }
+    ensures { IfOk result (λ kept. kept
+        ≡ shortened (word_or other.now (field place (texts fields.now.items)))) }
 {
     Text::from_str(alloc, shortened(word_or(other, field(fields, place))))
 }

@@ -14,20 +14,26 @@ pub fn any_cut()
     ensures one_line { (text : List ℕ) → AllPass is_one_line (parts text) }
 
     // The lines do not depend on the cut: what follows a text goes on after its rest.
-    ensures parts { (text more : List ℕ) → parts (text ++ more) ≡ lines text ++ parts (rest text ++ more) }
-    ensures lines { (text more : List ℕ) → lines (text ++ more) ≡ lines text ++ lines (rest text ++ more) }
+    ensures parts { (text more : List ℕ)
+        → parts (text ++ more) ≡ lines text ++ parts (rest text ++ more) }
+    ensures lines { (text more : List ℕ)
+        → lines (text ++ more) ≡ lines text ++ lines (rest text ++ more) }
     ensures rest { (text more : List ℕ) → rest (text ++ more) ≡ rest (rest text ++ more) }
 
     // A text that has a long line has it, however the text goes on.
-    ensures long { (text more : List ℕ) (before : List (List ℕ)) → IsLongAfter text before → IsLongAfter (text ++ more) before }
+    ensures long { (text more : List ℕ) (before : List (List ℕ)) → IsLongAfter text before
+        → IsLongAfter (text ++ more) before }
 
     // After a text with no long line, a long line is where what follows it has one.
-    ensures short { (text more : List ℕ) → HasNoLongLine text → HasNoLongLine (rest text ++ more) → HasNoLongLine (text ++ more) }
+    ensures short { (text more : List ℕ) → HasNoLongLine text → HasNoLongLine (rest text ++ more)
+        → HasNoLongLine (text ++ more) }
     ensures later { (text more : List ℕ) (before : List (List ℕ)) → HasNoLongLine text
-        → IsLongAfter (rest text ++ more) before → IsLongAfter (text ++ more) (lines text ++ before) }
+        → IsLongAfter (rest text ++ more) before
+        → IsLongAfter (text ++ more) (lines text ++ before) }
 {}
 
 /// The law of lines that are read: what a line defines keeps its limits. It does nothing.
 pub fn any_limits()
-    ensures { (bytes : List ℕ) (said : Line) → is_one_line bytes ≡ true → line bytes ≡ Ok said → keeps_limits said ≡ true }
+    ensures { (bytes : List ℕ) (said : Line) → is_one_line bytes ≡ true → line bytes ≡ Ok said
+        → keeps_limits said ≡ true }
 {}

@@ -61,9 +61,11 @@ impl Splitter {
             ≡ lines (self.old.rest ++ piece.now) ++ parts (self.new.rest ++ more)) }
 
         ensures long { self.old.refused ≡ None → IsErrOf result LineFault.LineTooLong
-            → (handed : List (List ℕ)) × (out.new ≡ out.old ++ handed) × IsLongAfter (self.old.rest ++ piece.now) handed }
+            → (handed : List (List ℕ)) × (out.new ≡ out.old ++ handed)
+            × IsLongAfter (self.old.rest ++ piece.now) handed }
         ensures memory { self.old.refused ≡ None → IsErrOf result LineFault.Memory
-            → (handed : List (List ℕ)) × (out.new ≡ out.old ++ handed) × BeginsWithLines (self.old.rest ++ piece.now) handed }
+            → (handed : List (List ℕ)) × (out.new ≡ out.old ++ handed)
+            × BeginsWithLines (self.old.rest ++ piece.now) handed }
 
         // There is no other refusal.
         ensures only { self.old.refused ≡ None → IfErr result EndsSplitting }
@@ -71,7 +73,8 @@ impl Splitter {
         // A refusal is the answer from then on.
         ensures refused { self.new.refused ≡ result_err result }
         ensures repeated { IfSome self.old.refused (λ fault. IsErrOf result fault) }
-        ensures unchanged { IfSome self.old.refused (λ _. (self.new ≡ self.old) × (out.new ≡ out.old)) }
+        ensures unchanged { IfSome self.old.refused (λ _. (self.new ≡ self.old)
+            × (out.new ≡ out.old)) }
 
         ensures held { IsRest self.new.rest }
     {

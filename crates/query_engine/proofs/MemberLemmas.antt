@@ -12,6 +12,7 @@ use Rattle.tier_rollup.specs.declared.point.Point.{Point}
 use Rattle.query_engine.specs.Points.{are_rising_from, value_of, values}
 use Rattle.query_engine.specs.Windows.{is_between, members_between}
 use Rattle.query_engine.proofs.WordLemmas.{word_within}
+use Rattle.tier_rollup.proofs.RecordLemmas.{within_step}
 
 -- ---- a moment in a span
 
@@ -220,10 +221,6 @@ members_few from to least (point ∷ points) h =
 
 -- ---- sizes
 
-within_if : (b : Bool) (a : Added) (rest : List Added) → IsWithinLimit a → AreWithin rest → AreWithin (cond b (a ∷ rest) rest)
-within_if true a rest one all = (one, all)
-within_if false a rest one all = all
-
 pub values_within : (points : List Point) → AreWithin (values points)
 values_within [] = tt
 values_within (point ∷ points) = go (point_of point.word) refl (values_within points)
@@ -234,7 +231,7 @@ values_within (point ∷ points) = go (point_of point.word) refl (values_within 
 
 pub filter_within : (keep : Added → Bool) (xs : List Added) → AreWithin xs → AreWithin (filter keep xs)
 filter_within keep [] h = tt
-filter_within keep (x ∷ xs) h = within_if (keep x) x (filter keep xs) h.0 (filter_within keep xs h.1)
+filter_within keep (x ∷ xs) h = within_step (keep x) x (filter keep xs) h.0 (filter_within keep xs h.1)
 
 pub members_within : (from to : ℕ) (points : List Point) → AreWithin (members_between from to (values points))
 members_within from to points = filter_within (λ (a : Added). is_between from to a.moment) (values points) (values_within points)

@@ -1,5 +1,4 @@
 use fixed_num::ListOf;
-
 pub use tier_rollup::{Point, PointList};
 
 /// The points of each series, that of series 0 first.

@@ -68,5 +68,6 @@ pub trait Points {
     ghost rising_widths: { (source : Self) → IsTrue (are_widths (tiers source).widths) };
 
     /// The moments of each series rise.
-    ghost rising_series: { (source : Self) (told : ℕ → List APoint) → tells source told → (series : ℕ) → IsTrue (are_series (told series)) };
+    ghost rising_series: { (source : Self) (told : ℕ → List APoint) → tells source told
+        → (series : ℕ) → IsTrue (are_series (told series)) };
 }

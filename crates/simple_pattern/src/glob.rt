@@ -23,9 +23,11 @@ fn after_start<'a>(name: &'a str, piece: &str) -> Option<&'a str>
 /// What follows the first place in a name at which `piece` stands.
 fn after_first<'a>(name: &'a str, piece: &str) -> Option<&'a str>
     requires { IsPlain piece.now }
-    ensures { MatchOption result ((glob : List ℕ) → any_end (is_match (piece.now ++ star ∷ glob)) name.now ≡ false)
+    ensures { MatchOption result ((glob : List ℕ)
+        → any_end (is_match (piece.now ++ star ∷ glob)) name.now ≡ false)
         (λ rest. (glob : List ℕ)
-        → any_end (is_match (piece.now ++ star ∷ glob)) name.now ≡ any_end (is_match glob) rest.now) }
+        → any_end (is_match (piece.now ++ star ∷ glob)) name.now
+        ≡ any_end (is_match glob) rest.now) }
 {
     let (_, rest) = name.split_once(piece)?;
     Some(rest)

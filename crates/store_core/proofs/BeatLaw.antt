@@ -8,17 +8,11 @@ use Rattle.field_codec.specs.Reading.{ReadOf, read_as}
 use Rattle.field_codec.specs.Spelling.{sized_bytes, u32_bytes, list_bytes}
 use Rattle.field_codec.proofs.Combined.{as_field}
 use Rattle.field_codec.proofs.Fields.{bytes_field, u32_field}
-use Rattle.entry_codec.proofs.Fields.{◌⊗◌, list_field}
+use Rattle.entry_codec.proofs.Fields.{◌⊗◌, list_field, made_of}
 use Rattle.entry_codec.proofs.Lengths.{length-u32_bytes}
 use Rattle.store_core.specs.declared.beat.Beat.{Beat}
 use Rattle.store_core.specs.declared.beat.BeatPoint.{BeatPoint}
 use Rattle.store_core.specs.Beats.{beat_bytes, beat_in, beat_of, has_form, moment_bytes, moment_number, moment_of, point_bytes, point_of, read_fields, read_moment, read_point, whole_beat, InForm, IsMoment, IsPoint, IsShort}
-
--- what is made of fields
-made_of : {X Y : Type 0} {V : X → Type 0} {s : X → List ℕ} {r : List ℕ → ReadOf X} (W : Y → Type 0) (to : X → Y) (from : Y → X) → IsField V s r
-    → ((x : X) → V x → W (to x) × (from (to x) ≡ x)) → ((y : Y) → W y → V (from y) × (to (from y) ≡ y))
-    → IsField W (λ y. s (from y)) (λ bytes. read_as to (r bytes))
-made_of {V = V} {s = s} {r = r} W to from field there back = as_field V W s r to from there back field
 
 moment_there : (n : ℕ) → n < 2 ^ 32 → IsMoment (moment_of n) × (moment_number (moment_of n) ≡ n)
 moment_there zero small = (tt, refl)

@@ -55,8 +55,3 @@ cut_not_begun past now reads long_reads none bytes image =
     begun other (omega (arith, length-mixed bytes (contents past) long long_reads))
     (mixed_front bytes (contents past) 16 long (omega arith) ∙ eqb-true (get_or bytes 16 0) 1 both.1) in
     false≢true (sym (none other (mixed_image past now bytes reads long_reads long image)) ∙ there))
-
--- what a call that did not fail ensures
-pub ok_part : {T E P : Type 0} (result : Result T E) → is_err result ≡ false → OnOk result P → P
-ok_part (Ok value) fine held = held
-ok_part (Err fault) failed held = absurd cc

@@ -72,7 +72,7 @@ total_bound (point ∷ points) within =
     let one : unsigned_abs point.units ≤ limit = within.0 in
     omega arith
 
-within_step : (b : Bool) (point : Added) (rest : List Added) → IsWithinLimit point → AreWithin rest → AreWithin (cond b (point ∷ rest) rest)
+pub within_step : (b : Bool) (point : Added) (rest : List Added) → IsWithinLimit point → AreWithin rest → AreWithin (cond b (point ∷ rest) rest)
 within_step true point rest one all = (one, all)
 within_step false point rest one all = all
 

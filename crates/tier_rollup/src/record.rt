@@ -50,7 +50,8 @@ pub fn with_point(
     anomalous: bool,
 ) -> (u32, Record)
     ensures none { IfNone current (result ≡ (bucket, single units anomalous)) }
-    ensures some { IfSome current (λ kept. HasRoom kept.1 units → result ≡ (kept.0, grown kept.1 units anomalous)) }
+    ensures some { IfSome current (λ kept. HasRoom kept.1 units
+        → result ≡ (kept.0, grown kept.1 units anomalous)) }
 {
     match current {
         Some((open, before)) => (open, grown(before, units, anomalous)),

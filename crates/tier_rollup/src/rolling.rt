@@ -37,7 +37,8 @@ impl Roller {
         ensures width { width_of result ≡ width }
         ensures partial { open_of result ≡ Some (bucket, partial) }
         ensures rolled { (points : List Added) (handed : List ℕ)
-            → HasRolled width (Some (bucket, partial)) points handed → IsRollerOf result points handed }
+            → HasRolled width (Some (bucket, partial)) points handed
+            → IsRollerOf result points handed }
     {
         Roller {
             width,
@@ -51,8 +52,10 @@ impl Roller {
         requires { unsigned_abs units ≤ limit }
         ensures width { width_of self.new ≡ width_of self.old }
         ensures closed { result ≡ closed_by (width_of self.old) moment (open_of self.old) }
-        ensures closed_record { (points : List Added) (handed : List ℕ) → IsRollerOf self.old points handed
-            → IfSome result (λ closed. bucket_record (width_of self.old) closed.0 points ≡ Some closed.1) }
+        ensures closed_record { (points : List Added) (handed : List ℕ)
+            → IsRollerOf self.old points handed
+            → IfSome result (λ closed. bucket_record (width_of self.old) closed.0 points
+            ≡ Some closed.1) }
         ensures rolled { let added : Added = record { moment = moment; units = units; anomalous = anomalous } in
             (points : List Added) (handed : List ℕ) → IsRollerOf self.old points handed
             → IsNext (width_of self.old) moment points handed
@@ -69,8 +72,10 @@ impl Roller {
         ensures width { width_of self.new ≡ width_of self.old }
         ensures closed { result ≡ closed_by (width_of self.old) moment (open_of self.old) }
         ensures kept { open_of self.new ≡ kept_by (width_of self.old) moment (open_of self.old) }
-        ensures closed_record { (points : List Added) (handed : List ℕ) → IsRollerOf self.old points handed
-            → IfSome result (λ closed. bucket_record (width_of self.old) closed.0 points ≡ Some closed.1) }
+        ensures closed_record { (points : List Added) (handed : List ℕ)
+            → IsRollerOf self.old points handed
+            → IfSome result (λ closed. bucket_record (width_of self.old) closed.0 points
+            ≡ Some closed.1) }
         ensures rolled { (points : List Added) (handed : List ℕ) → IsRollerOf self.old points handed
             → IsRollerOf self.new points (numbers result ++ handed) }
     {
@@ -84,8 +89,10 @@ impl Roller {
     /// The bucket that is not handed out yet and its record.
     pub fn open_record(&self) -> Option<(u32, Record)>
         ensures shown { result ≡ open_of self.now }
-        ensures shown_record { (points : List Added) (handed : List ℕ) → IsRollerOf self.now points handed
-            → IfSome result (λ shown. bucket_record (width_of self.now) shown.0 points ≡ Some shown.1) }
+        ensures shown_record { (points : List Added) (handed : List ℕ)
+            → IsRollerOf self.now points handed
+            → IfSome result (λ shown. bucket_record (width_of self.now) shown.0 points
+            ≡ Some shown.1) }
     {
         self.current
     }

@@ -11,6 +11,7 @@ pub fn any_quoted_text()
         → words (in_quotes quote text) ≡ text ∷ [] }
     ensures first { (quote : ℕ) (text rest : List ℕ) → IsTrue (is_quote quote) → HasNo quote text
         → Cuts (in_quotes quote text ++ rest) text rest }
-    ensures line { (quote : ℕ) (texts : List (List ℕ)) → IsTrue (is_quote quote) → All (HasNo quote) texts
+    ensures line { (quote : ℕ) (texts : List (List ℕ)) → IsTrue (is_quote quote)
+        → All (HasNo quote) texts
         → words (flat_map (in_quotes quote) texts) ≡ texts }
 {}

@@ -43,11 +43,13 @@ impl<'a> Words<'a> {
     /// The next word, or `None` where there is none. An `Err` says that the next word begins with a
     /// quote that is not closed before the line's end, and leaves the reader as it was.
     pub fn next_word(&mut self) -> Result<Option<&'a str>, OpenQuote>
-        ensures word { IfOk result (λ next. IfSome next (λ word. words self.old ≡ word.now ∷ words self.new)) }
+        ensures word { IfOk result (λ next. IfSome next (λ word. words self.old
+            ≡ word.now ∷ words self.new)) }
         ensures end { IfOk result (λ next. IfNone next (words self.old ≡ [])) }
         ensures err { OnErr result (words self.old ≡ []) }
 
-        ensures open_later { IfOk result (λ next. has_open_quote self.new ≡ has_open_quote self.old) }
+        ensures open_later { IfOk result (λ next. has_open_quote self.new
+            ≡ has_open_quote self.old) }
         ensures closed { IfOk result (λ next. IfNone next (has_open_quote self.old ≡ false)) }
         ensures open { OnErr result (IsTrue (has_open_quote self.old)) }
 

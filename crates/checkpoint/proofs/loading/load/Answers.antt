@@ -3,24 +3,24 @@ use Rattle.host_model.specs.Images.{contents}
 use Rattle.host_model.specs.Past.{Event, of}
 use Rattle.host_model.specs.Disks.{reads_as}
 use Rattle.checkpoint.specs.Form.{body_in}
-use Rattle.checkpoint.proofs.MomentLemmas.{on_ok_here}
+use Rattle.host_model.proofs.CallLemmas.{ok_part}
 use Rattle.checkpoint.proofs.SlotLemmas.{held_of, loaded_disks}
 use Rattle.checkpoint.proofs.loading.load.Goals as goal
 
 pub returns-in_default-found-clause-every_disk : goal.returns-in_default-found-clause-every_disk
 returns-in_default-found-clause-every_disk g c h =
     inr (loaded_disks (g.H.Host.seen c.args.host.now).past (g.H.Host.seen c.sync_both.new.host).past (g.H.Host.seen c.find.new.host).past (c.find.ensures.past h)
-    (on_ok_here c.sync_both.result (sym c.if-is_err.ensures.value) c.sync_both.ensures.every_disk h))
+    (ok_part c.sync_both.result (sym c.if-is_err.ensures.value) c.sync_both.ensures.every_disk h))
 
 pub returns-in_err-body-clause-every_disk : goal.returns-in_err-body-clause-every_disk
 returns-in_err-body-clause-every_disk g c h =
     inr (loaded_disks (g.H.Host.seen c.args.host.now).past (g.H.Host.seen c.sync_both.new.host).past (g.H.Host.seen c.read_body.new.host).past (c.read_body.ensures.past h ∙ c.find.ensures.past h)
-    (on_ok_here c.sync_both.result (sym c.if-is_err.ensures.value) c.sync_both.ensures.every_disk h))
+    (ok_part c.sync_both.result (sym c.if-is_err.ensures.value) c.sync_both.ensures.every_disk h))
 
 pub returns-clause-every_disk : goal.returns-clause-every_disk
 returns-clause-every_disk g c h =
     inr (loaded_disks (g.H.Host.seen c.args.host.now).past (g.H.Host.seen c.sync_both.new.host).past (g.H.Host.seen c.read_body.new.host).past (c.read_body.ensures.past h ∙ c.find.ensures.past h)
-    (on_ok_here c.sync_both.result (sym c.if-is_err.ensures.value) c.sync_both.ensures.every_disk h))
+    (ok_part c.sync_both.result (sym c.if-is_err.ensures.value) c.sync_both.ensures.every_disk h))
 
 pub returns-in_err-body-clause-memory : goal.returns-in_err-body-clause-memory
 returns-in_err-body-clause-memory g c failed h =

@@ -5,7 +5,8 @@ use Rattle.host_model.specs.Past.{Event, of}
 use Rattle.host_model.specs.Moments.{Throughout}
 use Rattle.checkpoint.specs.Form.{slot_bytes}
 use Rattle.checkpoint.proofs.FormLemmas.{whole_bytes}
-use Rattle.checkpoint.proofs.MomentLemmas.{on_ok_here, switch_moments_of, switch_done_of}
+use Rattle.host_model.proofs.CallLemmas.{ok_part}
+use Rattle.checkpoint.proofs.MomentLemmas.{switch_moments_of, switch_done_of}
 use Rattle.checkpoint.proofs.switching.switch.Goals as goal
 
 pub returns-then-is_err-clause-any_moment : goal.returns-then-is_err-clause-any_moment
@@ -37,8 +38,8 @@ returns-clause-switched g c h before held next =
     c.slot_file_of.ensures (whole_bytes number head body c.head_bytes-head.ensures.bytes)
     c.ranges.number.fits c.head_bytes-head.ensures.fits next
     (g.met.H.Host.reads_an_image c.args.host.now c.slot_file_of.result h) (c.replace.ensures.only_here h) held
-    (on_ok_here c.replace.result (sym c.if-is_err.ensures.value) c.replace.ensures.synced h)
-    (on_ok_here c.replace.result (sym c.if-is_err.ensures.value) c.replace.ensures.whole h)
+    (ok_part c.replace.result (sym c.if-is_err.ensures.value) c.replace.ensures.synced h)
+    (ok_part c.replace.result (sym c.if-is_err.ensures.value) c.replace.ensures.whole h)
 
 pub returns-clause-whole : goal.returns-clause-whole
 returns-clause-whole g c h =
@@ -46,7 +47,7 @@ returns-clause-whole g c h =
     let head = c.head_bytes-head.result in
     let new = (g.H.Host.seen c.replace.new.host).past in
     subst (λ (file : File). contents (of file new) ≡ slot_bytes 1 c.args.number body) c.slot_file_of.ensures
-    (on_ok_here c.replace.result (sym c.if-is_err.ensures.value) c.replace.ensures.whole h ∙ whole_bytes c.args.number head body c.head_bytes-head.ensures.bytes)
+    (ok_part c.replace.result (sym c.if-is_err.ensures.value) c.replace.ensures.whole h ∙ whole_bytes c.args.number head body c.head_bytes-head.ensures.bytes)
 
 pub returns-then-is_err-clause-bound : goal.returns-then-is_err-clause-bound
 returns-then-is_err-clause-bound g c size fits h =

@@ -1,6 +1,6 @@
 use Rattle.std.proofs.Common.{refl}
 use Rattle.std.proofs.lemmas.Str.{is_utf8-from_IsUtf8}
-use Rattle.health_config.proofs.KeyLemmas.{not_utf8}
+use Rattle.words.proofs.Boundaries.{not_utf8}
 use Rattle.health_config.proofs.key.text_of.Goals as goal
 
 pub returns-in-Ok : goal.returns-in-Ok

@@ -1,7 +1,8 @@
 use Rattle.std.proofs.Common.{ℕ, List, reverse, ap, ◌∙◌}
 use Rattle.std.specs.List.{prefix_len}
 use Rattle.words.specs.Words.{is_blank}
-use Rattle.health_config.proofs.KeyLemmas.{before_blanks, behind_blanks}
+use Rattle.health_expr.proofs.Boundaries.{behind_blanks}
+use Rattle.health_config.proofs.KeyLemmas.{before_blanks}
 use Rattle.health_config.proofs.key.trimmed_text.Goals as goal
 
 pub range-text-requires-clause-end_boundary : goal.range-text-requires-clause-end_boundary

@@ -1,7 +1,7 @@
 use Rattle.std.proofs.Common.{sym}
 use Rattle.host_model.specs.declared.file.File.TheVariants.{JournalA}
 use Rattle.host_model.proofs.MomentLemmas.{at_end, joined, weakened, OnlyOn-joined}
-use Rattle.store_core.proofs.FileLemmas.{ok_part}
+use Rattle.host_model.proofs.CallLemmas.{ok_part}
 use Rattle.store_core.proofs.StandLemmas.{short_not_begun}
 use Rattle.store_core.proofs.file.start.Goals as goal
 
