@@ -59,8 +59,8 @@ fn require_regular(found: &Metadata) -> io::Result<()> {
     }
 }
 
-/// The file, unless it came to stand in the place of a standard stream: then it is closed.
-fn kept(opened: File) -> io::Result<File> {
+/// What was opened, unless it came to stand in the place of a standard stream: then it is closed.
+pub(crate) fn kept<T: AsRawFd + Drop>(opened: T) -> io::Result<T> {
     if is_standard(opened.as_raw_fd()) {
         Err(Error::other("a standard stream is closed, and nothing could stand in for it"))
     } else {

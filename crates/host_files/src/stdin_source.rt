@@ -32,7 +32,7 @@ impl<R: Read + Drop> StdinSource<R> {
 }
 
 /// Reads once, and again where a signal came between.
-fn read_on<R: Read>(reader: &mut R, into: &mut [u8]) -> io::Result<usize>
+pub(crate) fn read_on<R: Read>(reader: &mut R, into: &mut [u8]) -> io::Result<usize>
     ensures { IfOk result (λ n. n ≤ length into.new) }
 {
     for _ in 0..u64::MAX {

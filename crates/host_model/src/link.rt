@@ -28,8 +28,8 @@ pub trait Link {
     fn recv(&mut self, into: &mut [u8]) -> Result<usize, Failed>
         ensures within { IfOk result (λ n. n ≤ length into.new) }
         ensures bytes { IfOk result (λ n. Takes (left self.old) (take n into.new) (left self.new)) }
-        ensures end { IfOk result (λ n. n ≡ 0 → 0 < length into.new
-            → IfSome (left self.new) (λ bytes. bytes ≡ [])) }
+        ensures end { IfOk result (λ n.
+            n ≡ 0 → 0 < length into.new → IfSome (left self.new) (λ bytes. bytes ≡ [])) }
         ensures kept { OnErr result (left self.new ≡ left self.old) }
         ensures sent { sent self.new ≡ sent self.old }
         ensures cause { HasCause (faults self.old) (faults self.new) (IsErr result) };
