@@ -13,7 +13,7 @@ use Rattle.history.specs.Read.{history_at}
 use Rattle.plugin_text.specs.Lines.{lines, parts, rest, fits}
 use Rattle.point_lines.specs.declared.refusal.Refusal.{Refusal}
 use Rattle.point_lines.specs.Judged.{every}
-use Rattle.beat_points.specs.Text.{AreAccepted}
+use Rattle.chart_registry.specs.Accepted.{AreAccepted, IsWithin}
 use Rattle.collect_block.specs.Feed.{CountsFor, IsFeedOf}
 use Rattle.entry_codec.specs.declared.entry.Settings.{Settings}
 use Rattle.agent_core.specs.declared.fault.AgentFault.{AgentFault}
@@ -22,7 +22,6 @@ use Rattle.agent_core.specs.Agent.{IsAgentOf, AgentIsReady}
 use Rattle.host_model.specs.Seen.{Seen}
 use Rattle.agent_core.specs.Fed.{IsFed}
 use Rattle.agent_core.specs.Kept.{StandsForHistory}
-use Rattle.agent_core.specs.Rules.{IsWithin}
 use Rattle.agent_app.specs.declared.running.Running.{Running}
 use Rattle.agent_app.specs.Convert.{refusal_line, refusal_status}
 use Rattle.agent_app.specs.Reading.{HasRead}

@@ -20,14 +20,14 @@ use Rattle.history.specs.Registry.{Registry, is_chart, is_dimension, same_dimens
 use Rattle.chart_registry.proofs.Applying.{any-put_all, has_chart-applied}
 use Rattle.chart_registry.proofs.Places.{list_any-position}
 use Rattle.history.specs.Regular.{IsRegular}
-use Rattle.beat_points.specs.Text.{AreAccepted}
+use Rattle.chart_registry.specs.Accepted.{AreAccepted, IsWithin}
 use Rattle.chart_registry.proofs.Finding.{all-weaker}
 use Rattle.chart_registry.proofs.Growing.{same_dimension-alike}
-use Rattle.beat_points.proofs.FewLemmas.{HaveFew}
-use Rattle.beat_points.proofs.RoomLemmas.{text-room, HasRoomFor}
-use Rattle.beat_points.proofs.TextLemmas.{passed, text-few, text-open_few, text-regular}
+use Rattle.chart_registry.proofs.FewLemmas.{HaveFew}
+use Rattle.chart_registry.proofs.RoomLemmas.{text-room, HasRoomFor}
+use Rattle.chart_registry.proofs.AcceptedLemmas.{passed, text-few, text-open_few, text-regular}
 use Rattle.collect_block.proofs.OpenLemmas.{owners}
-use Rattle.agent_core.specs.Rules.{beat_refusal, changes_grid, changes_grid_of, dimensions_with, fills_chart, is_too_long, lacks_chart, lacks_dimension, line_refusal, row_lacks_dimension, too_many_charts, too_many_dimensions, IsWithin}
+use Rattle.agent_core.specs.Rules.{beat_refusal, changes_grid, changes_grid_of, dimensions_with, fills_chart, is_too_long, lacks_chart, lacks_dimension, line_refusal, row_lacks_dimension, too_many_charts, too_many_dimensions}
 
 -- ---- tests
 passes : {A : Type 0} (b : Bool) (x : A) (rest : Option A) → b ≡ false → rest ≡ None → (if b then Some x else rest) ≡ None

@@ -32,7 +32,7 @@ use Rattle.agent_core.specs.Fed.{OpenEachFirst, OpensFirst, IsFed}
 use Rattle.agent_core.specs.Rules.{IsOpenBeat}
 use Rattle.agent_core.specs.Steps.{IsOpenStep}
 use Rattle.beat_entries.proofs.PutLemmas.{apart-put}
-use Rattle.beat_points.proofs.TextLemmas.{passed, same_row-left}
+use Rattle.chart_registry.proofs.AcceptedLemmas.{passed, same_row-left}
 use Rattle.chart_registry.proofs.Applying.{all-put}
 use Rattle.collect_block.proofs.OpenLemmas.{grids}
 

@@ -14,9 +14,10 @@ use Rattle.chart_registry.proofs.Finding.{all-weaker}
 use Rattle.beat_entries.specs.Following.{AreOwned, MayFollow}
 use Rattle.beat_entries.proofs.Slots.{none-all}
 use Rattle.agent_core.specs.Kept.{Follows}
-use Rattle.agent_core.specs.Rules.{beat_refusal, changes_grid, changes_grid_of, lacks_chart, lacks_dimension, IsWithin}
+use Rattle.agent_core.specs.Rules.{beat_refusal, changes_grid, changes_grid_of, lacks_chart, lacks_dimension}
+use Rattle.chart_registry.specs.Accepted.{IsWithin}
 use Rattle.agent_core.proofs.DefinedLemmas.{owned, regular-after}
-use Rattle.beat_points.proofs.TextLemmas.{passed}
+use Rattle.chart_registry.proofs.AcceptedLemmas.{passed}
 use Rattle.agent_core.proofs.HistoryLemmas.{follows-passed, Passed}
 use Rattle.agent_core.proofs.Within.{room-for, within-after}
 

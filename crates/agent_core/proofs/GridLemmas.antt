@@ -16,9 +16,9 @@ use Rattle.beat_entries.specs.Next.{all_taken, chart_def, dimension_back, goes_o
 use Rattle.agent_core.specs.declared.left.Left.{Left}
 use Rattle.agent_core.specs.Notes.{entry_goes_on, with_entry}
 use Rattle.agent_core.specs.Roles.{may_collect, may_copy}
-use Rattle.beat_points.specs.Text.{HasFew}
-use Rattle.beat_points.proofs.FewLemmas.{few-closed, HaveFew}
-use Rattle.beat_points.proofs.TextLemmas.{few-taken}
+use Rattle.chart_registry.specs.Accepted.{HasFew}
+use Rattle.chart_registry.proofs.FewLemmas.{few-closed, HaveFew}
+use Rattle.chart_registry.proofs.AcceptedLemmas.{few-taken}
 use Rattle.agent_core.specs.Rules.{HasGrids}
 use Rattle.agent_core.proofs.FormLemmas.{grid-kept, grids-with, IsGrid}
 

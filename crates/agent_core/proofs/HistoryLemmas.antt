@@ -8,7 +8,7 @@ use Rattle.history.specs.Registry.{Registry}
 use Rattle.beat_points.specs.Points.{IsBefore}
 use Rattle.beat_points.proofs.LawLemmas.{before-collected, before-none}
 use Rattle.store_core.specs.declared.beat.Beat.{Beat as StoreBeat}
-use Rattle.beat_points.proofs.TextLemmas.{passed}
+use Rattle.chart_registry.proofs.AcceptedLemmas.{passed}
 use Rattle.agent_core.specs.Kept.{AreBeatsOf, Follows}
 use Rattle.agent_core.specs.Roles.{may_collect, role_of}
 use Rattle.agent_core.specs.Rules.{beat_refusal, changes_grid, lacks_chart, lacks_dimension, too_many_charts, too_many_dimensions}

@@ -15,7 +15,7 @@ use Rattle.store_core.specs.Stands.{StandsIfMade}
 use Rattle.store_core.specs.Store.{IsNew, IsReady, IsStoreOf, StoreState}
 use Rattle.agent_core.specs.Agent.{AgentState, Fits, IsAgentOf}
 use Rattle.agent_core.specs.Kept.{StandsForNew}
-use Rattle.beat_points.specs.Text.{HasFew}
+use Rattle.chart_registry.specs.Accepted.{HasFew}
 use Rattle.agent_core.specs.Rules.{HasGrids}
 
 pub new_climbs : (set : Settings) (old new : List Event) → Throughout (EveryDisk (StandsIfMade set)) old new → Throughout (EveryDisk (StandsForNew set)) old new

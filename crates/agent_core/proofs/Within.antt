@@ -11,20 +11,20 @@ use Rattle.history.specs.Registry.{Registry, is_of, same_chart, same_dimension, 
 use Rattle.chart_registry.proofs.Applying.{same_chart-alike}
 use Rattle.chart_registry.proofs.RegistryLemmas.{or_false}
 use Rattle.chart_registry.proofs.RowsLemmas.{same_text}
-use Rattle.beat_points.specs.Text.{HasFew}
+use Rattle.chart_registry.specs.Accepted.{HasFew, IsWithin}
 use Rattle.chart_registry.proofs.Finding.{one_if}
 use Rattle.chart_registry.proofs.Growing.{same_dimension-alike}
-use Rattle.beat_points.proofs.FewLemmas.{count-cons, few-closed, HaveFew}
+use Rattle.chart_registry.proofs.FewLemmas.{count-cons, few-closed, HaveFew}
 use Rattle.beat_entries.proofs.Slots.{none-all}
-use Rattle.beat_points.proofs.RoomLemmas.{grids-kept, length-put_all, only-memory}
+use Rattle.chart_registry.proofs.RoomLemmas.{grids-kept, length-put_all, only-memory}
 use Rattle.chart_registry.specs.declared.fault.RegistryFault.{RegistryFault}
 use Rattle.chart_registry.specs.declared.fault.RegistryFault.TheVariants.{Memory}
 use Rattle.chart_registry.specs.Defining.{IsReasonOf}
 use Rattle.history.specs.Regular.{AreApart}
-use Rattle.beat_points.proofs.TextLemmas.{passed}
+use Rattle.chart_registry.proofs.AcceptedLemmas.{passed}
 use Rattle.store_core.specs.declared.beat.Beat.{Beat as StoreBeat}
 use Rattle.agent_core.specs.Kept.{AreBeatsOf}
-use Rattle.agent_core.specs.Rules.{beat_refusal, changes_grid, changes_grid_of, dimensions_with, fills_chart, is_too_long, lacks_chart, lacks_dimension, too_many_charts, too_many_dimensions, IsWithin}
+use Rattle.agent_core.specs.Rules.{beat_refusal, changes_grid, changes_grid_of, dimensions_with, fills_chart, is_too_long, lacks_chart, lacks_dimension, too_many_charts, too_many_dimensions}
 
 -- ---- a registry with definitions that it has room for
 pub few-charts : (registry : Registry) (beat : OpenBeat) → too_many_charts registry beat ≡ false → length (with_definitions registry beat.charts beat.dimensions).charts ≤ 4096

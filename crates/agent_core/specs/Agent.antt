@@ -14,7 +14,7 @@ use Rattle.store_core.specs.Store.{counted, IsReady, IsReplayed, IsStoreOf, Stor
 use Rattle.agent_core.specs.Kept.{AreBeatsOf, StandsForHistory}
 use Rattle.agent_core.specs.Notes.{left_of}
 use Rattle.agent_core.specs.Roles.{may_collect}
-use Rattle.beat_points.specs.Text.{HasFew}
+use Rattle.chart_registry.specs.Accepted.{HasFew}
 use Rattle.agent_core.specs.Rules.{HasGrids}
 
 pub record AgentState : Type 0 where

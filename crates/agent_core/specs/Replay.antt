@@ -19,7 +19,7 @@ use Rattle.agent_core.specs.declared.left.Left.{Left}
 use Rattle.agent_core.specs.Agent.{AgentState}
 use Rattle.agent_core.specs.Kept.{AreBeatsOf, IsBeatOf}
 use Rattle.agent_core.specs.Notes.{beats_go_on, left_by, left_of}
-use Rattle.beat_points.specs.Text.{HasFew}
+use Rattle.chart_registry.specs.Accepted.{HasFew}
 use Rattle.agent_core.specs.Rules.{HasGrids}
 
 -- ---- the parts that an entry leaves

@@ -17,7 +17,6 @@ use Rattle.history.specs.Looking.{beat as open_beat, same_value}
 use Rattle.history.specs.Refusal.{refusal, has_chart, has_dimension, is_new_chart, is_new_dimension, is_new_of, is_off_grid}
 use Rattle.history.specs.Registry.{Registry, is_chart, is_of, same_chart, same_dimension}
 use Rattle.history.specs.Regular.{AreApart, same_row}
-use Rattle.beat_points.specs.Text.{HasFew}
 use Rattle.store_core.specs.Store.{raised}
 
 -- ---- what a caller may hand in
@@ -126,9 +125,3 @@ last_with last line = last
 -- each chart has an update_every of 1 to 86,400 seconds
 abbrev pub HasGrids : Registry → Type 0
 HasGrids registry = All (λ (def : ChartDef). (0 < def.update_every) × (def.update_every ≤ 86400)) registry.charts
-
--- no more charts and dimensions than there may be, in all and of a chart
-pub record IsWithin (registry : Registry) : Type 0 where
-  pub charts : length registry.charts ≤ 4096
-  pub dimensions : length registry.dimensions ≤ 65536
-  pub each : HasFew registry

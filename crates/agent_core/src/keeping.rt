@@ -25,7 +25,7 @@ ghost use Rattle.agent_core.specs.Faults.{IsSpending};
 ghost use Rattle.agent_core.specs.Kept.{kept_of, Follows, StandsForHistory};
 ghost use Rattle.agent_core.specs.Replay.{HasRoom, HasTakenRows};
 ghost use Rattle.chart_registry.specs.declared.fault.RegistryFault.TheVariants as registry_fault;
-ghost use Rattle.beat_points.specs.Text.{HasFew};
+ghost use Rattle.chart_registry.specs.Accepted.{HasFew};
 ghost use Rattle.agent_core.specs.Rules.{changes_grid, lacks_chart, lacks_dimension, too_many_charts, too_many_dimensions, HasGrids, IsOpenBeat};
 
 use crate::fault::{AgentFault, store_fault};

@@ -6,7 +6,7 @@ ghost use Rattle.history.specs.History.{Beat, child, collected, last, registry_o
 ghost use Rattle.history.specs.declared.beat.OpenBeat.{OpenBeat};
 ghost use Rattle.history.specs.Looking.{beat as open_beat};
 ghost use Rattle.history.specs.Read.{history_at, refusal_at};
-ghost use Rattle.beat_points.specs.Text.{AreAccepted};
+ghost use Rattle.chart_registry.specs.Accepted.{AreAccepted, IsWithin};
 ghost use Rattle.entry_codec.specs.declared.entry.Settings.{Settings as ASettings};
 ghost use Rattle.store_core.specs.Stands.{is_made, IsDamaged};
 ghost use Rattle.collect_block.specs.declared.feed.Feed.{Feed};
@@ -19,7 +19,7 @@ ghost use Rattle.agent_core.specs.Calls.{Beats, Lines};
 ghost use Rattle.host_model.specs.Seen.{Seen};
 ghost use Rattle.agent_core.specs.Kept.{StandsForHistory};
 ghost use Rattle.agent_core.specs.Notes.{HasNotes};
-ghost use Rattle.agent_core.specs.Rules.{beat_refusal, line_refusal, IsWithin};
+ghost use Rattle.agent_core.specs.Rules.{beat_refusal, line_refusal};
 ghost use Rattle.agent_core.specs.Sound.{history_after, history_by};
 
 use host_model::Host;

@@ -13,7 +13,7 @@ ghost use Rattle.agent_core.specs.Kept.{AreBeatsOf, IsBeatOf};
 ghost use Rattle.agent_core.specs.Notes.{entry_goes_on, entry_in, moment_of, names_series, takes_note, with_entry, with_note};
 ghost use Rattle.agent_core.specs.Roles.{may_copy};
 ghost use Rattle.agent_core.specs.Replay.{ArePartsOf, HasRows};
-ghost use Rattle.beat_points.specs.Text.{HasFew};
+ghost use Rattle.chart_registry.specs.Accepted.{HasFew};
 ghost use Rattle.agent_core.specs.Rules.{HasGrids};
 
 use crate::fault::AgentFault;

@@ -17,7 +17,7 @@ ghost use Rattle.store_core.specs.Store.{IsReady, IsReplayed, IsStoreAt, OpensAt
 ghost use Rattle.agent_core.specs.Faults.{IsOpening};
 ghost use Rattle.agent_core.specs.Notes.{beats_go_on};
 ghost use Rattle.agent_core.specs.Replay.{HasTaken, IsReplaying};
-ghost use Rattle.beat_points.specs.Text.{HasFew};
+ghost use Rattle.chart_registry.specs.Accepted.{HasFew};
 ghost use Rattle.agent_core.specs.Rules.{HasGrids};
 
 use crate::fault::{AgentFault, store_fault};

@@ -21,7 +21,7 @@ use Rattle.collect_block.proofs.OpenLemmas.{grids, owners}
 use Rattle.beat_points.specs.LastRows.{AreLastOf}
 use Rattle.beat_points.specs.Points.{IsBefore, IsNext}
 use Rattle.history.specs.Regular.{AreApart, IsRegular}
-use Rattle.beat_points.specs.Text.{AreAccepted, HasFew}
+use Rattle.chart_registry.specs.Accepted.{AreAccepted, HasFew}
 use Rattle.point_lines.specs.declared.reader.Reader.{Reader}
 use Rattle.point_lines.specs.declared.stop.Stop.{Stop}
 use Rattle.point_lines.specs.declared.stop.Stop.TheVariants as stop
@@ -30,8 +30,9 @@ use Rattle.point_lines.specs.Judged.{every, history_of, placed}
 use Rattle.point_lines.specs.Reader.{Reads, ReadsOr}
 use Rattle.point_lines.specs.Steps.{Stepped}
 use Rattle.point_lines.specs.Told.{beat_lines, told_at}
-use Rattle.beat_points.proofs.RoomLemmas.{text-reason}
-use Rattle.beat_points.proofs.TextLemmas.{text-regular, text-before}
+use Rattle.chart_registry.proofs.RoomLemmas.{text-reason}
+use Rattle.chart_registry.proofs.AcceptedLemmas.{text-regular}
+use Rattle.beat_points.proofs.TextLemmas.{text-before}
 use Rattle.chart_registry.proofs.OpenLemmas.{charts-apart, dimensions-apart}
 use Rattle.beat_entries.specs.Following.{AreOwned}
 use Rattle.beat_entries.specs.Defined.{IsDefinedIn}

@@ -6,7 +6,7 @@ use Rattle.history.specs.History.{last, registry_of}
 use Rattle.history.specs.Read.{is_disable}
 use Rattle.history.specs.Refusal.{is_unfinished}
 use Rattle.beat_points.specs.LastRows.{AreLastOf}
-use Rattle.beat_points.specs.Text.{AreAccepted}
+use Rattle.chart_registry.specs.Accepted.{AreAccepted}
 use Rattle.collect_block.specs.Feed.{CountsFor, IsFeedOf}
 use Rattle.point_lines.specs.declared.reader.Reader.{Reader}
 use Rattle.point_lines.specs.declared.refusal.Refusal.{Refusal}

@@ -9,7 +9,7 @@ use Rattle.history.specs.Read.{refusal_at}
 use Rattle.plugin_text.specs.declared.fault.LineFault.{LineFault}
 use Rattle.plugin_text.specs.declared.fault.LineFault.TheVariants as line
 use Rattle.beat_points.specs.LastRows.{AreLastOf}
-use Rattle.beat_points.specs.Text.{AreAccepted}
+use Rattle.chart_registry.specs.Accepted.{AreAccepted}
 use Rattle.collect_block.specs.Feed.{CountsPast, IsFeedOf, step_of}
 use Rattle.collect_block.specs.declared.step.Step.{Step}
 use Rattle.point_lines.specs.declared.reader.Reader.{Reader}

@@ -3,7 +3,7 @@ use Rattle.host_model.specs.Moments.{begins}
 use Rattle.history.specs.Registry.{Registry, same_chart, same_dimension}
 use Rattle.history.specs.Regular.{AreApart}
 use Rattle.store_core.specs.Records.{last_after}
-use Rattle.beat_points.specs.Text.{HasFew}
+use Rattle.chart_registry.specs.Accepted.{HasFew}
 use Rattle.agent_core.specs.Rules.{HasGrids}
 use Rattle.agent_core.proofs.DefinedLemmas.{charts-apart, dimensions-apart}
 use Rattle.agent_core.proofs.KeptLemmas.{climbs, holds-more, kept-after, next-after, rows-taken, spelt-after, stays}

@@ -5,7 +5,7 @@ use Rattle.history.specs.Regular.{IsRegular}
 use Rattle.entry_codec.specs.Entries.{IsWithinLimits}
 use Rattle.beat_entries.specs.Defined.{IsDefinedIn}
 use Rattle.beat_entries.proofs.LimitLemmas.{within-limits}
-use Rattle.beat_points.specs.Text.{HasFew}
+use Rattle.chart_registry.specs.Accepted.{HasFew}
 use Rattle.agent_core.specs.Rules.{HasGrids}
 use Rattle.agent_core.proofs.DefinedLemmas.{defined-after, regular-after}
 use Rattle.agent_core.proofs.FormLemmas.{grids-after}

@@ -6,7 +6,7 @@ use Rattle.history.specs.Regular.{AreApart}
 use Rattle.entry_codec.specs.declared.entry.Settings.{Settings}
 use Rattle.store_core.specs.declared.beat.Beat.{Beat as StoreBeat}
 use Rattle.agent_core.specs.Replay.{HasTaken, IsReplaying}
-use Rattle.beat_points.specs.Text.{HasFew}
+use Rattle.chart_registry.specs.Accepted.{HasFew}
 use Rattle.agent_core.specs.Rules.{HasGrids}
 use Rattle.agent_core.proofs.replaying.replay_all.Given as goal
 

@@ -1,6 +1,6 @@
 use Rattle.std.proofs.Common.{◌≡◌, None, sym, arith, subst}
 use Rattle.host_model.specs.Moments.{begins}
-use Rattle.beat_points.specs.Text.{HasFew}
+use Rattle.chart_registry.specs.Accepted.{HasFew}
 use Rattle.agent_core.specs.Agent.{AgentState}
 use Rattle.agent_core.specs.Rules.{beat_refusal}
 use Rattle.agent_core.proofs.HistoryLemmas.{passes}

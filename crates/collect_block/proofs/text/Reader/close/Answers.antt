@@ -1,4 +1,4 @@
-use Rattle.collect_block.proofs.TextLemmas.{closed-grids, closed-owners}
+use Rattle.collect_block.proofs.TextLemmas.{closed-grids, closed-owners, closed-short}
 use Rattle.collect_block.proofs.text.Reader.close.Goals as goal
 
 pub apply-requires-clause-grids : goal.apply-requires-clause-grids
@@ -8,3 +8,8 @@ apply-requires-clause-grids c =
 pub apply-requires-clause-owned : goal.apply-requires-clause-owned
 apply-requires-clause-owned c =
     closed-owners c.args.self.now c.args.registry.now c.requires.0 c.requires.1 c.requires.2 c.args.beat c.args.moment c.requires.3
+
+pub untaken-requires : goal.untaken-requires
+untaken-requires c =
+    closed-short c.args.self.now c.args.registry.now c.requires.0 c.requires.1 c.requires.2 c.args.beat c.args.moment c.requires.3 c.in-Err.ensures.few
+    c.in-Err.fault c.in-Err.ensures.refused
