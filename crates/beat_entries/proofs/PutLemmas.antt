@@ -4,7 +4,7 @@ use Rattle.std.proofs.Common.{◌≡◌, Bool, true, false, cond, ◌||◌, List
 use Rattle.std.specs.List.{find, list_any, AllByRecursion}
 use Rattle.std.specs.Option.{option_map_or}
 use Rattle.history.specs.Put.{put, put_all}
-use Rattle.chart_registry.proofs.ApartLemmas.{apart-put as put-apart}
+use Rattle.chart_registry.proofs.ApartLemmas.{apart-put}
 use Rattle.chart_registry.proofs.Applying.{all-put}
 use Rattle.history.specs.Regular.{AreApart}
 use Rattle.chart_registry.proofs.Finding.{all-weaker, find-none}
@@ -35,12 +35,9 @@ module _ {A : Type 0} (same : A → A → Bool) (itself : (x : A) → same x x �
   alike_right k x y e = turned k x ∙ alike x y k e ∙ turned y k
 
   -- ---- each thing stands once
-  pub apart-put : (ys : List A) (x : A) → AreApart same ys → AreApart same (put same ys x)
-  apart-put ys x apart = put-apart same itself (λ x y e i z. alike x y z e i) alike_right ys x apart
-
   pub apart-put_all : (ys xs : List A) → AreApart same ys → AreApart same (put_all same ys xs)
   apart-put_all ys [] apart = apart
-  apart-put_all ys (x ∷ xs) apart = apart-put_all (put same ys x) xs (apart-put ys x apart)
+  apart-put_all ys (x ∷ xs) apart = apart-put_all (put same ys x) xs (apart-put same itself (λ x y e i z. alike x y z e i) alike_right ys x apart)
 
   -- ---- by its last definition
   pub find-put : (k : A) (ys : List A) (x : A) → find (same k) (put same ys x) ≡ cond (same k x) (Some x) (find (same k) ys)

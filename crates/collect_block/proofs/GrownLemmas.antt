@@ -1,15 +1,13 @@
 -- What a registry that has grown says of the definitions of a beat.
 use Rattle.std.proofs.Common.{◌≡◌, ℕ, ◌≤◌, Bool, true, false, cond, not, ◌&&◌, ◌||◌, List, [], ◌∷◌, refl, sym, ap, ◌∙◌, arith, true≢false}
 use Rattle.std.specs.List.{list_any, count_by}
-use Rattle.std.specs.Str.{bytes_eq}
-use Rattle.std.proofs.lemmas.Bool.{and_parts}
 use Rattle.std.proofs.lemmas.List.Sums.{sum_by-cons}
 use Rattle.history.specs.declared.beat.OpenDim.{OpenDim}
 use Rattle.history.specs.declared.chart.ChartDef.{ChartDef}
 use Rattle.history.specs.Refusal.{is_new_chart, is_new_dimension, is_new_of}
 use Rattle.history.specs.Registry.{Registry, is_chart, is_of, is_dimension, same_chart, same_dimension, with_definitions}
 use Rattle.chart_registry.proofs.Applying.{any-put_all, same_chart-alike}
-use Rattle.chart_registry.proofs.RowsLemmas.{same_text}
+use Rattle.chart_registry.proofs.Growing.{same_dimension-alike}
 use Rattle.collect_block.specs.declared.feed.Feed.{Feed}
 use Rattle.collect_block.specs.Feed.{CountsFor}
 use Rattle.collect_block.specs.Grown.{HasAllOf}
@@ -57,11 +55,6 @@ module _ (registry later : Registry) (all : HasAllOf registry later) where
       each = λ chart. omega (arith, counts.beat.each chart, fewer-each chart feed.beat.dimensions);
     };
   }
-
-same_dimension-alike : (chart id : List ℕ) (x y : OpenDim) → same_dimension x y ≡ true → is_dimension chart id x ≡ is_dimension chart id y
-same_dimension-alike chart id x y same =
-    let parts = and_parts (bytes_eq x.chart y.chart) (bytes_eq x.def.id y.def.id) same in
-    (λ i. bytes_eq chart (same_text x.chart y.chart parts.0 i) && bytes_eq id (same_text x.def.id y.def.id parts.1 i))
 
 pub grown-has_all : (registry : Registry) (charts : List ChartDef) (dimensions : List OpenDim) → HasAllOf registry (with_definitions registry charts dimensions)
 grown-has_all registry charts dimensions = record {

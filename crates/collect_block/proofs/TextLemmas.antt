@@ -1,6 +1,6 @@
 -- What a step of a feed says of the lines before it.
-use Rattle.std.proofs.Common.{◌≡◌, ◌<◌, ◌≤◌, ℕ, ◌+◌, Bool, true, List, [], ◌∷◌, length, drop, get_or, All, Some, None, ap, refl, sym, subst, ◌∙◌, arith}
-use Rattle.std.proofs.lemmas.List.{drop_more, drop_all}
+use Rattle.std.proofs.Common.{◌≡◌, ◌<◌, ◌≤◌, ℕ, ◌+◌, Bool, true, List, [], ◌∷◌, ◌++◌, length, drop, get_or, reverse, take, All, Some, None, Result, Ok, Err, OnErr, ap, refl, sym, subst, ◌∙◌, arith}
+use Rattle.std.proofs.lemmas.List.{drop_more, drop_all, reverse-append, take_more}
 use Rattle.history.specs.declared.beat.OpenBeat.{OpenBeat}
 use Rattle.history.specs.declared.beat.OpenDim.{OpenDim}
 use Rattle.history.specs.declared.chart.ChartDef.{ChartDef}
@@ -8,20 +8,25 @@ use Rattle.history.specs.declared.line.Line.TheVariants as line
 use Rattle.history.specs.declared.line.Line.{Line}
 use Rattle.history.specs.History.{Beat as Stored, registry_of}
 use Rattle.history.specs.Looking.{beat}
-use Rattle.history.specs.Read.{history_at, accepted, ending}
+use Rattle.history.specs.Read.{history_at, accepted, ending, refusal_at}
 use Rattle.history.specs.Refusal.{has_chart}
 use Rattle.history.specs.Registry.{Registry}
 use Rattle.chart_registry.specs.declared.fault.RegistryFault.{RegistryFault}
 use Rattle.chart_registry.specs.declared.fault.RegistryFault.TheVariants.{Memory}
-use Rattle.chart_registry.specs.Accepted.{IsWithin}
+use Rattle.chart_registry.specs.Accepted.{AreAccepted, IsWithin}
 use Rattle.chart_registry.specs.Defining.{nothing_open, IsReasonOf}
 use Rattle.chart_registry.proofs.RoomLemmas.{text-short}
 use Rattle.collect_block.specs.declared.step.Step.{Step}
 use Rattle.collect_block.specs.declared.step.Step.TheVariants.{Beat}
 use Rattle.collect_block.specs.declared.text.Reader.{Reader}
 use Rattle.collect_block.specs.declared.text.End.{End}
-use Rattle.collect_block.specs.Text.{Holds, IsReaderOf, HasRead, Stepped, Took, TookEach, TookFront, end_of}
+use Rattle.collect_block.specs.Text.{Holds, IsReaderOf, HasRead, Stepped, Took, TookEach, TookFront, WasShort, end_of}
 use Rattle.collect_block.proofs.OpenLemmas.{grids, owners}
+
+-- what holds anyway holds where there is an error
+pub on_err : {T E : Type 0} (P : Type 0) (result : Result T E) → P → OnErr result P
+on_err P (Ok x) holds = tt
+on_err P (Err error) holds = holds
 
 abbrev beat_in : Step → OpenBeat
 beat_in (Beat closed moment) = closed
@@ -53,22 +58,38 @@ module _ (reader : Reader) (registry : Registry) (every : ℕ) (h : List Stored)
 pub record TookSome (every : ℕ) (h : List Stored) (lines : List Line) (n : ℕ) (reader : Reader) (registry : Registry) : Type 0 where
   pub past : List Line
   pub counts : length past ≡ n
+  pub lines_are : past ≡ reverse (take n lines)
   pub reads : IsReaderOf reader registry every h past
   pub accepts : accepted every h [] lines ≡ accepted every h past (drop n lines)
   pub ends : (ended : Bool) (rest : List ℕ) → ending every h ended rest [] lines ≡ ending every h ended rest past (drop n lines)
 
 module _ (every : ℕ) (h : List Stored) (lines : List Line) where
   pub took-none : (reader : Reader) (registry : Registry) → IsReaderOf reader registry every h [] → TookSome every h lines 0 reader registry
-  took-none reader registry reads = record { past = []; counts = refl; reads = reads; accepts = refl; ends = λ ended rest. refl }
+  took-none reader registry reads = record { past = []; counts = refl; lines_are = refl; reads = reads; accepts = refl; ends = λ ended rest. refl }
 
   module _ (n : ℕ) (line : Line) (within : n < length lines) (is : get_or lines n line ≡ line) (reader : Reader) (registry : Registry) (some : TookSome every h lines n reader registry) where
     next : drop n lines ≡ line ∷ drop (n + 1) lines
     next = drop_more lines n line within ∙ ap (λ (line : Line). line ∷ drop (n + 1) lines) is
 
+    front : line ∷ some.past ≡ reverse (take (n + 1) lines)
+    front =
+        ap (λ (past : List Line). line ∷ past) some.lines_are ∙ sym (reverse-append (take n lines) (line ∷ []))
+        ∙ ap reverse (ap (λ (line : Line). take n lines ++ line ∷ []) (sym is) ∙ sym (take_more lines n line within))
+
+    -- memory is short at this line, which is not refused
+    pub took-short : refusal_at every h some.past line ≡ None → WasShort every h lines
+    took-short free = record {
+      count = n + 1;
+      some = omega arith;
+      within = omega (arith, within);
+      accepted = subst (AreAccepted every h) front (free, some.reads.accepted);
+    }
+
     pub took-more : (reader' : Reader) (registry' : Registry) → Took every h some.past line None reader' registry' → TookSome every h lines (n + 1) reader' registry'
     took-more reader' registry' took = record {
       past = line ∷ some.past;
       counts = omega (arith, some.counts);
+      lines_are = front;
       reads = took.1;
       accepts = some.accepts ∙ ap (accepted every h some.past) next ∙ took.0.accepts (drop (n + 1) lines);
       ends = λ ended rest. some.ends ended rest ∙ ap (ending every h ended rest some.past) next ∙ took.0.ends ended rest (drop (n + 1) lines);

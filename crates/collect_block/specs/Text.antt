@@ -1,4 +1,4 @@
-use Rattle.std.specs.Prelude.{◌≡◌, ℕ, Bool, List, [], ◌∷◌, length, map, Option, Some, None, is_some}
+use Rattle.std.specs.Prelude.{◌≡◌, ℕ, ◌<◌, ◌≤◌, Bool, List, [], ◌∷◌, length, map, reverse, take, Option, Some, None, is_some}
 use Rattle.history.specs.declared.line.Line.{Line}
 use Rattle.history.specs.History.{Beat, child, last, registry_of}
 use Rattle.history.specs.Read.{Item as TextItem, End as TextEnd, accepted, ending, history_at, items, refusal_at}
@@ -64,6 +64,13 @@ pub record EndsAt (every : ℕ) (h : List Beat) (past : List Line) (line : Line)
 abbrev pub Took : ℕ → List Beat → List Line → Line → Option End → Reader → Registry → Type 0
 Took every h past line None reader registry = GoesOn every h past line × IsReaderOf reader registry every h (line ∷ past)
 Took every h past line (Some end) reader registry = EndsAt every h past line end × Holds reader registry every h past
+
+-- memory was short at the last of so many first lines of a text, of which none is refused
+pub record WasShort (every : ℕ) (h : List Beat) (lines : List Line) : Type 0 where
+  pub count : ℕ
+  pub some : 0 < count
+  pub within : count ≤ length lines
+  pub accepted : AreAccepted every h (reverse (take count lines))
 
 -- a reader took these lines, and none ended the text
 pub record TookEach (every : ℕ) (h : List Beat) (lines : List Line) (reader : Reader) (registry : Registry) : Type 0 where

@@ -1,9 +1,9 @@
-ghost use Rattle.std.specs.Prelude.{◌≡◌, ◌<◌, ◌≤◌, ◌+◌, ℕ, Bool, [], ◌∷◌, List, map, length, false, IfOk, OnOk};
+ghost use Rattle.std.specs.Prelude.{◌≡◌, ◌<◌, ◌≤◌, ◌+◌, ℕ, Bool, [], ◌∷◌, List, map, length, false, None, IfOk, OnOk, OnErr};
 ghost use Rattle.history.specs.History.{Beat, registry_of};
-ghost use Rattle.history.specs.Read.{history_at, accepted, ending, read};
+ghost use Rattle.history.specs.Read.{history_at, accepted, ending, read, refusal_at};
 ghost use Rattle.history.specs.declared.line.Line.{Line as ALine};
 ghost use Rattle.chart_registry.specs.declared.fault.RegistryFault.TheVariants as registry_fault;
-ghost use Rattle.collect_block.specs.Text.{IsAt, IsReaderOf, HasRead, Stepped, Took, TookAll, item_of, end_of};
+ghost use Rattle.collect_block.specs.Text.{IsAt, IsReaderOf, HasRead, Stepped, Took, TookAll, WasShort, item_of, end_of};
 ghost use Rattle.collect_block.specs.Feed.{IsFeedOf};
 ghost use Rattle.collect_block.specs.declared.step.Step.TheVariants as step;
 ghost use Rattle.history.specs.declared.line.Line.TheVariants as line;
@@ -71,7 +71,8 @@ pub(crate) struct Reader {
 /// Reads the lines of a text one by one, up to the first that is refused or says DISABLE, and applies each
 /// beat to the registry. `registry`, `last` and `copies` are of the history before the text, `every` is the
 /// update_every of the charts whose line leaves it open, and `rest` are the bytes behind the last line feed
-/// of a text that has `ended`. Without memory it answers an error, and the registry has taken some beats.
+/// of a text that has `ended`. Without memory, and for nothing else, it answers an error, and the registry has
+/// taken some beats: memory was short at a line that is not refused, behind lines of which none is.
 pub fn read_text(
     alloc: Global,
     every: u32,
@@ -92,6 +93,8 @@ pub fn read_text(
     ensures registry { OnOk result
         ((h : List Beat) → IsAt h registry.old last copies
         → registry.new ≡ registry_of (history_at every h (accepted every h [] lines.now))) }
+    ensures memory { OnErr result ((h : List Beat) → IsAt h registry.old last copies
+        → WasShort every h lines.now) }
 {
     let mut reader = Reader {
         feed: Feed::new(alloc, every),
@@ -116,9 +119,11 @@ impl Reader {
         rest: &[u8],
     ) -> Result<End, AllocError>
         requires { (every : ℕ) × (h : List Beat) × IsReaderOf self.old registry.old every h [] }
-        ensures { IfOk result (λ end. (every : ℕ) (h : List Beat)
+        ensures reads { IfOk result (λ end. (every : ℕ) (h : List Beat)
             → IsReaderOf self.old registry.old every h []
             → HasRead every h lines.now ended rest.now end self.new registry.new) }
+        ensures memory { OnErr result ((every : ℕ) (h : List Beat)
+            → IsReaderOf self.old registry.old every h [] → WasShort every h lines.now) }
     {
         match self.take_lines(registry, lines)? {
             Some(end) => Ok(end),
@@ -133,9 +138,11 @@ impl Reader {
         lines: &[Line],
     ) -> Result<Option<End>, AllocError>
         requires { (every : ℕ) × (h : List Beat) × IsReaderOf self.old registry.old every h [] }
-        ensures { IfOk result (λ found. (every : ℕ) (h : List Beat)
+        ensures takes { IfOk result (λ found. (every : ℕ) (h : List Beat)
             → IsReaderOf self.old registry.old every h []
             → TookAll every h lines.now found self.new registry.new) }
+        ensures memory { OnErr result ((every : ℕ) (h : List Beat)
+            → IsReaderOf self.old registry.old every h [] → WasShort every h lines.now) }
     {
         let mut number = 0;
         for line in lines {
@@ -156,9 +163,12 @@ impl Reader {
     ) -> Result<Option<End>, AllocError>
         requires { (every : ℕ) × (h : List Beat) × (past : List ALine)
             × IsReaderOf self.old registry.old every h past }
-        ensures { IfOk result (λ found. (every : ℕ) (h : List Beat) (past : List ALine)
+        ensures takes { IfOk result (λ found. (every : ℕ) (h : List Beat) (past : List ALine)
             → IsReaderOf self.old registry.old every h past → number ≡ length past + 1
             → Took every h past line.now found self.new registry.new) }
+        ensures memory { OnErr result ((every : ℕ) (h : List Beat) (past : List ALine)
+            → IsReaderOf self.old registry.old every h past
+            → refusal_at every h past line.now ≡ None) }
     {
         match self.feed.line(registry, self.last, self.copies, line) {
             Ok(step) => self.take_step(registry, step),
