@@ -294,6 +294,18 @@ module _ {B : Type 0} (moment : B → ℕ) where
       all-append (EndsBy (latest moment message.from (take m message.beats))) gaps (record { from = last; to = message.from } ∷ []) (all-ends last _ gaps (omega arith) ends) (ge, tt))
       (subst (λ gaps. AllByRecursion (EndsBy last) gaps) (sym (append-nil gaps)) ends)
 
+  -- and it does not end below where it ended
+  pub keeps-last : (low : ℕ) (floors : List ℕ) (child : List B) (last : ℕ) (message : Message B) (most : ℕ) → RisesFrom moment low child
+      → IsTrueOf moment floors child message → message.prev ≡ last → last ≤ last_with moment last (first_gaps most message) (first_beats most message)
+  keeps-last low floors child last message most rises truth prev =
+      by-first (λ more next. last ≤ last_with moment last more next) most last message prev (omega (arith, truth.from))
+      (λ m from. subst (λ from. from ≤ latest moment from (take m message.beats)) from (goes-on m))
+      (λ m lt. let ge = goes-on m in omega (arith, lt, ge))
+      (omega arith)
+    where
+      goes-on : (m : ℕ) → message.from ≤ latest moment message.from (take m message.beats)
+      goes-on m = latest-front-ge low message.from child (take m message.beats) rises (message-front low m floors child message rises truth)
+
   -- ---- a child goes on
   latest-above-le : (low from : ℕ) (child : List B) → RisesFrom moment low child → latest moment from (above moment from child) ≤ max from (latest moment low child)
   latest-above-le low from [] rises = omega arith

@@ -12,5 +12,6 @@ pub mod PointsCode
 pub mod PointsLaws
 pub mod ScheduleCode
 pub mod Sizes
+pub mod Verdicts
 pub mod WorldLaws
 pub mod Wholes

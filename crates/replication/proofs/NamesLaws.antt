@@ -160,3 +160,20 @@ answer-child child floor names beats ask message is =
     by (x ∷ xs) e =
         let made : data_with child floor ask.last names (front (data_with child floor ask.last names) (x ∷ xs)) ≡ message = cc in
         ap (λ (message : Data). message.child) (sym made)
+
+-- and it begins where the ask ends
+pub answer-prev : (child floor : ℕ) (names : Names) (beats : List Beat) (ask : Ask) (message : Data) → data_of child floor names beats ask ≡ Some message → message.prev ≡ ask.last
+answer-prev child floor names beats ask message is =
+    elim (cases_Bool (child == ask.child)) [
+      | inl same ↦ by (above beat_moment (from_of floor ask.last) beats) (sym (cond-true (child == ask.child) _ _ same) ∙ is)
+      | inr other ↦ absurd (none (sym (cond-false (child == ask.child) _ _ other) ∙ is))
+    ]
+  where
+    none : None ≡ Some message → ⊥
+    none e = cc
+
+    by : (later : List Beat) → with_front (data_with child floor ask.last names) later ≡ Some message → message.prev ≡ ask.last
+    by [] e = absurd (none e)
+    by (x ∷ xs) e =
+        let made : data_with child floor ask.last names (front (data_with child floor ask.last names) (x ∷ xs)) ≡ message = cc in
+        ap (λ (message : Data). message.prev) (sym made)

@@ -1,19 +1,20 @@
 -- What the calls of a schedule come to.
-use Rattle.std.proofs.Common.{◌≡◌, ℕ, zero, suc, ◌==◌, ◌+◌, ◌-◌, ◌<◌, ◌≤◌, true, false, ltb, List, [], ◌∷◌, length, take, cond, ◌⊎◌, inl, inr, sym, ap, ◌∙◌, arith, Option, Some, None, slice_get}
+use Rattle.std.proofs.Common.{◌≡◌, ℕ, zero, suc, ◌==◌, ◌+◌, ◌-◌, ◌<◌, ◌≤◌, Bool, true, false, ltb, List, [], ◌∷◌, length, take, cond, ◌⊎◌, inl, inr, sym, ap, ◌∙◌, arith, Option, Some, None, slice_get}
 use Rattle.std.specs.Option.{option_map_or}
 use Rattle.std.proofs.Math.Seq.{take-nil}
 use Rattle.std.proofs.lemmas.Bool.{cases_lt, cases_Bool, cond-true, cond-false, lt-ltb, le-ltb, eqb-true, eq-eqb, ne_eqb}
 use Rattle.std.proofs.lemmas.List.{append-nil, take_all}
 use Rattle.replication.specs.declared.message.Data.{Data}
 use Rattle.replication.specs.declared.named.NamedBeat.{NamedBeat}
+use Rattle.replication.specs.declared.parent.Parent.{Parent}
 use Rattle.replication.specs.declared.step.Step.TheVariants.{Deliver}
 use Rattle.replication.specs.declared.step.World.{World}
-use Rattle.replication.specs.declared.verdict.Verdict.{Verdict}
-use Rattle.replication.specs.declared.verdict.Verdict.TheVariants.{Stored, Old, Ahead, WrongChild}
 use Rattle.replication.specs.Copies.{Message, gap_between, gap_of, end_of, first_beats, first_gaps, latest, last_with, IsTrueOf}
 use Rattle.replication.specs.Names.{named_moment, message_of}
-use Rattle.replication.specs.Verdict.{verdict_at, verdict_by}
-use Rattle.replication.specs.World.{with_gaps, with_first, kept_of, delivered, happens}
+use Rattle.replication.specs.Sound.{IsEndOf}
+use Rattle.replication.specs.Verdict.{is_stored, verdict_by}
+use Rattle.replication.specs.World.{with_gaps, with_first, kept_of, child_of, verdict_in, delivered, happens}
+use Rattle.replication.proofs.Verdicts.{stored-begins}
 
 -- ---- gaps
 gap_between-none : (prev from : ℕ) → from ≤ prev → gap_between prev from ≡ []
@@ -48,59 +49,25 @@ pub gap-stored-rest : (most prev from : ℕ) → prev < from → most - 1 ≡ mo
 gap-stored-rest most prev from lt = omega (arith, ap length (gap_between-some prev from lt))
 
 -- ---- verdicts
-verdict_at-stored : (last prev : ℕ) → verdict_at last prev ≡ Stored → (prev == last) ≡ true
-verdict_at-stored last prev is =
-    elim (cases_lt prev last) [
-      | inl below ↦ absurd (never-old (sym (cond-true (ltb prev last) Old _ (lt-ltb prev last below)) ∙ is))
-      | inr ge ↦ elim (cases_lt last prev) [
-        | inl past ↦ absurd (never-ahead (sym (cond-true (ltb last prev) Ahead Stored (lt-ltb last prev past)) ∙ sym (cond-false (ltb prev last) Old _ (le-ltb prev last ge)) ∙ is))
-        | inr le ↦ eq-eqb prev last (omega arith)
-      ]
-    ]
-  where
-    never-old : Old ≡ Stored → ⊥
-    never-old e = cc
-
-    never-ahead : Ahead ≡ Stored → ⊥
-    never-ahead e = cc
-
-verdict_at-same : (last prev : ℕ) → (prev == last) ≡ true → verdict_at last prev ≡ Stored
-verdict_at-same last prev same =
-    let is = eqb-true prev last same in
-    cond-false (ltb prev last) Old (cond (ltb last prev) Ahead Stored) (le-ltb prev last (omega arith)) ∙ cond-false (ltb last prev) Ahead Stored (le-ltb last prev (omega arith))
-
--- a message of the parent's child is judged by where it begins
-verdict-own : (child : Option ℕ) (last prev came : ℕ) → ((child ≡ None) ⊎ (child ≡ Some 1)) → came ≡ 1 → verdict_by child last came prev ≡ verdict_at last prev
-verdict-own child last prev came (inl none) one = ap (λ child. verdict_by child last came prev) none
-verdict-own child last prev came (inr same) one =
-    ap (λ child. verdict_by child last came prev) same ∙ cond-true (1 == came) (verdict_at last prev) (WrongChild 1 came) (eq-eqb 1 came (sym one))
-
--- it is stored exactly where it begins where the parent ends
-pub stored-same : (child : Option ℕ) (last prev came : ℕ) → ((child ≡ None) ⊎ (child ≡ Some 1)) → came ≡ 1 → verdict_by child last came prev ≡ Stored → true ≡ (prev == last)
-stored-same child last prev came own one is = sym (verdict_at-stored last prev (sym (verdict-own child last prev came own one) ∙ is))
-
-pub other-not : (child : Option ℕ) (last prev came : ℕ) (verdict : Verdict) → ((child ≡ None) ⊎ (child ≡ Some 1)) → came ≡ 1 → verdict_by child last came prev ≡ verdict → (verdict ≡ Stored → ⊥) → false ≡ (prev == last)
-other-not child last prev came verdict own one is never =
-    elim (cases_Bool (prev == last)) [
-      | inl same ↦ absurd (never (sym is ∙ verdict-own child last prev came own one ∙ verdict_at-same last prev same))
-      | inr other ↦ sym other
-    ]
+-- the parent judges a message as its world does
+pub judged-same : (w : World) (parent : Parent) (sent : Data) (stored : Bool) → IsEndOf w parent → stored ≡ is_stored (verdict_by parent.child parent.last sent.child sent.prev) → stored ≡ is_stored (verdict_in w sent)
+judged-same w parent sent stored end is = is ∙ (λ i. is_stored (verdict_by (end.child i) (end.last i) sent.child sent.prev))
 
 -- ---- deliveries
 pub delivers-nothing : (w : World) (place : ℕ) (keep : Option ℕ) → slice_get w.messages place ≡ None → w ≡ happens w (Deliver place keep)
-delivers-nothing w place keep none = sym (ap (λ (found : Option Data). option_map_or (λ (sent : Data). delivered w keep (message_of sent)) found w) none)
+delivers-nothing w place keep none = sym (ap (λ (found : Option Data). option_map_or (delivered w keep) found w) none)
 
-delivers : (w : World) (place : ℕ) (keep : Option ℕ) (sent : Data) → slice_get w.messages place ≡ Some sent → happens w (Deliver place keep) ≡ delivered w keep (message_of sent)
-delivers w place keep sent found = ap (λ (found : Option Data). option_map_or (λ (sent : Data). delivered w keep (message_of sent)) found w) found
+delivers : (w : World) (place : ℕ) (keep : Option ℕ) (sent : Data) → slice_get w.messages place ≡ Some sent → happens w (Deliver place keep) ≡ delivered w keep sent
+delivers w place keep sent found = ap (λ (found : Option Data). option_map_or (delivered w keep) found w) found
 
-pub delivers-other : (w : World) (place : ℕ) (keep : Option ℕ) (sent : Data) → slice_get w.messages place ≡ Some sent → (sent.prev == w.last) ≡ false → w ≡ happens w (Deliver place keep)
+pub delivers-other : (w : World) (place : ℕ) (keep : Option ℕ) (sent : Data) → slice_get w.messages place ≡ Some sent → is_stored (verdict_in w sent) ≡ false → w ≡ happens w (Deliver place keep)
 delivers-other w place keep sent found other =
-    sym (delivers w place keep sent found ∙ cond-false (sent.prev == w.last) (with_first w (kept_of keep (message_of sent)) (message_of sent)) w other)
+    sym (delivers w place keep sent found ∙ cond-false (is_stored (verdict_in w sent)) (with_first w (kept_of keep (message_of sent)) (message_of sent)) w other)
 
-pub delivers-own : (w : World) (place : ℕ) (keep : Option ℕ) (sent : Data) → slice_get w.messages place ≡ Some sent → (sent.prev == w.last) ≡ true
+pub delivers-own : (w : World) (place : ℕ) (keep : Option ℕ) (sent : Data) → slice_get w.messages place ≡ Some sent → is_stored (verdict_in w sent) ≡ true
     → with_first w (kept_of keep (message_of sent)) (message_of sent) ≡ happens w (Deliver place keep)
 delivers-own w place keep sent found same =
-    sym (delivers w place keep sent found ∙ cond-true (sent.prev == w.last) (with_first w (kept_of keep (message_of sent)) (message_of sent)) w same)
+    sym (delivers w place keep sent found ∙ cond-true (is_stored (verdict_in w sent)) (with_first w (kept_of keep (message_of sent)) (message_of sent)) w same)
 
 -- all of a true message ends at its last moment
 pub all-stored : (floors : List ℕ) (child : List NamedBeat) (last : ℕ) (message : Message NamedBeat) → IsTrueOf named_moment floors child message → message.prev ≡ last
@@ -121,18 +88,18 @@ all-stored floors child last message truth prev =
     ]
 
 -- what is stored of a message that begins where the copy ends
-pub stored-first : (w new : World) (place most : ℕ) (keep : Option ℕ) (sent : Data) (beats : List NamedBeat) → slice_get w.messages place ≡ Some sent → (sent.prev == w.last) ≡ true
+pub stored-first : (w new : World) (place most : ℕ) (keep : Option ℕ) (sent : Data) (beats : List NamedBeat) → slice_get w.messages place ≡ Some sent → is_stored (verdict_in w sent) ≡ true
     → beats ≡ (message_of sent).beats → most ≡ kept_of keep (message_of sent)
     → new ≡ with_first w most (record { prev = sent.prev; from = sent.from; upto = sent.upto; floor = sent.floor; beats = beats }) → new ≡ happens w (Deliver place keep)
 stored-first w new place most keep sent beats found own beats_are most_is stored =
     stored ∙ (λ i. with_first w (most_is i) (record { prev = sent.prev; from = sent.from; upto = sent.upto; floor = sent.floor; beats = beats_are i })) ∙ delivers-own w place keep sent found own
 
 -- and where all of it is, the copy ends at its last moment
-pub stored-end : (w new : World) (most : ℕ) (sent : Data) (beats : List NamedBeat) → IsTrueOf named_moment w.floors w.beats (message_of sent) → (sent.prev == w.last) ≡ true
+pub stored-end : (w new : World) (most : ℕ) (sent : Data) (beats : List NamedBeat) → IsTrueOf named_moment w.floors w.beats (message_of sent) → is_stored (verdict_in w sent) ≡ true
     → beats ≡ (message_of sent).beats → most ≡ length beats + 1
     → new ≡ with_first w most (record { prev = sent.prev; from = sent.from; upto = sent.upto; floor = sent.floor; beats = beats }) → sent.upto ≡ new.last
 stored-end w new most sent beats truth own beats_are most_is stored =
-    let all = all-stored w.floors w.beats w.last (message_of sent) truth (eqb-true sent.prev w.last own) in
+    let all = all-stored w.floors w.beats w.last (message_of sent) truth (stored-begins (child_of w) w.last sent.child sent.prev own) in
     let most_all : most ≡ length (message_of sent).beats + 1 = most_is ∙ ap (λ beats. length beats + 1) beats_are in
     sym (ap (λ (w : World). w.last) (stored ∙ (λ i. with_first w (most_all i) (record { prev = sent.prev; from = sent.from; upto = sent.upto; floor = sent.floor; beats = beats_are i }))) ∙ all)
 

@@ -21,9 +21,11 @@ use Rattle.replication.specs.Copies.{had_floor, Message, RisesFrom, latest, IsTr
 use Rattle.replication.specs.Names.{beat_moment, named_moment, message_of}
 use Rattle.replication.specs.Points.{name_cmp, put, put_all, in_order, points_of, names_in, names_of, numbered_point, numbered_beat, numbered_beats}
 use Rattle.replication.specs.Sound.{IsTrueData, HavePoints, Sound}
-use Rattle.replication.specs.World.{start, floor_now, may_follow, with_beat, answer_in, told, with_first, kept_of, delivered, happens, run_from, run, step_points, points_in}
-use Rattle.replication.proofs.Copies.{all-append, all-map, keeps-copy, keeps-ends, keeps-within, ends-within, copy-later, true-later, rises-later, latest-later}
-use Rattle.replication.proofs.NamesLaws.{RisesFrom-map, answer-true, answer-child}
+use Rattle.replication.specs.Verdict.{is_stored}
+use Rattle.replication.specs.World.{start, floor_now, may_follow, with_beat, answer_in, told, with_first, kept_of, child_of, verdict_in, delivered, happens, run_from, run, step_points, points_in}
+use Rattle.replication.proofs.Copies.{all-append, all-map, keeps-copy, keeps-ends, keeps-within, keeps-last, ends-within, copy-later, true-later, rises-later, latest-later}
+use Rattle.replication.proofs.NamesLaws.{RisesFrom-map, answer-true, answer-child, answer-prev}
+use Rattle.replication.proofs.Verdicts.{stored-begins}
 use Rattle.replication.proofs.Wholes.{answer-whole}
 use Rattle.replication.proofs.PointsLaws.{all-at, named_beats-numbered, names_of-AreNames, numbered_beats-AreBeatsOf}
 
@@ -36,6 +38,8 @@ starts-sound = record {
   copies = record { beats = refl; ends = tt };
   told = tt;
   child = tt;
+  asked = tt;
+  begun = tt;
 }
 
 -- the moments by number are those by name
@@ -81,6 +85,8 @@ with_beat-sound w moment floor points later some sound =
             whole = truth.whole;
           }) sound.told;
       child = sound.child;
+      asked = sound.asked;
+      begun = sound.begun;
     }
 
 -- the floor now is one that the child had
@@ -96,8 +102,8 @@ floor_now-had floors = elim (last-of 0 floors) [ inl none ↦ or_left _ _ (eq-eq
         ]
 
 -- the child answers
-told-sound : (w : World) (ask : AnAsk) → Sound w → Sound (told w ask)
-told-sound w ask sound =
+told-sound : (w : World) (ask : AnAsk) → ask.last ≤ w.last → Sound w → Sound (told w ask)
+told-sound w ask by_last sound =
     by (data_of 1 (floor_now 0 w.floors) (names_of (names_in w.beats)) (numbered_beats (names_in w.beats) w.beats) ask) refl
   where
     by : (found : Option Data) → data_of 1 (floor_now 0 w.floors) (names_of (names_in w.beats)) (numbered_beats (names_in w.beats) w.beats) ask ≡ found
@@ -121,26 +127,36 @@ told-sound w ask sound =
       );
       child = all-append (λ (sent : Data). sent.child ≡ 1) w.messages (message ∷ []) sound.child
           (answer-child 1 (floor_now 0 w.floors) (names_of (names_in w.beats)) (numbered_beats (names_in w.beats) w.beats) ask message is, tt);
+      asked = sound.asked;
+      begun = all-append (λ (sent : Data). sent.prev ≤ w.last) w.messages (message ∷ []) sound.begun (
+        subst (λ prev. prev ≤ w.last) (sym (answer-prev 1 (floor_now 0 w.floors) (names_of (names_in w.beats)) (numbered_beats (names_in w.beats) w.beats) ask message is)) by_last,
+        tt,
+      );
     }
 
 -- the parent stores the first things of a message
 with_first-sound : (w : World) (n : ℕ) (message : Message NamedBeat) → IsTrueOf named_moment w.floors w.beats message → message.prev ≡ w.last → Sound w → Sound (with_first w n message)
-with_first-sound w n message truth prev sound = record {
-  rises = sound.rises;
-  points = sound.points;
-  within = keeps-within named_moment 0 w.floors w.beats w.last message n sound.rises sound.within truth prev;
-  ended = keeps-ends named_moment 0 w.floors w.beats w.gaps w.last message n sound.rises sound.ended truth prev;
-  copies = keeps-copy named_moment 0 w.floors w.beats w.held w.gaps w.last message n sound.rises sound.ended sound.copies truth prev;
-  told = sound.told;
-  child = sound.child;
-}
+with_first-sound w n message truth prev sound =
+    let later = keeps-last named_moment 0 w.floors w.beats w.last message n sound.rises truth prev in
+    record {
+      rises = sound.rises;
+      points = sound.points;
+      within = keeps-within named_moment 0 w.floors w.beats w.last message n sound.rises sound.within truth prev;
+      ended = keeps-ends named_moment 0 w.floors w.beats w.gaps w.last message n sound.rises sound.ended truth prev;
+      copies = keeps-copy named_moment 0 w.floors w.beats w.held w.gaps w.last message n sound.rises sound.ended sound.copies truth prev;
+      told = sound.told;
+      child = sound.child;
+      asked = all-map (λ (ask : AnAsk). ask.last ≤ w.last) (λ (ask : AnAsk). ask.last ≤ (with_first w n message).last) w.asks (λ ask by_last. omega (arith, by_last, later)) sound.asked;
+      begun = all-map (λ (sent : Data). sent.prev ≤ w.last) (λ (sent : Data). sent.prev ≤ (with_first w n message).last) w.messages (λ sent by_last. omega (arith, by_last, later)) sound.begun;
+    }
 
-delivered-sound : (w : World) (keep : Option ℕ) (message : Message NamedBeat) → IsTrueOf named_moment w.floors w.beats message → Sound w → Sound (delivered w keep message)
-delivered-sound w keep message truth sound =
-    elim (cases_Bool (message.prev == w.last)) [
-      | inl same ↦ subst Sound (sym (cond-true (message.prev == w.last) (with_first w (kept_of keep message) message) w same))
-          (with_first-sound w (kept_of keep message) message truth (eqb-true message.prev w.last same) sound)
-      | inr other ↦ subst Sound (sym (cond-false (message.prev == w.last) (with_first w (kept_of keep message) message) w other)) sound
+delivered-sound : (w : World) (keep : Option ℕ) (sent : Data) → IsTrueOf named_moment w.floors w.beats (message_of sent) → Sound w → Sound (delivered w keep sent)
+delivered-sound w keep sent truth sound =
+    let message = message_of sent in
+    elim (cases_Bool (is_stored (verdict_in w sent))) [
+      | inl stored ↦ subst Sound (sym (cond-true (is_stored (verdict_in w sent)) (with_first w (kept_of keep message) message) w stored))
+          (with_first-sound w (kept_of keep message) message truth (stored-begins (child_of w) w.last sent.child sent.prev stored) sound)
+      | inr other ↦ subst Sound (sym (cond-false (is_stored (verdict_in w sent)) (with_first w (kept_of keep message) message) w other)) sound
     ]
 
 pub happens-sound : (w : World) (step : Step) → Sound w → Sound (happens w step)
@@ -151,17 +167,17 @@ happens-sound w (ChildBeat moment floor points kept) sound =
           with_beat-sound w moment floor points (ltb-true _ _ parts.0) (ltb-true _ _ (and_parts (ltb 0 (length points)) _ parts.1).0) sound)
       | inr no_ ↦ subst Sound (sym (cond-false (kept && may_follow w moment floor points) (with_beat w moment floor points) w no_)) sound
     ]
-happens-sound w Ask sound = record { rises = sound.rises; points = sound.points; within = sound.within; ended = sound.ended; copies = sound.copies; told = sound.told; child = sound.child }
-happens-sound w (Answer ask) sound = by (slice_get w.asks ask)
+happens-sound w Ask sound = record { rises = sound.rises; points = sound.points; within = sound.within; ended = sound.ended; copies = sound.copies; told = sound.told; child = sound.child; asked = all-append (λ (ask : AnAsk). ask.last ≤ w.last) w.asks (record { child = 1; last = w.last } ∷ []) sound.asked (omega arith, tt); begun = sound.begun }
+happens-sound w (Answer ask) sound = by (slice_get w.asks ask) refl
   where
-    by : (found : Option AnAsk) → Sound (option_map_or (told w) found w)
-    by None = sound
-    by (Some ask) = told-sound w ask sound
+    by : (found : Option AnAsk) → slice_get w.asks ask ≡ found → Sound (option_map_or (told w) found w)
+    by None is = sound
+    by (Some asked) is = told-sound w asked (all-at (λ (ask : AnAsk). ask.last ≤ w.last) w.asks ask asked sound.asked is) sound
 happens-sound w (Deliver message keep) sound = by (slice_get w.messages message) refl
   where
-    by : (found : Option Data) → slice_get w.messages message ≡ found → Sound (option_map_or (λ (sent : Data). delivered w keep (message_of sent)) found w)
+    by : (found : Option Data) → slice_get w.messages message ≡ found → Sound (option_map_or (delivered w keep) found w)
     by None is = sound
-    by (Some sent) is = delivered-sound w keep (message_of sent) (all-at (IsTrueData w.floors w.beats) w.messages message sent sound.told is).says sound
+    by (Some sent) is = delivered-sound w keep sent (all-at (IsTrueData w.floors w.beats) w.messages message sent sound.told is).says sound
 
 pub run_from-more : (w : World) (steps : List Step) (step : Step) → run_from w (steps ++ step ∷ []) ≡ happens (run_from w steps) step
 run_from-more w [] step = refl
@@ -205,10 +221,10 @@ told-beats w ask = by (answer_in w ask)
     by None = refl
     by (Some message) = refl
 
-delivered-beats : (w : World) (keep : Option ℕ) (message : Message NamedBeat) → (delivered w keep message).beats ≡ w.beats
-delivered-beats w keep message = by (message.prev == w.last)
+delivered-beats : (w : World) (keep : Option ℕ) (sent : Data) → (delivered w keep sent).beats ≡ w.beats
+delivered-beats w keep sent = by (is_stored (verdict_in w sent))
   where
-    by : (same : Bool) → (cond same (with_first w (kept_of keep message) message) w).beats ≡ w.beats
+    by : (stored : Bool) → (cond stored (with_first w (kept_of keep (message_of sent)) (message_of sent)) w).beats ≡ w.beats
     by true = refl
     by false = refl
 
@@ -228,9 +244,9 @@ happens-points w (Answer ask) = by (slice_get w.asks ask)
     by (Some ask) = omega (arith, ap (λ beats. length (points_of beats)) (told-beats w ask))
 happens-points w (Deliver message keep) = by (slice_get w.messages message)
   where
-    by : (found : Option Data) → length (points_of (option_map_or (λ (sent : Data). delivered w keep (message_of sent)) found w).beats) ≤ length (points_of w.beats) + 0
+    by : (found : Option Data) → length (points_of (option_map_or (delivered w keep) found w).beats) ≤ length (points_of w.beats) + 0
     by None = omega arith
-    by (Some sent) = omega (arith, ap (λ beats. length (points_of beats)) (delivered-beats w keep (message_of sent)))
+    by (Some sent) = omega (arith, ap (λ beats. length (points_of beats)) (delivered-beats w keep sent))
 
 run_from-points : (w : World) (steps : List Step) → length (points_of (run_from w steps).beats) ≤ length (points_of w.beats) + points_in steps
 run_from-points w [] = omega arith

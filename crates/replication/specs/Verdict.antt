@@ -1,7 +1,14 @@
 -- What a parent makes of a Data.
-use Rattle.std.specs.Prelude.{ℕ, ◌==◌, nat_lt, Option, Some, None, if◌then◌else◌}
+use Rattle.std.specs.Prelude.{ℕ, ◌==◌, Bool, true, false, nat_lt, Option, Some, None, if◌then◌else◌}
 use Rattle.replication.specs.declared.verdict.Verdict.{Verdict}
 use Rattle.replication.specs.declared.verdict.Verdict.TheVariants.{Stored, Old, Ahead, WrongChild}
+
+-- the Data is stored
+abbrev pub is_stored : Verdict → Bool
+is_stored Stored = true
+is_stored Old = false
+is_stored Ahead = false
+is_stored (WrongChild kept came) = false
 
 -- by where the Data begins, where the copy ends at `last`
 abbrev pub verdict_at : ℕ → ℕ → Verdict

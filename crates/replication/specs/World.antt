@@ -1,6 +1,6 @@
 -- A child, a parent, and all messages ever sent between them. A message that is lost is one that is never
 -- delivered; any may be delivered again, and in any order.
-use Rattle.std.specs.Prelude.{ℕ, ◌==◌, ◌+◌, Bool, ◌&&◌, nat_lt, nat_le, List, [], ◌∷◌, ◌++◌, length, slice_get, Option, if◌then◌else◌}
+use Rattle.std.specs.Prelude.{ℕ, ◌==◌, ◌+◌, Bool, ◌&&◌, nat_lt, nat_le, List, [], ◌∷◌, ◌++◌, length, slice_get, Option, Some, None, if◌then◌else◌}
 use Rattle.std.specs.List.{sum_by}
 use Rattle.std.specs.Option.{option_map_or}
 use Rattle.replication.specs.declared.ask.Ask.{Ask as AnAsk}
@@ -14,7 +14,9 @@ use Rattle.replication.specs.declared.step.World.{World}
 use Rattle.replication.specs.Answer.{data_of}
 use Rattle.replication.specs.Copies.{Message, end_of, latest, last_with, first_gaps, first_beats}
 use Rattle.replication.specs.Names.{named_moment, message_of}
+use Rattle.replication.specs.declared.verdict.Verdict.{Verdict}
 use Rattle.replication.specs.Points.{in_order, names_in, names_of, numbered_beats}
+use Rattle.replication.specs.Verdict.{is_stored, verdict_by}
 
 abbrev pub start : World
 start = record { beats = []; floors = []; held = []; gaps = []; last = 0; asks = []; messages = [] }
@@ -58,16 +60,24 @@ with_first w n message = with_stored w (first_gaps n message) (first_beats n mes
 abbrev pub kept_of : Option ℕ → Message NamedBeat → ℕ
 kept_of keep message = option_map_or (λ (n : ℕ). n) keep (length message.beats + 1)
 
--- it stores a message that begins where it ends, and leaves any other
-abbrev pub delivered : World → Option ℕ → Message NamedBeat → World
-delivered w keep message = if message.prev == w.last then with_first w (kept_of keep message) message else w
+-- the child that it has a copy of, once it has anything
+abbrev pub child_of : World → Option ℕ
+child_of w = if w.last == 0 then None else Some 1
+
+-- what it makes of a message
+abbrev pub verdict_in : World → Data → Verdict
+verdict_in w sent = verdict_by (child_of w) w.last sent.child sent.prev
+
+-- it stores a message by this verdict, and leaves any other
+abbrev pub delivered : World → Option ℕ → Data → World
+delivered w keep sent = if is_stored (verdict_in w sent) then with_first w (kept_of keep (message_of sent)) (message_of sent) else w
 
 -- ---- steps
 abbrev pub happens : World → Step → World
 happens w (ChildBeat moment floor points kept) = if kept && may_follow w moment floor points then with_beat w moment floor points else w
 happens w Ask = record w { asks = w.asks ++ record { child = 1; last = w.last } ∷ [] }
 happens w (Answer ask) = option_map_or (told w) (slice_get w.asks ask) w
-happens w (Deliver message keep) = option_map_or (λ (sent : Data). delivered w keep (message_of sent)) (slice_get w.messages message) w
+happens w (Deliver message keep) = option_map_or (delivered w keep) (slice_get w.messages message) w
 
 -- what a list of steps leads to
 abbrev pub run_from : World → List Step → World

@@ -4,7 +4,7 @@ ghost use Rattle.replication.specs.Names.{beat_moment};
 
 use crate::beats::Beat;
 
-/// The place of the first beat above a moment, or how many beats there are, by halves.
+/// The place of the first beat above a moment, or how many beats there are.
 fn first_above(beats: &[Beat], from: u32) -> usize
     requires { RisesFrom beat_moment 0 beats.now }
     ensures within { result ≤ length beats.now }

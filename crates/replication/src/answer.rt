@@ -18,7 +18,7 @@ use std::alloc::Global;
 pub const BEAT_LIMIT: usize = 64;
 
 /// How many bytes the body of a `Data`'s frame may have, where it has more than one beat.
-pub const BODY_LIMIT: usize = 1 << 20;
+pub const DATA_LIMIT: usize = 1 << 20;
 
 /// Above which moment a child with this floor has all: `prev`, or one below the floor.
 pub(crate) fn from_of(floor: u32, prev: u32) -> u32

@@ -20,5 +20,6 @@ pub struct SeriesWord {
 pub struct Beat {
     /// The moment in seconds, above 0.
     pub moment: u32,
+    /// A storage number for each series that has a point at the moment.
     pub words: SeriesWordList,
 }

@@ -29,7 +29,7 @@ impl Child {
     /// What a child answers to an `Ask`, from its floor in seconds, the names of its series and its beats, each
     /// with points: the first beats above what was asked for that it has not lost. They are the longest list of
     /// such beats that has at most 64 beats and a frame's body of at most 2^20 bytes, but at least one. None
-    /// where it has no such beat, and where the `Ask` names another child. Beats are searched by halves.
+    /// where it has no such beat, and where the `Ask` names another child. `Memory` where none is left.
     pub fn answer(
         alloc: Global,
         child: u64,

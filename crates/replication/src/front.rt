@@ -1,7 +1,7 @@
 ghost use Rattle.std.specs.Prelude.{◌≡◌, ℕ, ◌<◌, ◌≤◌, length, take, IfOk};
 ghost use Rattle.replication.specs.Answer.{AreNames, AreBeatsOf, data_with, front};
 
-use crate::answer::{BEAT_LIMIT, BODY_LIMIT};
+use crate::answer::{BEAT_LIMIT, DATA_LIMIT};
 use crate::beats::Beat;
 use crate::fault::CopyFault;
 use crate::marks::Marks;
@@ -21,7 +21,7 @@ pub(crate) fn front_len(alloc: Global, names: &Names, later: &[Beat]) -> Result<
         → take count later.now ≡ front (data_with child floor prev names.now) later.now) }
 {
     let mut marks = Marks::new(alloc, names)?;
-    let mut room = BODY_LIMIT - EMPTY_SIZE;
+    let mut room = DATA_LIMIT - EMPTY_SIZE;
     let mut count = 0;
     for beat in later {
         if count == BEAT_LIMIT {

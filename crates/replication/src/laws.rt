@@ -1,5 +1,5 @@
 //! The law of copies over every schedule, and the laws of single answers.
-ghost use Rattle.std.specs.Prelude.{◌≡◌, ℕ, ◌<◌, ◌^◌, true, List, ◌++◌, length, reverse, take, Option, Some, IfOk};
+ghost use Rattle.std.specs.Prelude.{◌≡◌, ℕ, ◌<◌, ◌≤◌, ◌^◌, true, List, ◌++◌, length, reverse, take, Option, Some, IfOk};
 ghost use Rattle.std.specs.List.{AllByRecursion, find};
 ghost use Rattle.std.specs.List.Sorted.{IsStrictlySortedBy};
 ghost use Rattle.replication.specs.declared.ask.Ask.{Ask as AnAsk};
@@ -25,8 +25,8 @@ use std::alloc::Global;
 
 /// Runs a schedule by the calls of both ends, from a child and a parent that have nothing. Whatever is lost,
 /// comes again or comes in another order, and wherever either end stops, the parent is a copy of the child,
-/// and each message that was ever sent is true of the child. The steps have fewer than 2^32 points in all, those
-/// of beats that are lost or not allowed counted too.
+/// and each message that was ever sent is true of the child and begins where the parent ends or below. The steps have fewer than 2^32 points in all, those
+/// of beats that are lost or not allowed counted too. `Memory` where none is left.
 pub fn schedule(alloc: Global, steps: &StepList) -> Result<World, CopyFault>
     requires few { points_in steps.now < 2 ^ 32 }
     ensures ran { IfOk result (λ world. world ≡ run steps.now) }
@@ -34,6 +34,8 @@ pub fn schedule(alloc: Global, steps: &StepList) -> Result<World, CopyFault>
         IsCopy named_moment world.floors world.beats world.held world.gaps world.last) }
     ensures told { IfOk result (λ world.
         AllByRecursion (IsTrueData world.floors world.beats) world.messages) }
+    ensures begun { IfOk result (λ world.
+        AllByRecursion (λ (sent : Data). sent.prev ≤ world.last) world.messages) }
 {
     let mut world = start(alloc);
     let mut parent = Parent::new(None, 0);

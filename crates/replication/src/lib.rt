@@ -2,16 +2,16 @@
 //! keeps of it.
 //!
 //! A `Child` answers an `Ask` with a `Data`: the first of its beats above what was asked for, with the names
-//! of their series, as many as a frame may have. A `Parent` stores a `Data` that begins where its copy ends,
-//! and leaves any other. What the child has thrown away by then becomes a gap. Nothing here knows a network,
-//! a file or a clock: a message that is lost is one that never comes.
+//! of their series: at most 64 beats and 2^20 bytes of a body, but at least one beat. A `Parent` stores a
+//! `Data` that begins where its copy ends, and leaves any other. What the child has thrown away by then becomes
+//! a gap. Nothing here knows a network, a file or a clock: a message that is lost is one that never comes.
 //!
-//! Proved is, over any list of steps of fewer than 2^32 points, with losses, repeats, other orders and stops
-//! at either end, that the parent is a copy of the child (it holds exactly the child's beats up to its own end
-//! but those in its gaps, and each gap ends one below a floor that the child had), and that each message that
-//! was ever sent is true of the child (`laws::schedule`). The definitions are over beats of any kind that have
-//! a moment, so that they can serve whole histories. It stands on the spelling of fields of `field_codec`,
-//! which says how long a frame is, and on the lists of `fixed_num`.
+//! `laws::schedule` is proved over any list of steps of fewer than 2^32 points, with losses, repeats, other
+//! orders and stops at either end. The parent is a copy of the child: it holds exactly the child's beats up to
+//! its own end but those in its gaps. Each gap ends one below a floor that the child had. Each message that was
+//! ever sent is true of the child. The definitions are over beats of any kind that have a moment, so that they
+//! can serve whole histories. It stands on `field_codec`, by which the length of a body is counted, and on the
+//! lists of `fixed_num`.
 #![tactic(auto)]
 
 mod above;
@@ -35,7 +35,7 @@ mod schedule;
 mod step;
 mod verdict;
 
-pub use answer::{BEAT_LIMIT, BODY_LIMIT};
+pub use answer::{BEAT_LIMIT, DATA_LIMIT};
 pub use ask::Ask;
 pub use beats::{Beat, BeatList, SeriesWord, SeriesWordList};
 pub use child::Child;

@@ -22,5 +22,6 @@ pub struct NamedPoint {
 pub struct NamedBeat {
     /// The moment in seconds, above 0.
     pub moment: u32,
+    /// The points at the moment.
     pub points: NamedPointList,
 }

@@ -24,12 +24,15 @@ pub struct DimName {
     pub chart: u32,
     /// The dimension's id, of 1 to 200 bytes.
     pub id: Text,
+    /// Whether charts are drawn without it.
     pub hidden: bool,
 }
 
 /// The names of series: a series has the number of the place of its dimension, from 0.
 #[derive(Debug, Drop)]
 pub struct Names {
+    /// The charts of the dimensions.
     pub charts: ChartNameList,
+    /// The dimensions, each with the place of its chart.
     pub dimensions: DimNameList,
 }

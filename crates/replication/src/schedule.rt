@@ -1,10 +1,11 @@
 //! The steps of a world, by the calls of both ends.
-ghost use Rattle.std.specs.Prelude.{◌≡◌, ◌⊎◌, ◌==◌, ℕ, ◌-◌, ◌<◌, ◌^◌, true, false, ◌++◌, length, take, slice_get, IfOk, OnOk, Some, None};
+ghost use Rattle.std.specs.Prelude.{◌≡◌, ℕ, ◌-◌, ◌<◌, ◌^◌, true, false, ◌++◌, length, take, slice_get, IfOk, OnOk, Some};
 ghost use Rattle.std.specs.Option.{option_copied};
 ghost use Rattle.replication.specs.Copies.{gap_between, latest};
 ghost use Rattle.replication.specs.Names.{named_moment, named_beats};
 ghost use Rattle.replication.specs.Points.{points_of};
 ghost use Rattle.replication.specs.Sound.{Sound, IsEndOf};
+ghost use Rattle.replication.specs.Verdict.{is_stored, verdict_by};
 ghost use Rattle.replication.specs.World.{start, floor_now, may_follow, answer_in, with_stored, with_gaps, happens};
 
 use crate::ask::Ask;
@@ -156,13 +157,12 @@ fn store(
     hold(&mut world.held, &mut world.last, beats)
 }
 
-/// Whether the parent stores a message of its child.
+/// Whether the parent stores a message.
 fn stores(parent: &mut Parent, message: &Data) -> bool
-    requires child { (parent.old.child ≡ None) ⊎ (parent.old.child ≡ Some 1) }
-    requires sender { message.now.child ≡ 1 }
-    ensures stored { result ≡ (message.now.prev == parent.old.last) }
+    ensures stored { result ≡ is_stored
+        (verdict_by parent.old.child parent.old.last message.now.child message.now.prev) }
     ensures taken { result ≡ true
-        → parent.new ≡ record { child = Some 1; last = message.now.upto } }
+        → parent.new ≡ record { child = Some message.now.child; last = message.now.upto } }
     ensures left { result ≡ false → parent.new ≡ parent.old }
 {
     match parent.take(message) {

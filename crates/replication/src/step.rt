@@ -26,6 +26,7 @@ pub enum Step {
         moment: u32,
         /// The floor in seconds: the child has nothing below it then.
         floor: u32,
+        /// The points of the beat.
         points: NamedPointList,
         /// Whether the beat is kept: a stop loses it where this is false.
         kept: bool,
@@ -34,10 +35,12 @@ pub enum Step {
     Ask,
     /// The child answers the ask at this place, from 0, among all that were ever sent.
     Answer {
+        /// The place of the ask, from 0.
         ask: u64,
     },
     /// The message at this place, from 0, among all that were ever sent, comes to the parent.
     Deliver {
+        /// The place of the message, from 0.
         message: u64,
         /// None where nothing stops. Else the number of stored things, the gap first and then the beats,
         /// that outlive a stop.
@@ -58,6 +61,8 @@ pub struct World {
     pub gaps: GapList,
     /// The parent's last moment in seconds, where a gap counts with its end; 0 for none.
     pub last: u32,
+    /// All asks that the parent ever sent.
     pub asks: AskList,
+    /// All messages that the child ever sent.
     pub messages: DataList,
 }

@@ -3,8 +3,8 @@
 pub enum Verdict {
     /// It begins where the parent ends, and is stored.
     Stored,
-    /// It begins below the parent's last moment: what it begins with is there already, and the rest is asked
-    /// for again.
+    /// It begins below the parent's last moment, up to which the parent has beats or gaps already. The parent
+    /// asks from there, whatever the message has.
     Old,
     /// It begins above the parent's last moment: one before it has not come.
     Ahead,

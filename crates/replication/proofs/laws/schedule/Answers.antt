@@ -28,3 +28,6 @@ returns-clause-copy c = let sound = subst Sound (sym c.loop-step.invariant.runs)
 
 pub returns-clause-told : goal.returns-clause-told
 returns-clause-told c = let sound = subst Sound (sym c.loop-step.invariant.runs) (run-sound (take c.loop-step.step-index c.args.steps.now)) in sound.told
+
+pub returns-clause-begun : goal.returns-clause-begun
+returns-clause-begun c = let sound = subst Sound (sym c.loop-step.invariant.runs) (run-sound (take c.loop-step.step-index c.args.steps.now)) in sound.begun

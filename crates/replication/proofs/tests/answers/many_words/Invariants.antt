@@ -1,6 +1,6 @@
 use Rattle.std.proofs.Common.{◌<◌, length}
 use Rattle.replication.specs.Answer.{AreOfSeries}
-use Rattle.replication.proofs.tests.many_words.Given as goal
+use Rattle.replication.proofs.tests.answers.many_words.Given as goal
 
 abbrev pub invariant-loop : goal.invariant-loop
 invariant-loop l = record {

@@ -1,6 +1,6 @@
 use Rattle.std.proofs.Common.{◌≡◌, ◌≤◌, take}
 use Rattle.replication.specs.World.{points_in}
-use Rattle.replication.proofs.tests.are_few.Given as goal
+use Rattle.replication.proofs.tests.schedules.are_few.Given as goal
 
 abbrev pub invariant-loop-step : goal.invariant-loop-step
 invariant-loop-step l = record {
