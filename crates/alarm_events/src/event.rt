@@ -106,7 +106,7 @@ fn push_end(alloc: Global, line: &mut String, event: &Event) -> Result<(), Alarm
     Ok(writeln!(line, "{} {}", value.as_str(), due.as_str())?)
 }
 
-/// The line that an event is told by, with its line feed.
+/// The line that an event is told by, with its line feed. `Memory` where none is left.
 pub fn write_event(alloc: Global, event: &Event) -> Result<Text, AlarmFault>
     ensures { IfOk result (λ text. text ≡ spec.event_line event.now) }
 {

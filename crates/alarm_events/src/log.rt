@@ -53,7 +53,7 @@ impl EventLog {
     ghost use Rattle.std.specs.Prelude.{◌+◌, length};
     ghost use Rattle.alarm_events.specs.Log.{shown, noted, counted, next_id};
 
-    /// The log of no event. It has room for all that it will show.
+    /// The log of no event. It has room for all that it will show. `Memory` where none is left.
     pub fn new(alloc: Global) -> Result<EventLog, AlarmFault>
         ensures { IfOk result (λ log. log ≡ shown []) }
     {
@@ -87,7 +87,7 @@ impl EventLog {
         }
     }
 
-    /// A copy of what the log shows.
+    /// A copy of what the log shows. `Memory` where none is left.
     pub fn log(&self) -> Result<Log, AlarmFault>
         ensures dropped { IfOk result (λ log. log.dropped ≡ self.now.dropped) }
         ensures events { IfOk result (λ log. log.events ≡ self.now.events) }

@@ -14,12 +14,14 @@ pub enum Status {
     Uninitialized,
     /// All is well.
     Clear,
+    /// Its `warn` holds, and its `crit` does not or is not there.
     Warning,
+    /// Its `crit` holds.
     Critical,
 }
 
 impl Status {
-    /// The number that it is kept by: that of its variable in expressions, and 2.
+    /// The number that it is kept by: the value of its variable in expressions plus 2, which is 0 to 6 without 4.
     pub fn number(self) -> u8
         ensures { result ≡ spec.number self }
     {
