@@ -17,9 +17,9 @@ pub fn every_entry()
         → entry_bytes a ≡ entry_bytes b → a ≡ b }
 {}
 
-/// The law of the length of the entry of a numbered beat that keeps to the limits of a registry:
-/// 1,230 bytes at most for each chart, 422 for each dimension, 8 for each row, 13 for each value, and
-/// 17 more. It does nothing.
+/// The law of the length of the entry of a numbered beat that keeps to the limits of a registry. Each
+/// chart has 1,230 bytes at most, each dimension 422, each row 8 and each value 13; 17 are for the rest.
+/// It does nothing.
 pub fn any_length()
     ensures { (beat : NumberedBeat) → IsWithinLimits beat
         → length (entry_bytes (entry.Collected beat)) ≤ 33579025 }

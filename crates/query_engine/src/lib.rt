@@ -8,8 +8,9 @@
 //! Tier 0 has the points, each other tier a record for each bucket of its width. A tier may be read where
 //! its width divides the windows and where they start; of these the one with the lowest floor is read, on
 //! a tie the one with the highest number. Proved is that the table is the definition's, which filters the
-//! whole list of a series' points and knows no record, whatever tier was read; so two tiers that may be
-//! read give equal cells. An average and a rate are rounded once.
+//! whole list of a series' points and knows no record, whatever tier was read. So two tiers that may be
+//! read give equal cells where both floors are at most where the window starts. An average and a rate are
+//! rounded once.
 //!
 //! The points come from any object that is `Points`: it says what it stands for, or keeps silent, and
 //! counts its failures. `ListPoints` is the plain one in memory. No sum and no count comes near its limit
