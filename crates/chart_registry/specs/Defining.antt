@@ -1,4 +1,4 @@
-use Rattle.std.specs.Prelude.{◌≡◌, ℕ, ◌==◌, ◌<◌, Bool, true, not, ◌&&◌, ◌||◌, ◌⊎◌, List, [], length, count_by, Option, Some, None, slice_get}
+use Rattle.std.specs.Prelude.{◌≡◌, ℕ, ◌==◌, ◌<◌, Bool, true, not, ◌&&◌, ◌||◌, ◌⊎◌, List, [], length, take, count_by, Option, Some, None, slice_get}
 use Rattle.std.specs.List.{list_any}
 use Rattle.std.specs.Option.{option_map_or}
 use Rattle.history.specs.declared.beat.OpenBeat.{OpenBeat}
@@ -49,3 +49,9 @@ IsReasonOf registry beat Memory = Unit {0}
 -- a beat of these definitions alone
 abbrev pub defines : List ChartDef → List OpenDim → OpenBeat
 defines charts dimensions = record { charts = charts; dimensions = dimensions; rows = [] }
+
+-- of the definitions of a beat these were taken: a front of its charts, and of its dimensions
+pub record TakesFront (before after : Registry) (beat : OpenBeat) : Type 0 where
+  pub charts : ℕ
+  pub dimensions : ℕ
+  pub after_is : after ≡ with_definitions before (take charts beat.charts) (take dimensions beat.dimensions)

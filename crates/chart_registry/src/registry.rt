@@ -1,10 +1,10 @@
-ghost use Rattle.std.specs.Prelude.{◌≡◌, ℕ, ◌<◌, ◌≤◌, [], ◌∷◌, length, count_by, find, slice_get, Option, Some, None, true, false, All, is_some, IfOk, IfErr, IfSome, IfNone, OnOk, OnErr, MatchResult};
+ghost use Rattle.std.specs.Prelude.{◌≡◌, ℕ, ◌<◌, ◌≤◌, [], ◌∷◌, length, count_by, find, slice_get, take, Option, Some, None, true, false, All, is_some, IfOk, IfErr, IfSome, IfNone, OnOk, OnErr, MatchResult};
 ghost use Rattle.std.specs.List.{list_any};
 ghost use Rattle.std.specs.Option.{option_and_then, option_map};
 ghost use Rattle.history.specs.Registry.{empty, is_chart, is_of, is_dimension, chart_of, series_of, with_definitions};
 ghost use Rattle.history.specs.Refusal.{has_chart, chart_refusal, dimension_refusal, dimensions_full};
 ghost use Rattle.chart_registry.specs.Accepted.{IsWithin};
-ghost use Rattle.chart_registry.specs.Defining.{nothing_open, chart_id, defines, IsReasonOf, RefusedBy};
+ghost use Rattle.chart_registry.specs.Defining.{nothing_open, chart_id, defines, IsReasonOf, RefusedBy, TakesFront};
 
 use crate::charts::{self, Chart};
 use crate::dimensions::{self, Dimension};
@@ -194,8 +194,8 @@ impl Registry {
     }
 
     /// Takes the definitions of a beat, the charts first, each list in its order. Each error but Memory is the
-    /// reason of one of the definitions. After an `Err` it may have taken a part of them. Whatever it answers,
-    /// the registry had no more charts and dimensions than there may be.
+    /// reason of one of the definitions. After an `Err` it has taken those of a front of the charts, and of the
+    /// dimensions. Whatever it answers, the registry had no more charts and dimensions than there may be.
     pub fn apply(&mut self, beat: &OpenBeat) -> Result<(), RegistryFault>
         requires grids { All (λ def. 0 < def.update_every) beat.now.charts }
         requires owned { All
@@ -203,6 +203,7 @@ impl Registry {
         ensures ok { OnOk result
             (self.new ≡ with_definitions self.old beat.now.charts beat.now.dimensions) }
         ensures refused { IfErr result (IsReasonOf self.old beat.now) }
+        ensures err { OnErr result (TakesFront self.old self.new beat.now) }
         ensures few { IsWithin self.old }
     {
         // To have read the fields tells the prover how much they hold at most.
@@ -215,6 +216,8 @@ impl Registry {
         requires { All (λ def. 0 < def.update_every) charts.now }
         ensures ok { OnOk result (self.new ≡ with_definitions self.old charts.now []) }
         ensures refused { IfErr result (IsReasonOf self.old (defines charts.now [])) }
+        ensures err { OnErr result ((n : ℕ)
+            × (self.new ≡ with_definitions self.old (take n charts.now) [])) }
     {
         for def in charts {
             self.define_chart(def)?;
@@ -227,6 +230,8 @@ impl Registry {
             ≡ true) dimensions.now }
         ensures ok { OnOk result (self.new ≡ with_definitions self.old [] dimensions.now) }
         ensures refused { IfErr result (IsReasonOf self.old (defines [] dimensions.now)) }
+        ensures err { OnErr result ((n : ℕ)
+            × (self.new ≡ with_definitions self.old [] (take n dimensions.now))) }
     {
         for dimension in dimensions {
             self.define_owned(dimension)?;
@@ -240,6 +245,7 @@ impl Registry {
         ensures ok { OnOk result (self.new ≡ with_definitions self.old [] (dimension.now ∷ [])) }
         ensures refused { IfErr result (RefusedBy
             (dimension_refusal self.old nothing_open dimension.now.chart dimension.now.def)) }
+        ensures err { OnErr result (self.new ≡ self.old) }
     {
         if let Some(chart) = self.chart_of(dimension.chart.as_str()) {
             self.define_dimension(chart, &dimension.def)?;

@@ -6,7 +6,7 @@ use Rattle.history.specs.declared.chart.ChartDef.{ChartDef}
 use Rattle.history.specs.Registry.{Registry as Definitions, is_chart, with_definitions}
 use Rattle.chart_registry.specs.Defining.{defines, IsReasonOf}
 use Rattle.chart_registry.proofs.Applying.{has_chart-applied}
-use Rattle.chart_registry.proofs.ReasonLemmas.{charts-wider, dimensions-wider}
+use Rattle.chart_registry.proofs.ReasonLemmas.{charts-wider, dimensions-wider, front-taken}
 use Rattle.chart_registry.proofs.RegistryLemmas.{kept-within}
 use Rattle.chart_registry.proofs.registry.Registry.apply.Goals as goal
 
@@ -44,3 +44,10 @@ returns-in_err-define_charts-clause-few c = kept-within c.self.inside c.args.sel
 
 pub returns-clause-few : goal.returns-clause-few
 returns-clause-few c = kept-within c.self.inside c.args.self.now c.self.view_is c.self.invariant
+
+pub returns-clause-err : goal.returns-clause-err
+returns-clause-err c =
+    let made : c.define_charts.new.self ≡ with_definitions c.args.self.now c.args.beat.now.charts [] =
+    c.in_ok-define_charts.ensures.ok ∙ ap (λ (charts : List ChartDef). with_definitions c.args.self.now charts []) c.as_slice.ensures in
+    front-taken c.args.self.now c.define_charts.new.self c.define_dimensions.new.self c.args.beat.now c.as_slice-2.result.now c.define_dimensions.result made c.as_slice-2.ensures
+    c.define_dimensions.ensures.err
