@@ -24,14 +24,13 @@ use Rattle.history.specs.Registry.{Registry, same_chart, same_dimension}
 use Rattle.chart_registry.proofs.OpenLemmas.{charts-apart, dimensions-apart}
 use Rattle.chart_registry.proofs.RowsLemmas.{same_text, bytes_eq_same}
 use Rattle.history.specs.Regular.{AreApart, same_row}
-use Rattle.chart_registry.proofs.ApartLemmas.{apart-filter, apart-push}
+use Rattle.chart_registry.proofs.ApartLemmas.{apart-filter, apart-push, apart-put}
 use Rattle.collect_block.specs.declared.feed.Feed.{Feed}
 use Rattle.collect_block.specs.declared.step.Step.{Step}
 use Rattle.collect_block.specs.Feed.{step_of, Becomes, CountsAt, IsFeedOf}
 use Rattle.agent_core.specs.Fed.{OpenEachFirst, OpensFirst, IsFed}
 use Rattle.agent_core.specs.Rules.{IsOpenBeat}
 use Rattle.agent_core.specs.Steps.{IsOpenStep}
-use Rattle.beat_entries.proofs.PutLemmas.{apart-put}
 use Rattle.chart_registry.proofs.AcceptedLemmas.{passed, same_row-left}
 use Rattle.chart_registry.proofs.Applying.{all-put}
 use Rattle.collect_block.proofs.OpenLemmas.{grids}
@@ -82,7 +81,8 @@ dimensions-limits (line ∷ past) limits = dimensions-limits past limits.1
 
 -- ---- its rows
 set-apart : (vs : List OpenValue) (id : List ℕ) (value : Option ℤ) (anomalous : Bool) → AreApart same_value vs → AreApart same_value (set_value vs id value anomalous)
-set-apart vs id (Some value) anomalous apart = apart-put same_value (λ x. bytes_eq_same x.id x.id refl) (λ x y z e. ap (λ (id : List ℕ). is_value id z) (same_text x.id y.id e)) vs (record { id = id; value = value; anomalous = anomalous }) apart
+set-apart vs id (Some value) anomalous apart = apart-put same_value (λ x. bytes_eq_same x.id x.id refl) (λ x y e. ap is_value (same_text x.id y.id e)) (λ z x y e. ap (bytes_eq z.id) (same_text x.id y.id e))
+    vs (record { id = id; value = value; anomalous = anomalous }) apart
 set-apart vs id None anomalous apart = apart-filter same_value (λ (value : OpenValue). not (is_value id value)) vs apart
 
 values-apart : (past : List Line) → AreApart same_value (values past)
