@@ -1,24 +1,20 @@
 -- The charts of a registry that takes an entry keep to an update_every that charts may have.
-use Rattle.std.proofs.Common.{◌≡◌, true, ◌&&◌, nat_lt, List, [], ◌∷◌, length, map, Option, Some, None, is_none, refl, sym, subst, arith, true≢false}
+use Rattle.std.proofs.Common.{◌≡◌, true, ◌&&◌, nat_lt, List, [], ◌∷◌, map, is_none, sym, subst}
 use Rattle.std.specs.List.{list_all, AllByRecursion}
 use Rattle.std.proofs.lemmas.Bool.{and_parts, ltb-true}
 use Rattle.history.specs.declared.numbered.NumberedBeat.{NumberedBeat}
 use Rattle.history.specs.declared.numbered.NumberedChart.{NumberedChart}
-use Rattle.history.specs.declared.numbered.NumberedDimension.{NumberedDimension}
-use Rattle.history.specs.Limits.{chart_keeps_limits, dimension_keeps_limits}
-use Rattle.history.specs.Refusal.{chart_refusal, dimension_refusal}
-use Rattle.history.specs.Registry.{Registry, chart_of, series_of}
-use Rattle.chart_registry.specs.Defining.{chart_id, nothing_open}
+use Rattle.history.specs.Limits.{chart_keeps_limits}
+use Rattle.history.specs.Refusal.{chart_refusal}
+use Rattle.history.specs.Registry.{Registry, chart_of}
+use Rattle.chart_registry.specs.Defining.{nothing_open}
 use Rattle.entry_codec.specs.declared.entry.Entry.{Entry}
 use Rattle.entry_codec.specs.declared.entry.Entry.TheVariants as entry
 use Rattle.beat_entries.specs.Copied.{copied_goes_on, defined_by, names_word}
-use Rattle.beat_entries.specs.Next.{all_taken, chart_def, dimension_back, goes_on, is_number, takes_chart, takes_dimension, takes_row, with_chart, with_charts, with_dimension, with_dimensions, with_numbered}
+use Rattle.beat_entries.specs.Next.{all_taken, chart_def, dimension_back, goes_on, is_number, takes_chart, takes_dimension, takes_row, with_chart, with_charts, with_dimension, with_numbered}
 use Rattle.agent_core.specs.declared.left.Left.{Left}
 use Rattle.agent_core.specs.Notes.{entry_goes_on, with_entry}
 use Rattle.agent_core.specs.Roles.{may_collect, may_copy}
-use Rattle.chart_registry.specs.Accepted.{HasFew}
-use Rattle.chart_registry.proofs.FewLemmas.{few-closed, HaveFew}
-use Rattle.chart_registry.proofs.AcceptedLemmas.{few-taken}
 use Rattle.agent_core.specs.Rules.{HasGrids}
 use Rattle.agent_core.proofs.FormLemmas.{grid-kept, grids-with, IsGrid}
 
@@ -56,46 +52,3 @@ entry-grids left left' found made goes grids = subst (λ (l : Left). HasGrids l.
         (and_parts (goes_on left.registry (defined_by found)) (list_all (names_word (with_numbered left.registry (defined_by found))) found.words) copied).0 grids
     by (entry.Health text) goes = grids
     by (entry.Gap gap) goes = grids
-
--- ---- and no chart comes to have more dimensions than a chart may have
-none-is : {A : Type 0} (found : Option A) → is_none found ≡ true → found ≡ None
-none-is None e = refl
-none-is (Some x) e = absurd (true≢false (sym e))
-
-taken-one : (registry : Registry) (dimension : NumberedDimension) → takes_dimension registry dimension ≡ true → HasFew registry → HasFew (with_dimension registry dimension)
-taken-one registry dimension takes few chart =
-    let there = nat_lt dimension.chart (length registry.charts) in
-    let keeps = dimension_keeps_limits dimension.def in
-    let free = is_none (dimension_refusal registry nothing_open (chart_id registry dimension.chart) dimension.def) in
-    let number = is_number dimension.series (series_of (with_dimension registry dimension) (chart_id registry dimension.chart) dimension.def.id) in
-    let refused = none-is (dimension_refusal registry nothing_open (chart_id registry dimension.chart) dimension.def)
-    (and_parts (there && keeps) free (and_parts (there && keeps && free) number takes).0).1 in
-    let more : HaveFew registry (dimension_back registry dimension ∷ [])
-    = few-taken registry nothing_open (λ chart. omega (arith, few chart)) (dimension_back registry dimension) refused in
-    omega (arith, few-closed registry (dimension_back registry dimension ∷ []) chart, more chart)
-
-taken-few : (registry : Registry) (dimensions : List NumberedDimension) → all_taken takes_dimension with_dimension registry dimensions ≡ true → HasFew registry → HasFew (with_dimensions registry dimensions)
-taken-few registry [] taken few = few
-taken-few registry (dimension ∷ dimensions) taken few =
-    let parts = and_parts (takes_dimension registry dimension) (all_taken takes_dimension with_dimension (with_dimension registry dimension) dimensions) taken in
-    taken-few (with_dimension registry dimension) dimensions parts.1 (taken-one registry dimension parts.0 few)
-
-numbered-few : (registry : Registry) (beat : NumberedBeat) → goes_on registry beat ≡ true → HasFew registry → HasFew (with_numbered registry beat)
-numbered-few registry beat goes few =
-    let definitions = (and_parts (all_taken takes_chart with_chart registry beat.charts)
-    (all_taken takes_dimension with_dimension (with_charts registry beat.charts) beat.dimensions && list_all (takes_row (with_numbered registry beat)) beat.rows) goes).1 in
-    let taken = (and_parts (all_taken takes_dimension with_dimension (with_charts registry beat.charts) beat.dimensions) (list_all (takes_row (with_numbered registry beat)) beat.rows) definitions).0 in
-    taken-few (with_charts registry beat.charts) beat.dimensions taken few
-
-pub entry-few : (left left' : Left) (found : Entry) → left' ≡ with_entry left found → entry_goes_on left found ≡ true → HasFew left.registry → HasFew left'.registry
-entry-few left left' found made goes few = subst (λ (l : Left). HasFew l.registry) (sym made) (by found goes)
-  where
-    by : (found : Entry) → entry_goes_on left found ≡ true → HasFew (with_entry left found).registry
-    by (entry.Settings set) goes = few
-    by (entry.Collected found) goes = numbered-few left.registry found (and_parts (may_collect left.role) (goes_on left.registry found) goes).1 few
-    by (entry.Copied found) goes =
-        let copied = (and_parts (may_copy left.role) (copied_goes_on left.registry found) goes).1 in
-        numbered-few left.registry (defined_by found)
-        (and_parts (goes_on left.registry (defined_by found)) (list_all (names_word (with_numbered left.registry (defined_by found))) found.words) copied).0 few
-    by (entry.Health text) goes = few
-    by (entry.Gap gap) goes = few

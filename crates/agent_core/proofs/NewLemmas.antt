@@ -1,5 +1,5 @@
 -- An agent that was just made.
-use Rattle.std.proofs.Common.{◌≡◌, ℕ, inl, inr, false, List, [], Option, None, refl, arith, sym, subst}
+use Rattle.std.proofs.Common.{◌≡◌, ℕ, inl, inr, false, List, [], Option, None, refl, sym, subst}
 use Rattle.std.proofs.lemmas.List.Elements.{All-from_recursion}
 use Rattle.host_model.specs.declared.file.File.{File}
 use Rattle.host_model.specs.Past.{Event}
@@ -15,7 +15,6 @@ use Rattle.store_core.specs.Stands.{StandsIfMade}
 use Rattle.store_core.specs.Store.{IsNew, IsReady, IsStoreOf, StoreState}
 use Rattle.agent_core.specs.Agent.{AgentState, Fits, IsAgentOf}
 use Rattle.agent_core.specs.Kept.{StandsForNew}
-use Rattle.chart_registry.specs.Accepted.{HasFew}
 use Rattle.agent_core.specs.Rules.{HasGrids}
 
 pub new_climbs : (set : Settings) (old new : List Event) → Throughout (EveryDisk (StandsIfMade set)) old new → Throughout (EveryDisk (StandsForNew set)) old new
@@ -51,5 +50,4 @@ module _ (store : StoreState) (registry : Registry) (lasts : List (Option Last))
     charts = subst (λ (r : Registry). AreApart same_chart r.charts) (sym is_empty) tt;
     dimensions = subst (λ (r : Registry). AreApart same_dimension r.dimensions) (sym is_empty) tt;
     grids = subst HasGrids (sym is_empty) none-gridded;
-    each = subst HasFew (sym is_empty) (λ chart. omega arith);
   }

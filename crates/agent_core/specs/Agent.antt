@@ -14,7 +14,6 @@ use Rattle.store_core.specs.Store.{counted, IsReady, IsReplayed, IsStoreOf, Stor
 use Rattle.agent_core.specs.Kept.{AreBeatsOf, StandsForHistory}
 use Rattle.agent_core.specs.Notes.{left_of}
 use Rattle.agent_core.specs.Roles.{may_collect}
-use Rattle.chart_registry.specs.Accepted.{HasFew}
 use Rattle.agent_core.specs.Rules.{HasGrids}
 
 pub record AgentState : Type 0 where
@@ -61,7 +60,6 @@ pub record Fits (honest : Type 0) (past : List Event) (agent : AgentState) : Typ
   pub charts : AreApart same_chart agent.registry.charts
   pub dimensions : AreApart same_dimension agent.registry.dimensions
   pub grids : HasGrids agent.registry
-  pub each : HasFew agent.registry
 
 -- what a call of an agent requires of its host: it holds of an agent that was made or opened
 abbrev pub AgentIsReady : Type 0 → List Event → AgentState → Type 0

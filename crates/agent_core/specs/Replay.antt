@@ -19,7 +19,6 @@ use Rattle.agent_core.specs.declared.left.Left.{Left}
 use Rattle.agent_core.specs.Agent.{AgentState}
 use Rattle.agent_core.specs.Kept.{AreBeatsOf, IsBeatOf}
 use Rattle.agent_core.specs.Notes.{beats_go_on, left_by, left_of}
-use Rattle.chart_registry.specs.Accepted.{HasFew}
 use Rattle.agent_core.specs.Rules.{HasGrids}
 
 -- ---- the parts that an entry leaves
@@ -98,4 +97,3 @@ pub record HasReplayed (store : StoreState) (agent : AgentState) : Type 0 where
   pub charts : AreApart same_chart agent.registry.charts
   pub dimensions : AreApart same_dimension agent.registry.dimensions
   pub grids : HasGrids agent.registry
-  pub each : HasFew agent.registry

@@ -25,7 +25,6 @@ ghost use Rattle.agent_core.specs.Faults.{IsSpending};
 ghost use Rattle.agent_core.specs.Kept.{kept_of, Follows, StandsForHistory};
 ghost use Rattle.agent_core.specs.Replay.{HasRoom, HasTakenRows};
 ghost use Rattle.chart_registry.specs.declared.fault.RegistryFault.TheVariants as registry_fault;
-ghost use Rattle.chart_registry.specs.Accepted.{HasFew};
 ghost use Rattle.agent_core.specs.Rules.{changes_grid, lacks_chart, lacks_dimension, too_many_charts, too_many_dimensions, HasGrids, IsOpenBeat};
 
 use crate::fault::{AgentFault, store_fault};
@@ -145,7 +144,6 @@ fn keep(
     requires few_charts { too_many_charts registry.old beat.now ≡ false }
     requires kept_grids { changes_grid registry.old beat.now ≡ false }
     requires grids { HasGrids registry.old }
-    requires each { HasFew registry.old }
     requires later { 0 < moment }
     ensures applied { OnOk result
         (registry.new ≡ with_definitions registry.old beat.now.charts beat.now.dimensions) }
@@ -162,7 +160,6 @@ fn keep(
     ensures size { IfOk result (λ kept. length (beat_bytes kept.beat) ≤ 2 ^ 26) }
     ensures regular { OnOk result (IsRegular registry.new beat.now) }
     ensures grids { OnOk result (HasGrids registry.new) }
-    ensures each { OnOk result (HasFew registry.new) }
 {
     match registry.apply(beat) {
         Ok(()) => kept_of(alloc, registry, last_rows, beat, moment),
@@ -244,7 +241,6 @@ pub(crate) fn add<H: Host>(
     requires few_charts { too_many_charts registry.old beat.now ≡ false }
     requires kept_grids { changes_grid registry.old beat.now ≡ false }
     requires grids { HasGrids registry.old }
-    requires each { HasFew registry.old }
     requires later { store.old.last < moment }
     ensures any_moment { H.honest → (set : ASettings) (h : List HistoryBeat)
         → Holds (H.seen host.old).past store.old registry.old last_rows.old set h
@@ -265,7 +261,6 @@ pub(crate) fn add<H: Host>(
     ensures charts { OnOk result (AreApart same_chart registry.new.charts) }
     ensures dimensions { OnOk result (AreApart same_dimension registry.new.dimensions) }
     ensures grids { OnOk result (HasGrids registry.new) }
-    ensures each { OnOk result (HasFew registry.new) }
     ensures settings { store.new.settings ≡ store.old.settings }
     ensures faults { IfErr result IsSpending }
     ensures only_here { H.honest → OnlyOn JournalA (H.seen host.old).past (H.seen host.new).past }

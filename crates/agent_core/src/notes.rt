@@ -13,7 +13,6 @@ ghost use Rattle.agent_core.specs.Kept.{AreBeatsOf, IsBeatOf};
 ghost use Rattle.agent_core.specs.Notes.{entry_goes_on, entry_in, moment_of, names_series, takes_note, with_entry, with_note};
 ghost use Rattle.agent_core.specs.Roles.{may_copy};
 ghost use Rattle.agent_core.specs.Replay.{ArePartsOf, HasRows};
-ghost use Rattle.chart_registry.specs.Accepted.{HasFew};
 ghost use Rattle.agent_core.specs.Rules.{HasGrids};
 
 use crate::fault::AgentFault;
@@ -224,7 +223,6 @@ pub(crate) fn replay_beat(
     requires charts { AreApart same_chart left.old.registry.charts }
     requires dimensions { AreApart same_dimension left.old.registry.dimensions }
     requires grids { HasGrids left.old.registry }
-    requires each { HasFew left.old.registry }
     ensures taken { OnOk result
         ((g : List HistoryBeat) (beats : List StoreBeat) (beat : HistoryBeat) → AreBeatsOf g beats
         → IsBeatOf g beat kept.now
@@ -245,7 +243,6 @@ pub(crate) fn replay_beat(
     ensures charts { OnOk result (AreApart same_chart left.new.registry.charts) }
     ensures dimensions { OnOk result (AreApart same_dimension left.new.registry.dimensions) }
     ensures grids { OnOk result (HasGrids left.new.registry) }
-    ensures each { OnOk result (HasFew left.new.registry) }
     ensures faults { IfErr result
         (λ fault. (fault ≡ AgentFault.Memory) ⊎ (fault ≡ AgentFault.Damaged 5)) }
 {

@@ -17,7 +17,6 @@ ghost use Rattle.store_core.specs.Store.{IsReady, IsReplayed, IsStoreAt, OpensAt
 ghost use Rattle.agent_core.specs.Faults.{IsOpening};
 ghost use Rattle.agent_core.specs.Notes.{beats_go_on};
 ghost use Rattle.agent_core.specs.Replay.{HasTaken, IsReplaying};
-ghost use Rattle.chart_registry.specs.Accepted.{HasFew};
 ghost use Rattle.agent_core.specs.Rules.{HasGrids};
 
 use crate::fault::{AgentFault, store_fault};
@@ -98,7 +97,6 @@ fn replay_next(
     requires charts { AreApart same_chart left.old.registry.charts }
     requires dimensions { AreApart same_dimension left.old.registry.dimensions }
     requires grids { HasGrids left.old.registry }
-    requires each { HasFew left.old.registry }
     ensures replaying { OnOk result
         ((past : List Event) (set : ASettings) (h : List HistoryBeat)
         → IsReplaying past store.old left.old last_rows.old set h
@@ -128,7 +126,6 @@ fn replay_next(
     ensures charts { OnOk result (AreApart same_chart left.new.registry.charts) }
     ensures dimensions { OnOk result (AreApart same_dimension left.new.registry.dimensions) }
     ensures grids { OnOk result (HasGrids left.new.registry) }
-    ensures each { OnOk result (HasFew left.new.registry) }
     ensures faults { IfErr result
         (λ fault. (fault ≡ AgentFault.Memory) ⊎ (fault ≡ AgentFault.Damaged 5)) }
 {
@@ -152,7 +149,6 @@ pub(crate) fn replay_all(
     requires charts { AreApart same_chart left.old.registry.charts }
     requires dimensions { AreApart same_dimension left.old.registry.dimensions }
     requires grids { HasGrids left.old.registry }
-    requires each { HasFew left.old.registry }
     ensures replaying { OnOk result
         ((past : List Event) (set : ASettings) (h : List HistoryBeat)
         → IsReplaying past store.old left.old last_rows.old set h
@@ -180,7 +176,6 @@ pub(crate) fn replay_all(
     ensures charts { OnOk result (AreApart same_chart left.new.registry.charts) }
     ensures dimensions { OnOk result (AreApart same_dimension left.new.registry.dimensions) }
     ensures grids { OnOk result (HasGrids left.new.registry) }
-    ensures each { OnOk result (HasFew left.new.registry) }
     ensures faults { IfErr result
         (λ fault. (fault ≡ AgentFault.Memory) ⊎ (fault ≡ AgentFault.Damaged 5)) }
 {

@@ -3,7 +3,6 @@ use Rattle.host_model.specs.Moments.{begins}
 use Rattle.history.specs.Registry.{Registry, same_chart, same_dimension}
 use Rattle.history.specs.Regular.{AreApart}
 use Rattle.store_core.specs.Records.{last_after}
-use Rattle.chart_registry.specs.Accepted.{HasFew}
 use Rattle.agent_core.specs.Rules.{HasGrids}
 use Rattle.agent_core.proofs.DefinedLemmas.{charts-apart, dimensions-apart}
 use Rattle.agent_core.proofs.KeptLemmas.{climbs, holds-more, kept-after, next-after, rows-taken, spelt-after, stays}
@@ -71,6 +70,3 @@ returns-clause-dimensions g c =
 
 pub returns-clause-grids : goal.returns-clause-grids
 returns-clause-grids g c = always (HasGrids c.keep.new.registry) c.take_rows.result c.in-Ok.ensures.grids
-
-pub returns-clause-each : goal.returns-clause-each
-returns-clause-each g c = always (HasFew c.keep.new.registry) c.take_rows.result c.in-Ok.ensures.each

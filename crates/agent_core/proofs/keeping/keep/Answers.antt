@@ -5,12 +5,11 @@ use Rattle.history.specs.Regular.{IsRegular}
 use Rattle.entry_codec.specs.Entries.{IsWithinLimits}
 use Rattle.beat_entries.specs.Defined.{IsDefinedIn}
 use Rattle.beat_entries.proofs.LimitLemmas.{within-limits}
-use Rattle.chart_registry.specs.Accepted.{HasFew}
 use Rattle.agent_core.specs.Rules.{HasGrids}
 use Rattle.agent_core.proofs.DefinedLemmas.{defined-after, regular-after}
 use Rattle.agent_core.proofs.FormLemmas.{grids-after}
 use Rattle.agent_core.proofs.Outcomes.{always}
-use Rattle.agent_core.proofs.Within.{few-after, few-charts, few-dimensions, tested-memory}
+use Rattle.agent_core.proofs.Within.{few-charts, few-dimensions, tested-memory}
 use Rattle.agent_core.proofs.keeping.keep.Goals as goal
 
 pub kept_of-requires-clause-regular : goal.kept_of-requires-clause-regular
@@ -51,9 +50,4 @@ returns-in-Ok-clause-grids c =
 
 pub untaken-requires : goal.untaken-requires
 untaken-requires c =
-    tested-memory c.args.registry.now c.args.beat.now c.requires.charts c.requires.is_open.apart_charts c.requires.each c.requires.kept_grids c.requires.few_charts c.requires.few c.in-Err.fault c.in-Err.ensures.refused
-
-pub returns-in-Ok-clause-each : goal.returns-in-Ok-clause-each
-returns-in-Ok-clause-each c =
-    always (HasFew c.apply.new.self) c.kept_of.result
-    (subst HasFew (sym c.in-Ok.ensures.ok) (few-after c.args.registry.now c.args.beat.now c.requires.each c.requires.few))
+    tested-memory c.args.registry.now c.args.beat.now c.requires.charts c.requires.is_open.apart_charts c.in-Err.ensures.few.each c.requires.kept_grids c.requires.few_charts c.requires.few c.in-Err.fault c.in-Err.ensures.refused

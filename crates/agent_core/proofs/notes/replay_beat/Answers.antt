@@ -1,7 +1,7 @@
 use Rattle.std.proofs.Common.{◌≡◌, false, sym, ap, ◌∙◌}
 use Rattle.std.proofs.lemmas.Result.{err_from_is_err_and}
 use Rattle.agent_core.specs.Notes.{names_series}
-use Rattle.agent_core.proofs.GridLemmas.{entry-few, entry-grids}
+use Rattle.agent_core.proofs.GridLemmas.{entry-grids}
 use Rattle.agent_core.proofs.NoteLemmas.{no-note, note-left, note-stops, note-takes}
 use Rattle.agent_core.proofs.ReplayLemmas.{entry-once, never-broken, only-memory, parts-after}
 use Rattle.agent_core.proofs.notes.replay_beat.Goals as goal
@@ -46,7 +46,3 @@ returns-then-names_series-clause-dimensions c =
 pub returns-then-names_series-clause-grids : goal.returns-then-names_series-clause-grids
 returns-then-names_series-clause-grids c =
     entry-grids c.args.left.now c.take_entry.new.left c.in_ok-entry.entry c.in_ok-take_entry.ensures.left c.in_ok-take_entry.ensures.next c.requires.grids
-
-pub returns-then-names_series-clause-each : goal.returns-then-names_series-clause-each
-returns-then-names_series-clause-each c =
-    entry-few c.args.left.now c.take_entry.new.left c.in_ok-entry.entry c.in_ok-take_entry.ensures.left c.in_ok-take_entry.ensures.next c.requires.each

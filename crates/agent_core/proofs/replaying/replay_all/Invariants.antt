@@ -6,7 +6,6 @@ use Rattle.history.specs.Regular.{AreApart}
 use Rattle.entry_codec.specs.declared.entry.Settings.{Settings}
 use Rattle.store_core.specs.declared.beat.Beat.{Beat as StoreBeat}
 use Rattle.agent_core.specs.Replay.{HasTaken, IsReplaying}
-use Rattle.chart_registry.specs.Accepted.{HasFew}
 use Rattle.agent_core.specs.Rules.{HasGrids}
 use Rattle.agent_core.proofs.replaying.replay_all.Given as goal
 
@@ -23,5 +22,4 @@ invariant-loop l = record {
   charts : AreApart same_chart l.left.registry.charts;
   dimensions : AreApart same_dimension l.left.registry.dimensions;
   grids : HasGrids l.left.registry;
-  each : HasFew l.left.registry;
 }

@@ -1,7 +1,5 @@
-use Rattle.std.proofs.Common.{◌≡◌, None, sym, arith, subst}
+use Rattle.std.proofs.Common.{◌≡◌, None, arith}
 use Rattle.host_model.specs.Moments.{begins}
-use Rattle.chart_registry.specs.Accepted.{HasFew}
-use Rattle.agent_core.specs.Agent.{AgentState}
 use Rattle.agent_core.specs.Rules.{beat_refusal}
 use Rattle.agent_core.proofs.HistoryLemmas.{passes}
 use Rattle.agent_core.proofs.KeptLemmas.{beat_moments, nothing_done}
@@ -34,11 +32,6 @@ pub add-requires-clause-kept_grids : goal.add-requires-clause-kept_grids
 add-requires-clause-kept_grids g c =
     let free : beat_refusal c.self.inside.registry c.self.inside.copies c.self.inside.last c.args.moment c.args.beat.now ≡ None = grind arith in
     (passes c.self.inside.registry c.self.inside.copies c.self.inside.last c.args.moment c.args.beat.now free).kept_grids
-
-pub add-requires-clause-each : goal.add-requires-clause-each
-add-requires-clause-each g c =
-    let going : c.args.self.now.fault ≡ None = grind arith in
-    subst (λ (agent : AgentState). HasFew agent.registry) (sym c.self.view_is) (c.requires.ready going).each
 
 pub add-requires-clause-later : goal.add-requires-clause-later
 add-requires-clause-later g c =
