@@ -6,9 +6,10 @@ use Rattle.field_codec.specs.Reading.{ReadOf, read_as}
 use Rattle.field_codec.specs.Spelling.{u8_bytes}
 use Rattle.field_codec.specs.declared.fault.FieldFault.{FieldFault}
 use Rattle.field_codec.specs.declared.fault.FieldFault.TheVariants as fields
-use Rattle.field_codec.proofs.Combined.{done as read_done, done_is, field_from}
+use Rattle.field_codec.proofs.Combined.{done_is, field_from}
 use Rattle.field_codec.proofs.Fields.{u8_field, u32_field, u64_field, bytes_field}
 use Rattle.entry_codec.specs.Lists.{IsRefusal}
+use Rattle.entry_codec.proofs.Fields.{read_as-ok}
 use Rattle.replication.specs.declared.message.Data.{Data}
 use Rattle.replication.specs.Bytes.{data_bytes, data_fields}
 use Rattle.link_frames.specs.declared.frame.Frame.{Frame}
@@ -16,22 +17,13 @@ use Rattle.link_frames.specs.declared.frame.Frame.TheVariants as frame
 use Rattle.link_frames.specs.declared.fault.FrameFault.{FrameFault}
 use Rattle.link_frames.specs.declared.fault.FrameFault.TheVariants.{BadFrame}
 use Rattle.link_frames.specs.Fault.{frame_fault}
-use Rattle.link_frames.specs.Fields.{IsMessage}
+use Rattle.link_frames.specs.Fields.{FitsMessage}
 use Rattle.link_frames.specs.Frames.{body_bytes, body_limit, frame_bytes, HasFields, HasSpelling, IsInForm, IsNoBody}
 use Rattle.link_frames.specs.Reading.{read_body}
 use Rattle.link_frames.proofs.FieldsLaw.{ask_field, data_field}
 
--- what was read before the value was made of it
-read_as-ok : {X Y : Type 0} (f : X → Y) (read : ReadOf X) (y : Y) (rest : List ℕ) → read_as f read ≡ Ok (y, rest)
-    → (x : X) × (read ≡ Ok (x, rest)) × (f x ≡ y)
-read_as-ok {X} {Y} f (Ok found) y rest e =
-    let same = done_is (f found.0, found.1) (y, rest) e in
-    let end : found.1 ≡ rest = ap (λ (p : Y × List ℕ). p.1) same in
-    (found.0, ap (λ (r : List ℕ). read_done (found.0, r)) end, ap (λ (p : Y × List ℕ). p.0) same)
-read_as-ok f (Err fault) y rest e = absurd cc
-
 -- ---- bodies
-data_again : (message : Data) (rest : List ℕ) → IsMessage message → read_body (data_bytes message ++ rest) ≡ Ok (frame.Data message, rest)
+data_again : (message : Data) (rest : List ℕ) → FitsMessage message → read_body (data_bytes message ++ rest) ≡ Ok (frame.Data message, rest)
 unfolding read_body data_bytes u8_bytes
 data_again message rest fits = rw (data_field.reads_back message rest fits) refl
 

@@ -3,8 +3,8 @@ use Rattle.std.proofs.Common.{◌≡◌, ℕ, ◌+◌, ◌*◌, ◌≤◌, ◌<�
 use Rattle.std.specs.List.{list_all, sum_by, AllByRecursion}
 use Rattle.std.proofs.lemmas.Bool.{and_parts, leb-true, ltb-true}
 use Rattle.std.proofs.lemmas.List.Sums.{sum_by-cons}
-use Rattle.history.specs.declared.limits.TheConstants.{ID_LIMIT, UPDATE_EVERY_LIMIT}
-use Rattle.history.specs.Limits.{has_two_parts, is_chart_id, is_id, is_one_line, is_short}
+use Rattle.history.specs.Limits.{has_two_parts, is_chart_id, is_id}
+use Rattle.entry_codec.proofs.Lengths.{id-length}
 use Rattle.entry_codec.specs.Lists.{is_ascending}
 use Rattle.replication.specs.declared.beats.Beat.{Beat}
 use Rattle.replication.specs.declared.beats.SeriesWord.{SeriesWord}
@@ -19,24 +19,16 @@ use Rattle.link_frames.specs.DataForm.{has_id, has_rising_places, is_chart, plac
 use Rattle.link_frames.specs.Frames.{body_bytes, body_limit}
 
 -- ---- names
-short-length : (text : List ℕ) → is_short text ≡ true → length text ≤ 200
-short-length text short = leb-true (length text) 200 short
-
-id-length : (text : List ℕ) → is_id text ≡ true → length text ≤ 200
-id-length text is =
-    let within = (and_parts (nat_lt 0 (length text) && nat_le (length text) ID_LIMIT) (is_one_line text) is).0 in
-    leb-true (length text) 200 (and_parts (nat_lt 0 (length text)) (nat_le (length text) ID_LIMIT) within).1
-
 chart-size : (chart : ChartName) → is_chart chart ≡ true → chart_size chart ≤ 408
 chart-size chart fits =
-    let every = nat_le chart.update_every UPDATE_EVERY_LIMIT in
+    let every = nat_le chart.update_every 86400 in
     let some = nat_le 1 chart.update_every in
-    let front = and_parts (is_chart_id chart.id && is_short chart.context && some) every fits in
-    let texts = and_parts (is_chart_id chart.id && is_short chart.context) some front.0 in
-    let text = and_parts (is_chart_id chart.id) (is_short chart.context) texts.0 in
+    let short = nat_le (length chart.context) 200 in
+    let front = and_parts (is_chart_id chart.id && short && some) every fits in
+    let texts = and_parts (is_chart_id chart.id && short) some front.0 in
+    let text = and_parts (is_chart_id chart.id) short texts.0 in
     let id = id-length chart.id (and_parts (is_id chart.id) (has_two_parts chart.id) text.0).0 in
-    let context : length chart.context ≤ 200 = short-length chart.context text.1 in
-    omega (arith, id, context)
+    omega (arith, id, leb-true (length chart.context) 200 text.1)
 
 charts-size : (charts : List ChartName) → list_all is_chart charts ≡ true → sum_by chart_size charts ≤ 408 * length charts
 charts-size [] all = omega arith

@@ -1,3 +1,4 @@
+pub mod ApartLaw
 pub mod FieldsLaw
 pub mod FramesLaw
 pub mod Lengths

@@ -1,6 +1,6 @@
 -- What stands in bytes that go on.
 use Rattle.std.proofs.Common.{◌≡◌, ℕ, ◌+◌, ◌≤◌, List, [], ◌∷◌, ◌++◌, length, take, drop, refl, sym, ap, subst, ◌∙◌, append_assoc, arith}
-use Rattle.std.specs.List.{flat_map, AllByRecursion}
+use Rattle.std.specs.List.{concat, flat_map, AllByRecursion}
 use Rattle.std.proofs.lemmas.Grind.{flat_map-append}
 use Rattle.std.proofs.lemmas.List.{append-nil, drop-append-le, drop_at, length-append, length-drop, take-append-drop, take-append-le, take_all, take_at}
 use Rattle.std.proofs.lemmas.List.Concat.{flat_map-cons}
@@ -11,7 +11,7 @@ use Rattle.field_codec.proofs.Numbers.{little_bytes-little_number}
 use Rattle.replication.proofs.Copies.{all-append}
 use Rattle.link_frames.specs.declared.frame.Frame.{Frame}
 use Rattle.link_frames.specs.Frames.{body_bytes, body_limit, frame_bytes, HasSpelling, IsNoBody}
-use Rattle.link_frames.specs.Stream.{HandsOut, HasNoFrame, IsBad, IsOpen, IsTooLong, body, said}
+use Rattle.link_frames.specs.Stream.{Feeds, HandsOut, HasNoFrame, IsBad, IsOpen, IsTooLong, body, said}
 use Rattle.link_frames.proofs.FramesLaw.{one_frame, one_end}
 
 -- ---- the first bytes
@@ -143,6 +143,41 @@ HandsOut_one f held before spells spelt = record {
   spelt = spelt ∙ sym (append-nil (frame_bytes f)) ∙ sym (regroup f [] []);
 }
 
+-- ---- pieces, one after the other
+onward : (bytes more rest end : List ℕ) (first second third : List Frame) → HandsOut bytes first second rest → HandsOut (rest ++ more) second third end → HandsOut (bytes ++ more) first third end
+onward bytes more rest end first second third one two = after (bytes ++ more) (rest ++ more) end first second third (with_more bytes more rest first second one) two
+
+fed : (held : List ℕ) (pieces : List (List ℕ)) (before now : List Frame) (rest : List ℕ) → Feeds held pieces before now rest → HandsOut (held ++ concat pieces) before now rest
+fed held [] before now rest (now_is, rest_is) =
+    subst (λ (bs : List ℕ). HandsOut (held ++ []) before now bs) (sym rest_is)
+    (subst (λ (fs : List Frame). HandsOut (held ++ []) before fs held) (sym now_is)
+    (subst (λ (bs : List ℕ). HandsOut bs before before held) (sym (append-nil held)) (HandsOut_none held before)))
+fed held (piece ∷ pieces) before now rest (next, end, one, under_way, more) =
+    subst (λ (bs : List ℕ). HandsOut bs before now rest) (append_assoc held piece (concat pieces))
+    (onward (held ++ piece) (concat pieces) end rest before next now one (fed end pieces next now rest more))
+
+fed-open : (held : List ℕ) (pieces : List (List ℕ)) (before now : List Frame) (rest : List ℕ) → Feeds held pieces before now rest → IsOpen held → IsOpen rest
+fed-open held [] before now rest (now_is, rest_is) under_way = subst IsOpen (sym rest_is) under_way
+fed-open held (piece ∷ pieces) before now rest (next, end, one, under_way, more) before_it = fed-open end pieces next now rest more under_way
+
+nothing-open : IsOpen []
+nothing-open = record { short = λ there. absurd (omega (arith, there)); part = λ there. absurd (omega (arith, there)) }
+
+-- a new reader hands out of pieces what it hands out of all bytes together
+pub together : (pieces : List (List ℕ)) (before now : List Frame) (rest : List ℕ) → Feeds [] pieces before now rest → HandsOut (concat pieces) before now rest
+together pieces before now rest feeds = fed [] pieces before now rest feeds
+
+pub under_way : (pieces : List (List ℕ)) (before now : List Frame) (rest : List ℕ) → Feeds [] pieces before now rest → IsOpen rest
+under_way pieces before now rest feeds = fed-open [] pieces before now rest feeds nothing-open
+
+-- however the same bytes are cut
+pub any_pieces : (pieces others : List (List ℕ)) (before first second : List Frame) (rest end : List ℕ) → Feeds [] pieces before first rest → Feeds [] others before second end
+    → concat pieces ≡ concat others → (first ≡ second) × (rest ≡ end)
+any_pieces pieces others before first second rest end one two same =
+    one_reading (concat pieces) rest end before first second (together pieces before first rest one) (none-open rest (under_way pieces before first rest one))
+    (subst (λ (bs : List ℕ). HandsOut bs before second end) (sym same) (together others before second end two)) (none-open end (under_way others before second end two))
+
+-- ---- one piece
 -- what is left of a piece is left behind what is held
 pub carried : (held front left ahead start end : List ℕ) (before now : List Frame) → front ++ left ≡ ahead → start ≡ held ++ front
     → HandsOut start before now end → HandsOut (held ++ ahead) before now (end ++ left)

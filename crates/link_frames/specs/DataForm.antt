@@ -1,9 +1,9 @@
--- Which Data a child may send, one rule after the other.
+-- Which Data a frame may have, one rule after the other.
 use Rattle.std.specs.Prelude.{◌≡◌, ℕ, ◌==◌, ◌<◌, ◌≤◌, Bool, true, ◌&&◌, nat_le, length, map}
-use Rattle.std.specs.List.{list_all, list_any}
+use Rattle.std.specs.List.{list_all, list_any, IsDistinct}
+use Rattle.std.specs.Str.{bytes_eq}
 use Rattle.storage_number.specs.Word.{is_word}
-use Rattle.history.specs.declared.limits.TheConstants.{UPDATE_EVERY_LIMIT}
-use Rattle.history.specs.Limits.{is_chart_id, is_id, is_short}
+use Rattle.history.specs.Limits.{is_chart_id, is_id}
 use Rattle.entry_codec.specs.Lists.{is_ascending}
 use Rattle.replication.specs.declared.beats.Beat.{Beat}
 use Rattle.replication.specs.declared.beats.SeriesWord.{SeriesWord}
@@ -18,10 +18,23 @@ use Rattle.replication.specs.Names.{beat_moment, uses, words_of}
 -- ---- names
 -- its id is that of a chart, its context has at most 200 bytes, and it has a value each 1 to 86,400 seconds
 abbrev pub is_chart : ChartName → Bool
-is_chart chart = is_chart_id chart.id && is_short chart.context && nat_le 1 chart.update_every && nat_le chart.update_every UPDATE_EVERY_LIMIT
+is_chart chart = is_chart_id chart.id && nat_le (length chart.context) 200 && nat_le 1 chart.update_every && nat_le chart.update_every 86400
 
 abbrev pub has_id : DimName → Bool
 has_id dimension = is_id dimension.id
+
+-- two charts with one id
+abbrev pub same_chart : ChartName → ChartName → Bool
+same_chart a b = bytes_eq a.id b.id
+
+-- two dimensions of one chart with one id
+abbrev pub same_dimension : DimName → DimName → Bool
+same_dimension a b = (a.chart == b.chart) && bytes_eq a.id b.id
+
+-- no name stands twice
+pub record AreApart (names : Names) : Type 0 where
+  pub charts : IsDistinct same_chart names.charts
+  pub dimensions : IsDistinct same_dimension names.dimensions
 
 -- each chart has a dimension
 abbrev pub AreChartsUsed : Names → Type 0
@@ -56,6 +69,7 @@ pub record HasMoments (message : Data) : Type 0 where
 pub record IsData (message : Data) : Type 0 where
   pub charts : list_all is_chart message.names.charts ≡ true
   pub ids : list_all has_id message.names.dimensions ≡ true
+  pub apart : AreApart message.names
   -- each dimension is of a chart, each word of a dimension, and each beat has a word
   pub whole : IsWhole message
   -- no name is left over

@@ -1,12 +1,12 @@
 -- Frames: how each is spelt, and which have a spelling.
-use Rattle.std.specs.Prelude.{◌≢◌, ℕ, ◌<◌, ◌≤◌, ◌^◌, List, ◌∷◌, ◌++◌, length}
+use Rattle.std.specs.Prelude.{◌≡◌, ◌≢◌, ◌⊎◌, ℕ, ◌<◌, ◌≤◌, ◌^◌, List, ◌∷◌, ◌++◌, length}
 use Rattle.field_codec.specs.Spelling.{u8_bytes, u32_bytes, u64_bytes, sized_bytes}
 use Rattle.replication.specs.declared.ask.Ask.{Ask}
 use Rattle.replication.specs.Bytes.{data_bytes}
 use Rattle.link_frames.specs.declared.frame.Frame.{Frame}
 use Rattle.link_frames.specs.declared.frame.Frame.TheVariants as frame
 use Rattle.link_frames.specs.DataForm.{IsData}
-use Rattle.link_frames.specs.Fields.{IsAsk, IsMessage}
+use Rattle.link_frames.specs.Fields.{FitsAsk, FitsMessage}
 
 -- ---- spelling
 unfoldable pub ask_bytes : Ask → List ℕ
@@ -28,10 +28,20 @@ frame_bytes f = sized_bytes (body_bytes f)
 -- its numbers, texts and lists fit their fields
 abbrev pub HasFields : Frame → Type 0
 HasFields (frame.Hello child) = child < 2 ^ 64
-HasFields (frame.Ask ask) = IsAsk ask
-HasFields (frame.Data message) = IsMessage message
+HasFields (frame.Ask ask) = FitsAsk ask
+HasFields (frame.Data message) = FitsMessage message
 HasFields (frame.Have last) = last < 2 ^ 32
 HasFields (frame.Bye reason) = reason < 2 ^ 8
+
+-- why an end goes
+abbrev pub done : ℕ
+done = 0
+
+abbrev pub wrong_child : ℕ
+wrong_child = 1
+
+abbrev pub bad_frame : ℕ
+bad_frame = 2
 
 -- it is one that an end of a link may send
 abbrev pub IsInForm : Frame → Type 0
@@ -39,7 +49,7 @@ IsInForm (frame.Hello child) = Unit {0}
 IsInForm (frame.Ask ask) = Unit {0}
 IsInForm (frame.Data message) = IsData message
 IsInForm (frame.Have last) = Unit {0}
-IsInForm (frame.Bye reason) = reason ≤ 2
+IsInForm (frame.Bye reason) = (reason ≡ done) ⊎ (reason ≡ wrong_child) ⊎ (reason ≡ bad_frame)
 
 -- the most bytes that the body of a frame may have
 abbrev pub body_limit : ℕ

@@ -1,6 +1,6 @@
 -- The frames that stand in a list of bytes, one behind the other, and what may stand behind them: the beginning of
 -- one more, or bytes at which no frame goes on.
-use Rattle.std.specs.Prelude.{◌≡◌, ◌≢◌, ℕ, ◌+◌, ◌<◌, ◌≤◌, List, ◌++◌, length, take, drop}
+use Rattle.std.specs.Prelude.{◌≡◌, ◌≢◌, ℕ, ◌+◌, ◌<◌, ◌≤◌, List, [], ◌∷◌, ◌++◌, length, take, drop}
 use Rattle.std.specs.List.{flat_map, AllByRecursion}
 use Rattle.byteorder.specs.Endian.{little_number}
 use Rattle.link_frames.specs.declared.frame.Frame.{Frame}
@@ -42,6 +42,13 @@ pub record IsBad (bytes : List ℕ) : Type 0 where
   pub short : said bytes ≤ body_limit
   pub whole : 4 + said bytes ≤ length bytes
   pub none : IsNoBody (body bytes)
+
+-- A reader that holds these bytes is fed the pieces, one after the other. From `before` to `now` the frames of each
+-- piece were added, and in the end the reader holds `rest`.
+abbrev pub Feeds : List ℕ → List (List ℕ) → List Frame → List Frame → List ℕ → Type 0
+Feeds held [] before now rest = (now ≡ before) × (rest ≡ held)
+Feeds held (piece ∷ pieces) before now rest = (next : List Frame) × (end : List ℕ)
+    × HandsOut (held ++ piece) before next end × IsOpen end × Feeds end pieces next now rest
 
 -- no more bytes are there than the first four say
 abbrev pub IsWithin : List ℕ → Type 0

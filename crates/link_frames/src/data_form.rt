@@ -1,4 +1,4 @@
-//! Whether a `Data` is one that a child may send: a function for each rule.
+//! Whether a `Data` is one that a frame may have: a function for each rule.
 ghost use Rattle.std.specs.Prelude.{◌≡◌, ℕ, ◌<◌, ◌≤◌, ◌∷◌, ◌++◌, [], ◌↔◌, length, map, IfOk, IsTrue, MatchOption};
 ghost use Rattle.std.specs.List.{list_all};
 ghost use Rattle.std.specs.Option.{option_to_list};
@@ -8,6 +8,7 @@ ghost use Rattle.replication.specs.Copies.{latest, RisesFrom};
 ghost use Rattle.replication.specs.Names.{beat_moment};
 ghost use Rattle.link_frames.specs.DataForm.{has_id, has_rising_places, has_storage_numbers, is_chart, is_storage_number, place_of, HasMoments, IsData};
 
+use crate::apart::are_apart;
 use crate::used::{are_charts_used, are_dimensions_used};
 use history::{TEXT_LIMIT, UPDATE_EVERY_LIMIT};
 use replication::{Beat, ChartName, Data, DimName, Names, SeriesWord};
@@ -36,8 +37,8 @@ fn have_ids(dimensions: &[DimName]) -> bool
         .all(|dimension| history::is_id(dimension.id.as_str()))
 }
 
-/// Whether each dimension is of a chart.
-fn are_names(names: &Names) -> bool
+/// Whether each dimension has its chart among the names.
+fn have_charts(names: &Names) -> bool
     ensures { IsTrue result ↔ AreNames names.now }
 {
     let charts = names.charts.len();
@@ -87,7 +88,7 @@ fn is_whole(message: &Data) -> bool
     ensures { IsTrue result ↔ IsWhole message.now }
 {
     let beats = message.beats.as_slice();
-    are_names(&message.names)
+    have_charts(&message.names)
         && are_beats_of(message.names.dimensions.len(), beats)
         && have_words(beats)
 }
@@ -163,7 +164,7 @@ fn has_moments(message: &Data) -> bool
     }
 }
 
-/// Whether a child may send the `Data`.
+/// Whether a frame may have the `Data`.
 pub(crate) fn is_data(alloc: Global, message: &Data) -> Result<bool, AllocError>
     ensures { IfOk result (λ yes. IsTrue yes ↔ IsData message.now) }
 {
@@ -177,6 +178,9 @@ pub(crate) fn is_data(alloc: Global, message: &Data) -> Result<bool, AllocError>
         return Ok(false);
     }
     if message.prev > message.from || !has_moments(message) {
+        return Ok(false);
+    }
+    if !are_apart(alloc, &message.names)? {
         return Ok(false);
     }
     Ok(are_charts_used(alloc, &message.names)? && are_dimensions_used(alloc, message)?)

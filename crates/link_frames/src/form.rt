@@ -1,10 +1,10 @@
 //! Whether a frame fits its fields, and whether it is one that an end of a link may send.
 ghost use Rattle.std.specs.Prelude.{◌<◌, ◌↔◌, ◌^◌, IfOk, IsTrue};
-ghost use Rattle.link_frames.specs.Fields.{AreNames, IsAsk, IsMessage};
+ghost use Rattle.link_frames.specs.Fields.{FitNames, FitsAsk, FitsMessage};
 ghost use Rattle.link_frames.specs.Frames.{HasFields, IsInForm};
 
 use crate::data_form::is_data;
-use crate::frame::Frame;
+use crate::frame::{BAD_FRAME, DONE, Frame, WRONG_CHILD};
 use crate::list;
 use replication::{Ask, Data, Names};
 use std::alloc::{AllocError, Global};
@@ -29,25 +29,25 @@ fn is_u8(_number: u8) -> bool
     true
 }
 
-fn is_ask(ask: &Ask) -> bool
-    ensures { IsTrue result ↔ IsAsk ask.now }
+fn fits_ask(ask: &Ask) -> bool
+    ensures { IsTrue result ↔ FitsAsk ask.now }
 {
     let (_child, _last) = (ask.child, ask.last);
     true
 }
 
-fn are_names(names: &Names) -> bool
-    ensures { IsTrue result ↔ AreNames names.now }
+fn fit_names(names: &Names) -> bool
+    ensures { IsTrue result ↔ FitNames names.now }
 {
     list::fits(&names.charts) && list::fits(&names.dimensions)
 }
 
-fn is_message(message: &Data) -> bool
-    ensures { IsTrue result ↔ IsMessage message.now }
+fn fits_message(message: &Data) -> bool
+    ensures { IsTrue result ↔ FitsMessage message.now }
 {
     let (_child, _prev, _from) = (message.child, message.prev, message.from);
     let (_upto, _floor) = (message.upto, message.floor);
-    are_names(&message.names) && list::fits(&message.beats)
+    fit_names(&message.names) && list::fits(&message.beats)
 }
 
 /// Whether the numbers, texts and lists of a frame fit their fields.
@@ -56,8 +56,8 @@ pub(crate) fn has_fields(frame: &Frame) -> bool
 {
     match frame {
         Frame::Hello(child) => is_u64(*child),
-        Frame::Ask(ask) => is_ask(ask),
-        Frame::Data(message) => is_message(message),
+        Frame::Ask(ask) => fits_ask(ask),
+        Frame::Data(message) => fits_message(message),
         Frame::Have(last) => is_u32(*last),
         Frame::Bye(reason) => is_u8(*reason),
     }
@@ -70,6 +70,6 @@ pub(crate) fn is_in_form(alloc: Global, frame: &Frame) -> Result<bool, AllocErro
     match frame {
         Frame::Hello(_) | Frame::Ask(_) | Frame::Have(_) => Ok(true),
         Frame::Data(message) => is_data(alloc, message),
-        Frame::Bye(reason) => Ok(*reason <= 2),
+        Frame::Bye(reason) => Ok(matches!(*reason, DONE | WRONG_CHILD | BAD_FRAME)),
     }
 }

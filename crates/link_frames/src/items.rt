@@ -2,17 +2,17 @@
 ghost use Rattle.std.specs.Prelude.{◌≡◌, ◌++◌, ◌↔◌, Ok, IsTrue, IfOk, IfErr, OnOk, IsOkUnless};
 
 use crate::list::{self, Item};
-use crate::text;
+use entry_codec::text;
 use field_codec::{FieldFault, Reader, Writer};
 use replication::{Beat, ChartName, DimName, SeriesWord};
 use std::alloc::Global;
 
 impl Item for ChartName {
     ghost use Rattle.replication.specs.Bytes.{chart_bytes};
-    ghost use Rattle.link_frames.specs.Fields.{IsChart};
+    ghost use Rattle.link_frames.specs.Fields.{FitsChart};
     ghost use Rattle.link_frames.specs.Reading.{read_chart};
 
-    ghost is_item = { IsChart };
+    ghost is_item = { FitsChart };
 
     ghost item_bytes = { chart_bytes };
 
@@ -20,7 +20,7 @@ impl Item for ChartName {
 
     fn fits(&self) -> bool {
         let _update_every = self.update_every;
-        text::fits(&self.id) && text::fits(&self.context)
+        text::is_short(&self.id) && text::is_short(&self.context)
     }
 
     #[tactic(auto, unfolding(replication::specs::Bytes::chart_bytes))]
@@ -45,10 +45,10 @@ impl Item for ChartName {
 
 impl Item for DimName {
     ghost use Rattle.replication.specs.Bytes.{dimension_bytes};
-    ghost use Rattle.link_frames.specs.Fields.{IsDimension};
+    ghost use Rattle.link_frames.specs.Fields.{FitsDimension};
     ghost use Rattle.link_frames.specs.Reading.{read_dimension};
 
-    ghost is_item = { IsDimension };
+    ghost is_item = { FitsDimension };
 
     ghost item_bytes = { dimension_bytes };
 
@@ -56,7 +56,7 @@ impl Item for DimName {
 
     fn fits(&self) -> bool {
         let _chart = self.chart;
-        text::fits(&self.id)
+        text::is_short(&self.id)
     }
 
     #[tactic(auto, unfolding(replication::specs::Bytes::dimension_bytes))]
@@ -77,10 +77,10 @@ impl Item for DimName {
 
 impl Item for SeriesWord {
     ghost use Rattle.replication.specs.Bytes.{word_bytes};
-    ghost use Rattle.link_frames.specs.Fields.{IsWord};
+    ghost use Rattle.link_frames.specs.Fields.{FitsWord};
     ghost use Rattle.link_frames.specs.Reading.{read_word};
 
-    ghost is_item = { IsWord };
+    ghost is_item = { FitsWord };
 
     ghost item_bytes = { word_bytes };
 
@@ -107,10 +107,10 @@ impl Item for SeriesWord {
 
 impl Item for Beat {
     ghost use Rattle.replication.specs.Bytes.{beat_bytes};
-    ghost use Rattle.link_frames.specs.Fields.{IsBeat};
+    ghost use Rattle.link_frames.specs.Fields.{FitsBeat};
     ghost use Rattle.link_frames.specs.Reading.{read_beat};
 
-    ghost is_item = { IsBeat };
+    ghost is_item = { FitsBeat };
 
     ghost item_bytes = { beat_bytes };
 

@@ -1,10 +1,11 @@
 ghost use Rattle.std.specs.Prelude.{◌≡◌, ℕ, ◌+◌, ◌<◌, ◌≤◌, List, [], ◌++◌, length};
+ghost use Rattle.std.specs.List.{concat};
 ghost use Rattle.replication.specs.declared.message.Data.{Data};
 ghost use Rattle.link_frames.specs.declared.frame.Frame.{Frame};
 ghost use Rattle.link_frames.specs.declared.frame.Frame.TheVariants as frame;
 ghost use Rattle.link_frames.specs.DataForm.{IsData};
 ghost use Rattle.link_frames.specs.Frames.{body_bytes, body_limit, frame_bytes, HasSpelling};
-ghost use Rattle.link_frames.specs.Stream.{HandsOut, HasNoFrame, IsBad, IsOpen, IsTooLong};
+ghost use Rattle.link_frames.specs.Stream.{Feeds, HandsOut, HasNoFrame, IsBad, IsOpen, IsTooLong};
 
 /// The laws of spellings: no two frames share one, and none is the front of another. It does nothing.
 pub fn every_frame()
@@ -45,6 +46,23 @@ pub fn any_cut()
 
     // A frame that is under way is shorter than the longest one.
     ensures held { (bytes : List ℕ) → IsOpen bytes → length bytes < body_limit + 4 }
+{}
+
+/// The laws of bytes that are cut into pieces at any places. It does nothing.
+pub fn any_pieces()
+    // What a new reader hands out of pieces, one after the other, is what is handed out of all bytes together.
+    ensures together { (pieces : List (List ℕ)) (before now : List Frame) (rest : List ℕ)
+        → Feeds [] pieces before now rest → HandsOut (concat pieces) before now rest }
+    ensures under_way { (pieces : List (List ℕ)) (before now : List Frame) (rest : List ℕ)
+        → Feeds [] pieces before now rest → IsOpen rest }
+
+    // However the same bytes are cut, the same frames are handed out, and the same bytes are held.
+    ensures one_list { (pieces others : List (List ℕ)) (before first second : List Frame)
+        (rest end : List ℕ) → Feeds [] pieces before first rest → Feeds [] others before second end
+        → concat pieces ≡ concat others → first ≡ second }
+    ensures one_rest { (pieces others : List (List ℕ)) (before first second : List Frame)
+        (rest end : List ℕ) → Feeds [] pieces before first rest → Feeds [] others before second end
+        → concat pieces ≡ concat others → rest ≡ end }
 {}
 
 /// The law of the length of a Data in form that has one beat, at most 4,096 charts and at most 65,536 dimensions: its

@@ -1,4 +1,4 @@
-ghost use Rattle.std.specs.Prelude.{◌≡◌, ℕ, List, [], ◌++◌, None, IsErrOf, IfSome, OnOk};
+ghost use Rattle.std.specs.Prelude.{◌≡◌, ℕ, List, [], ◌++◌, None, IsErrOf, IfSome, OnOk, OnErr};
 ghost use Rattle.std.specs.Result.{result_err};
 ghost use Rattle.link_frames.specs.Stream.{HandsOut, IsBad, IsOpen, IsTooLong};
 
@@ -21,12 +21,13 @@ pub struct FrameReader {
 impl Model for FrameReader {
     ghost use Rattle.link_frames.specs.Held.{Held};
     ghost use Rattle.link_frames.specs.Stream.{IsOpen};
+    ghost use Rattle.std.specs.Prelude.{◌≡◌, [], IfSome};
 
     ghost Value = { Held };
 
     ghost view = { λ reader. record { rest = reader.rest; refused = reader.refused } };
 
-    ghost invariant = { λ reader. IsOpen reader.rest };
+    ghost invariant = { λ reader. IsOpen reader.rest × IfSome reader.refused (λ _. reader.rest ≡ []) };
 }
 
 impl FrameReader {
@@ -64,8 +65,9 @@ impl FrameReader {
         ensures memory { self.old.refused ≡ None → IsErrOf result FrameFault.Memory
             → (rest : List ℕ) × HandsOut (self.old.rest ++ piece.now) frames.old frames.new rest }
 
-        // A refusal is the answer from then on.
+        // A refusal is the answer from then on, and nothing is held.
         ensures refused { self.new.refused ≡ result_err result }
+        ensures emptied { OnErr result (self.new.rest ≡ []) }
         ensures repeated { IfSome self.old.refused (λ fault. IsErrOf result fault) }
         ensures unchanged { IfSome self.old.refused
             (λ _. (self.new ≡ self.old) × (frames.new ≡ frames.old)) }

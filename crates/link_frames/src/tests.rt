@@ -309,7 +309,8 @@ fn a_changed_byte_is_refused_or_spells_another_frame(rt: HostRuntime) -> Result<
     assert_eq!(rt; bytes.len(), 204);
     let mut others = 0u32;
     for at in 4..204usize {
-        for byte in 0..=255u8 {
+        for third in 0..=85u8 {
+            let byte = third.wrapping_mul(3).wrapping_add((at % 3) as u8);
             let mut changed = bytes.as_slice().to_vec(alloc)?;
             if let Some(place) = changed.get_mut(at) {
                 *place = byte;
@@ -324,7 +325,7 @@ fn a_changed_byte_is_refused_or_spells_another_frame(rt: HostRuntime) -> Result<
             }
         }
     }
-    assert!(rt; others > 200, "{others}");
+    assert!(rt; others > 66, "{others}");
     Ok(())
 }
 
@@ -342,6 +343,101 @@ fn a_frame_in_no_form_is_not_written(rt: HostRuntime) -> Result<(), Fail> {
     data.upto = data.from;
     data.beats.clear();
     assert_eq!(rt; fault(Frame::Data(data)), Some(FrameFault::BadFrame));
+    Ok(())
+}
+
+/// A Data of one beat with these charts and dimensions, of which each has a word.
+fn data_of(alloc: Global, charts: &[&str], dimensions: &[(u32, &str)]) -> Result<Data, FrameFault> {
+    let mut data = data_of_200(alloc)?;
+    data.names.charts.clear();
+    for id in charts {
+        data.names.charts.push(chart(alloc, id, "", 1)?)?;
+    }
+    data.names.dimensions.clear();
+    let mut words = SeriesWordList::new(alloc);
+    for (chart, id) in dimensions {
+        words.push(SeriesWord {
+            series: data.names.dimensions.len() as u32,
+            word: 0x0100_0000,
+        })?;
+        data.names.dimensions.push(dimension(alloc, *chart, id)?)?;
+    }
+    data.beats.clear();
+    data.beats.push(Beat { moment: 70, words })?;
+    Ok(data)
+}
+
+/// Ids of charts, the charts and ids of dimensions, and whether a frame has them.
+const NAMES: [(&[&str], &[(u32, &str)], bool); 6] = [
+    (&["a.b", "x.y"], &[(0, "d"), (1, "d")], true),
+    (&["a.b", "a.B"], &[(0, "d"), (1, "e"), (0, "D")], true),
+    (&["a.b", "a.b"], &[(0, "d"), (1, "e")], false),
+    (
+        &["a.b", "x.y", "a.b"],
+        &[(0, "d"), (1, "e"), (2, "d")],
+        false,
+    ),
+    (&["a.b"], &[(0, "d"), (0, "d")], false),
+    (&["a.b", "x.y"], &[(1, "d"), (0, "e"), (1, "d")], false),
+];
+
+#[test]
+fn a_name_that_stands_twice_is_refused(rt: HostRuntime) -> Result<(), Fail> {
+    let alloc = rt.alloc();
+    for (charts, dimensions, good) in NAMES {
+        let written = write_frame(alloc, &Frame::Data(data_of(alloc, charts, dimensions)?));
+        let fault = if good {
+            None
+        } else {
+            Some(FrameFault::BadFrame)
+        };
+        assert_eq!(rt; written.err(), fault, "{charts:?} {dimensions:?}");
+    }
+    Ok(())
+}
+
+/// What fills an id of six digits up to 200 bytes.
+const FILL: &str = "\
+xxxxxxxxxxxxxxxxxxxxxxxxxxxxxxxxxxxxxxxxxxxxxxxxxxxxxxxxxxxxxxxxxxxxxxxxxxxxxxxxxxxxxxxxxxxxxxxxx\
+xxxxxxxxxxxxxxxxxxxxxxxxxxxxxxxxxxxxxxxxxxxxxxxxxxxxxxxxxxxxxxxxxxxxxxxxxxxxxxxxxxxxxxxxxxxxxxxxx";
+
+/// A Data of one beat whose body has 16,777,166 bytes, and as many more as the last id is long.
+fn long_data(alloc: Global, last: &str) -> Result<Data, FrameFault> {
+    let mut data = data_of(alloc, &["a.b"], &[(0, last)])?;
+    let mut words = SeriesWordList::new(alloc);
+    for number in 0..78_033u32 {
+        let id = format!(in alloc; "{}{FILL}", number + 100_000)?;
+        data.names
+            .dimensions
+            .push(dimension(alloc, 0, id.as_str())?)?;
+    }
+    for series in 0..78_034u32 {
+        words.push(SeriesWord {
+            series,
+            word: 0x0100_0000,
+        })?;
+    }
+    data.beats.clear();
+    data.beats.push(Beat { moment: 70, words })?;
+    Ok(data)
+}
+
+/// Fifty letters.
+const FIFTY: &str = "abcdefghijklmnopqrstuvwxyabcdefghijklmnopqrstuvwxy";
+
+/// The same, and one more.
+const FIFTY_ONE: &str = "abcdefghijklmnopqrstuvwxyabcdefghijklmnopqrstuvwxyz";
+
+// The body has 37 bytes, 11 for the chart, 8 for the beat, 8 for each of 78,034 words, 207 for each dimension but
+// one, and for this one 7 and its id: 2^24 in all where this has 50 bytes.
+#[test]
+fn a_body_has_just_16_mebibytes(rt: HostRuntime) -> Result<(), Fail> {
+    let alloc = rt.alloc();
+    let longest = Frame::Data(long_data(alloc, FIFTY)?);
+    assert_eq!(rt; write_frame(alloc, &longest)?.len(), 16_777_220);
+    let longer = Frame::Data(long_data(alloc, FIFTY_ONE)?);
+    let fault = write_frame(alloc, &longer).err();
+    assert_eq!(rt; fault, Some(FrameFault::FrameTooLong));
     Ok(())
 }
 

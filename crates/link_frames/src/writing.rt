@@ -2,7 +2,7 @@
 ghost use Rattle.std.specs.Prelude.{◌≡◌, ◌<◌, ◌≤◌, ◌^◌, ◌++◌, length, Err, IfOk, OnOk, IsErrOf, IsOkUnless};
 ghost use Rattle.field_codec.specs.Spelling.{sized_bytes};
 ghost use Rattle.replication.specs.Bytes.{data_bytes, names_bytes};
-ghost use Rattle.link_frames.specs.Fields.{AreNames, IsMessage};
+ghost use Rattle.link_frames.specs.Fields.{FitNames, FitsMessage};
 ghost use Rattle.link_frames.specs.Frames.{ask_bytes, body_bytes, body_limit, frame_bytes, HasFields, HasSpelling, IsInForm};
 
 use crate::fault::FrameFault;
@@ -24,7 +24,7 @@ fn put_ask(ask: &Ask, writer: &mut Writer) -> Result<(), FieldFault>
 
 #[tactic(auto, unfolding(replication::specs::Bytes::names_bytes))]
 fn put_names(names: &Names, writer: &mut Writer) -> Result<(), FieldFault>
-    requires { AreNames names.now }
+    requires { FitNames names.now }
     ensures put { OnOk result (writer.new ≡ writer.old ++ names_bytes names.now) }
     ensures memory { IsOkUnless result FieldFault.Memory }
 {
@@ -34,7 +34,7 @@ fn put_names(names: &Names, writer: &mut Writer) -> Result<(), FieldFault>
 
 #[tactic(auto, unfolding(replication::specs::Bytes::data_fields, replication::specs::Bytes::data_bytes))]
 fn put_data(message: &Data, writer: &mut Writer) -> Result<(), FieldFault>
-    requires { IsMessage message.now }
+    requires { FitsMessage message.now }
     ensures put { OnOk result (writer.new ≡ writer.old ++ data_bytes message.now) }
     ensures memory { IsOkUnless result FieldFault.Memory }
 {
