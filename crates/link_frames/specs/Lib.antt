@@ -1,3 +1,4 @@
+pub mod Children
 pub mod DataForm
 pub mod Fault
 pub mod Fields

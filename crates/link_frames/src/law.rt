@@ -1,8 +1,13 @@
-ghost use Rattle.std.specs.Prelude.{◌≡◌, ℕ, ◌+◌, ◌<◌, ◌≤◌, List, [], ◌++◌, length};
+ghost use Rattle.std.specs.Prelude.{◌≡◌, ℕ, ◌+◌, ◌<◌, ◌≤◌, ◌^◌, List, [], ◌++◌, length, Some};
 ghost use Rattle.std.specs.List.{concat};
+ghost use Rattle.replication.specs.declared.ask.Ask.{Ask as AnAsk};
+ghost use Rattle.replication.specs.declared.beats.Beat.{Beat};
 ghost use Rattle.replication.specs.declared.message.Data.{Data};
+ghost use Rattle.replication.specs.declared.names.Names.{Names};
+ghost use Rattle.replication.specs.Answer.{data_of};
 ghost use Rattle.link_frames.specs.declared.frame.Frame.{Frame};
 ghost use Rattle.link_frames.specs.declared.frame.Frame.TheVariants as frame;
+ghost use Rattle.link_frames.specs.Children.{KeepsRules};
 ghost use Rattle.link_frames.specs.DataForm.{IsData};
 ghost use Rattle.link_frames.specs.Frames.{body_bytes, body_limit, frame_bytes, HasSpelling};
 ghost use Rattle.link_frames.specs.Stream.{Feeds, HandsOut, HasNoFrame, IsBad, IsOpen, IsTooLong};
@@ -63,6 +68,13 @@ pub fn any_pieces()
     ensures one_rest { (pieces others : List (List ℕ)) (before first second : List Frame)
         (rest end : List ℕ) → Feeds [] pieces before first rest → Feeds [] others before second end
         → concat pieces ≡ concat others → rest ≡ end }
+{}
+
+/// The law of answers: what a child answers whose names and beats keep the rules is a frame. It does nothing.
+pub fn any_answer()
+    ensures { (child floor : ℕ) (names : Names) (beats : List Beat) (ask : AnAsk) (message : Data)
+        → child < 2 ^ 64 → floor < 2 ^ 32 → ask.last < 2 ^ 32 → KeepsRules names beats
+        → data_of child floor names beats ask ≡ Some message → HasSpelling (frame.Data message) }
 {}
 
 /// The law of the length of a Data in form that has one beat, at most 4,096 charts and at most 65,536 dimensions: its

@@ -30,7 +30,7 @@ mod writing;
 
 pub use fault::FrameFault;
 pub use frame::{BAD_FRAME, BODY_LIMIT, DONE, Frame, FrameList, WRONG_CHILD};
-pub use law::{any_cut, any_pieces, every_frame, one_beat};
+pub use law::{any_answer, any_cut, any_pieces, every_frame, one_beat};
 pub use reader::FrameReader;
 pub use writing::write_frame;
 

@@ -16,7 +16,7 @@ use Rattle.replication.proofs.Copies.{rises-take, above-all, RisesFrom-above}
 abbrev pub fits : (List Beat → Data) → List Beat → ℕ → Bool
 fits make beats n = leb (length (data_bytes (make (take n beats)))) 1048576
 
-longest-le : (make : List Beat → Data) (beats : List Beat) (n : ℕ) → longest make beats n ≤ n
+pub longest-le : (make : List Beat → Data) (beats : List Beat) (n : ℕ) → longest make beats n ≤ n
 unfolding longest
 longest-le make beats zero = omega arith
 longest-le make beats (suc n) =

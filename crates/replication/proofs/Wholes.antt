@@ -21,7 +21,7 @@ use Rattle.replication.proofs.NamesLaws.{IsUsed, all-used, all-split}
 use Rattle.replication.proofs.Places.{select-place}
 use Rattle.replication.proofs.PointsLaws.{all-at}
 
-all-of-map : {X Y : Type 0} (P : Y → Type 0) (f : X → Y) (xs : List X) → AllByRecursion (λ x. P (f x)) xs → AllByRecursion P (map f xs)
+pub all-of-map : {X Y : Type 0} (P : Y → Type 0) (f : X → Y) (xs : List X) → AllByRecursion (λ x. P (f x)) xs → AllByRecursion P (map f xs)
 all-of-map P f [] all = tt
 all-of-map P f (x ∷ xs) all = (all.0, all-of-map P f xs all.1)
 
@@ -37,14 +37,14 @@ place-within {X = X} test k xs passes lt =
     by (Some x) is same = slice_get_within (select test 0 xs) (place test k) x is
 
 -- what holds of each item whose place passes holds of what stays
-all-select : {X : Type 0} (P : X → Type 0) (test : ℕ → Bool) (n : ℕ) (xs : List X) → ((k : ℕ) (x : X) → slice_get xs k ≡ Some x → test (n + k) ≡ true → P x) → AllByRecursion P (select test n xs)
+pub all-select : {X : Type 0} (P : X → Type 0) (test : ℕ → Bool) (n : ℕ) (xs : List X) → ((k : ℕ) (x : X) → slice_get xs k ≡ Some x → test (n + k) ≡ true → P x) → AllByRecursion P (select test n xs)
 all-select P test n [] each = tt
 all-select P test n (x ∷ xs) each =
     let rest = all-select P test (n + 1) xs (λ k y is passes. each (suc k) y is (let at : n + suc k ≡ n + 1 + k = omega arith in ap test at ∙ passes)) in
     cond_both (test n) (x ∷ select test (n + 1) xs) (select test (n + 1) xs) (AllByRecursion P) (λ passes. (each 0 x refl (let at : n + 0 ≡ n = omega arith in ap test at ∙ passes), rest)) (λ fails. rest)
 
 -- a series that is used uses its chart
-chart-used : (names : Names) (words : List SeriesWord) (series : ℕ) (dimension : DimName) → slice_get names.dimensions series ≡ Some dimension → uses words series ≡ true → uses_chart names words dimension.chart ≡ true
+pub chart-used : (names : Names) (words : List SeriesWord) (series : ℕ) (dimension : DimName) → slice_get names.dimensions series ≡ Some dimension → uses words series ≡ true → uses_chart names words dimension.chart ≡ true
 chart-used names [] series dimension is used = absurd (cc)
 chart-used names (word ∷ words) series dimension is used =
     elim (or_cases (word.series == series) (uses words series) used) [
