@@ -396,51 +396,6 @@ fn a_name_that_stands_twice_is_refused(rt: HostRuntime) -> Result<(), Fail> {
     Ok(())
 }
 
-/// What fills an id of six digits up to 200 bytes.
-const FILL: &str = "\
-xxxxxxxxxxxxxxxxxxxxxxxxxxxxxxxxxxxxxxxxxxxxxxxxxxxxxxxxxxxxxxxxxxxxxxxxxxxxxxxxxxxxxxxxxxxxxxxxx\
-xxxxxxxxxxxxxxxxxxxxxxxxxxxxxxxxxxxxxxxxxxxxxxxxxxxxxxxxxxxxxxxxxxxxxxxxxxxxxxxxxxxxxxxxxxxxxxxxx";
-
-/// A Data of one beat whose body has 16,777,166 bytes, and as many more as the last id is long.
-fn long_data(alloc: Global, last: &str) -> Result<Data, FrameFault> {
-    let mut data = data_of(alloc, &["a.b"], &[(0, last)])?;
-    let mut words = SeriesWordList::new(alloc);
-    for number in 0..78_033u32 {
-        let id = format!(in alloc; "{}{FILL}", number + 100_000)?;
-        data.names
-            .dimensions
-            .push(dimension(alloc, 0, id.as_str())?)?;
-    }
-    for series in 0..78_034u32 {
-        words.push(SeriesWord {
-            series,
-            word: 0x0100_0000,
-        })?;
-    }
-    data.beats.clear();
-    data.beats.push(Beat { moment: 70, words })?;
-    Ok(data)
-}
-
-/// Fifty letters.
-const FIFTY: &str = "abcdefghijklmnopqrstuvwxyabcdefghijklmnopqrstuvwxy";
-
-/// The same, and one more.
-const FIFTY_ONE: &str = "abcdefghijklmnopqrstuvwxyabcdefghijklmnopqrstuvwxyz";
-
-// The body has 37 bytes, 11 for the chart, 8 for the beat, 8 for each of 78,034 words, 207 for each dimension but
-// one, and for this one 7 and its id: 2^24 in all where this has 50 bytes.
-#[test]
-fn a_body_has_just_16_mebibytes(rt: HostRuntime) -> Result<(), Fail> {
-    let alloc = rt.alloc();
-    let longest = Frame::Data(long_data(alloc, FIFTY)?);
-    assert_eq!(rt; write_frame(alloc, &longest)?.len(), 16_777_220);
-    let longer = Frame::Data(long_data(alloc, FIFTY_ONE)?);
-    let fault = write_frame(alloc, &longer).err();
-    assert_eq!(rt; fault, Some(FrameFault::FrameTooLong));
-    Ok(())
-}
-
 /// The next number of a row that looks as if by chance.
 fn next_number(state: &mut u64) -> u64 {
     *state = state
