@@ -204,6 +204,7 @@ module _ (honest : Type 0) (host host' : Seen) (agent agent' : AgentState) (feed
     counts_on = always (CountsFor feed agent.registry → CountsFor feed' agent'.registry) result counts-on;
     leaves = on_err _ _ result took.beats (λ has. inr (gives-away (subst HasBeat its has)));
     fed = fed-more feed feed' line agent.registry agent.copies agent.last fed limits becomes free;
+    asks = λ quiet. (took.same (λ has. let at = moment-of fed.every fed.past line (subst HasBeat its has) in quiet at.0 at.1)).1;
     unchanged = took.unchanged;
     fault = took.fault;
     reopens = took.reopens;
@@ -243,6 +244,7 @@ module _ (honest : Type 0) (host : Seen) (agent : AgentState) (feed feed' : Feed
     counts_on = tt;
     leaves = inl same;
     fed = subst IsFed (sym same) fed;
+    asks = λ quiet. refl;
     unchanged = λ leaves. (refl, refl);
     fault = spent ∙ sym (ap (λ (f : Option Why). fault_after f (failed (Reopen cause))) spent);
     reopens = spent;
@@ -268,6 +270,7 @@ module _ (honest : Type 0) (host : Seen) (agent : AgentState) (feed feed' : Feed
     counts_on = tt;
     leaves = inl same;
     fed = subst IsFed (sym same) fed;
+    asks = λ quiet. refl;
     unchanged = λ leaves. (refl, refl);
     fault = going ∙ sym (ap (λ (f : Option Why). fault_after f (failed (Refused fault))) going);
     reopens = going;
@@ -302,6 +305,7 @@ module _ (honest : Type 0) (host : Seen) (agent : AgentState) (feed feed' : Feed
     counts_on = tt;
     leaves = inl same;
     fed = subst IsFed (sym same) fed;
+    asks = λ quiet. refl;
     unchanged = λ leaves. absurd leaves;
     fault = sym (ap (λ (f : Option Why). fault_after f (failed Memory)) going);
     reopens = going;

@@ -134,6 +134,8 @@ pub record Lines (honest : Type 0) (host : Seen) (agent : AgentState) (feed : Fe
   pub counts_on : OnOk result (CountsFor feed agent.registry → CountsFor feed' agent'.registry)
   pub leaves : OnErr result ((feed' ≡ feed) ⊎ GivesAway agent feed line feed')
   pub fed : IsFed feed'
+  -- a line that is no MOMENT asks nothing of the host
+  pub asks : ((moment : ℕ) → line ≡ Moment moment → ⊥) → host' ≡ host
   -- a refusal, and Reopen, change nothing of the agent and the host
   pub unchanged : IfErr result (λ fault. LeavesAll fault → (agent' ≡ agent) × (host' ≡ host))
   -- after another fault each call answers Reopen with its cause

@@ -242,11 +242,11 @@ impl Agent {
     /// Takes the next line of a collector's text, and at a MOMENT stores the beat that it closes.
     ///
     /// `Refused` exactly where the line may not stand there or the history does not take its beat, with the
-    /// first reason, and then nothing of the agent has changed; at a CHART or a DIMENSION, of a feed that counts
-    /// for the agent's registry, as a new one does and goes on to. The feed has taken only lines that were handed
-    /// to `Agent::line` or to `Feed::line` and were not refused, and their definitions, as that of this line,
-    /// keep their limits. Where the beat of a MOMENT is refused the feed has given it away. After `DiskFault` or
-    /// `Memory` the agent must be opened again.
+    /// first reason, and then nothing of the agent has changed. At a CHART or a DIMENSION this is so of a feed
+    /// that counts for the agent's registry, as a new one does and goes on to. The feed has taken only lines that
+    /// were handed to `Agent::line` or to `Feed::line` and were not refused, and their definitions, as that of
+    /// this line, keep their limits. Where the beat of a MOMENT is refused the feed has given it away. After
+    /// `DiskFault` or `Memory` the agent must be opened again. A line that is no MOMENT makes no call on the host.
     pub fn line<H: Host>(
         &mut self,
         host: &mut H,
