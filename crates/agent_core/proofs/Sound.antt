@@ -32,9 +32,9 @@ never : (agent : AgentState) (cause : Why) → agent.fault ≡ Some cause → ag
 never agent cause now none = none-some cause (sym none ∙ now)
 
 -- ---- a call that was refused
--- what a stop leaves of a history that may have one beat more
-abbrev IsLeft : Settings → List Beat → (File → List ℕ) → Type 0
-IsLeft set h disk = StandsForHistory set h disk ⊎ ((beat : Beat) × StandsForHistory set (beat ∷ h) disk)
+-- what a stop leaves of a history that may have this beat more
+abbrev IsLeft : Settings → List Beat → Beat → (File → List ℕ) → Type 0
+IsLeft set h beat disk = StandsForHistory set h disk ⊎ StandsForHistory set (beat ∷ h) disk
 
 abbrev unstored : AgentFault → Result Reply AgentFault
 unstored fault = Err fault
@@ -52,7 +52,7 @@ record Failed (host : Seen) (agent : AgentState) (reason : Option BlockFault) (f
   pub last : agent'.last ≡ agent.last
   pub id : id_of agent' ≡ id_of agent
 
-module _ (host : Seen) (agent : AgentState) (reason : Option BlockFault) (host' : Seen) (agent' : AgentState) (set : Settings) (h : List Beat) where
+module _ (host : Seen) (agent : AgentState) (reason : Option BlockFault) (host' : Seen) (agent' : AgentState) (set : Settings) (h : List Beat) (beat : Beat) where
   abbrev Did : AgentFault → Type 0
   Did fault = Failed host agent reason fault host' agent'
 
@@ -62,7 +62,7 @@ module _ (host : Seen) (agent : AgentState) (reason : Option BlockFault) (host' 
       subst (λ (s : Seen). IsSoundBy s.past agent' set h) (sym hosts) (subst (λ (a : AgentState). IsSoundBy host.past a set h) (sym agents) sound)
 
   -- a call of an agent that was going, and was refused for the disk or for memory
-  spent : (fault : AgentFault) (cause : Why) → Did fault → IsAgentOf host.past agent set h → cause_of fault ≡ Some cause → EveryDisk (IsLeft set h) host'.past → IsSoundBy host'.past agent' set h
+  spent : (fault : AgentFault) (cause : Why) → Did fault → IsAgentOf host.past agent set h → cause_of fault ≡ Some cause → EveryDisk (IsLeft set h beat) host'.past → IsSoundBy host'.past agent' set h
   spent fault cause did is_of leaves images =
       inr (record {
         cause = cause;
@@ -70,10 +70,11 @@ module _ (host : Seen) (agent : AgentState) (reason : Option BlockFault) (host' 
         count = did.count ∙ is_of.count;
         last_is = did.last ∙ is_of.last_is;
         id = did.id ∙ ap (λ (s : Settings). s.id) (settings_of host.past agent.store set is_of.holds.beats [] is_of.holds.store_of);
+        beat = beat;
         images = images;
       })
 
-  of-going : (fault : AgentFault) → Did fault → IsAgentOf host.past agent set h → EveryDisk (IsLeft set h) host'.past → IsSoundBy host'.past agent' set h
+  of-going : (fault : AgentFault) → Did fault → IsAgentOf host.past agent set h → EveryDisk (IsLeft set h beat) host'.past → IsSoundBy host'.past agent' set h
   of-going (Refused reason) did is_of images = let kept = did.unchanged tt in same kept.0 kept.1 (inl is_of)
   of-going DiskFault did is_of images = spent DiskFault why.Disk did is_of refl images
   of-going NotADatabase did is_of images = absurd (did.refused is_of.going)
@@ -92,7 +93,7 @@ module _ (host : Seen) (agent : AgentState) (reason : Option BlockFault) (host' 
   of-spent Memory did was = absurd (never agent was.cause was.spent did.reopens)
 
   -- a refused call keeps an agent sound
-  failed-sound : (fault : AgentFault) → Did fault → (IsAgentOf host.past agent set h → EveryDisk (IsLeft set h) host'.past) → IsSoundBy host.past agent set h → IsSoundBy host'.past agent' set h
+  failed-sound : (fault : AgentFault) → Did fault → (IsAgentOf host.past agent set h → EveryDisk (IsLeft set h beat) host'.past) → IsSoundBy host.past agent set h → IsSoundBy host'.past agent' set h
   failed-sound fault did images (inl is_of) = of-going fault did is_of (images is_of)
   failed-sound fault did images (inr was) = of-spent fault did was
 
@@ -112,9 +113,9 @@ module _ (honest : Type 0) (host : Seen) (agent : AgentState) (beat : OpenBeat) 
     id = did.id;
   }
 
-  beat-left : (disk : File → List ℕ) → StandsForOneOf set h beat_reason (collected moment beat ∷ h) disk → IsLeft set h disk
+  beat-left : (disk : File → List ℕ) → StandsForOneOf set h beat_reason (collected moment beat ∷ h) disk → IsLeft set h (collected moment beat) disk
   beat-left disk (inl stands) = inl stands
-  beat-left disk (inr stands) = inr (collected moment beat, stands.1)
+  beat-left disk (inr stands) = inr stands.1
 
   -- `beat` keeps an agent sound
   pub beat-sound : (result : Result Reply AgentFault) → Beats honest host agent beat moment result host' agent' → IsSoundBy host.past agent set h
@@ -122,7 +123,7 @@ module _ (honest : Type 0) (host : Seen) (agent : AgentState) (beat : OpenBeat) 
   beat-sound (Ok reply) did (inl is_of) = inl (did.done true_host set h is_of)
   beat-sound (Ok reply) did (inr was) = absurd (never agent was.cause was.spent did.reopens)
   beat-sound (Err fault) did sound =
-      failed-sound host agent beat_reason host' agent' set h fault (beat-failed fault did) (λ is_of disk images. beat-left disk (at_end (did.any_moment true_host set h is_of) disk images)) sound
+      failed-sound host agent beat_reason host' agent' set h (collected moment beat) fault (beat-failed fault did) (λ is_of disk images. beat-left disk (at_end (did.any_moment true_host set h is_of) disk images)) sound
 
 -- ---- a line
 module _ (honest : Type 0) (host : Seen) (agent : AgentState) (feed : Feed) (line : Line) (host' : Seen) (agent' : AgentState) (feed' : Feed) (set : Settings) (h : List Beat) (every : ℕ) (past : List Line)
@@ -141,11 +142,16 @@ module _ (honest : Type 0) (host : Seen) (agent : AgentState) (feed : Feed) (lin
     id = did.id;
   }
 
-  closed-left : (line : Line) (disk : File → List ℕ) → StandsForHistory set (history_with h every past line) disk → IsLeft set h disk
-  closed-left (Moment moment) disk stands = inr (collected moment (open_beat every past), stands)
+  -- the beat that a line closes: a line that closes none leaves the open beat
+  abbrev closed : Line → Beat
+  closed (Moment moment) = collected moment (open_beat every past)
+  closed line = collected 0 (open_beat every past)
+
+  closed-left : (line : Line) (disk : File → List ℕ) → StandsForHistory set (history_with h every past line) disk → IsLeft set h (closed line) disk
+  closed-left (Moment moment) disk stands = inr stands
   closed-left line disk stands = inl stands
 
-  line-left : (disk : File → List ℕ) → StandsForOneOf set h line_reason (history_with h every past line) disk → IsLeft set h disk
+  line-left : (disk : File → List ℕ) → StandsForOneOf set h line_reason (history_with h every past line) disk → IsLeft set h (closed line) disk
   line-left disk (inl stands) = inl stands
   line-left disk (inr stands) = closed-left line disk stands.1
 
@@ -155,5 +161,5 @@ module _ (honest : Type 0) (host : Seen) (agent : AgentState) (feed : Feed) (lin
   line-sound (Ok said) did (inl is_of) = inl (did.done true_host set h every past is_of is_feed)
   line-sound (Ok said) did (inr was) = absurd (never agent was.cause was.spent did.reopens)
   line-sound (Err fault) did sound =
-      failed-sound host agent line_reason host' agent' set h fault (line-failed fault did)
+      failed-sound host agent line_reason host' agent' set h (closed line) fault (line-failed fault did)
       (λ is_of disk images. line-left disk (at_end (did.any_moment true_host set h every past is_of is_feed) disk images)) sound

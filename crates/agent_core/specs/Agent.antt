@@ -66,14 +66,15 @@ abbrev pub AgentIsReady : Type 0 → List Event → AgentState → Type 0
 AgentIsReady honest past agent = agent.fault ≡ None → Fits honest past agent
 
 -- The agent was of this history, and a call of it was refused for the disk or for memory. A stop leaves the
--- history, or the history with the beat of that call. What the agent still answers is of the history.
+-- history, or the history with one beat more, the same for every stop. What the agent still answers is of the history.
 pub record IsSpentAfter (past : List Event) (agent : AgentState) (set : Settings) (h : List Beat) : Type 0 where
   pub cause : Why
   pub spent : agent.fault ≡ Some cause
   pub count : agent.count ≡ counted (length h)
   pub last_is : agent.last ≡ last h
   pub id : id_of agent ≡ set.id
-  pub images : EveryDisk (λ disk. StandsForHistory set h disk ⊎ ((beat : Beat) × StandsForHistory set (beat ∷ h) disk)) past
+  pub beat : Beat
+  pub images : EveryDisk (λ disk. StandsForHistory set h disk ⊎ StandsForHistory set (beat ∷ h) disk) past
 
 -- the agent is of this history, or was
 abbrev pub IsSoundBy : List Event → AgentState → Settings → List Beat → Type 0
