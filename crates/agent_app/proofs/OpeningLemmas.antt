@@ -25,7 +25,7 @@ use Rattle.host_model.specs.Seen.{Seen}
 use Rattle.agent_core.specs.Faults.{IsOpening}
 use Rattle.agent_core.specs.Kept.{StandsForHistory}
 use Rattle.agent_app.specs.declared.running.Running.{Running}
-use Rattle.agent_app.specs.Run.{ends_a_run, finds_none, is_opened, is_whole, Keeps, no_more, run_output, run_reading, run_rules, run_status, HasRunCause, Resumes, Runs, RunsAll}
+use Rattle.agent_app.specs.Run.{ends_a_run, finds_none, is_opened, is_whole, Keeps, IsAsFound, no_more, run_output, run_reading, run_rules, run_status, HasRunCause, Resumes, Runs, RunsAll}
 use Rattle.agent_app.specs.Running.{opening_status, Counts, DiskRose, IsRunning, TellRose}
 use Rattle.agent_app.proofs.AckLemmas.{acked-nothing, acked-since, text-front}
 use Rattle.agent_app.proofs.CauseLemmas.{both-counts, cause-as, stayed}
@@ -219,6 +219,9 @@ module _ (honest : Type 0) (host host' : Seen) (first : honest → IsDisk host.p
       apart : status.Memory ≡ status.DiskFault → ⊥
       apart e = cc
 
+  unopened-leaves : (why : AgentFault) → Opens honest host (Err why) host' → (left : Option (List ℕ)) (faults : ℕ) → IsAsFound honest left left faults faults host host'
+  unopened-leaves why opens left faults = record { source = (refl, refl); output = λ h. (opens.only_here h).output; tells = opens.tells; any_moment = opens.any_moment; same = opens.same }
+
   pub unopened : (why : AgentFault) → Opens honest host (Err why) host' → (left : Option (List ℕ)) (faults : ℕ) → RunsAll honest (opening_status why) left left faults faults host host'
   unopened why opens left faults = record {
     runs = λ h set h0 stands. unopened-runs why opens left (Rose faults faults) h set h0 stands;
@@ -233,7 +236,8 @@ module _ (honest : Type 0) (host host' : Seen) (first : honest → IsDisk host.p
     opened = λ is h. absurd (true≢false (sym is ∙ unopened-all why));
     statuses = opening-statuses why;
     input = record { taken = []; takes = Takes-none left; within = omega arith; limit = λ is. absurd (full why is); read = λ is. absurd (unread why is) };
-    leaves = λ _. record { source = (refl, refl); output = λ h. (opens.only_here h).output; tells = opens.tells; any_moment = opens.any_moment; same = opens.same };
+    leaves = λ _. unopened-leaves why opens left faults;
+    untaken = λ h none. unopened-leaves why opens left faults;
     others = λ h. (opens.only_here h).others;
     read_cause = stayed faults faults (opening_status why ≡ status.ReadFault) refl (unread why);
     tell_cause = stayed host.tell_faults host'.tell_faults (opening_status why ≡ status.TellFault) opens.tells (untold-yet why);
@@ -349,6 +353,7 @@ module _ {H : Type 0} (honest : Type 0) (seen : H → Seen) (host : Seen) (agent
       statuses = inl for-all.ends;
       input = record { taken = ran.text; takes = ran.takes; within = ran.within; limit = for-all.limit; read = λ is. (for-all.read is).1 };
       leaves = λ none. absurd (found-one s none for-all.ends);
+      untaken = λ h none. absurd (none (opens.notes h));
       others = both-others honest host (seen middle) (seen host') (λ h. (opens.only_here h).others) for-all.others;
       read_cause = record { later = up; failed = λ is. (for-all.read is).0; stays = still };
       tell_cause = all-counts.tells;

@@ -181,7 +181,7 @@ pub record TakesInput (status : Status) (left left' : Option (List ℕ)) : Type 
 
 -- the source, the output and the disk are as the run found them: at every moment a crash leaves what it might have
 -- left before, all files read as before, and nothing was told or taken
-pub record LeavesAll (honest : Type 0) (left left' : Option (List ℕ)) (source_faults source_faults' : ℕ) (host host' : Seen) : Type 0 where
+pub record IsAsFound (honest : Type 0) (left left' : Option (List ℕ)) (source_faults source_faults' : ℕ) (host host' : Seen) : Type 0 where
   pub source : (left' ≡ left) × (source_faults' ≡ source_faults)
   pub output : honest → told host'.past ≡ told host.past
   pub tells : host'.tell_faults ≡ host.tell_faults
@@ -227,8 +227,9 @@ pub record RunsAll (honest : Type 0) (status : Status) (left left' : Option (Lis
   -- whatever the host tells, these are the statuses of a run, and no more is taken of the source than may be
   pub statuses : (ends_a_run status ≡ true) ⊎ (finds_none status ≡ true)
   pub input : TakesInput status left left'
-  -- a run that finds no database that can be opened leaves all as it found it
-  pub leaves : finds_none status ≡ true → LeavesAll honest left left' source_faults source_faults' host host'
+  -- a run that finds no database that can be opened leaves all as it found it, whatever status it ended with
+  pub leaves : finds_none status ≡ true → IsAsFound honest left left' source_faults source_faults' host host'
+  pub untaken : honest → (HasNotes true (reads_as host.past) → ⊥) → IsAsFound honest left left' source_faults source_faults' host host'
   -- whatever status it ended with
   pub others : LeavesOthers honest host host'
   -- each part of the outside counts a failure exactly where that is why the run ended
