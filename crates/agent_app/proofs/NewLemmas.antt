@@ -15,11 +15,15 @@ there e = cc
 failed : status.Ok ≡ status.DiskFault → ⊥
 failed e = cc
 
+short : status.Ok ≡ status.Memory → ⊥
+short e = cc
+
 pub made-new : (honest : Type 0) (set : Settings) (host host' : Seen) (agent : AgentState) → Creates honest host set (Ok agent) host' → Makes honest set status.Ok host host'
 made-new honest set host host' agent creates = record {
   any_moment = creates.any_moment;
   created = λ _ h. stands-all host'.past agent set [] (creates.created h);
   none = λ _ h. creates.none h;
+  memory = λ is. absurd (short is);
   exists = λ is. absurd (there is);
   made = λ h made. absurd (true≢false (sym made ∙ creates.none h));
   statuses = inl refl;

@@ -21,6 +21,8 @@ pub record Makes (honest : Type 0) (set : Settings) (status : Status) (host host
   -- at Ok it leaves the new one, and there was none
   pub created : status ≡ Done → honest → EveryDisk (StandsForHistory set []) host'.past
   pub none : status ≡ Done → honest → is_made (reads_as host.past) ≡ false
+  -- where there was no memory nothing has happened
+  pub memory : status ≡ Memory → honest → host'.past ≡ host.past
   -- exactly where there is a database it is refused, or the disk failed, and nothing has happened
   pub exists : status ≡ Exists → honest → is_made (reads_as host.past) ≡ true
   pub made : honest → is_made (reads_as host.past) ≡ true → ((status ≡ Exists) ⊎ (status ≡ DiskFault)) × (host'.past ≡ host.past)
