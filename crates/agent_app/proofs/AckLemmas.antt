@@ -1,5 +1,5 @@
 -- Which stored beats the whole lines of a text acknowledge.
-use Rattle.std.proofs.Common.{◌≡◌, ℕ, zero, suc, ◌+◌, ◌/◌, ◌%◌, ◌<◌, ◌≤◌, ◌^◌, ⊎_elim, Bool, true, false, cond, nat_eq, nat_lt, List, [], ◌∷◌, ◌++◌, length, take, drop, All, codes, refl, sym, ap, subst, ◌∙◌, append_assoc, append-nil, arith, if◌then◌else◌}
+use Rattle.std.proofs.Common.{◌≡◌, ℕ, zero, suc, ◌+◌, ◌/◌, ◌%◌, ◌<◌, ◌≤◌, ◌^◌, ⊎_elim, Bool, true, false, cond, nat_eq, nat_lt, List, [], ◌∷◌, ◌++◌, length, take, drop, All, codes, refl, sym, ap, subst, ◌∙◌, append_assoc, append-nil, arith, true≢false, if◌then◌else◌}
 use Rattle.std.specs.Fmt.{decimal, digits, digits_onto, digit_glyph}
 use Rattle.std.specs.List.{slice_index, AllByRecursion}
 use Rattle.std.proofs.Math.ListN.{drop_of_length-le}
@@ -18,6 +18,7 @@ use Rattle.history.specs.Limits.{is_line_feed}
 use Rattle.point_lines.specs.declared.refusal.Refusal.{Refusal}
 use Rattle.point_lines.specs.declared.refusal.Refusal.TheVariants as refusal
 use Rattle.point_lines.specs.Judged.{refusal_number}
+use Rattle.agent_core.specs.declared.reply.Reply.{Reply}
 use Rattle.agent_core.specs.Replies.{reply_text}
 use Rattle.agent_app.specs.Convert.{is_limit, refusal_line, refusal_tail}
 use Rattle.agent_app.specs.Run.{stored_line, IsAckedUpTo}
@@ -117,6 +118,20 @@ acked-stored n count small up =
 pub closed-stored : (count : ℕ) → rest (reply_text (record { count = count })) ≡ []
 closed-stored count = ap last_part (one-line (stored_line count) (free-append (codes "STORED ") (decimal count) stored-free (decimal-free count)))
 
+-- a text that is not empty
+abbrev has-first : List ℕ → Bool
+has-first [] = false
+has-first (byte ∷ text) = true
+
+pub stored-some : (reply : Reply) → reply_text reply ≡ [] → ⊥
+stored-some reply none = true≢false (ap has-first none)
+
+-- what stands between two texts that are none together
+pub middle-none : (first middle last : List ℕ) → first ++ (middle ++ last) ≡ [] → middle ≡ []
+middle-none [] [] last none = refl
+middle-none [] (byte ∷ middle) last none = absurd (true≢false (ap has-first none))
+middle-none (byte ∷ first) middle last none = absurd (true≢false (ap has-first none))
+
 abbrev first_word : Bool → List ℕ
 first_word limit = if limit then codes "LIMIT " else codes "REFUSED "
 
@@ -144,3 +159,10 @@ acked-refusal n line why =
     (tail-free why) in
     let whole : text ≡ first ++ (decimal line ++ (codes " " ++ (decimal (refusal_number why) ++ refusal_tail why))) = simp append_assoc in
     acked-one n text free (λ m small is. absurd (no-stored (is_limit why) (decimal line ++ (codes " " ++ (decimal (refusal_number why) ++ refusal_tail why))) (decimal m) (sym whole ∙ is)))
+
+pub refusal-some : (line : ℕ) (why : Refusal) → refusal_line line why ≡ [] → ⊥
+refusal-some line why = by (is_limit why)
+  where
+    by : (limit : Bool) → first_word limit ++ decimal line ++ codes " " ++ decimal (refusal_number why) ++ refusal_tail why ++ codes "\n" ≡ [] → ⊥
+    by true none = true≢false (ap has-first none)
+    by false none = true≢false (ap has-first none)

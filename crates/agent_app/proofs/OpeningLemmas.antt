@@ -74,6 +74,15 @@ module _ (honest : Type 0) (host host' : Seen) (first : honest → IsDisk host.p
   by-fault P why (inl is) disk memory = subst P (sym is) disk
   by-fault P why (inr is) disk memory = subst P (sym is) memory
 
+  untold-yet : (why : AgentFault) → opening_status why ≡ status.TellFault → ⊥
+  untold-yet fault.NotADatabase e = cc
+  untold-yet fault.DiskFault e = cc
+  untold-yet (fault.Damaged part) e = cc
+  untold-yet other e = apart e
+    where
+      apart : status.Memory ≡ status.TellFault → ⊥
+      apart e = cc
+
   unopened-runs : (why : AgentFault) → Opens honest host (Err why) host' → (left : Option (List ℕ)) (source_rose : Type 0) → honest → (set : Settings) (h0 : List Beat) → EveryDisk (StandsForHistory set h0) host.past
       → Runs (opening_status why) set h0 left left host.past host'.past source_rose (TellRose host host') (DiskRose host host')
   unopened-runs why opens left source_rose h set h0 stands =
@@ -88,6 +97,7 @@ module _ (honest : Type 0) (host host' : Seen) (first : honest → IsDisk host.p
         stops = opening-stops set h0 host.past host'.past stands (opens.only_here h).output (opens.any_moment h);
         ends = λ all. absurd (true≢false (sym all ∙ short));
         output = record { sent = []; unsent = run_output h0 false []; whole = refl; tells = (opens.only_here h).output ∙ sym (append-nil (told host.past)); all = λ all. absurd (true≢false (sym all ∙ short)) };
+        told_for = λ is. absurd (untold-yet why is);
         cause =
             by-fault (λ (f : AgentFault). why ≡ f → HasRunCause (opening_status f) false (run_reading h0 false []).ending [] source_rose (TellRose host host') (DiskRose host host')) why which
             (λ is. opens.cause.failed (ap (λ (f : AgentFault). Err f) is)) (λ is. tt) refl;
@@ -193,15 +203,6 @@ module _ (honest : Type 0) (host host' : Seen) (first : honest → IsDisk host.p
   full other e = apart e
     where
       apart : status.Memory ≡ status.InputLimit → ⊥
-      apart e = cc
-
-  untold-yet : (why : AgentFault) → opening_status why ≡ status.TellFault → ⊥
-  untold-yet fault.NotADatabase e = cc
-  untold-yet fault.DiskFault e = cc
-  untold-yet (fault.Damaged part) e = cc
-  untold-yet other e = apart e
-    where
-      apart : status.Memory ≡ status.TellFault → ⊥
       apart e = cc
 
   disk-failed : (why : AgentFault) → opening_status why ≡ status.DiskFault → failed_by why ≡ failed_by fault.DiskFault
@@ -325,6 +326,7 @@ module _ {H : Type 0} (honest : Type 0) (seen : H → Seen) (host : Seen) (agent
           stops = over.stops.stops;
           ends = over.stops.ends;
           output = over.stops.output;
+          told_for = over.stops.told_for;
           cause =
               cause-wider s over.ended (run_reading h0 over.ended ran.text).ending ran.text (Rose faults faults') (TellRose (seen middle) (seen host')) (DiskRose (seen middle) (seen host'))
               (Rose faults faults') (TellRose host (seen host')) (DiskRose host (seen host')) (λ rose. rose) tells-sooner disk-sooner over.stops.cause;

@@ -42,6 +42,7 @@ stops-wider s set h0 ended text start new a b c a' b' c' f g h stop = record {
   stops = stop.stops;
   ends = stop.ends;
   output = stop.output;
+  told_for = stop.told_for;
   cause = cause-wider s ended (run_reading h0 ended text).ending text a b c a' b' c' f g h stop.cause;
 }
 
@@ -248,16 +249,16 @@ module _ {H : Type 0} (honest : Type 0) (seen : H → Seen) where
         }
 
       -- the run stopped where all lines were taken
-      over-open : (running'' : Running) (host'' : H) → IsRunning (seen host'').past running'' set h0 (lines text) start → HasNoLongLine text
+      over-open : (running'' : Running) (host'' : H) → IsRunning (seen host'').past running'' set h0 (lines text) start → HasNoLongLine text → (s ≡ status.TellFault → ⊥)
           → ((ending : Ending Refusal) → ending ≡ GoesOn → HasRunCause s false ending text source_rose (TellRose (seen host) (seen host'')) (DiskRose (seen host) (seen host'')))
           → ((more : List ℕ) → left ≡ Some more → (source_rose → ⊥) → (s ≡ run_status h0 (text ++ more)) ⊎ (s ≡ status.Memory))
           → Over s text left (seen host'').past source_rose (TellRose (seen host) (seen host'')) (DiskRose (seen host) (seen host''))
-      over-open running'' host'' going short cause whole =
+      over-open running'' host'' going short untold cause whole =
           let reads = read-open (run_rules h0) (lines text) going.read going.made going.has text refl (rest-fits text short) in
           record {
             ended = false;
             at_end = λ e. not-ended e;
-            stops = whole-stop (seen host'').past running'' set h0 start going.read going.made going.at false text source_rose (TellRose (seen host) (seen host'')) (DiskRose (seen host) (seen host'')) s
+            stops = whole-stop (seen host'').past running'' set h0 start going.read going.made going.at false text source_rose (TellRose (seen host) (seen host'')) (DiskRose (seen host) (seen host'')) s untold
                 (ap all_told reads ∙ append-nil going.made) (ap (history_at every h0) (says-all (run_rules h0) (lines text) going.read going.made going.has text refl))
                 (cause (run_reading h0 false text).ending (ap (λ (r : Reading Refusal). r.ending) reads));
             whole = λ more is none_read none_told none_disk. whole more is none_read;
@@ -291,13 +292,13 @@ module _ {H : Type 0} (honest : Type 0) (seen : H → Seen) where
                   (status-told s true (run_reading h0 true text).ending text source_rose (TellRose (seen host) (seen host'')) (DiskRose (seen host) (seen host'')) none_read none_told none_disk stop.cause);
             }
         run-over running'' host'' (at_fault is rose below took last) =
-            over-open running'' host'' (chain-runs running host first (lines text) running'' host'' took.chain) took.short
+            over-open running'' host'' (chain-runs running host first (lines text) running'' host'' took.chain) took.short (λ e. cc)
             (λ ending goes. subst (λ (a : Status). HasRunCause a false ending text source_rose (TellRose (seen host) (seen host'')) (DiskRose (seen host) (seen host''))) (sym is) (refl, goes, rose))
             (λ more there none. absurd (none rose))
         run-over running'' host'' (at_limit is full took) =
             let going = chain-runs running host first (lines text) running'' host'' took.chain in
             let reads = read-open (run_rules h0) (lines text) going.read going.made going.has text refl (rest-fits text took.short) in
-            over-open running'' host'' going took.short
+            over-open running'' host'' going took.short (λ e. cc)
             (λ ending goes. subst (λ (a : Status). HasRunCause a false ending text source_rose (TellRose (seen host) (seen host'')) (DiskRose (seen host) (seen host''))) (sym is) (refl, goes, full))
             (λ more there none. inl (is ∙ ap (λ (r : Reading Refusal). ending_status r.ending) (sym reads) ∙ status-full h0 input_limit text more full))
         run-over running'' host'' (at_want front is took) =

@@ -21,7 +21,8 @@ use Rattle.agent_app.specs.Convert.{all_told, ending_line, is_limit, refusal_lin
 use Rattle.agent_app.specs.Reading.{Ending, HasRead, RefusedAt, Reading, reading}
 use Rattle.agent_app.specs.Run.{Extends, history_with_text, is_whole, Keeps, no_more, run_output, run_reading, run_rules, HasRunCause, IsAckedUpTo}
 use Rattle.agent_app.specs.Running.{IsCutShort, RunsAt, StopsIn, TellsRefusal}
-use Rattle.agent_app.proofs.AckLemmas.{acked-refusal}
+use Rattle.agent_app.proofs.AckLemmas.{acked-refusal, middle-none, refusal-some}
+use Rattle.agent_app.proofs.CauseLemmas.{apart, refusal-inside}
 use Rattle.agent_app.proofs.RunningLemmas.{keeps-more, line-stops, stands-all, told-stops, torn-stops}
 
 -- these bytes were told of the output, and others were not
@@ -59,38 +60,43 @@ module _ (past : List Event) (running : Running) (set : Settings) (h0 : List Bea
     Kept new = Throughout (EveryStop (Keeps set h0 (history_with_text h0 text) (told start))) start new
 
     short-stop : (status : Status) (new : List Event) (sent unsent : List ℕ) → is_whole status ≡ false → Kept new → run_output h0 ended text ≡ sent ++ unsent → told new ≡ told start ++ sent
-        → HasRunCause status ended (run_reading h0 ended text).ending text source_rose tell_rose disk_rose → Stops status new
-    short-stop status new sent unsent short kept whole tells cause = record {
+        → (status ≡ TellFault → run_output h0 ended text ≡ [] → ⊥) → HasRunCause status ended (run_reading h0 ended text).ending text source_rose tell_rose disk_rose → Stops status new
+    short-stop status new sent unsent short kept whole tells told_for cause = record {
       stops = kept;
       ends = λ all. absurd (true≢false (sym all ∙ short));
       output = record { sent = sent; unsent = unsent; whole = whole; tells = tells; all = λ all. absurd (true≢false (sym all ∙ short)) };
+      told_for = told_for;
       cause = cause;
     }
 
     -- all of the text was told, and all of its beats are stored
-    pub whole-stop : (status : Status) → run_output h0 ended text ≡ made → history_with_text h0 text ≡ now → HasRunCause status ended (run_reading h0 ended text).ending text source_rose tell_rose disk_rose → Stops status past
-    whole-stop status output history cause = record {
+    pub whole-stop : (status : Status) → (status ≡ TellFault → ⊥) → run_output h0 ended text ≡ made → history_with_text h0 text ≡ now → HasRunCause status ended (run_reading h0 ended text).ending text source_rose tell_rose disk_rose → Stops status past
+    whole-stop status untold output history cause = record {
       stops = subst (λ (h : List Beat). Throughout (EveryStop (Keeps set h0 h (told start))) start past) (sym history) at.stops;
       ends = λ _. subst (λ (h : List Beat). EveryDisk (StandsForHistory set h) past) (sym history) (stands-all past running.agent set now at.agent);
       output = record { sent = made; unsent = []; whole = output ∙ sym (append-nil made); tells = at.tells; all = λ _. refl };
+      told_for = λ is. absurd (untold is);
       cause = cause;
     }
 
     -- there was no memory
     pub want-stop : Extends now (history_with_text h0 text) → Behind made (run_output h0 ended text) → Stops Memory past
-    want-stop more behind = short-stop Memory past made behind.left refl (keeps-more set h0 now (history_with_text h0 text) (told start) more start past at.stops) behind.whole at.tells tt
+    want-stop more behind = short-stop Memory past made behind.left refl (keeps-more set h0 now (history_with_text h0 text) (told start) more start past at.stops) behind.whole at.tells (λ is. absurd (short is)) tt
+      where
+        short : Memory ≡ TellFault → ⊥
+        short e = cc
 
     -- the line that says this was not taken
-    pub line-stop : (status : Status) (said : Line) (reason : Option BlockFault) (new : List Event) → is_whole status ≡ false → HasRunCause status ended (run_reading h0 ended text).ending text source_rose tell_rose disk_rose
+    pub line-stop : (status : Status) (said : Line) (reason : Option BlockFault) (new : List Event) → is_whole status ≡ false → (status ≡ TellFault → ⊥) → HasRunCause status ended (run_reading h0 ended text).ending text source_rose tell_rose disk_rose
         → Throughout (EveryDisk (StandsForOneOf set now reason (history_with now every read said))) past new → told new ≡ told past
         → Extends now (history_with_text h0 text) → (reason ≡ None → Extends (history_at every h0 (said ∷ read)) (history_with_text h0 text)) → Behind made (run_output h0 ended text) → Stops status new
-    line-stop status said reason new short cause moments silent here there behind =
-        short-stop status new made behind.left short (line-stops past running set h0 start read made at said reason new (history_with_text h0 text) here there moments silent) behind.whole (silent ∙ at.tells) cause
+    line-stop status said reason new short untold cause moments silent here there behind =
+        short-stop status new made behind.left short (line-stops past running set h0 start read made at said reason new (history_with_text h0 text) here there moments silent) behind.whole (silent ∙ at.tells) (λ is. absurd (untold is)) cause
 
     -- a text that is told next was not told whole
-    pub cut-stop : (status : Status) (honest : Type 0) (next : List ℕ) (new : List Event) → honest → IsCutShort status honest next past new tell_rose → IsAckedUpTo (length now) next
+    pub cut-stop : (status : Status) (honest : Type 0) (next : List ℕ) (new : List Event) → honest → IsCutShort status honest next past new tell_rose → IsAckedUpTo (length now) next → (next ≡ [] → ⊥)
         → Extends now (history_with_text h0 text) → Behind (made ++ next) (run_output h0 ended text) → Stops status new
-    cut-stop status honest next new h (inl (is, rose, torn)) acked more behind = subst (λ (s : Status). Stops s new) (sym is) (by (torn h))
+    cut-stop status honest next new h (inl (is, rose, torn)) acked some more behind = subst (λ (s : Status). Stops s new) (sym is) (by (torn h))
       where
         kept : Kept new
         kept = keeps-more set h0 now (history_with_text h0 text) (told start) more start new (torn-stops past running set h0 start read made at next acked new (torn h))
@@ -98,14 +104,17 @@ module _ (past : List Event) (running : Running) (set : Settings) (h0 : List Bea
         output : run_output h0 ended text ≡ made ++ (next ++ behind.left)
         output = behind.whole ∙ append_assoc made next behind.left
 
+        told_for : TellFault ≡ TellFault → run_output h0 ended text ≡ [] → ⊥
+        told_for is none = some (middle-none made next behind.left (sym output ∙ none))
+
         by : MayAdd (λ (n : ℕ). Told (take n next)) past new → Stops TellFault new
-        by (inl same) = short-stop TellFault new made (next ++ behind.left) refl kept output (ap told same ∙ at.tells) rose
+        by (inl same) = short-stop TellFault new made (next ++ behind.left) refl kept output (ap told same ∙ at.tells) told_for rose
         by (inr (n, added)) =
             short-stop TellFault new (made ++ take n next) (drop n next ++ behind.left) refl kept
             (output ∙ ap (λ (t : List ℕ). made ++ (t ++ behind.left)) (sym (take-append-drop n next)) ∙ ap (λ (t : List ℕ). made ++ t) (append_assoc (take n next) (drop n next) behind.left)
             ∙ sym (append_assoc made (take n next) (drop n next ++ behind.left)))
-            (ap told added ∙ ap (λ (t : List ℕ). t ++ take n next) at.tells ∙ append_assoc (told start) made (take n next)) rose
-    cut-stop status honest next new h (inr (is, same)) acked more behind =
+            (ap told added ∙ ap (λ (t : List ℕ). t ++ take n next) at.tells ∙ append_assoc (told start) made (take n next)) told_for rose
+    cut-stop status honest next new h (inr (is, same)) acked some more behind =
         subst (λ (s : Status). Stops s new) (sym is)
         (subst (λ (p : List Event). Stops Memory p) (sym same) (want-stop more (record { left = next ++ behind.left; whole = behind.whole ∙ append_assoc made next behind.left })))
 
@@ -126,8 +135,9 @@ module _ (past : List Event) (running : Running) (set : Settings) (h0 : List Bea
             tells = ap told (done h) ∙ ap (λ (t : List ℕ). t ++ line) at.tells ∙ append_assoc (told start) made line;
             all = λ _. refl;
           };
+          told_for = λ untold none. apart (refusal_status number why) TellFault (refusal-inside number why) refl untold;
           cause = refusal-cause number why ended (run_reading h0 ended text).ending text source_rose tell_rose disk_rose (ap (λ (r : Reading Refusal). r.ending) whole);
         })
     refusal-stop status honest number why new h (inr cut) whole history =
-        cut-stop status honest (refusal_line number why) new h cut (acked-refusal (length now) number why)
+        cut-stop status honest (refusal_line number why) new h cut (acked-refusal (length now) number why) (refusal-some number why)
         (subst (λ (w : List Beat). Extends now w) (sym history) no_more) (record { left = []; whole = ap all_told whole ∙ sym (append-nil (made ++ refusal_line number why)) })

@@ -46,7 +46,7 @@ use Rattle.agent_app.specs.Convert.{all_told, is_limit}
 use Rattle.agent_app.specs.Reading.{Ending, HasRead, RefusedAt, Reading}
 use Rattle.agent_app.specs.Run.{Extends, history_with_text, is_whole, judged_after, run_output, run_reading, run_rules, stored_at, HasRunCause, IsAckedUpTo, LeavesOthers}
 use Rattle.agent_app.specs.Running.{is_query, Counts, DiskRose, EndsRun, IsCutShort, IsTakers, Overflows, RunsAt, TakesLine, TellRose, TellsRefusal}
-use Rattle.agent_app.proofs.AckLemmas.{acked-stored, closed-stored}
+use Rattle.agent_app.proofs.AckLemmas.{acked-stored, closed-stored, stored-some}
 use Rattle.agent_app.proofs.CauseLemmas.{apart, both-counts, cause-as, counts-none, ended-as, ended-counts, ended_so, going-counts, is_outside, refusal-inside, same-counts, stayed, went_on}
 use Rattle.agent_core.proofs.ClosedLemmas.{text-line}
 use Rattle.agent_app.proofs.ExtendsLemmas.{extends-text}
@@ -233,7 +233,7 @@ module _ (honest : Type 0) (running : Running) (host : Seen) (number : ℕ) (byt
       run = λ h set h0 front start going number_is ended text next more whole.
           let read = going.read in
           let made = going.made in
-          line-stop host.past running set h0 start read made going.at ended text ⊥ (TellRose host middle) (DiskRose host middle) status said (reason read) middle.past part
+          line-stop host.past running set h0 start read made going.at ended text ⊥ (TellRose host middle) (DiskRose host middle) status said (reason read) middle.past part untold
           (cause ended (run_reading h0 ended text).ending text) (moments h set h0 start read made going.at) (lined.only_here h).output
           (extends-text h0 front read made going.has text bytes (next ∷ more) whole) (reaches h set h0 start read made going.at front going.has text next more whole)
           (output-behind h0 front read made going.has ended text bytes (next ∷ more) whole);
@@ -268,7 +268,7 @@ module _ (honest : Type 0) (running : Running) (host : Seen) (number : ℕ) (byt
           let made = going.made in
           let judge = judged h set h0 start read made going.at reply ok in
           let reads = read-over (run_rules h0) front read made going.has text bytes next more said ended whole short judge ends in
-          whole-stop middle.past now set h0 start (said ∷ read) made (taken h set h0 start read made going.at reply ok) ended text ⊥ (TellRose host middle) (DiskRose host middle) Done
+          whole-stop middle.past now set h0 start (said ∷ read) made (taken h set h0 start read made going.at reply ok) ended text ⊥ (TellRose host middle) (DiskRose host middle) Done (λ e. cc)
           (ap all_told reads ∙ append-nil (made ++ []) ∙ append-nil made)
           (ap (history_at every h0) (says-over (run_rules h0) front read made going.has text bytes next more said whole short judge ends) ∙ sym (disable-same h0 read said ends))
           (ap (λ (r : Reading Refusal). r.ending) reads);
@@ -344,7 +344,7 @@ module _ (honest : Type 0) (running : Running) (host : Seen) (number : ℕ) (byt
                 let has = read-next (run_rules h0) front read made going.has bytes said short (judged h set h0 start read made going.at (Stored reply) ok) (goes-on h0 read) in
                 let whole' = with-next h set h0 start read made going.at front going.has text after_next more whole in
                 let behind = output-behind h0 (front ++ bytes ∷ []) (said ∷ read) (made ++ stored_at h0 read said) has ended text after_next more whole' in
-                cut-stop middle.past now set h0 start (said ∷ read) made at ended text ⊥ (TellRose host host') (DiskRose host host') status honest next host'.past h cut' (next-acked h0 read at.agent.count)
+                cut-stop middle.past now set h0 start (said ∷ read) made at ended text ⊥ (TellRose host host') (DiskRose host host') status honest next host'.past h cut' (next-acked h0 read at.agent.count) (stored-some reply)
                 (extends-text h0 (front ++ bytes ∷ []) (said ∷ read) (made ++ stored_at h0 read said) has text after_next more whole')
                 (subst (λ (t : List ℕ). Behind (made ++ t) (run_output h0 ended text)) (sym (text-is h0 read at.agent.count)) behind);
             statuses = cut-takers status honest next middle.past host'.past (TellRose host host') cut';
@@ -434,7 +434,7 @@ module _ (honest : Type 0) (running : Running) (host : Seen) where
           let fit : fits (rest text) ≡ true = subst (λ (t : List ℕ). fits t ≡ true) left_is short in
           let all : is_unfinished every going.read (rest text) ≡ false = subst (λ (t : List ℕ). is_unfinished every going.read t ≡ false) left_is (finished every going.read going.at.feed) in
           let reads = read-ended (run_rules h0) (lines text) going.read going.made going.has text refl fit all in
-          whole-stop host.past running set h0 start going.read going.made going.at true text ⊥ (TellRose host host) (DiskRose host host) Done
+          whole-stop host.past running set h0 start going.read going.made going.at true text ⊥ (TellRose host host) (DiskRose host host) Done (λ e. cc)
           (ap all_told reads ∙ append-nil (going.made ++ []) ∙ append-nil going.made) (ap (history_at every h0) (says-all (run_rules h0) (lines text) going.read going.made going.has text refl))
           (ap (λ (r : Reading Refusal). r.ending) reads);
       statuses = tt;

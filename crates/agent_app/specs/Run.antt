@@ -135,6 +135,8 @@ pub record Runs (status : Status) (set : Settings) (h0 : List Beat) (left left' 
   -- at the end all of them, unless the output, the disk or memory failed
   pub ends : is_whole status ≡ true → EveryDisk (StandsForHistory set (history_with_text h0 taken)) new
   pub output : TellsRun status (run_output h0 ended taken) old new
+  -- no failure of the output ends a run of which nothing is to be told
+  pub told_for : status ≡ TellFault → run_output h0 ended taken ≡ [] → ⊥
   pub cause : HasRunCause status ended (run_reading h0 ended taken).ending taken source_rose tell_rose disk_rose
 
 -- from some moment on all that a stop might leave of the disk was a database of this history, and the run was one on it

@@ -54,6 +54,7 @@ pub record StopsIn (status : Status) (set : Settings) (h0 : List Beat) (ended : 
   pub stops : Throughout (EveryStop (Keeps set h0 (history_with_text h0 text) (told start))) start new
   pub ends : is_whole status ≡ true → EveryDisk (StandsForHistory set (history_with_text h0 text)) new
   pub output : TellsRun status (run_output h0 ended text) start new
+  pub told_for : status ≡ TellFault → run_output h0 ended text ≡ [] → ⊥
   pub cause : HasRunCause status ended (run_reading h0 ended text).ending text source_rose tell_rose disk_rose
 
 -- ---- what is told
