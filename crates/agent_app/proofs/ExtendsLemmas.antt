@@ -55,7 +55,11 @@ module _ (h0 : List Beat) where
       by true (Err why) later = no_more
       by true (Ok said) later = goes said (is_disable said) (later said)
 
-  -- the history of a text of which these lines are read
+  -- the history of a text
+  pub extends-whole : (text : List ℕ) → Extends h0 (history_with_text h0 text)
+  extends-whole text = extends-lines (parts text) []
+
+  -- and of one of which these lines are read
   pub extends-text : (front : List (List ℕ)) (past : List Line) (made : List ℕ) → HasRead rules front past made → (text next : List ℕ) (more : List (List ℕ)) → parts text ≡ front ++ next ∷ more
       → Extends (history_at every h0 past) (history_with_text h0 text)
   extends-text front past made has text next more whole =

@@ -109,7 +109,7 @@ module _ (honest : Type 0) (host host' : Seen) (first : honest → IsDisk host.p
     read = host'.past;
     before = opens.any_moment h;
     silent = (opens.only_here h).output;
-    after = inr (by-fault (λ (f : AgentFault). is_whole (opening_status f) ≡ false) why (opens.stands h set h0 here) refl refl, refl, refl);
+    after = inr (by-fault (λ (f : AgentFault). (opening_status f ≡ status.DiskFault) ⊎ (opening_status f ≡ status.Memory)) why (opens.stands h set h0 here) (inl refl) (inr refl), refl, refl);
   }
 
   unopened-whole : (why : AgentFault) → Opens honest host (Err why) host' → honest → (set : Settings) (h0 : List Beat) → EveryDisk (StandsForHistory set h0) host.past → (text : List ℕ) → (DiskRose host host' → ⊥)

@@ -151,8 +151,8 @@ pub record Resumes (status : Status) (set : Settings) (h0 : List Beat) (left lef
   -- until then a stop leaves what it might have left before, and nothing is told
   pub before : Throughout (EveryDisk (IsDisk old)) old read
   pub silent : told read ≡ told old
-  -- from then on the run is one on that history, unless the disk or memory failed before
-  pub after : RunsOn status set h0 left left' read new source_rose tell_rose disk_rose ⊎ ((is_whole status ≡ false) × (new ≡ read) × (left' ≡ left))
+  -- from then on the run is one on that history, unless the disk or memory failed before, and then it ended there
+  pub after : RunsOn status set h0 left left' read new source_rose tell_rose disk_rose ⊎ (((status ≡ DiskFault) ⊎ (status ≡ Memory)) × (new ≡ read) × (left' ≡ left))
 
 -- the statuses of a run that found its database and opened it
 abbrev pub ends_a_run : Status → Bool
