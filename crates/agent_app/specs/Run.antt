@@ -154,7 +154,7 @@ pub record Resumes (status : Status) (set : Settings) (h0 : List Beat) (left lef
   -- from then on the run is one on that history, unless the disk or memory failed before, and then it ended there
   pub after : RunsOn status set h0 left left' read new source_rose tell_rose disk_rose ⊎ (((status ≡ DiskFault) ⊎ (status ≡ Memory)) × (new ≡ read) × (left' ≡ left))
 
--- the statuses of a run that found its database and opened it
+-- the statuses of a run, but those of one that found no database that can be opened
 abbrev pub ends_a_run : Status → Bool
 ends_a_run Done = true
 ends_a_run (Refused line number) = true

@@ -1,11 +1,13 @@
 //! The commands of the program, over an outside that may fail at any call.
 //!
-//! `agent_main` is the top call. Its contract says, for every input and whatever fails: what is
-//! told is the front of a stated function of the bytes that were taken, and all of it unless the
-//! output, the disk or memory failed; what a stop may leave of the database at any moment; and why
-//! the run ended with the status that it answers. It stands on `line_stream` for the lines of a
-//! stream, on `point_lines` for what the lines of a text tell, on `agent_core` for the agent whose
-//! beats are stored, and on `host_model` for the outside.
+//! `agent_main` is the top call. Over an honest host its contract says, for every input and whatever
+//! fails: what is told is a front of a stated function of the bytes taken, and all of it unless the
+//! output, the disk or memory failed. It says what a stop may leave of the database at any moment, and
+//! why the run ended with the status that it answers. Of `run` it says so where the disk reads as a
+//! database of a history.
+//!
+//! It stands on `line_stream` for the lines of a stream, on `point_lines` for what the lines of a text
+//! tell, on `agent_core` for the agent whose beats are stored, and on `host_model` for the outside.
 #![tactic(auto)]
 
 ghost use Rattle.std.specs.Prelude.{◌≡◌, ◌↔◌, None, Some};
@@ -42,10 +44,10 @@ pub use law::any_course;
 /// moment, the chart, the dimension and the value, then ` A` where it is anomalous and ` R` where
 /// its counter was reset. A text that ends, or that a DISABLE line ends, tells `SKIPPED` and how
 /// many lines were skipped, if any were. A text that is refused tells `REFUSED`, the number of the
-/// line and the number of the refusal, after the points of the beats before, and then the last
-/// moment where a moment is not above it; a text that asks for too many charts or dimensions tells
-/// `LIMIT` so. No more than 2^40 bytes are taken of the input. Want of memory may end a run at any
-/// place, with `Status::Memory`.
+/// line and the number of the refusal, after the points of the beats before. Where a moment is not
+/// above the last one, that is told behind the two numbers. A text that asks for too many charts or
+/// dimensions tells `LIMIT` so. No more than 2^40 bytes are taken of the input. Want of memory may
+/// end a run at any place, with `Status::Memory`.
 ///
 /// `new ID`, or `new ID P0 Q0 P1 Q1 P2 Q2`, makes a database on the host's disk: its id below 2^64,
 /// and for each tier how many items make a segment full and how many segments are kept. `Exists`

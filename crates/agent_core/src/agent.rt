@@ -141,11 +141,12 @@ impl Agent {
     /// Opens the database of an agent and goes through all that it holds.
     ///
     /// `NotADatabase` exactly where there is none, and `Damaged` only where what is there stands for no
-    /// history: with 4 where its journal holds no settings and beats, and with 5 where a note in it is no entry
-    /// of a beat with the moment of its record, or does not go on from those before, where collected beats and
-    /// copies mix, where a definition in it does not keep its limits, or where a point names a series that is not
-    /// there. The words and steps of points are not compared with their definition, the text of a configuration is
-    /// not read, and a gap's child and beginning are compared with nothing.
+    /// history: with 4 where its journal holds no settings and beats, and with 5 where a note or a point in it
+    /// is bad. A note is bad where it is no entry of a beat with the moment of its record, does not go on from
+    /// those before, mixes copies with collected beats, or has a definition that does not keep its limits. A
+    /// point is bad where it names a series that is not there. The words and steps of points are not compared
+    /// with their definition, the text of a configuration is not read, and a gap's child and beginning are
+    /// compared with nothing.
     /// At `Ok` the agent is of just the history that the disk stands for, if it stands for one. The disk is only
     /// read and synced.
     pub fn open<H: Host>(alloc: Global, host: &mut H) -> Result<Agent, AgentFault>

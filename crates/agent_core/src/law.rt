@@ -24,9 +24,9 @@ ghost use Rattle.agent_core.specs.Sound.{history_after, history_by};
 
 use host_model::Host;
 
-/// The laws of a text of accepted lines that follows a history, whose charts whose line leaves it open have
-/// this update_every: the beat that a MOMENT closes is not refused once more, so that a line is refused just
-/// where it is refused for where it stands, and the history keeps within its limits. It does nothing.
+/// The laws of a text of accepted lines that follows a history; the charts whose line leaves it open have this
+/// update_every. The beat that a MOMENT closes is not refused once more, so that a line is refused just where
+/// it is refused for where it stands. The history keeps within its limits. It does nothing.
 pub fn any_text()
     ensures closed { (every : ℕ) (h : List Beat) (past : List Line) (moment : ℕ)
         → IsWithin (registry_of h)

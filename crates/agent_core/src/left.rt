@@ -42,6 +42,8 @@ impl Role {
 /// What the notes of kept beats leave: the charts and dimensions by number, and what the history does.
 #[derive(Drop)]
 pub struct Left {
+    /// The charts and dimensions that the notes define, by number.
     pub registry: Registry,
+    /// Whether beats were collected, or copied, or neither yet.
     pub role: Role,
 }

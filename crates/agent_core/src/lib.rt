@@ -2,10 +2,11 @@
 //! beats that were stored.
 //!
 //! `beat` refuses a beat exactly where its history does, for the first reason, and then nothing has changed.
-//! Else it stores the beat: at every moment a stop leaves the history, or the history with the beat, and a
-//! beat that was answered with `Ok` is never lost again. `line` takes a line of a text and stores the beat that
-//! it closes. `create` makes the agent of a history without beats: at every moment a stop leaves no database, or
-//! that of this history. `open` gives the agent of just the history that the disk stands for. After a failure of
+//! Else it stores the beat, unless the disk or memory fails. Over an honest host a stop leaves at every moment
+//! the history, or the history with the beat, and a beat that was answered with `Ok` is never lost again. `line`
+//! takes a line of a text and stores the beat that it closes. `create` makes the agent of a history without
+//! beats: over an honest host a stop leaves at every moment no database, or that of this history. `open` gives
+//! the agent of just the history that an honest host's disk stands for. After a failure of
 //! the disk, or where memory was refused, each call answers that the agent must be opened again, with the first
 //! cause, and the count, the last moment and the id answer as before. What a call promises is one record of
 //! facts (`Beats`, `Lines`, `Creates`, `Opens`). It is proved from these records alone that an agent stays sound
