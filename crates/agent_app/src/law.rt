@@ -24,9 +24,9 @@ pub fn any_course<H: Host>()
         → RunsAll H.honest status left left' source_faults source_faults' (H.seen host)
         (H.seen host')
         → Throughout (EveryStop (λ disk text. HoldsRuns set (record {
-        left = left;
-        left_after = left';
-        text = drop (length (told (H.seen host).past)) text;
+          left = left;
+          left_after = left';
+          text = drop (length (told (H.seen host).past)) text;
         } ∷ runs) disk))
         (H.seen host).past (H.seen host').past }
 {}
