@@ -4,3 +4,8 @@ pub mod SeriesLemmas
 pub mod LookupLemmas
 pub mod ValueLemmas
 pub mod PairLemmas
+pub mod RowLemmas
+pub mod ExprLemmas
+pub mod SameLemmas
+pub mod LogLemmas
+pub mod TableLemmas

@@ -10,7 +10,7 @@ use Rattle.alarm_core.specs.Pairs.{most_pairs, first_pairs}
 
 -- ---- numbers in a row
 
-range_suc : (a n : ℕ) → range_with_len a (suc n) ≡ range_with_len a n ++ (a + n) ∷ []
+pub range_suc : (a n : ℕ) → range_with_len a (suc n) ≡ range_with_len a n ++ (a + n) ∷ []
 range_suc a zero = let same : a ≡ a + 0 = omega arith in ap (λ (k : ℕ). k ∷ []) same
 range_suc a (suc n) =
     let same : a + 1 + n ≡ a + suc n = omega arith in

@@ -7,7 +7,7 @@ use Rattle.history.specs.Registry.{Registry, is_of}
 use Rattle.chart_registry.specs.Defining.{chart_id}
 use Rattle.alarm_core.specs.Series.{series_from, series_of_chart}
 
-first_series : (chart : List ℕ) (first : ℕ) (dimension : OpenDim) (others : List OpenDim) (kept test : Bool)
+pub first_series : (chart : List ℕ) (first : ℕ) (dimension : OpenDim) (others : List OpenDim) (kept test : Bool)
     → kept ≡ test → is_of chart dimension ≡ test
     → series_from chart first (dimension ∷ others) ≡ (if kept then first ∷ [] else []) ++ series_from chart (first + 1) others
 first_series chart first dimension others true true same is = rw is refl

@@ -1,4 +1,6 @@
+pub mod Seen
 pub mod Series
+pub mod Known
 pub mod Variables
 pub mod Within
 pub mod Verdict
@@ -7,3 +9,10 @@ pub mod Step
 pub mod Lookups
 pub mod Gathering
 pub mod Pairs
+pub mod Same
+pub mod Telling
+pub mod Pairing
+pub mod Beats
+pub mod Course
+pub mod Rows
+pub mod Faults

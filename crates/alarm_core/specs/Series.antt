@@ -1,6 +1,6 @@
 -- The series of a chart, and the one that a name means.
 use Rattle.std.specs.Prelude.{ℕ, ◌-◌, ◌==◌, Bool, false, if◌then◌else◌, List, length, filter, find, map, take, slice_get, codes, Option, Some, None}
-use Rattle.std.specs.List.{enumerate_from, ends_with}
+use Rattle.std.specs.List.{enumerate_from, ends_with, range_with_len}
 use Rattle.std.specs.Option.{option_map_or, option_or}
 use Rattle.std.specs.Str.{bytes_eq}
 use Rattle.history.specs.declared.beat.OpenDim.{OpenDim}
@@ -15,6 +15,10 @@ series_from chart first dimensions =
 -- the series of the chart with this number, in their order
 unfoldable pub series_of_chart : Registry → ℕ → List ℕ
 series_of_chart registry chart = series_from (chart_id registry chart) 0 registry.dimensions
+
+-- of each chart, in the order of their numbers
+abbrev pub series_of_all : Registry → List (List ℕ)
+series_of_all registry = map (series_of_chart registry) (range_with_len 0 (length registry.charts))
 
 -- whether the dimension of a series has this name
 abbrev pub has_name : Registry → List ℕ → ℕ → Bool

@@ -6,7 +6,7 @@ use Rattle.tier_rollup.specs.declared.point.Point.{Point}
 use Rattle.alarm_events.specs.declared.status.Status.{Status}
 use Rattle.alarm_events.specs.Status.{number}
 use Rattle.alarm_core.specs.declared.delay.Delay.{Delay}
-use Rattle.alarm_core.specs.declared.scene.Scene.{Scene}
+use Rattle.alarm_core.specs.Seen.{Seen}
 use Rattle.alarm_core.specs.declared.step.Step.{Step}
 use Rattle.alarm_core.specs.Verdict.{value_at, status_at}
 use Rattle.alarm_core.specs.Delay.{new_delay}
@@ -16,20 +16,24 @@ use Rattle.alarm_core.specs.Lookups.{looked_up}
 abbrev pub span_of : ℕ → ℕ → ℕ
 span_of every moment = moment / max every 1
 
--- an alarm is stepped on a beat that lies in another span than the beat before
-abbrev pub is_stepped : Scene → Bool
-is_stepped scene = not (span_of scene.alarm.now.every scene.moment == span_of scene.alarm.now.every scene.latest.now.before)
+-- a moment lies in another span than the moment before
+abbrev pub is_in_new_span : ℕ → ℕ → ℕ → Bool
+is_in_new_span every before moment = not (span_of every moment == span_of every before)
+
+-- an alarm is stepped on the first beat of each span
+abbrev pub is_stepped : Seen → Bool
+is_stepped scene = is_in_new_span scene.alarm.every scene.latest.before scene.moment
 
 abbrev pub is_same : Status → Status → Bool
 is_same one other = number one == number other
 
 -- the delay of a change of status, where there is a change that is to be told
-abbrev pub delay_of_change : Scene → Option Delay → Status → Option Delay
+abbrev pub delay_of_change : Seen → Option Delay → Status → Option Delay
 delay_of_change scene before status =
-    if is_same scene.status status then None else new_delay scene.alarm.now before scene.moment scene.status status
+    if is_same scene.status status then None else new_delay scene.alarm before scene.moment scene.status status
 
 -- a step to this value and this status; what is not told leaves the delay
-abbrev pub step_to : Scene → Option Delay → Value → Status → Step
+abbrev pub step_to : Seen → Option Delay → Value → Status → Step
 step_to scene before value status = record {
   value = value;
   status = status;
@@ -38,11 +42,11 @@ step_to scene before value status = record {
 }
 
 -- what the alarm of a scene looks up, by the floor and the points of each series
-abbrev pub found_by : Scene → ℕ → (ℕ → List Point) → Option Value
+abbrev pub found_by : Seen → ℕ → (ℕ → List Point) → Option Value
 found_by scene floor told =
-    option_map (λ lookup. looked_up scene.registry.now scene.chart lookup scene.moment floor told) scene.alarm.now.lookup
+    option_map (λ lookup. looked_up scene.registry scene.chart lookup scene.moment floor told) scene.alarm.lookup
 
 -- the step of an alarm that looked this up, and had this value and this delay
-abbrev pub stepped : Scene → Option Value → Value → Option Delay → Step
+abbrev pub stepped : Seen → Option Value → Value → Option Delay → Step
 stepped scene found value delay =
     let now = value_at scene found value in step_to scene delay now (status_at scene now)

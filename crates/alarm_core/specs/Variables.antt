@@ -14,7 +14,7 @@ use Rattle.alarm_events.specs.declared.status.Status.{Status}
 use Rattle.alarm_events.specs.declared.status.Status.TheVariants.{Removed, Undefined, Uninitialized, Clear, Warning, Critical}
 use Rattle.alarm_events.specs.Status.{number}
 use Rattle.alarm_core.specs.declared.latest.Latest.{Latest}
-use Rattle.alarm_core.specs.declared.scene.Scene.{Scene}
+use Rattle.alarm_core.specs.Seen.{Seen}
 use Rattle.alarm_core.specs.Series.{meant, before_raw}
 
 -- ---- numbers
@@ -83,22 +83,22 @@ abbrev pub update_every : Registry → ℕ → Value
 update_every registry chart = option_map_or (λ def. whole def.update_every) (slice_get registry.charts chart) Nan
 
 -- the names that stand for no status and no dimension
-abbrev pub word_worth : Scene → Value → List ℕ → Option Value
+abbrev pub word_worth : Seen → Value → List ℕ → Option Value
 word_worth scene this name =
     if bytes_eq name (codes "this") then Some this
     else (if bytes_eq name (codes "status") then Some (status_worth scene.status)
     else (if bytes_eq name (codes "now") then Some (whole scene.moment)
-    else (if bytes_eq name (codes "update_every") then Some (update_every scene.registry.now scene.chart)
-    else (if bytes_eq name (codes "last_collected_t") then Some (moment_or_nan (slice_index scene.latest.now.charts scene.chart))
-    else (if bytes_eq name (codes "green") then Some (or_nan scene.alarm.now.green)
-    else (if bytes_eq name (codes "red") then Some (or_nan scene.alarm.now.red)
+    else (if bytes_eq name (codes "update_every") then Some (update_every scene.registry scene.chart)
+    else (if bytes_eq name (codes "last_collected_t") then Some (moment_or_nan (slice_index scene.latest.charts scene.chart))
+    else (if bytes_eq name (codes "green") then Some (or_nan scene.alarm.green)
+    else (if bytes_eq name (codes "red") then Some (or_nan scene.alarm.red)
     else None))))))
 
 -- what a name is worth: one of those, else a status, else a dimension of the chart
-abbrev pub named : Scene → Value → List ℕ → Value
+abbrev pub named : Seen → Value → List ℕ → Value
 named scene this name =
     unwrap_or (option_or (word_worth scene this name) (option_map status_worth (status_named name)))
-    (dimension_worth scene.registry.now scene.latest.now scene.chart name)
+    (dimension_worth scene.registry scene.latest scene.chart name)
 
-abbrev pub variable : Scene → Value → List ℕ → Value
+abbrev pub variable : Seen → Value → List ℕ → Value
 variable scene this name = capped (named scene this name)

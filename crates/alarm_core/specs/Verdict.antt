@@ -9,7 +9,7 @@ use Rattle.health_expr.specs.TreeOf.{tree_of}
 use Rattle.health_expr.specs.declared.expr.Expr.{Expr}
 use Rattle.alarm_events.specs.declared.status.Status.{Status}
 use Rattle.alarm_events.specs.declared.status.Status.TheVariants.{Undefined, Clear, Warning, Critical}
-use Rattle.alarm_core.specs.declared.scene.Scene.{Scene}
+use Rattle.alarm_core.specs.Seen.{Seen}
 use Rattle.alarm_core.specs.Variables.{variable}
 
 abbrev pub is_nan : Value → Bool
@@ -25,15 +25,15 @@ is_number (Fixed units) = true
 -- ---- the value
 
 -- what an expression is worth, where `$this` is worth so much
-abbrev pub worth_at : Scene → Value → Expr → Value
+abbrev pub worth_at : Seen → Value → Expr → Value
 worth_at scene this expr = worth (variable scene this) (tree_of expr)
 
 -- What an alarm is worth, where it looked this up and was worth so much before. `calc` says it, and there
 -- `$this` is what was looked up, or without a lookup the value before. Without `calc` it is what was
 -- looked up, and with neither nan.
-abbrev pub value_at : Scene → Option Value → Value → Value
+abbrev pub value_at : Seen → Option Value → Value → Value
 value_at scene found before =
-    option_map_or (worth_at scene (unwrap_or found before)) scene.alarm.now.calc (unwrap_or found Nan)
+    option_map_or (worth_at scene (unwrap_or found before)) scene.alarm.calc (unwrap_or found Nan)
 
 -- ---- the status
 
@@ -55,6 +55,6 @@ status_for value warn crit =
     else Undefined)))
 
 -- the status of an alarm that is worth so much: there `$this` is that value, and `$status` the one before
-abbrev pub status_at : Scene → Value → Status
+abbrev pub status_at : Seen → Value → Status
 status_at scene value =
-    status_for value (option_map (worth_at scene value) scene.alarm.now.warn) (option_map (worth_at scene value) scene.alarm.now.crit)
+    status_for value (option_map (worth_at scene value) scene.alarm.warn) (option_map (worth_at scene value) scene.alarm.crit)

@@ -1,50 +1,70 @@
-//! The alarms of charts: what one is worth, how it stands, and how long telling a change of it waits.
+//! The alarms of charts: which are computed, how they stand, and what is told of them.
 //!
-//! A `Scene` is what an alarm of a chart sees when it is computed: its configuration, the charts and
-//! dimensions, what was last seen of each (`Latest`), the moment, and the status before. `is_stepped` is
-//! proved to say whether the alarm is stepped on this beat, and `step` to give its next value, its next
-//! status and its next `Delay`, and until when telling the change waits; what it looks up it reads from an
-//! object that is `Points`. The definitions are in `specs/`: `Lookups.antt` what a lookup finds in a list of points for each series,
-//! `Variables.antt` what each name of an expression is worth, `Verdict.antt` the value and the status,
-//! `Delay.antt` the delay, `Step.antt` the step.
+//! `Alarms` has the alarms of a configuration, the state of each for each chart that it is computed for,
+//! and the log of events. `configure` takes another configuration, and `step` a beat; what they leave and
+//! what they tell is proved to be what the definitions in `specs/` say of the alarms before:
+//! `Course.antt` one call and all calls, `Pairs.antt` which alarms are computed for which charts,
+//! `Same.antt` and `Pairing.antt` which states stay, go and come, `Beats.antt` what a beat makes of the
+//! states, `Telling.antt` how events get their numbers and come into the log. Of one alarm of a chart,
+//! `Lookups.antt` says what a lookup finds in a list of points for each series, `Variables.antt` what each
+//! name of an expression is worth, `Verdict.antt` the value and the status, `Delay.antt` how long telling a
+//! change waits, `Step.antt` the step.
+//!
+//! The definitions speak of the points of each series as a function, and of a floor. The code reads them
+//! from an object that is `Points`, which may also be silent.
+//!
+//! A `Scene` is what an alarm of a chart sees when it is computed. Its `is_stepped` says whether the alarm
+//! is stepped on this beat, and its `step` gives the next value, status and `Delay`.
 //!
 //! A lookup reads tier 0 alone, for each dimension that counts the points of its window, those of one
 //! dimension at a time. A window has at most 2,592,000 seconds and a chart 1,024 dimensions. So no number
 //! of a dimension is past 2,592,000 times the greatest value of a word, 1.68 * 10^21; all sums of them are
-//! exact in 128 bits, and so is a percentage, whose parts are at most 10^22. A step takes no memory, and
-//! costs what its expressions cost; a name that is no dimension's id goes through the names of the chart's
-//! dimensions.
+//! exact in 128 bits, and so is a percentage, whose parts are at most 10^22.
 //!
-//! `wanted_pairs` is proved to give the alarms of a configuration with the charts that they are computed
-//! for, by `Pairs.antt`. It is called anew only where the configuration or the charts changed: it compares
-//! each alarm with each chart, and where an alarm is on a chart, its name with those of the others.
-//!
-//! The states and the log of all alarms together are not there yet.
+//! What it costs: a configuration and a beat compare each alarm with each chart, and where an alarm is on a
+//! chart, its name with those of the others; then each state with each pair, by the number of the chart,
+//! and where that is the same by all that the alarms say. A beat goes once through all dimensions, for those
+//! of each chart. A state that is due costs what its expressions cost, and reads the points of its lookup. A
+//! name that is no dimension's id goes through the names of the chart's dimensions.
 //!
 //! It stands on `health_config` for alarms, on `health_expr` for expressions and values, on
-//! `alarm_events` for statuses, on `chart_registry` for charts and dimensions, and on the points of
-//! `query_engine` and the words of `storage_number`.
+//! `alarm_events` for events and their log, on `chart_registry` for charts and dimensions, and on the
+//! points of `query_engine` and the words of `storage_number`.
 #![tactic(auto)]
 
+mod alarms;
+mod beats;
 mod delay;
 mod dimension;
+mod expr_words;
+mod fault;
 mod gather;
 mod latest;
+mod law;
 mod lookup;
 mod number;
+mod pairing;
 mod pairs;
 mod record;
+mod same;
 mod scene;
 mod series;
+mod sight;
+mod state;
 mod step;
+mod telling;
 #[cfg(test)]
 mod tests;
 mod variable;
 mod verdict;
 mod window;
 
+pub use alarm_events::{Event, EventList, Log, Status, write_event};
+pub use alarms::Alarms;
 pub use delay::Delay;
+pub use fault::AlarmFault;
 pub use latest::{Latest, SeriesPointList, SeriesValueList};
+pub use law::any_alarms;
 pub use pairs::{MOST_PAIRS, Pair, PairList, wanted_pairs};
 pub use scene::Scene;
 pub use series::chart_series;

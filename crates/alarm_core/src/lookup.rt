@@ -4,6 +4,7 @@ ghost use Rattle.fixed_num.specs.Rounding.{nearest};
 ghost use Rattle.host_model.specs.Cause.{HasCause};
 ghost use Rattle.tier_rollup.specs.declared.point.Point.{Point as APoint};
 ghost use Rattle.alarm_core.specs.Lookups as spec;
+ghost use Rattle.alarm_core.specs.Seen.{seen};
 ghost use Rattle.alarm_core.specs.Step.{found_by};
 
 use crate::gather::gather;
@@ -129,7 +130,7 @@ impl<'a> Scene<'a> {
         points: &mut P,
     ) -> Result<Option<Value>, PointFault>
         ensures found { IfOk result (λ found. (told : ℕ → List APoint) → P.tells points.old told
-            → found ≡ found_by self.now ((P.tiers points.old).floor 0) told) }
+            → found ≡ found_by (seen self.now) ((P.tiers points.old).floor 0) told) }
         ensures tiers { P.tiers points.new ≡ P.tiers points.old }
         ensures told { (told : ℕ → List APoint) → P.tells points.old told
             → P.tells points.new told }

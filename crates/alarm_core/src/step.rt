@@ -2,6 +2,7 @@
 ghost use Rattle.std.specs.Prelude.{◌≡◌, ℕ, List, option_map, IfOk, IsErrOf};
 ghost use Rattle.host_model.specs.Cause.{HasCause};
 ghost use Rattle.tier_rollup.specs.declared.point.Point.{Point as APoint};
+ghost use Rattle.alarm_core.specs.Seen.{seen};
 ghost use Rattle.alarm_core.specs.Step as spec;
 
 use crate::delay::{Delay, new_delay};
@@ -26,7 +27,7 @@ pub struct Step {
 
 /// The delay of a change of status, where there is one that is told.
 fn delay_of_change(scene: &Scene, before: Option<Delay>, status: Status) -> Option<Delay>
-    ensures { result ≡ spec.delay_of_change scene.now before status }
+    ensures { result ≡ spec.delay_of_change (seen scene.now) before status }
 {
     if scene.status.number() == status.number() {
         return None;
@@ -43,7 +44,7 @@ fn due_of(delay: Option<Delay>) -> Option<u32>
 
 /// A step to a value and a status.
 fn step_to(scene: &Scene, before: Option<Delay>, value: Value, status: Status) -> Step
-    ensures { result ≡ spec.step_to scene.now before value status }
+    ensures { result ≡ spec.step_to (seen scene.now) before value status }
 {
     let change = delay_of_change(scene, before, status);
     Step {
@@ -61,19 +62,25 @@ fn span_of(every: u32, moment: u32) -> u32
     moment / every.max(1)
 }
 
+/// Whether a moment lies in another span of so many seconds than the moment before.
+pub fn is_in_new_span(every: u32, before: u32, moment: u32) -> bool
+    ensures { result ≡ spec.is_in_new_span every before moment }
+{
+    span_of(every, moment) != span_of(every, before)
+}
+
 impl<'a> Scene<'a> {
     /// Whether the alarm is stepped on this beat: on the first in each span of its `every` seconds.
     pub fn is_stepped(&self) -> bool
-        ensures { result ≡ spec.is_stepped self.now }
+        ensures { result ≡ spec.is_stepped (seen self.now) }
     {
-        let every = self.alarm.every;
-        span_of(every, self.moment) != span_of(every, self.latest.before)
+        is_in_new_span(self.alarm.every, self.latest.before, self.moment)
     }
 
     /// The step of the alarm, which had this value and this delay, and looked up what was found, if it
     /// looks something up.
     pub(crate) fn step_by(&self, found: Option<Value>, value: Value, delay: Option<Delay>) -> Step
-        ensures { result ≡ spec.stepped self.now found value delay }
+        ensures { result ≡ spec.stepped (seen self.now) found value delay }
     {
         let now = value_at(self, found, value);
         let status = status_at(self, now);
@@ -91,8 +98,8 @@ impl<'a> Scene<'a> {
         delay: Option<Delay>,
     ) -> Result<Step, PointFault>
         ensures step { IfOk result (λ step. (told : ℕ → List APoint) → P.tells points.old told
-            → let found = spec.found_by self.now ((P.tiers points.old).floor 0) told in
-            step ≡ spec.stepped self.now found value delay) }
+            → let found = spec.found_by (seen self.now) ((P.tiers points.old).floor 0) told in
+            step ≡ spec.stepped (seen self.now) found value delay) }
         ensures tiers { P.tiers points.new ≡ P.tiers points.old }
         ensures told { (told : ℕ → List APoint) → P.tells points.old told
             → P.tells points.new told }

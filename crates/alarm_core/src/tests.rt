@@ -13,6 +13,7 @@ use std::alloc::{AllocError, Global};
 use std::test::Fail;
 use storage_number::pack;
 
+mod alarms;
 mod delays;
 mod lookups;
 mod pairs;

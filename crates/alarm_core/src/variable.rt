@@ -1,6 +1,7 @@
 //! The variables of expressions.
 ghost use Rattle.std.specs.Prelude.{◌≡◌, Some, find, slice_index, option_map};
 ghost use Rattle.alarm_core.specs.Series as of_series;
+ghost use Rattle.alarm_core.specs.Seen.{seen};
 ghost use Rattle.alarm_core.specs.Variables as spec;
 
 use crate::latest::Latest;
@@ -21,16 +22,17 @@ pub struct Variables<'a> {
 }
 
 impl<'a> Vars for Variables<'a> {
+    ghost use Rattle.alarm_core.specs.Seen.{seen};
     ghost use Rattle.alarm_core.specs.Variables.{variable};
     ghost use Rattle.alarm_core.specs.Within.{variable_within};
 
-    ghost worth = { λ vars name. variable vars.scene.now vars.this name };
+    ghost worth = { λ vars name. variable (seen vars.scene.now) vars.this name };
 
     fn value(&self, name: &str) -> Value {
         capped(named(self.scene, self.this, name))
     }
 
-    ghost within = { λ vars name. variable_within vars.scene.now vars.this name };
+    ghost within = { λ vars name. variable_within (seen vars.scene.now) vars.this name };
 }
 
 /// What a status is worth.
@@ -156,7 +158,7 @@ fn dimension_worth(scene: &Scene, name: &str) -> Value
 
 /// What the names are worth that stand for no status and no dimension.
 fn word_worth(scene: &Scene, this: Value, name: &str) -> Option<Value>
-    ensures { result ≡ spec.word_worth scene.now this name.now }
+    ensures { result ≡ spec.word_worth (seen scene.now) this name.now }
 {
     match name {
         "this" => Some(this),
@@ -172,7 +174,7 @@ fn word_worth(scene: &Scene, this: Value, name: &str) -> Option<Value>
 
 /// What a name is worth.
 fn named(scene: &Scene, this: Value, name: &str) -> Value
-    ensures { result ≡ spec.named scene.now this name.now }
+    ensures { result ≡ spec.named (seen scene.now) this name.now }
 {
     if let Some(value) = word_worth(scene, this, name) {
         return value;

@@ -1,6 +1,7 @@
 //! What an alarm is worth, and its status.
 ghost use Rattle.std.specs.Prelude.{◌≡◌, option_map};
 ghost use Rattle.health_expr.specs.Value.{IsWithin};
+ghost use Rattle.alarm_core.specs.Seen.{seen};
 ghost use Rattle.alarm_core.specs.Verdict as spec;
 
 use crate::number::{is_nan, is_number, is_true};
@@ -11,14 +12,14 @@ use health_expr::{Expr, Value};
 
 /// What an expression is worth, where `$this` is worth so much.
 fn worth_at(scene: &Scene, this: Value, expr: &Expr) -> Value
-    ensures { result ≡ spec.worth_at scene.now this expr.now }
+    ensures { result ≡ spec.worth_at (seen scene.now) this expr.now }
 {
     expr.eval(&Variables { scene, this })
 }
 
 /// The same of an expression that may be missing.
 fn condition_at(scene: &Scene, this: Value, condition: &Option<Expr>) -> Option<Value>
-    ensures { result ≡ option_map (spec.worth_at scene.now this) condition.now }
+    ensures { result ≡ option_map (spec.worth_at (seen scene.now) this) condition.now }
 {
     match condition {
         Some(expr) => Some(worth_at(scene, this, expr)),
@@ -28,7 +29,7 @@ fn condition_at(scene: &Scene, this: Value, condition: &Option<Expr>) -> Option<
 
 /// What an alarm is worth, where it looked something up or did not, and was worth so much before.
 pub fn value_at(scene: &Scene, found: Option<Value>, before: Value) -> Value
-    ensures { result ≡ spec.value_at scene.now found before }
+    ensures { result ≡ spec.value_at (seen scene.now) found before }
 {
     match &scene.alarm.calc {
         Some(calc) => worth_at(scene, found.unwrap_or(before), calc),
@@ -75,7 +76,7 @@ fn status_for(value: Value, warn: Option<Value>, crit: Option<Value>) -> Status
 
 /// The status of an alarm that is worth so much.
 pub fn status_at(scene: &Scene, value: Value) -> Status
-    ensures { result ≡ spec.status_at scene.now value }
+    ensures { result ≡ spec.status_at (seen scene.now) value }
 {
     let warn = condition_at(scene, value, &scene.alarm.warn);
     let crit = condition_at(scene, value, &scene.alarm.crit);

@@ -2,7 +2,7 @@ ghost use Rattle.std.specs.Prelude.{◌≡◌, ◌≤◌, length, map, Ok, IfOk,
 ghost use Rattle.health_config.specs.Entity.{alarm_of};
 ghost use Rattle.health_config.specs.Fault.{IsRefusalFor};
 ghost use Rattle.health_config.specs.Config.{config_read, of_sections, tally_of};
-ghost use Rattle.health_config.specs.ConfigOf.{configuration_of};
+ghost use Rattle.health_config.specs.ConfigOf.{configuration_of, entities_of};
 ghost use Rattle.health_config.specs.Lines.{lines};
 ghost use Rattle.health_config.specs.Sections.{sections};
 
@@ -55,9 +55,20 @@ impl Config {
 
     /// The alarms in the order of the text. An entity that says neither `every` nor a lookup gives none.
     pub fn alarms(&self) -> &AlarmList
-        ensures { map alarm_of result.now ≡ (configuration_of self.now).alarms }
+        ensures kept { result.now ≡ entities_of self.now }
+        ensures alarms { map alarm_of result.now ≡ (configuration_of self.now).alarms }
     {
         &self.tally.alarms
+    }
+
+    /// The alarms in the order of the text, without a copy.
+    pub fn into_alarms(self) -> AlarmList
+        ensures kept { result ≡ entities_of self }
+        ensures alarms { map alarm_of result ≡ (configuration_of self).alarms }
+    {
+        let Config { tally } = self;
+        let Tally { alarms, .. } = tally;
+        alarms
     }
 
     /// How many lines have a key that is not read, or stand before the first entity.

@@ -1,0 +1,12 @@
+use Rattle.alarm_core.proofs.LogLemmas.{calls_shown, calls_numbered}
+use Rattle.alarm_core.proofs.SameLemmas.{alarms_alike}
+use Rattle.alarm_core.proofs.law.any_alarms.Goals as goal
+
+pub returns-clause-log : goal.returns-clause-log
+returns-clause-log c = calls_shown
+
+pub returns-clause-ids : goal.returns-clause-ids
+returns-clause-ids c = calls_numbered
+
+pub returns-clause-same : goal.returns-clause-same
+returns-clause-same c = alarms_alike

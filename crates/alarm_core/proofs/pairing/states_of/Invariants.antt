@@ -1,0 +1,8 @@
+use Rattle.std.proofs.Common.{◌≡◌, ◌++◌, drop, map}
+use Rattle.alarm_core.specs.Pairing.{state_of}
+use Rattle.alarm_core.proofs.pairing.states_of.Given as goal
+
+abbrev pub invariant-loop-pair : goal.invariant-loop-pair
+invariant-loop-pair l =
+    map (state_of l.turn.before.now l.turn.after.now l.states) l.pairs
+    ≡ l.made ++ map (state_of l.turn.before.now l.turn.after.now l.states) (drop l.pair-index l.pairs)

@@ -1,0 +1,97 @@
+-- What a beat makes of the states.
+use Rattle.std.specs.Prelude.{ℕ, Bool, ◌&&◌, nat_lt, if◌then◌else◌, List, length, map, slice_get, Option, Some, None, option_and_then}
+use Rattle.std.specs.List.{filter_map}
+use Rattle.std.specs.Option.{option_map_or}
+use Rattle.health_config.specs.declared.entity.Entity.{Entity}
+use Rattle.history.specs.Registry.{Registry}
+use Rattle.chart_registry.specs.Defining.{chart_id}
+use Rattle.tier_rollup.specs.declared.point.Point.{Point}
+use Rattle.alarm_events.specs.declared.event.Event.{Event}
+use Rattle.alarm_core.specs.declared.latest.Latest.{Latest}
+use Rattle.alarm_core.specs.declared.sight.Sight.{Sight}
+use Rattle.alarm_core.specs.declared.state.State.{State}
+use Rattle.alarm_core.specs.declared.step.Step.{Step}
+use Rattle.alarm_core.specs.Pairing.{alarm_name}
+use Rattle.alarm_core.specs.Seen.{Seen}
+use Rattle.alarm_core.specs.Step.{is_stepped, is_same, found_by, stepped}
+
+-- what there is at a beat: the charts, what was last seen of them, the floor of the points and the points
+-- of each series
+pub record Beat : Type 0 where
+  pub moment : ℕ
+  pub registry : Registry
+  pub latest : Latest
+  pub floor : ℕ
+  pub told : ℕ → List Point
+
+abbrev pub beat_of : Sight → ℕ → (ℕ → List Point) → Beat
+beat_of sight floor told = record {
+  moment = sight.moment;
+  registry = sight.registry.now;
+  latest = sight.latest.now;
+  floor = floor;
+  told = told;
+}
+
+-- what an alarm sees at a beat
+abbrev pub seen_at : Beat → Entity → State → Seen
+seen_at beat alarm state = record {
+  alarm = alarm;
+  registry = beat.registry;
+  latest = beat.latest;
+  chart = state.chart;
+  moment = beat.moment;
+  status = state.status;
+}
+
+abbrev pub step_by : Seen → Beat → State → Step
+step_by seen beat state = stepped seen (found_by seen beat.floor beat.told) state.value state.delay
+
+-- the step of an alarm, where its chart is there and the alarm is stepped on the beat
+abbrev pub step_with : Beat → State → Entity → Option Step
+step_with beat state alarm =
+    if nat_lt state.chart (length beat.registry.charts) && is_stepped (seen_at beat alarm state)
+    then Some (step_by (seen_at beat alarm state) beat state) else None
+
+abbrev pub step_of : Beat → List Entity → State → Option Step
+step_of beat alarms state = option_and_then (step_with beat state) (slice_get alarms state.alarm)
+
+-- ---- one state
+
+abbrev pub after_step : State → Option Step → State
+after_step state None = state
+after_step state (Some step) = record state { value = step.value; status = step.status; delay = step.delay }
+
+-- a change of status; its number comes when it is told
+abbrev pub change : List Entity → Registry → ℕ → State → Step → Event
+change alarms registry moment state step = record {
+  id = 0;
+  moment = moment;
+  chart = chart_id registry state.chart;
+  alarm = alarm_name alarms state.alarm;
+  old = state.status;
+  new = step.status;
+  value = step.value;
+  due = step.due;
+}
+
+-- a status that stays is no event
+abbrev pub change_of : List Entity → Registry → ℕ → State → Option Step → Option Event
+change_of alarms registry moment state None = None
+change_of alarms registry moment state (Some step) =
+    if is_same state.status step.status then None else Some (change alarms registry moment state step)
+
+-- ---- all states
+
+abbrev pub state_after : Beat → List Entity → State → State
+state_after beat alarms state = after_step state (step_of beat alarms state)
+
+abbrev pub event_of : Beat → List Entity → State → Option Event
+event_of beat alarms state = change_of alarms beat.registry beat.moment state (step_of beat alarms state)
+
+abbrev pub states_after : Beat → List Entity → List State → List State
+states_after beat alarms states = map (state_after beat alarms) states
+
+-- the events of those that change, in their order
+abbrev pub changes : Beat → List Entity → List State → List Event
+changes beat alarms states = filter_map (event_of beat alarms) states
