@@ -23,6 +23,8 @@ impl Model for FreeList {
     ghost also_shares = { λ _ _ _. ftrue };
 }
 
+unsafe impl Send for FreeList {}
+
 impl FreeList {
     ghost use Rattle.page_pool.specs.Chain.{with_link};
 

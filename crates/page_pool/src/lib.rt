@@ -6,10 +6,13 @@
 //! taken in `reserve` alone, one block for each page that is missing, and `take` and `give` take none.
 //!
 //! Proved is that a page is the list of the bytes that were pushed since it was taken or cleared, whatever
-//! stood in its block before, that as many pages can be taken as are spare, and that each block has one
-//! owner, who frees it once. A pool that is dropped leaves no page in its list. Seven small functions of
-//! `Block` and `FreeList` go through a pointer; their proofs are by hand, and all else stands on their
-//! contracts. A page may go to another thread; a pool stays in its own.
+//! stood in its block before. As many pages can be taken as are spare. Each block has one owner, who alone
+//! can free it, and at most once. A pool that is dropped leaves no page in its list; that a dropped page or
+//! pool frees its blocks is not proved.
+//!
+//! Seven small functions of `Block` and `FreeList` go through a pointer; their proofs are by hand, and all
+//! else stands on their contracts. A page and a pool may go to another thread; that a block and a list of
+//! free pages may is proved by hand too.
 //!
 //! The crate stands on no other of the repository. It names the crates of std whose proofs on boxes and on
 //! the heap it cites.
@@ -23,6 +26,7 @@ mod page;
 mod pool;
 
 pub use fault::PoolFault;
+pub use node::PAGE_SIZE;
 pub use page::RawPage;
 pub use pool::PagePool;
 

@@ -1,7 +1,7 @@
 ghost use Rattle.std.specs.Prelude.{◌≡◌, ◌<◌, ◌≤◌, [], ◌∷◌, ◌++◌, length, Some, slice_get};
 
 use crate::block::Block;
-use crate::node::Node;
+use crate::node::{Node, PAGE_SIZE};
 use std::alloc::Global;
 use std::marker::Model;
 
@@ -14,18 +14,19 @@ pub struct RawPage {
 
 impl Model for RawPage {
     ghost use Rattle.std.specs.Prelude.{◌≡◌, ◌≤◌, ℕ, List, length, take};
+    ghost use Rattle.page_pool.specs.declared.node.TheConstants.{PAGE_SIZE};
 
     ghost Value = { List ℕ };
 
     ghost view = { λ page. take page.filled page.block.value.bytes };
 
-    ghost invariant = { λ page. (page.filled ≤ 4096) × (length page.block.value.bytes ≡ 4096) };
+    ghost invariant = { λ page. (page.filled ≤ PAGE_SIZE) × (length page.block.value.bytes ≡ PAGE_SIZE) };
 }
 
 impl RawPage {
     /// The empty page in a block, whatever the block held.
     pub(crate) fn of(block: Block<Node, Global>) -> RawPage
-        requires { length block.value.bytes ≡ 4096 }
+        requires { length block.value.bytes ≡ PAGE_SIZE }
         ensures { result ≡ [] }
     {
         RawPage { block, filled: 0 }
@@ -33,7 +34,7 @@ impl RawPage {
 
     /// The block of the page.
     pub(crate) fn into_block(self) -> Block<Node, Global>
-        ensures { length result.value.bytes ≡ 4096 }
+        ensures { length result.value.bytes ≡ PAGE_SIZE }
     {
         let RawPage { block, filled: _ } = self;
         block
@@ -41,7 +42,7 @@ impl RawPage {
 
     /// Adds a byte at the end of a page that is not full.
     pub fn push(&mut self, byte: u8)
-        requires { length self.old < 4096 }
+        requires { length self.old < PAGE_SIZE }
         ensures { self.new ≡ self.old ++ byte ∷ [] }
     {
         self.block.get_mut().bytes[self.filled] = byte;
@@ -59,7 +60,7 @@ impl RawPage {
     /// How many bytes the page holds, at most 4,096.
     pub fn len(&self) -> usize
         ensures value { result ≡ length self.now }
-        ensures most { result ≤ 4096 }
+        ensures most { result ≤ PAGE_SIZE }
     {
         self.filled
     }
@@ -74,7 +75,7 @@ impl RawPage {
     /// The bytes of the page, at most 4,096.
     pub fn as_slice(&self) -> &[u8]
         ensures value { result.now ≡ self.now }
-        ensures most { length self.now ≤ 4096 }
+        ensures most { length self.now ≤ PAGE_SIZE }
     {
         &self.block.get().bytes[..self.filled]
     }

@@ -3,7 +3,7 @@ ghost use Rattle.std.specs.Prelude.{◌≡◌, ◌+◌, ◌-◌, ◌^◌, ◌<�
 use crate::block::Block;
 use crate::fault::PoolFault;
 use crate::free_list::FreeList;
-use crate::node::Node;
+use crate::node::{Node, PAGE_SIZE};
 use crate::page::RawPage;
 use std::alloc::{AllocError, Global};
 use std::marker::Model;
@@ -29,11 +29,11 @@ impl Model for PagePool {
 
 /// A block of memory for a page.
 fn new_block(alloc: Global) -> Result<Block<Node, Global>, AllocError>
-    ensures { IfOk result (λ block. length block.value.bytes ≡ 4096) }
+    ensures { IfOk result (λ block. length block.value.bytes ≡ PAGE_SIZE) }
 {
     let node = Node {
         link: null_mut(),
-        bytes: [0; 4_096],
+        bytes: [0; PAGE_SIZE],
     };
     Ok(Block::of(Box::new(alloc, node)?))
 }
@@ -63,7 +63,7 @@ impl PagePool {
     }
 
     /// Sees that at least `n` pages are spare, by one block of memory for each that is missing. Where
-    /// memory ends the pages that were spare, and those got so far, stay.
+    /// memory ends no fewer pages than before are spare.
     pub fn reserve(&mut self, n: usize) -> Result<(), PoolFault>
         ensures ok { OnOk result (self.new ≡ max self.old n) }
         ensures kept { (self.old ≤ self.new) × (self.new ≤ max self.old n) }

@@ -11,7 +11,7 @@ fn taken(pool: &mut PagePool) -> Result<RawPage, Fail> {
 }
 
 fn push(page: &mut RawPage, byte: u8) {
-    if page.len() < 4_096 {
+    if page.len() < PAGE_SIZE {
         page.push(byte);
     }
 }
@@ -35,10 +35,10 @@ fn a_full_page_is_given_back_and_taken_again(rt: HostRuntime) -> Result<(), Fail
     let mut pool = PagePool::new(rt.alloc());
     pool.reserve(1)?;
     let mut page = taken(&mut pool)?;
-    for _ in 0..4_096 {
+    for _ in 0..PAGE_SIZE {
         push(&mut page, 255);
     }
-    assert_eq!(rt; page.len(), 4_096);
+    assert_eq!(rt; page.len(), PAGE_SIZE);
     pool.give(page);
     let mut page = taken(&mut pool)?;
     assert_eq!(rt; page.len(), 0);
@@ -65,6 +65,17 @@ fn as_many_pages_are_taken_as_were_reserved(rt: HostRuntime) -> Result<(), Fail>
         drop(taken(&mut pool)?);
     }
     assert!(rt; pool.take().is_none());
+    Ok(())
+}
+
+#[test]
+fn a_pool_goes_to_another_thread(rt: HostRuntime) -> Result<(), Fail> {
+    let mut pool = PagePool::new(rt.alloc());
+    pool.reserve(2)?;
+    let mut pool = crossed(pool);
+    assert_eq!(rt; pool.spare(), 2);
+    drop(taken(&mut pool)?);
+    assert_eq!(rt; pool.spare(), 1);
     Ok(())
 }
 
