@@ -1,4 +1,4 @@
-ghost use Rattle.std.specs.Prelude.{◌≡◌, ℕ, ◌<◌, ◌≤◌, List, [], None, Some, true, false, IsOk, IsOkAnd, IsErrOf, IfOk, IfErr, IfSome, OnOk, OnErr};
+ghost use Rattle.std.specs.Prelude.{◌≡◌, ℕ, ◌+◌, ◌<◌, ◌≤◌, List, [], None, Some, true, false, IsOk, IsOkAnd, IsErrOf, IfOk, IfErr, IfSome, OnOk, OnErr};
 ghost use Rattle.std.specs.Borrow.{sem};
 ghost use Rattle.std.specs.Map.{lookup};
 ghost use Rattle.host_model.specs.Cause.{HasCause, Rose};
@@ -104,6 +104,7 @@ impl PageCache {
         ensures cause { HasCause (F.faults fetch.old) (F.faults fetch.new)
             (IsErrOf result FetchFault) }
         ensures reads { F.reads fetch.old ≤ F.reads fetch.new }
+        ensures once { F.reads fetch.new ≤ F.reads fetch.old + 1 }
         ensures read { OnOk result (Rose (F.reads fetch.old) (F.reads fetch.new)) }
     {
         self.make_room();
@@ -138,6 +139,7 @@ impl PageCache {
         ensures cause { HasCause (F.faults fetch.old) (F.faults fetch.new)
             (IsErrOf result FetchFault) }
         ensures reads { F.reads fetch.old ≤ F.reads fetch.new }
+        ensures once { F.reads fetch.new ≤ F.reads fetch.old + 1 }
         ensures fetched { lookup (same_key key) self.old.entries ≡ None
             → OnOk result (Rose (F.reads fetch.old) (F.reads fetch.new)) }
     {
@@ -149,8 +151,9 @@ impl PageCache {
     }
 
     /// The page of a key, which becomes the most recently used one. One that is there is given as its fetch
-    /// gave it, without a fetch, and nothing is refused. One that is not there is fetched, for which the least
-    /// recently used one of a full cache goes, also where the fetch fails or there is no memory.
+    /// gave it, without a fetch, and nothing is refused. One that is not there is fetched, with at most one
+    /// read. The least recently used one of a full cache goes for it, also where the fetch fails or there is
+    /// no memory.
     pub fn page<F: Fetch>(&mut self, key: PageKey, fetch: &mut F) -> Result<&RawPage, CacheFault>
         ensures* ends { sem 𝓛 (ends_given self.entry key result) }
         ensures hit { (page : List ℕ) → lookup (same_key key) self.old.entries ≡ Some page
@@ -161,6 +164,7 @@ impl PageCache {
         ensures cause { HasCause (F.faults fetch.old) (F.faults fetch.new)
             (IsErrOf result FetchFault) }
         ensures reads { F.reads fetch.old ≤ F.reads fetch.new }
+        ensures once { F.reads fetch.new ≤ F.reads fetch.old + 1 }
         ensures fetched { lookup (same_key key) self.old.entries ≡ None
             → IfOk result (λ _. Rose (F.reads fetch.old) (F.reads fetch.new)) }
     {

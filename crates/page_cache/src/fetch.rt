@@ -1,4 +1,4 @@
-ghost use Rattle.std.specs.Prelude.{◌≡◌, ℕ, ◌≤◌, List, Option, IsErr, IfOk, IfSome};
+ghost use Rattle.std.specs.Prelude.{◌≡◌, ℕ, ◌+◌, ◌≤◌, List, Option, IsErr, IfOk, IfSome};
 ghost use Rattle.host_model.specs.Cause.{HasCause, Rose};
 ghost use Rattle.page_cache.specs.declared.key.PageKey.{PageKey as TheKey};
 
@@ -14,7 +14,7 @@ pub trait Fetch {
     /// How many fetches have failed. The count stands still at 2^64 - 1.
     ghost faults: { Self → ℕ };
 
-    /// How many reads were made. The count stands still at 2^64 - 1.
+    /// How many reads of pages were made, at most one in a fetch. The count stands still at 2^64 - 1.
     ghost reads: { Self → ℕ };
 
     /// Reads the page of a key into `page`, whatever that held.
@@ -23,5 +23,6 @@ pub trait Fetch {
         ensures same { (other : TheKey) → bytes self.new other ≡ bytes self.old other }
         ensures cause { HasCause (faults self.old) (faults self.new) (IsErr result) }
         ensures reads { reads self.old ≤ reads self.new }
+        ensures once { reads self.new ≤ reads self.old + 1 }
         ensures read { IfOk result (λ _. Rose (reads self.old) (reads self.new)) };
 }

@@ -32,6 +32,11 @@ impl Fetch for Tiers {
     }
 }
 
+/// Whether a value may go to another thread shows in that it may be passed here.
+fn crossed<T: Send>(value: T) -> T {
+    value
+}
+
 fn key(tier: u8) -> PageKey {
     PageKey {
         tier,
@@ -51,6 +56,21 @@ fn a_page_that_is_there_is_not_read_again(rt: HostRuntime) -> Result<(), Fail> {
     assert_eq!(rt; cache.page(key(1), &mut tiers)?.as_slice(), [1].as_slice());
     tiers.fails = true;
     assert_eq!(rt; cache.page(key(1), &mut tiers)?.as_slice(), [1].as_slice());
+    assert_eq!(rt; tiers.reads, 1);
+    Ok(())
+}
+
+#[test]
+fn a_cache_goes_to_another_thread(rt: HostRuntime) -> Result<(), Fail> {
+    let mut tiers = Tiers {
+        fails: false,
+        faults: 0,
+        reads: 0,
+    };
+    let mut cache = PageCache::new(rt.alloc(), 1)?;
+    assert_eq!(rt; cache.page(key(3), &mut tiers)?.as_slice(), [3].as_slice());
+    let mut cache = crossed(cache);
+    assert_eq!(rt; cache.page(key(3), &mut tiers)?.as_slice(), [3].as_slice());
     assert_eq!(rt; tiers.reads, 1);
     Ok(())
 }

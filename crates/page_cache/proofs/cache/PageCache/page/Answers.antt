@@ -21,6 +21,7 @@ returns-in_err-load g c =
           stays = λ not. c.in_err-load.ensures.cause.stays (λ e. not (search (rules, e)));
         };
         reads = c.in_err-load.ensures.reads;
+        once = c.in_err-load.ensures.once;
         fetched = λ at. tt;
       },
     )
@@ -46,6 +47,7 @@ returns g c =
         same = ok.same;
         cause = record { later = ok.cause.later; failed = λ e. absurd cc; stays = λ not. ok.cause.stays (λ e. absurd cc) };
         reads = ok.reads;
+        once = ok.once;
         fetched = λ at. ok.fetched at;
       },
     )
