@@ -20,8 +20,8 @@ IsNext page moment = moment ≡ moment_at page (length page.items)
 
 -- why a record at the moment is refused
 abbrev pub IsRefused : Page Record → ℕ → PageFault → Type 0
-IsRefused page moment PageFull = IsNext page moment × (length page.items ≡ 73)
-IsRefused page moment TooFar = ¬ IsNext page moment
+IsRefused page moment PageFull = length page.items ≡ 73
+IsRefused page moment TooFar = (length page.items < 73) × (¬ IsNext page moment)
 IsRefused page moment BadPage = ⊥
 IsRefused page moment Memory = ⊥
 

@@ -1,5 +1,5 @@
 -- Slots of a page: words, of which 0 is an empty slot.
-use Rattle.std.specs.Prelude.{◌≡◌, ℕ, zero, suc, ◌+◌, ◌<◌, ◌≤◌, ◌^◌, Bool, true, ◌&&◌, List, [], ◌∷◌, ◌++◌, length, replicate, nat_eq, nat_lt}
+use Rattle.std.specs.Prelude.{◌≡◌, ℕ, zero, suc, ◌+◌, ◌<◌, ◌≤◌, ◌^◌, ◌⊎◌, Bool, true, ◌&&◌, List, [], ◌∷◌, ◌++◌, length, replicate, nat_eq, nat_lt}
 use Rattle.page_buffer.specs.declared.fault.PageFault.{PageFault}
 use Rattle.page_buffer.specs.declared.fault.PageFault.TheVariants.{PageFull, TooFar, BadPage, Memory}
 use Rattle.page_buffer.specs.Items.{words_of, IsWords}
@@ -39,8 +39,8 @@ with_point page empty word = with_more page (replicate empty 0 ++ word ∷ [])
 
 -- why a point at the moment is refused
 abbrev pub IsRefused : Page ℕ → ℕ → PageFault → Type 0
-IsRefused page moment PageFull = (empty : ℕ) × Skips page moment empty × (¬ HasRoom page empty)
-IsRefused page moment TooFar = (empty : ℕ) → ¬ Skips page moment empty
+IsRefused page moment PageFull = (length page.items ≡ 1024) ⊎ (empty : ℕ) × Skips page moment empty × (¬ HasRoom page empty)
+IsRefused page moment TooFar = (length page.items < 1024) × ((empty : ℕ) → ¬ Skips page moment empty)
 IsRefused page moment BadPage = ⊥
 IsRefused page moment Memory = ⊥
 

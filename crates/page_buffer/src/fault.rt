@@ -7,10 +7,10 @@ use thiserror::Error;
 /// Why an item was not put into a page, or a page not written or read.
 #[derive(Clone, Copy, Debug, PartialEq, Eq, Error)]
 pub enum PageFault {
-    /// The page would have more items than it may.
+    /// The page has as many items as it may, or would have more.
     #[error("the page is full")]
     PageFull,
-    /// The moment is none that may follow in the page.
+    /// The page is not full, and the moment is none that may follow in it.
     #[error("the moment is none that may follow in the page")]
     TooFar,
     /// The bytes are no page's.

@@ -7,9 +7,9 @@
 //! byte first.
 //!
 //! Contracts see a page as these numbers and the list of its items. Proved is when a push is refused and
-//! what it leaves, that a moment's slot is what was pushed there, that a page which `decode` makes of what
-//! `encode` gave is the same page, that `decode` refuses exactly what no page encodes to, and that pushes
-//! make each page of slots or records which `decode` takes. No call but `encode` takes memory.
+//! what it leaves, and that a moment's slot is what was pushed there. A page which `decode` makes of what
+//! `encode` gave is the same page, and `decode` refuses exactly what no page encodes to. Pushes make each
+//! page of slots or records which `decode` takes. No call but `encode` takes memory.
 //!
 //! It stands on `page_pool` for the raw pages, on `fixed_num` for records and lists, and on the kit's
 //! `byteorder` for the order of bytes.
@@ -27,6 +27,7 @@ mod words;
 pub use fault::PageFault;
 pub use law::{any_records, any_slots};
 pub use record_page::RecordPage;
+pub use records::RECORD_SIZE;
 pub use slot_page::SlotPage;
 
 #[cfg(test)]

@@ -61,9 +61,9 @@ impl RecordPage {
         }
     }
 
-    /// Puts a record. `TooFar` where the page is empty and `moment` is not its first, or else is not one
-    /// step past its last; `PageFull` where its moment is right and there are 73 records. A refused record
-    /// changes nothing.
+    /// Puts a record. `PageFull` where there are 73 records. Else `TooFar` where the page is empty and
+    /// `moment` is not its first, or the page is not empty and `moment` is not one step past its last. A
+    /// refused record changes nothing.
     pub fn push(&mut self, moment: u32, item: Record) -> Result<(), PageFault>
         ensures ok { OnOk result (IsNext self.old moment × (length self.old.items < 73)
             × (self.new ≡ with_more self.old (item ∷ []))) }
@@ -72,11 +72,11 @@ impl RecordPage {
         ensures succeeds { IsNext self.old moment → length self.old.items < 73 → IsOk result }
     {
         let len = self.records.len();
-        if moment_of(self.first, self.step, len) != u64::from(moment) {
-            return Err(PageFault::TooFar);
-        }
         if len == MOST {
             return Err(PageFault::PageFull);
+        }
+        if moment_of(self.first, self.step, len) != u64::from(moment) {
+            return Err(PageFault::TooFar);
         }
         self.records.push(item);
         Ok(())

@@ -4,8 +4,11 @@ ghost use Rattle.page_buffer.specs.Items.{record_bytes, record_from, records_of,
 use crate::raw::{append, fill};
 use byteorder::{ByteOrder, LittleEndian};
 use fixed_num::Record;
-use page_pool::RawPage;
+use page_pool::{PAGE_SIZE, RawPage};
 use std::marker::Model;
+
+/// How many bytes a record has in a page.
+pub const RECORD_SIZE: usize = 56;
 
 /// A page of up to 73 records of 56 bytes. Contracts see it as the list of the records.
 #[derive(Drop)]
@@ -28,7 +31,7 @@ impl Model for Records {
 
 /// Adds the 56 bytes of a record at the end of a page that has room for them.
 fn append_record(page: &mut RawPage, item: Record)
-    requires { length page.old + 56 ≤ 4096 }
+    requires { length page.old + RECORD_SIZE ≤ PAGE_SIZE }
     ensures { page.new ≡ page.old ++ record_bytes item }
 {
     append(page, &item.min.to_le_bytes());
@@ -40,7 +43,7 @@ fn append_record(page: &mut RawPage, item: Record)
 
 /// The record that 56 bytes spell.
 fn record_from(bytes: &[u8]) -> Record
-    requires { 56 ≤ length bytes.now }
+    requires { RECORD_SIZE ≤ length bytes.now }
     ensures { result ≡ record_from bytes.now }
 {
     Record {
@@ -67,7 +70,7 @@ impl Records {
             (λ records. IsRecords bytes.now × (records ≡ records_of bytes.now)) }
         ensures none { IfNone result (¬ IsRecords bytes.now) }
     {
-        if bytes.len() % 56 != 0 || bytes.len() > 4_096 {
+        if bytes.len() % RECORD_SIZE != 0 || bytes.len() > PAGE_SIZE {
             return None;
         }
         fill(&mut page, bytes);
@@ -85,14 +88,14 @@ impl Records {
         requires { place < length self.now }
         ensures { slice_get self.now place ≡ Some result }
     {
-        record_from(&self.page.as_slice()[56 * place..])
+        record_from(&self.page.as_slice()[RECORD_SIZE * place..])
     }
 
     pub(crate) fn len(&self) -> usize
         ensures value { result ≡ length self.now }
         ensures most { result ≤ 73 }
     {
-        self.page.len() / 56
+        self.page.len() / RECORD_SIZE
     }
 
     /// The bytes of the records.

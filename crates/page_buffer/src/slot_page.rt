@@ -101,9 +101,10 @@ impl SlotPage {
         None
     }
 
-    /// Puts the word of a point, which is not 0, with empty slots before it. `TooFar` where the page is
-    /// empty and `moment` is not its first, or else is not 1 to 7 steps past its last; `PageFull` where its
-    /// moment is right and more than 1,024 slots would result. A refused point changes nothing.
+    /// Puts the word of a point, which is not 0, with empty slots before it. `PageFull` where there are
+    /// 1,024 slots, or `moment` is right and more than 1,024 would result. Else `TooFar` where the page is
+    /// empty and `moment` is not its first, or the page is not empty and `moment` is not 1 to 7 steps past
+    /// its last. A refused point changes nothing.
     pub fn push(&mut self, moment: u32, word: u32) -> Result<(), PageFault>
         requires { 0 < word }
         ensures ok { OnOk result ((empty : ℕ) × Skips self.old moment empty × HasRoom self.old empty
@@ -113,11 +114,15 @@ impl SlotPage {
         ensures succeeds { (empty : ℕ) → Skips self.old moment empty → HasRoom self.old empty
             → IsOk result }
     {
+        let len = self.words.len();
+        if len == MOST {
+            return Err(PageFault::PageFull);
+        }
         let empty = match self.empty_before(moment) {
             Some(empty) => empty,
             None => return Err(PageFault::TooFar),
         };
-        if self.words.len() + empty >= MOST {
+        if len + empty >= MOST {
             return Err(PageFault::PageFull);
         }
         self.words.push_after(empty, word);

@@ -1,7 +1,7 @@
 use super::*;
 use crate::raw::fill;
 use fixed_num::{ByteList, Record};
-use page_pool::{PagePool, RawPage};
+use page_pool::{PAGE_SIZE, PagePool, RawPage};
 use std::alloc::Global;
 use std::test::Fail;
 
@@ -9,7 +9,7 @@ use std::test::Fail;
 fn written_page(pool: &mut PagePool) -> Result<RawPage, Fail> {
     pool.reserve(1)?;
     let mut page = pool.take().ok_or("no page is spare")?;
-    fill(&mut page, &[255; 4_096]);
+    fill(&mut page, &[255; PAGE_SIZE]);
     Ok(page)
 }
 
@@ -66,7 +66,8 @@ fn a_full_page_takes_no_point_and_no_page_a_far_one(rt: HostRuntime) -> Result<(
     let mut full = full_page(rt.alloc())?;
     assert_eq!(rt; full.push(1_024, 9), Err(PageFault::PageFull));
     assert_eq!(rt; full.push(1_030, 9), Err(PageFault::PageFull));
-    assert_eq!(rt; full.push(1_031, 9), Err(PageFault::TooFar));
+    assert_eq!(rt; full.push(1_031, 9), Err(PageFault::PageFull));
+    assert_eq!(rt; full.push(0, 9), Err(PageFault::PageFull));
     let mut page = SlotPage::new(used_page(rt.alloc())?, 1, 5, 2);
     assert_eq!(rt; page.push(7, 9), Err(PageFault::TooFar));
     page.push(5, 9)?;
@@ -143,6 +144,6 @@ fn a_page_holds_73_records(rt: HostRuntime) -> Result<(), Fail> {
         page.push(moment, record(1))?;
     }
     assert_eq!(rt; page.push(73, record(1)), Err(PageFault::PageFull));
-    assert_eq!(rt; page.push(74, record(1)), Err(PageFault::TooFar));
+    assert_eq!(rt; page.push(74, record(1)), Err(PageFault::PageFull));
     Ok(())
 }

@@ -3,7 +3,7 @@ ghost use Rattle.page_buffer.specs.Items.{words_of, IsWords};
 
 use crate::raw::{append, fill};
 use byteorder::{ByteOrder, LittleEndian};
-use page_pool::RawPage;
+use page_pool::{PAGE_SIZE, RawPage};
 use std::marker::Model;
 
 /// A page of up to 1,024 words of 4 bytes. Contracts see it as the list of the words.
@@ -37,7 +37,7 @@ impl Words {
         ensures read { IfSome result (λ words. IsWords bytes.now × (words ≡ words_of bytes.now)) }
         ensures none { IfNone result (¬ IsWords bytes.now) }
     {
-        if bytes.len() % 4 != 0 || bytes.len() > 4_096 {
+        if bytes.len() % 4 != 0 || bytes.len() > PAGE_SIZE {
             return None;
         }
         fill(&mut page, bytes);
