@@ -48,7 +48,7 @@ fn is_gate_open<H: Host>(host: &mut H, file: File) -> Result<bool, Failed>
 /// Closes the gate of a synced file that has all that belongs to a head.
 fn close_open<H: Host>(host: &mut H, file: File) -> Result<(), Failed>
     requires stable { H.honest → IsSynced (of file (H.seen host.old).past) }
-    requires inside { H.honest → 17 ≤ length (contents (of file (H.seen host.old).past)) }
+    requires inside { H.honest → HEAD ≤ length (contents (of file (H.seen host.old).past)) }
     ensures closed { OnOk result
         (H.honest → slice_index (contents (of file (H.seen host.new).past)) 0 ≢ 1) }
     ensures reaches { OnOk result

@@ -131,13 +131,13 @@ fn read_body<H: Host>(
     size: u64,
 ) -> Result<ByteList, CheckFault>
     ensures body { IfOk result
-        (λ body. H.honest → body_in size (drop 17 (contents (of file (H.seen host.old).past)))
+        (λ body. H.honest → body_in size (drop HEAD (contents (of file (H.seen host.old).past)))
         ≡ Some body) }
     ensures bad_slot { (place : ℕ) → IsErrOf result (CheckFault.BadSlot place) → H.honest
         → (place ≡ length (contents (of file (H.seen host.old).past)))
-        × (body_in size (drop 17 (contents (of file (H.seen host.old).past))) ≡ None) }
+        × (body_in size (drop HEAD (contents (of file (H.seen host.old).past))) ≡ None) }
     ensures memory { IsErrOf result CheckFault.Memory → H.honest
-        → (body : List ℕ) × (body_in size (drop 17 (contents (of file (H.seen host.old).past)))
+        → (body : List ℕ) × (body_in size (drop HEAD (contents (of file (H.seen host.old).past)))
         ≡ Some body) }
     ensures not_none_open { IsErrOf result CheckFault.NoneOpen → ⊥ }
     ensures past { H.honest → (H.seen host.new).past ≡ (H.seen host.old).past }

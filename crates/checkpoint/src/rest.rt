@@ -23,7 +23,7 @@ pub(crate) fn write_rest<H: Host>(
     ensures any_moment { H.honest
         → Throughout (EveryImage file (KeepsGate (contents (of file (H.seen host.old).past))))
         (H.seen host.old).past (H.seen host.new).past }
-    ensures bound { (size : ℕ) → 17 + length body.now ≤ size → H.honest
+    ensures bound { (size : ℕ) → HEAD + length body.now ≤ size → H.honest
         → greatest (of file (H.seen host.old).past) ≤ size
         → Throughout (λ past. greatest (of file past) ≤ size) (H.seen host.old).past
         (H.seen host.new).past }

@@ -4,6 +4,7 @@ ghost use Rattle.host_model.specs.Past.{of};
 ghost use Rattle.host_model.specs.Disks.{EveryDisk};
 ghost use Rattle.host_model.specs.Cause.{HasCause};
 ghost use Rattle.host_model.specs.Moments.{Throughout, EveryImage, OnlyOn};
+ghost use Rattle.checkpoint.specs.declared.head.TheConstants.{HEAD};
 ghost use Rattle.checkpoint.specs.Form.{slot_bytes};
 ghost use Rattle.checkpoint.specs.Files.{Slot, new_slot, slot_file, checkpoint_in, IsNext, HasOldOrNew};
 ghost use Rattle.checkpoint.specs.Switching.{IsReplacing};
@@ -36,7 +37,7 @@ pub fn switch<H: Host>(host: &mut H, number: u64, body: &[u8]) -> Result<(), Che
         (H.honest → IsSynced (of (slot_file number) (H.seen host.new).past)) }
 
     // No stop leaves a file that is longer than it could be before, or than the new checkpoint is.
-    ensures bound { (size : ℕ) → 17 + length body.now ≤ size → H.honest
+    ensures bound { (size : ℕ) → HEAD + length body.now ≤ size → H.honest
         → greatest (of (slot_file number) (H.seen host.old).past) ≤ size
         → Throughout (λ past. greatest (of (slot_file number) past) ≤ size) (H.seen host.old).past
         (H.seen host.new).past }
@@ -66,7 +67,7 @@ fn replace<H: Host>(host: &mut H, file: File, head: [u8; 16], body: &[u8]) -> Re
         → Throughout (EveryImage file
         (IsReplacing (of file (H.seen host.old).past) (1 ∷ (head ++ body.now))))
         (H.seen host.old).past (H.seen host.new).past }
-    ensures bound { (size : ℕ) → 17 + length body.now ≤ size → H.honest
+    ensures bound { (size : ℕ) → HEAD + length body.now ≤ size → H.honest
         → greatest (of file (H.seen host.old).past) ≤ size
         → Throughout (λ past. greatest (of file past) ≤ size) (H.seen host.old).past
         (H.seen host.new).past }
