@@ -1,0 +1,12 @@
+pub mod BeatRuns
+pub mod BucketLemmas
+pub mod EntryLemmas
+pub mod GivenLemmas
+pub mod GroupLemmas
+pub mod KeptLemmas
+pub mod Ordered
+pub mod RecordLemmas
+pub mod Searches
+pub mod SegmentLemmas
+pub mod TierLemmas
+pub mod WordLemmas

@@ -1,0 +1,224 @@
+-- What is kept of the items of a tier stays what its cuts and groups say, where a later beat adds items.
+use Rattle.std.proofs.Common.{◌≡◌, ℕ, zero, suc, ◌+◌, ◌-◌, ◌^◌, ◌<◌, ◌≤◌, min, true, List, [], ◌∷◌, ◌++◌, length, filter, map, reverse, take, inl, inr, Option, Some, None, slice_get, arith, refl, sym, ap, subst, ◌∙◌}
+use Rattle.std.proofs.lemmas.Bool.{cases_lt, cond-true, cond-false, and_right, lt-leb, lt-ltb, le-ltb}
+use Rattle.std.proofs.lemmas.List.{length-append, length-map, length-reverse, map-append}
+use Rattle.std.proofs.lemmas.List.Sums.{length-filter, count_by-le-length}
+use Rattle.beat_tiers.specs.declared.item.Item.{Item}
+use Rattle.beat_tiers.specs.declared.segments.Segment.{Segment}
+use Rattle.beat_tiers.specs.declared.tier.Tier.{Tier}
+use Rattle.beat_tiers.specs.Floors.{Cuts, cut_after}
+use Rattle.beat_tiers.specs.Segments.{SegmentsOf, counted, ended, expire_after, sealed_at, with_items as and_items, without_first}
+use Rattle.beat_tiers.specs.Tiers.{Group, with_group, is_after, is_between_groups, items_in, AreSplit, AreSegmentsOf}
+use Rattle.beat_tiers.proofs.GroupLemmas.{AreFalling, falling_few, reverse_cons, items_cons, none_after, all_between}
+
+-- ---- moments below another
+
+abbrev pub AreLess : ℕ → List ℕ → Type 0
+AreLess limit [] = Unit {0}
+AreLess limit (x ∷ xs) = (x < limit) × AreLess limit xs
+
+pub less_to : (low high : ℕ) (xs : List ℕ) → AreLess low xs → low ≤ high → AreLess high xs
+less_to low high [] less le = tt
+less_to low high (x ∷ xs) less le = (omega (arith, less.0), less_to low high xs less.1 le)
+
+less-append : (limit : ℕ) (xs ys : List ℕ) → AreLess limit xs → AreLess limit ys → AreLess limit (xs ++ ys)
+less-append limit [] ys less more = more
+less-append limit (x ∷ xs) ys less more = (less.0, less-append limit xs ys less.1 more)
+
+less-reverse : (limit : ℕ) (xs : List ℕ) → AreLess limit xs → AreLess limit (reverse xs)
+less-reverse limit [] less = tt
+less-reverse limit (x ∷ xs) less = subst (AreLess limit) (sym (reverse_cons x xs)) (less-append limit (reverse xs) (x ∷ []) (less-reverse limit xs less.1) (less.0, tt))
+
+less-take : (limit n : ℕ) (xs : List ℕ) → AreLess limit xs → AreLess limit (take n xs)
+less-take limit zero xs less = tt
+less-take limit (suc n) [] less = tt
+less-take limit (suc n) (x ∷ xs) less = (less.0, less-take limit n xs less.1)
+
+less-get : (limit n : ℕ) (xs : List ℕ) → AreLess limit xs → is_after (slice_get xs n) limit ≡ true
+less-get limit n [] less = refl
+less-get limit zero (x ∷ xs) less = lt-ltb x limit less.0
+less-get limit (suc n) (x ∷ xs) less = less-get limit n xs less.1
+
+abbrev pub ends : {T : Type 0} → List (Segment T) → List ℕ
+ends {T} sealed = map (λ (segment : Segment T). segment.sealed_at) sealed
+
+-- ---- adding and sealing
+
+-- a later group goes to the items since, and its beat is counted
+split_more : {T : Type 0} (from : Option ℕ) (sealed : List (Segment T)) (unsealed : List (Item T)) (beats : ℕ) (groups : List (Group T)) (group : Group T)
+    → is_after from group.moment ≡ true → AreLess group.moment (ends sealed) → length groups + 1 < 2 ^ 64
+    → AreSplit from sealed unsealed beats groups → AreSplit from sealed (unsealed ++ group.items) (min (beats + 1) (2 ^ 64 - 1)) (group ∷ groups)
+split_more {T} from [] unsealed beats groups group after less few split =
+    let before : List (Group T) = filter (λ (group : Group T). is_after from group.moment) groups in
+    let all : filter (λ (group : Group T). is_after from group.moment) (group ∷ groups) ≡ group ∷ filter (λ (group : Group T). is_after from group.moment) groups =
+    cond-true _ _ _ after in
+    let some = count_by-le-length (λ (group : Group T). is_after from group.moment) groups in
+    let count : length before ≤ length groups = omega (arith, length-filter (λ (group : Group T). is_after from group.moment) groups, some) in
+    let was : beats ≡ length before = split.1 in
+    let one_more : min (beats + 1) (2 ^ 64 - 1) ≡ length (group ∷ before) = omega (arith, count, few, was) in
+    (ap (λ (xs : List (Item T)). xs ++ group.items) split.0 ∙ sym (items_cons group before) ∙ ap items_in (sym all), one_more ∙ ap length (sym all))
+split_more {T} from (segment ∷ rest) unsealed beats groups group after less few split =
+    let same : filter (is_between_groups from segment.sealed_at) (group ∷ groups) ≡ filter (is_between_groups from segment.sealed_at) groups =
+    cond-false _ _ _ (and_right _ _ (lt-leb group.moment segment.sealed_at less.0)) in (
+      split.0 ∙ ap items_in (sym same),
+      split.1 ∙ ap length (sym same),
+      split.2,
+      split_more (Some segment.sealed_at) rest unsealed beats groups group (lt-ltb segment.sealed_at group.moment less.0) less.1 few split.3,
+    )
+
+-- the items since are sealed at a moment that is not before any group
+split_sealed : {T : Type 0} (moment : ℕ) (from : Option ℕ) (sealed : List (Segment T)) (unsealed : List (Item T)) (beats : ℕ) (groups : List (Group T))
+    → AreFalling (moment + 1) groups → is_after from moment ≡ true → AreLess moment (ends sealed)
+    → AreSplit from sealed unsealed beats groups
+    → AreSplit from (sealed ++ record { sealed_at = moment; beats = beats; items = unsealed } ∷ []) [] 0 groups
+split_sealed {T} moment from [] unsealed beats groups falls after less split =
+    let all : filter (is_between_groups from moment) groups ≡ filter (λ (group : Group T). is_after from group.moment) groups = all_between (moment + 1) from moment groups falls (omega arith) in
+    let none : filter (λ (group : Group T). is_after (Some moment) group.moment) groups ≡ [] = none_after (moment + 1) moment groups falls (omega arith) in
+    (split.0 ∙ ap items_in (sym all), split.1 ∙ ap length (sym all), after, (ap items_in (sym none), ap length (sym none)))
+split_sealed {T} moment from (segment ∷ rest) unsealed beats groups falls after less split =
+    (split.0, split.1, split.2, split_sealed moment (Some segment.sealed_at) rest unsealed beats groups falls (lt-ltb segment.sealed_at moment less.0) less.1 split.3)
+
+-- ---- what has expired
+
+get_past : (xs : List ℕ) (n : ℕ) → length xs ≤ n → slice_get xs n ≡ None
+get_past [] n le = refl
+get_past (x ∷ xs) zero le = absurd (omega arith)
+get_past (x ∷ xs) (suc n) le = get_past xs n (omega arith)
+
+take_past : (xs : List ℕ) (n : ℕ) → length xs ≤ n → take n xs ≡ xs
+take_past [] zero le = refl
+take_past [] (suc n) le = refl
+take_past (x ∷ xs) zero le = absurd (omega arith)
+take_past (x ∷ xs) (suc n) le = ap (λ rest. x ∷ rest) (take_past xs n (omega arith))
+
+-- the first that are kept, with the one after them
+record Further (xs : List ℕ) (n : ℕ) : Type 0 where
+  one : ℕ
+  is : slice_get xs n ≡ Some one
+  all : reverse (take (suc n) xs) ≡ one ∷ reverse (take n xs)
+
+further : (xs : List ℕ) (n : ℕ) → n < length xs → Further xs n
+further [] n lt = absurd (omega arith)
+further (x ∷ xs) zero lt = record { one = x; is = refl; all = refl }
+further (x ∷ xs) (suc n) lt =
+    let rest : Further xs n = further xs n (omega arith) in
+    record {
+      one = rest.one;
+      is = rest.is;
+      all = reverse_cons x (take (suc n) xs) ∙ ap (λ (ys : List ℕ). ys ++ x ∷ []) rest.all ∙ ap (λ (ys : List ℕ). rest.one ∷ ys) (sym (reverse_cons x (take n xs)));
+    }
+
+-- a segment more, of which the first is dropped where there are too many
+record AreKept {T : Type 0} (extents : ℕ) (cut : List ℕ) (groups : List (Group T)) (segments : SegmentsOf T) : Type 0 where
+  expired : segments.expired ≡ slice_get cut extents
+  sealed : ends segments.sealed ≡ reverse (take extents cut)
+  none : segments.unsealed ≡ []
+  split : AreSplit segments.expired segments.sealed segments.unsealed segments.beats groups
+
+ends_push : {T : Type 0} (sealed : List (Segment T)) (one : Segment T) → ends (sealed ++ one ∷ []) ≡ ends sealed ++ one.sealed_at ∷ []
+ends_push {T} sealed one = map-append (λ (segment : Segment T). segment.sealed_at) sealed (one ∷ [])
+
+-- the first of those after the one more
+dropped : {T : Type 0} (e : ℕ) (cut : List ℕ) (moment : ℕ) (groups : List (Group T)) (segments : SegmentsOf T) (all : List (Segment T)) → e < length cut
+    → segments.unsealed ≡ [] → ends all ≡ reverse (take (suc e) cut) ++ moment ∷ []
+    → AreSplit segments.expired all segments.unsealed segments.beats groups
+    → AreKept (suc e) (moment ∷ cut) groups (without_first segments all)
+dropped {T} e cut moment groups segments [] lt none are split =
+    let rest : Further cut e = further cut e lt in
+    let both : ends {T = T} [] ≡ rest.one ∷ reverse (take e cut) ++ moment ∷ [] = are ∙ ap (λ (ys : List ℕ). ys ++ moment ∷ []) rest.all in
+    absurd (cc)
+dropped {T} e cut moment groups segments (first ∷ others) lt none are split =
+    let rest : Further cut e = further cut e lt in
+    let both : first.sealed_at ∷ ends others ≡ rest.one ∷ (reverse (take e cut) ++ moment ∷ []) = are ∙ ap (λ (ys : List ℕ). ys ++ moment ∷ []) rest.all in
+    let one : first.sealed_at ≡ rest.one = cc in
+    let more : ends others ≡ reverse (take e cut) ++ moment ∷ [] = cc in
+    record {
+      expired = ap Some one ∙ sym rest.is;
+      sealed = more ∙ sym (reverse_cons moment (take e cut));
+      none = none;
+      split = split.3;
+    }
+
+kept_all : {T : Type 0} (e : ℕ) (cut : List ℕ) (moment : ℕ) (groups : List (Group T)) (segments : SegmentsOf T) → length cut ≤ e
+    → segments.expired ≡ slice_get cut (suc e)
+    → segments.unsealed ≡ [] → ends segments.sealed ≡ reverse (take (suc e) cut) ++ moment ∷ []
+    → AreSplit segments.expired segments.sealed segments.unsealed segments.beats groups
+    → AreKept (suc e) (moment ∷ cut) groups segments
+kept_all e cut moment groups segments le was none are split = record {
+  expired = was ∙ get_past cut (suc e) (omega arith) ∙ sym (get_past cut e le);
+  sealed = are ∙ ap (λ (ys : List ℕ). reverse ys ++ moment ∷ []) (take_past cut (suc e) (omega arith) ∙ sym (take_past cut e le)) ∙ sym (reverse_cons moment (take e cut));
+  none = none;
+  split = split;
+}
+
+length_take : (xs : List ℕ) (n : ℕ) → length (take n xs) ≡ min n (length xs)
+length_take xs zero = omega arith
+length_take [] (suc n) = omega arith
+length_take (x ∷ xs) (suc n) = omega (arith, length_take xs n)
+
+kept_after : {T : Type 0} (extents : ℕ) (cut : List ℕ) (moment : ℕ) (groups : List (Group T)) (segments : SegmentsOf T) → 1 ≤ extents
+    → segments.expired ≡ slice_get cut extents
+    → segments.unsealed ≡ [] → ends segments.sealed ≡ reverse (take extents cut) ++ moment ∷ []
+    → AreSplit segments.expired segments.sealed segments.unsealed segments.beats groups
+    → AreKept extents (moment ∷ cut) groups (expire_after extents segments)
+kept_after zero cut moment groups segments some was none are split = absurd (omega arith)
+kept_after {T} (suc e) cut moment groups segments some was none are split =
+    let size : length segments.sealed ≡ min (suc e) (length cut) + 1 =
+    sym (length-map segments.sealed (λ (segment : Segment T). segment.sealed_at)) ∙ ap length are
+    ∙ (length-append (reverse (take (suc e) cut)) (moment ∷ []))
+    ∙ ap (λ n. n + 1) (length-reverse (take (suc e) cut) ∙ length_take cut (suc e)) in
+    elim (cases_lt e (length cut)) [
+      | inl lt ↦ subst (AreKept (suc e) (moment ∷ cut) groups) (sym (cond-true _ _ _ (lt-ltb (suc e) (length segments.sealed) (omega arith)))) (dropped e cut moment groups segments segments.sealed lt none are split)
+      | inr ge ↦ subst (AreKept (suc e) (moment ∷ cut) groups) (sym (cond-false _ _ _ (le-ltb (suc e) (length segments.sealed) (omega arith)))) (kept_all e cut moment groups segments ge was none are split)
+    ]
+
+-- ---- a beat more
+
+-- what becomes of the segments with the items of a beat, where it has some
+abbrev pub given : {T : Type 0} → Tier → ℕ → List (Item T) → SegmentsOf T → SegmentsOf T
+given tier moment [] segments = segments
+given tier moment (item ∷ items) segments = ended tier moment (and_items segments (item ∷ items))
+
+ended_more : {T : Type 0} (tier : Tier) (cuts : Cuts) (group : Group T) (groups : List (Group T)) (segments : SegmentsOf T)
+    → 1 ≤ tier.extents → AreFalling group.moment groups → AreLess group.moment cuts.sealed → group.moment < 2 ^ 32
+    → AreSegmentsOf tier cuts groups segments
+    → AreSegmentsOf tier (cut_after tier (Some group.moment) (length group.items) cuts) (group ∷ groups) (ended tier group.moment (and_items segments group.items))
+ended_more {T} tier cuts group groups segments some falls less short are =
+    let size : length (segments.unsealed ++ group.items) ≡ cuts.since + length group.items = length-append segments.unsealed group.items ∙ ap (λ n. n + length group.items) are.since in
+    let before : is_after segments.expired group.moment ≡ true = subst (λ o. is_after o group.moment ≡ true) (sym are.expired) (less-get group.moment tier.extents cuts.sealed less) in
+    let below : AreLess group.moment (ends segments.sealed) =
+    subst (AreLess group.moment) (sym are.sealed) (less-reverse group.moment (take tier.extents cuts.sealed) (less-take group.moment tier.extents cuts.sealed less)) in
+    let few : length groups ≤ group.moment = falling_few group.moment groups falls in
+    let split : AreSplit segments.expired segments.sealed (segments.unsealed ++ group.items) (min (segments.beats + 1) (2 ^ 64 - 1)) (group ∷ groups) =
+    split_more segments.expired segments.sealed segments.unsealed segments.beats groups group before below (omega arith) are.split in
+    let together : SegmentsOf T = counted (and_items segments group.items) in
+    let now : SegmentsOf T = sealed_at group.moment together in
+    let P : Cuts → SegmentsOf T → Type 0 = λ cuts segments. AreSegmentsOf tier cuts (group ∷ groups) segments in
+    elim (cases_lt (cuts.since + length group.items) tier.items) [
+      | inl lt ↦
+          subst (λ (c : Cuts). P c (ended tier group.moment (and_items segments group.items))) (sym (cond-true _ _ _ (lt-ltb (cuts.since + length group.items) tier.items lt)))
+          (subst (λ (s : SegmentsOf T). P (record cuts { since = cuts.since + length group.items }) s)
+          (sym (cond-true _ _ _ (lt-ltb (length (segments.unsealed ++ group.items)) tier.items (omega arith))))
+          (record { expired = are.expired; sealed = are.sealed; since = size; split = split }))
+      | inr ge ↦
+          let kept : AreKept tier.extents (group.moment ∷ cuts.sealed) (group ∷ groups) (expire_after tier.extents now) =
+          kept_after tier.extents cuts.sealed group.moment (group ∷ groups) now some are.expired refl
+          (ends_push segments.sealed (record { sealed_at = group.moment; beats = together.beats; items = together.unsealed }) ∙ ap (λ (xs : List ℕ). xs ++ group.moment ∷ []) are.sealed)
+          (split_sealed group.moment segments.expired segments.sealed (segments.unsealed ++ group.items) together.beats (group ∷ groups) (omega arith, falls) before below split) in
+          subst (λ (c : Cuts). P c (ended tier group.moment (and_items segments group.items))) (sym (cond-false _ _ _ (le-ltb (cuts.since + length group.items) tier.items ge)))
+          (subst (λ (s : SegmentsOf T). P (record { sealed = group.moment ∷ cuts.sealed; since = 0 }) s)
+          (sym (cond-false _ _ _ (le-ltb (length (segments.unsealed ++ group.items)) tier.items (omega arith))))
+          (record { expired = kept.expired; sealed = kept.sealed; since = ap length kept.none; split = kept.split }))
+    ]
+
+-- The segments of a tier with the items of a beat behind all before.
+pub given_more : {T : Type 0} (tier : Tier) (cuts : Cuts) (moment : ℕ) (items : List (Item T)) (groups : List (Group T)) (segments : SegmentsOf T)
+    → 1 ≤ tier.extents → cuts.since < tier.items → AreFalling moment groups → AreLess moment cuts.sealed → moment < 2 ^ 32
+    → AreSegmentsOf tier cuts groups segments
+    → AreSegmentsOf tier (cut_after tier (Some moment) (length items) cuts) (with_group moment items groups) (given tier moment items segments)
+given_more {T} tier cuts moment [] groups segments some few falls less short are =
+    let same : cuts.since + 0 ≡ cuts.since = omega arith in
+    let none : cut_after tier (Some moment) 0 cuts ≡ cuts = cond-true _ _ _ (lt-ltb (cuts.since + 0) tier.items (omega arith)) ∙ ap (λ n. record cuts { since = n }) same in
+    subst (λ (c : Cuts). AreSegmentsOf tier c groups segments) (sym none) are
+given_more tier cuts moment (item ∷ items) groups segments some few falls less short are =
+    ended_more tier cuts (record { moment = moment; items = item ∷ items }) groups segments some falls less short are

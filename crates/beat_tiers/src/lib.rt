@@ -1,0 +1,33 @@
+//! What the tiers of a database keep of its beats.
+//!
+//! Tier 0 has the points, each other tier a record for each bucket of its width. The items of a tier, which
+//! are the points of each beat or the records that close at it, are cut into segments, and only so many sealed
+//! segments are kept: what is older has expired, and lies below the tier's floor. `Tiers` takes beats one after
+//! the other and answers for the points and records at or above each floor, for the floors, and for the beats
+//! that are kept. It is proved that floors, points and records are those of their definitions over all beats,
+//! whatever has expired, and that the kept beats are those of the points that are kept.
+//!
+//! A beat costs by its points and by the records that close at it, and not by what is kept. A tier is a queue
+//! of segments, each a vector of items in their order: a sealed segment is put at the queue's end as it is, and
+//! an expired one is dropped whole. The records of buckets that are not over stand in a map by series.
+//!
+//! It stands on `tier_rollup` for records, on `storage_number` for the values of words, and on lists of
+//! `fixed_num`. It knows no disk and no history.
+#![tactic(auto)]
+
+mod item;
+mod kept;
+mod law;
+mod record_tier;
+mod searching;
+mod segments;
+#[cfg(test)]
+mod tests;
+mod tier;
+mod tiers;
+
+pub use item::{BeatPoint, BeatPointList, Item};
+pub use kept::{Kept, KeptBeat, KeptBeatList, KeptPoint, KeptPointList};
+pub use law::any_beats;
+pub use tier::Tier;
+pub use tiers::Tiers;

@@ -1,0 +1,204 @@
+ghost use Rattle.std.specs.Prelude.{◌≡◌, ℕ, [], ◌∷◌, ◌++◌, nat_le, filter, find, flat_map, take, IfOk, OnOk};
+ghost use Rattle.std.specs.List.{filter_map};
+ghost use Rattle.std.specs.Option.{option_map};
+ghost use Rattle.fixed_num.specs.declared.units.Record.{Record as ARecord};
+ghost use Rattle.beat_tiers.specs.declared.item.Item.{Item as AnItem};
+ghost use Rattle.beat_tiers.specs.declared.segments.Segment.{Segment as ASegment};
+ghost use Rattle.beat_tiers.specs.Searching.{is_before};
+ghost use Rattle.beat_tiers.specs.Segments.{items_of};
+ghost use Rattle.beat_tiers.specs.State.{is_item, point_at};
+ghost use Rattle.beat_tiers.specs.Tiers.{AreOrdered};
+
+use crate::item::Item;
+use crate::segments::{Segment, Segments};
+use fixed_num::Record;
+use std::alloc::{AllocError, Global};
+use tier_rollup::{Point, PointList};
+
+/// The items from a place on, by halves.
+fn from_place<T>(items: &[Item<T>], low: u64) -> &[Item<T>]
+    ensures ordered { AreOrdered items.now → AreOrdered result.now }
+    ensures from { AreOrdered items.now → result.now ≡ filter (λ (item : AnItem T). nat_le low item.place) items.now }
+{
+    let start = items.partition_point(|item| u64::from(item.place) < low);
+    items.split_at(start).1
+}
+
+/// The items up to a place, by halves.
+fn to_place<T>(items: &[Item<T>], high: u32) -> &[Item<T>]
+    ensures { AreOrdered items.now → result.now ≡ filter (λ (item : AnItem T). nat_le item.place high) items.now }
+{
+    let end = items.partition_point(|item| item.place <= high);
+    items.split_at(end).0
+}
+
+/// The point that an item is, where it is of this series and between these moments.
+fn point_at(item: &Item<u32>, floor: u64, series: u32, from: u32, to: u32) -> Option<Point>
+    ensures { result ≡ point_at floor series from to item.now }
+{
+    if item.series == series
+        && floor <= u64::from(item.place)
+        && from <= item.place
+        && item.place <= to
+    {
+        Some(Point {
+            moment: item.place,
+            word: item.value,
+        })
+    } else {
+        None
+    }
+}
+
+/// Adds the point that an item is.
+fn add_item(
+    points: &mut PointList,
+    item: &Item<u32>,
+    floor: u64,
+    series: u32,
+    from: u32,
+    to: u32,
+) -> Result<(), AllocError>
+    ensures { OnOk result (points.new
+        ≡ points.old ++ filter_map (point_at floor series from to) (item.now ∷ [])) }
+{
+    match point_at(item, floor, series, from, to) {
+        Some(point) => {
+            points.push(point)?;
+            Ok(())
+        }
+        None => Ok(()),
+    }
+}
+
+/// Adds the points that some items are.
+fn add_items(
+    points: &mut PointList,
+    items: &[Item<u32>],
+    floor: u64,
+    series: u32,
+    from: u32,
+    to: u32,
+) -> Result<(), AllocError>
+    ensures { OnOk result (points.new
+        ≡ points.old ++ filter_map (point_at floor series from to) items.now) }
+{
+    for item in items {
+        add_item(points, item, floor, series, from, to)?;
+    }
+    Ok(())
+}
+
+/// Adds the points that ordered items are, and reads those alone that lie between the moments.
+fn add_ordered(
+    points: &mut PointList,
+    items: &[Item<u32>],
+    floor: u64,
+    series: u32,
+    from: u32,
+    to: u32,
+) -> Result<(), AllocError>
+    ensures { AreOrdered items.now → OnOk result (points.new
+        ≡ points.old ++ filter_map (point_at floor series from to) items.now) }
+{
+    let low = floor.max(u64::from(from));
+    let between = to_place(from_place(items, low), to);
+    add_items(points, between, floor, series, from, to)
+}
+
+/// Adds the points that the items of segments are.
+fn add_segments(
+    points: &mut PointList,
+    segments: &[Segment<u32>],
+    floor: u64,
+    series: u32,
+    from: u32,
+    to: u32,
+) -> Result<(), AllocError>
+    ensures { AreOrdered (flat_map (λ (segment : ASegment ℕ). segment.items) segments.now)
+        → OnOk result (points.new ≡ points.old ++ filter_map (point_at floor series from to)
+        (flat_map (λ (segment : ASegment ℕ). segment.items) segments.now)) }
+{
+    for segment in segments {
+        add_ordered(points, segment.items.as_slice(), floor, series, from, to)?;
+    }
+    Ok(())
+}
+
+/// The points of a series at or above a floor and between two moments, these included.
+pub(crate) fn points_of(
+    alloc: Global,
+    segments: &Segments<u32>,
+    floor: u64,
+    series: u32,
+    from: u32,
+    to: u32,
+) -> Result<PointList, AllocError>
+    ensures { AreOrdered (items_of segments.now) → IfOk result (λ points. points
+        ≡ filter_map (point_at floor series from to) (items_of segments.now)) }
+{
+    let mut points = PointList::new(alloc);
+    let (earlier, later) = segments.sealed();
+    add_segments(&mut points, earlier, floor, series, from, to)?;
+    add_segments(&mut points, later, floor, series, from, to)?;
+    add_ordered(&mut points, segments.unsealed(), floor, series, from, to)?;
+    Ok(points)
+}
+
+/// Whether an item comes before those of a bucket's series.
+fn is_before<T>(item: &Item<T>, bucket: u32, series: u32) -> bool
+    ensures { result ≡ is_before bucket series item.now }
+{
+    item.place < bucket || (item.place == bucket && item.series < series)
+}
+
+/// The items from that of a bucket's series on, by halves.
+fn from_item(items: &[Item<Record>], bucket: u32, series: u32) -> &[Item<Record>]
+    ensures { AreOrdered items.now → find (is_item bucket series) (take 1 result.now)
+        ≡ find (is_item bucket series) items.now }
+{
+    let start = items.partition_point(|item| is_before(item, bucket, series));
+    items.split_at(start).1
+}
+
+/// The record of a bucket's series among ordered items.
+fn find_item(items: &[Item<Record>], bucket: u32, series: u32) -> Option<Record>
+    ensures { AreOrdered items.now → result ≡ option_map (λ (item : AnItem ARecord). item.value)
+        (find (is_item bucket series) items.now) }
+{
+    match from_item(items, bucket, series).first() {
+        Some(item) if item.place == bucket && item.series == series => Some(item.value),
+        _ => None,
+    }
+}
+
+/// The record of a bucket's series among the items of segments.
+fn find_in_segments(segments: &[Segment<Record>], bucket: u32, series: u32) -> Option<Record>
+    ensures { AreOrdered (flat_map (λ (segment : ASegment ARecord). segment.items) segments.now)
+        → result ≡ option_map (λ (item : AnItem ARecord). item.value)
+        (find (is_item bucket series)
+        (flat_map (λ (segment : ASegment ARecord). segment.items) segments.now)) }
+{
+    for segment in segments {
+        match find_item(segment.items.as_slice(), bucket, series) {
+            Some(record) => return Some(record),
+            None => {}
+        }
+    }
+    None
+}
+
+/// The record of a bucket's series.
+pub(crate) fn record_of(segments: &Segments<Record>, bucket: u32, series: u32) -> Option<Record>
+    ensures { AreOrdered (items_of segments.now) → result ≡ option_map (λ (item : AnItem ARecord). item.value)
+        (find (is_item bucket series) (items_of segments.now)) }
+{
+    let (earlier, later) = segments.sealed();
+    match find_in_segments(earlier, bucket, series) {
+        Some(record) => Some(record),
+        None => match find_in_segments(later, bucket, series) {
+            Some(record) => Some(record),
+            None => find_item(segments.unsealed(), bucket, series),
+        },
+    }
+}

@@ -1,0 +1,135 @@
+use super::*;
+
+/// The items of a segment, the segments kept, the beats of one point each at 1, 2, 3 .., and the floor.
+const ROWS: [(u32, u32, u32, u32); 14] = [
+    (1, 1, 1, 0),
+    (1, 1, 2, 2),
+    (1, 1, 3, 3),
+    (1, 2, 2, 0),
+    (1, 2, 3, 2),
+    (1, 3, 4, 2),
+    (2, 1, 3, 0),
+    (2, 1, 4, 3),
+    (2, 1, 5, 3),
+    (2, 1, 6, 5),
+    (2, 2, 6, 3),
+    (3, 1, 6, 4),
+    (3, 3, 11, 0),
+    (3, 3, 12, 4),
+];
+
+#[test]
+fn floors_of_points(rt: HostRuntime) -> Result<(), Fail> {
+    for (items, extents, beats, floor) in ROWS {
+        let mut tiers = Tiers::new(
+            rt.alloc(),
+            tier(1, items.max(1), extents.max(1)),
+            [].as_slice(),
+        )?;
+        for moment in 1..=beats {
+            tiers.take(Some(moment), [point(0, 1)].as_slice())?;
+        }
+        assert_eq!(rt; tiers.floor(0), floor, "{items} {extents} {beats}");
+    }
+    Ok(())
+}
+
+#[test]
+fn a_segment_is_not_cut_within_a_beat(rt: HostRuntime) -> Result<(), Fail> {
+    let mut tiers = Tiers::new(rt.alloc(), tier(1, 2, 1), [].as_slice())?;
+    let three = [point(0, 1), point(1, 1), point(2, 1)];
+    tiers.take(Some(5), three.as_slice())?;
+    assert_eq!(rt; tiers.floor(0), 0);
+    tiers.take(Some(6), three.as_slice())?;
+    assert_eq!(rt; tiers.floor(0), 6);
+    check_moments(&rt, &tiers, 0, 9, [6].as_slice())
+}
+
+#[test]
+fn points_below_a_floor_are_not_answered(rt: HostRuntime) -> Result<(), Fail> {
+    let mut tiers = Tiers::new(rt.alloc(), tier(1, 2, 1), [].as_slice())?;
+    take_each(&mut tiers, [10, 11, 12].as_slice())?;
+    check_moments(&rt, &tiers, 0, 100, [10, 11, 12].as_slice())?;
+    take_each(&mut tiers, [13].as_slice())?;
+    assert_eq!(rt; tiers.floor(0), 12);
+    check_moments(&rt, &tiers, 0, 100, [12, 13].as_slice())?;
+    take_each(&mut tiers, [14, 20].as_slice())?;
+    assert_eq!(rt; tiers.floor(0), 14);
+    check_moments(&rt, &tiers, 0, 100, [14, 20].as_slice())?;
+    check_moments(&rt, &tiers, 14, 20, [14, 20].as_slice())?;
+    check_moments(&rt, &tiers, 15, 20, [20].as_slice())?;
+    check_moments(&rt, &tiers, 14, 19, [14].as_slice())?;
+    check_moments(&rt, &tiers, 20, 14, [].as_slice())
+}
+
+#[test]
+fn records_below_a_floor_are_not_answered(rt: HostRuntime) -> Result<(), Fail> {
+    let minute = tier(60, 1, 1);
+    let mut tiers = Tiers::new(rt.alloc(), tier(1, 100, 1), [minute].as_slice())?;
+    take_each(&mut tiers, [30, 70].as_slice())?;
+    assert_eq!(rt; tiers.floor(1), 0);
+    assert_eq!(rt; tiers.record_of(1, 0, 0), Some(record(1, 1, 1, 1)));
+    take_each(&mut tiers, [135].as_slice())?;
+    // the record of bucket 0 was sealed at 70
+    assert_eq!(rt; tiers.floor(1), 60);
+    assert_eq!(rt; tiers.record_of(1, 0, 0), None);
+    assert_eq!(rt; tiers.record_of(1, 0, 1), Some(record(1, 1, 1, 1)));
+    assert_eq!(rt; tiers.record_of(1, 0, 2), Some(record(1, 1, 1, 1)));
+    assert_eq!(rt; tiers.floor(0), 0);
+    Ok(())
+}
+
+#[test]
+fn a_beat_without_points_closes_records(rt: HostRuntime) -> Result<(), Fail> {
+    let minute = tier(60, 1, 1);
+    let mut tiers = Tiers::new(rt.alloc(), tier(1, 100, 1), [minute].as_slice())?;
+    take_each(&mut tiers, [30].as_slice())?;
+    tiers.take(Some(61), [].as_slice())?;
+    take_each(&mut tiers, [62].as_slice())?;
+    assert_eq!(rt; tiers.floor(1), 0);
+    tiers.take(Some(125), [].as_slice())?;
+    assert_eq!(rt; tiers.floor(1), 60);
+    assert_eq!(rt; tiers.record_of(1, 0, 0), None);
+    assert_eq!(rt; tiers.record_of(1, 0, 1), Some(record(1, 1, 1, 1)));
+    // a beat without a moment changes nothing
+    tiers.take(None, [].as_slice())?;
+    assert_eq!(rt; tiers.last(), 125);
+    assert_eq!(rt; tiers.floor(1), 60);
+    Ok(())
+}
+
+#[test]
+fn a_floor_past_all_moments(rt: HostRuntime) -> Result<(), Fail> {
+    let mut tiers = Tiers::new(rt.alloc(), tier(1, 1, 1), [].as_slice())?;
+    take_each(&mut tiers, [u32::MAX, u32::MAX].as_slice())?;
+    assert_eq!(rt; tiers.floor(0), u32::MAX);
+    check_moments(&rt, &tiers, 0, u32::MAX, [].as_slice())
+}
+
+#[test]
+fn kept_beats(rt: HostRuntime) -> Result<(), Fail> {
+    let mut tiers = Tiers::new(rt.alloc(), tier(1, 2, 1), [].as_slice())?;
+    tiers.take(Some(10), [point(0, 1), point(1, 2)].as_slice())?;
+    tiers.take(Some(11), [].as_slice())?;
+    take_each(&mut tiers, [12, 13].as_slice())?;
+    tiers.take(Some(14), [point(2, 3), point(5, 4)].as_slice())?;
+    // the two segments behind the first were sealed at 13 and 14
+    let kept = tiers.kept()?;
+    assert_eq!(rt; kept.before, 3);
+    assert_eq!(rt; kept.beats.len(), 1);
+    for beat in kept.beats.as_slice() {
+        assert_eq!(rt; beat.moment, 14);
+        let points = [
+            KeptPoint {
+                series: 2,
+                word: word(3),
+            },
+            KeptPoint {
+                series: 5,
+                word: word(4),
+            },
+        ];
+        assert_eq!(rt; beat.points.as_slice(), points.as_slice());
+    }
+    Ok(())
+}

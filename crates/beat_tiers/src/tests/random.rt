@@ -1,0 +1,181 @@
+ghost use Rattle.std.specs.Prelude.{◌≤◌};
+
+use super::plain::{Plain, SERIES, plain_floor, plain_points, plain_record, points_in, word_in};
+use super::*;
+
+/// The next number of a linear congruential generator.
+fn next(state: &mut u32) -> u32 {
+    *state = state.wrapping_mul(1_664_525).wrapping_add(1_013_904_223);
+    *state >> 16
+}
+
+/// A word of one of a few values, or none.
+fn random_word(state: &mut u32) -> Option<u32> {
+    match next(state) % 4 {
+        0 => None,
+        1 => Some(word(5)),
+        2 => Some(word(-7)),
+        _ => Some(word(0)),
+    }
+}
+
+/// A beat behind a moment, mostly seconds later and at times hours.
+fn random_beat(state: &mut u32, last: u32) -> Plain {
+    let later = match next(state) % 8 {
+        0 => 7_300,
+        1 => 61,
+        other => other,
+    };
+    let words = if next(state) % 4 == 0 {
+        [None, None, None]
+    } else {
+        [random_word(state), random_word(state), random_word(state)]
+    };
+    Plain {
+        moment: last.saturating_add(later),
+        words,
+    }
+}
+
+/// The tiers take a beat.
+fn take(alloc: Global, tiers: &mut Tiers, beat: &Plain) -> Result<(), AllocError> {
+    let mut points = Vec::new(alloc);
+    for series in SERIES {
+        if let Some(word) = word_in(beat, series) {
+            points.push(BeatPoint {
+                series,
+                step: 1,
+                word,
+            })?;
+        }
+    }
+    tiers.take(Some(beat.moment), points.as_slice())
+}
+
+/// Checks the points at or above the floor.
+fn check_points(
+    rt: &impl Abort,
+    alloc: Global,
+    tiers: &Tiers,
+    beats: &[Plain],
+    floor: u32,
+) -> Result<(), Fail> {
+    let last = tiers.last();
+    for series in SERIES {
+        let all = plain_points(alloc, beats, series, floor, last)?;
+        assert_eq!(rt; tiers.points(series, 0, last)?.as_slice(), all.as_slice());
+        let from = last.saturating_sub(70).max(floor);
+        let to = last.saturating_sub(1);
+        let some = plain_points(alloc, beats, series, from, to)?;
+        assert_eq!(rt; tiers.points(series, from, to)?.as_slice(), some.as_slice());
+    }
+    Ok(())
+}
+
+/// Checks the kept beats, and how many came before them.
+fn check_kept(rt: &impl Abort, tiers: &Tiers, beats: &[Plain], floor: u32) -> Result<(), Fail> {
+    let kept = tiers.kept()?;
+    let mut before: u64 = 0;
+    let mut found: usize = 0;
+    for beat in beats {
+        let count = points_in(beat);
+        if count > 0 && beat.moment < floor {
+            before = before.saturating_add(1);
+        } else if count > 0 {
+            let Some(one) = kept.beats.as_slice().get(found) else {
+                return Err(Fail::from("a kept beat is left out"));
+            };
+            assert_eq!(rt; one.moment, beat.moment);
+            assert_eq!(rt; one.points.len(), count as usize);
+            found = found.saturating_add(1);
+        }
+    }
+    assert_eq!(rt; kept.before, before);
+    assert_eq!(rt; kept.beats.len(), found);
+    Ok(())
+}
+
+/// Checks the records of a bucket.
+fn check_bucket(
+    rt: &impl Abort,
+    tiers: &Tiers,
+    beats: &[Plain],
+    number: u8,
+    width: u32,
+    bucket: u32,
+) {
+    let above = bucket.saturating_mul(width) >= tiers.floor(number);
+    for series in SERIES {
+        let kept = tiers.record_of(number, series, bucket);
+        if above {
+            assert_eq!(rt; kept, plain_record(beats, width, bucket, series));
+        } else {
+            assert_eq!(rt; kept, None);
+        }
+    }
+}
+
+/// Checks a tier's floor and the records of its last buckets.
+fn check_tier(
+    rt: &impl Abort,
+    alloc: Global,
+    tiers: &Tiers,
+    beats: &[Plain],
+    number: u8,
+    tier: Tier,
+) -> Result<(), Fail> {
+    assert_eq!(rt;
+        tiers.floor(number),
+        plain_floor(alloc, number, tier, beats)?
+    );
+    if number == 0 {
+        return Ok(());
+    }
+    let last = tiers.last().checked_div(tier.width).unwrap_or(0);
+    for back in 0..8 {
+        check_bucket(
+            rt,
+            tiers,
+            beats,
+            number,
+            tier.width,
+            last.saturating_sub(back),
+        );
+    }
+    Ok(())
+}
+
+/// Takes fifty beats, and compares what is kept after each with what all beats say.
+fn run(rt: &impl Abort, alloc: Global, seed: u32, first: Tier, minute: Tier) -> Result<(), Fail>
+    requires first { 1 ≤ first.width × 1 ≤ first.items × 1 ≤ first.extents }
+    requires minute { 1 ≤ minute.width × 1 ≤ minute.items × 1 ≤ minute.extents }
+{
+    let mut state = seed;
+    let mut beats = Vec::new(alloc);
+    let mut tiers = Tiers::new(alloc, first, [minute].as_slice())?;
+    for _ in 0..50 {
+        let beat = random_beat(&mut state, tiers.last());
+        take(alloc, &mut tiers, &beat)?;
+        beats.push(beat)?;
+        check_tier(rt, alloc, &tiers, beats.as_slice(), 0, first)?;
+        check_tier(rt, alloc, &tiers, beats.as_slice(), 1, minute)?;
+        check_points(rt, alloc, &tiers, beats.as_slice(), tiers.floor(0))?;
+        check_kept(rt, &tiers, beats.as_slice(), tiers.floor(0))?;
+    }
+    Ok(())
+}
+
+#[test]
+fn fifty_beats(rt: HostRuntime) -> Result<(), Fail> {
+    run(&rt, rt.alloc(), 7, tier(1, 3, 2), tier(60, 2, 1))
+}
+
+#[test]
+fn fifty_beats_with_small_quotas(rt: HostRuntime) -> Result<(), Fail> {
+    run(&rt, rt.alloc(), 4_711, tier(1, 1, 1), tier(5, 1, 3))
+}
+
+#[test]
+fn fifty_beats_with_large_quotas(rt: HostRuntime) -> Result<(), Fail> {
+    run(&rt, rt.alloc(), 99, tier(1, 7, 5), tier(3_600, 5, 5))
+}
