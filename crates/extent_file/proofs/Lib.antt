@@ -1,0 +1,11 @@
+pub mod EncodeLemmas
+pub mod EntryLemmas
+pub mod FieldLemmas
+pub mod FindLemmas
+pub mod FormLemmas
+pub mod HeadLemmas
+pub mod LawLemmas
+pub mod OpenLemmas
+pub mod OrderLemmas
+pub mod SaysLemmas
+pub mod WriteLemmas

@@ -1,0 +1,44 @@
+use Rattle.std.proofs.Common.{List, sym, subst}
+use Rattle.host_model.specs.Images.{contents}
+use Rattle.host_model.specs.Past.{Event, of}
+use Rattle.host_model.specs.Moments.{Throughout, EveryImage}
+use Rattle.host_model.proofs.MomentLemmas.{at_end, joined, weakened}
+use Rattle.host_model.proofs.RunLemmas.{images_in_sync, then_sync}
+use Rattle.extent_file.specs.Writing.{LiesAt}
+use Rattle.extent_file.proofs.WriteLemmas.{lies_still}
+use Rattle.extent_file.proofs.writing.fill_to.Goals as goal
+
+pub returns-in_err-sync-clause-any_moment : goal.returns-in_err-sync-clause-any_moment
+returns-in_err-sync-clause-any_moment g c place lies h held =
+    let file = c.args.file in let old = (g.H.Host.seen c.args.host.now).past in
+    images_in_sync (LiesAt place lies) g.H.Host.honest c.sync.result file old (g.H.Host.seen c.sync.new.self).past h c.sync.ensures.done c.sync.ensures.torn
+    (g.met.H.Host.reads_an_image c.args.host.now file h) held
+
+pub returns-in_err-len-clause-any_moment : goal.returns-in_err-len-clause-any_moment
+returns-in_err-len-clause-any_moment g c place lies h held =
+    let file = c.args.file in let old = (g.H.Host.seen c.args.host.now).past in let first = (g.H.Host.seen c.sync.new.self).past in
+    let moments = images_in_sync (LiesAt place lies) g.H.Host.honest c.sync.result file old first h c.sync.ensures.done c.sync.ensures.torn
+    (g.met.H.Host.reads_an_image c.args.host.now file h) held in
+    subst (λ (past : List Event). Throughout (EveryImage file (LiesAt place lies)) old past) (sym (c.len.ensures.past h)) moments
+
+pub returns-in_err-write_zeros-clause-any_moment : goal.returns-in_err-write_zeros-clause-any_moment
+returns-in_err-write_zeros-clause-any_moment g c place lies h held =
+    let file = c.args.file in let old = (g.H.Host.seen c.args.host.now).past in let first = (g.H.Host.seen c.sync.new.self).past in
+    let second = (g.H.Host.seen c.len.new.self).past in let third = (g.H.Host.seen c.write_zeros.new.host).past in
+    let moments = images_in_sync (LiesAt place lies) g.H.Host.honest c.sync.result file old first h c.sync.ensures.done c.sync.ensures.torn
+    (g.met.H.Host.reads_an_image c.args.host.now file h) held in
+    let there = subst (λ (past : List Event). Throughout (EveryImage file (LiesAt place lies)) old past) (sym (c.len.ensures.past h)) moments in
+    let lie : LiesAt place lies (contents (of file second)) = at_end there (contents (of file second)) (g.met.H.Host.reads_an_image c.len.new.self file h) in
+    joined there (weakened (λ past kept bytes image. lies_still place lies (contents (of file second)) bytes lie (kept bytes image)) (c.write_zeros.ensures.any_moment h))
+
+pub returns-clause-any_moment : goal.returns-clause-any_moment
+returns-clause-any_moment g c place lies h held =
+    let file = c.args.file in let old = (g.H.Host.seen c.args.host.now).past in let first = (g.H.Host.seen c.sync.new.self).past in
+    let second = (g.H.Host.seen c.len.new.self).past in let third = (g.H.Host.seen c.write_zeros.new.host).past in
+    let moments = images_in_sync (LiesAt place lies) g.H.Host.honest c.sync.result file old first h c.sync.ensures.done c.sync.ensures.torn
+    (g.met.H.Host.reads_an_image c.args.host.now file h) held in
+    let there = subst (λ (past : List Event). Throughout (EveryImage file (LiesAt place lies)) old past) (sym (c.len.ensures.past h)) moments in
+    let lie : LiesAt place lies (contents (of file second)) = at_end there (contents (of file second)) (g.met.H.Host.reads_an_image c.len.new.self file h) in
+    let zeros = joined there (weakened (λ past kept bytes image. lies_still place lies (contents (of file second)) bytes lie (kept bytes image)) (c.write_zeros.ensures.any_moment h)) in
+    then_sync (LiesAt place lies) g.H.Host.honest c.sync-2.result file old third (g.H.Host.seen c.sync-2.new.self).past h c.sync-2.ensures.done c.sync-2.ensures.torn
+    (g.met.H.Host.reads_an_image c.write_zeros.new.host file h) zeros

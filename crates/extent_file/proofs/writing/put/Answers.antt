@@ -1,0 +1,25 @@
+use Rattle.std.proofs.Common.{◌+◌, length, drop, ap, ◌∙◌}
+use Rattle.std.proofs.lemmas.Result.{on_ok_weaker}
+use Rattle.host_model.specs.Images.{contents}
+use Rattle.host_model.specs.Past.{of}
+use Rattle.host_model.proofs.MomentLemmas.{at_end, joined, weakened}
+use Rattle.extent_file.specs.Writing.{LiesAt}
+use Rattle.extent_file.proofs.WriteLemmas.{lies_beside, drop_there}
+use Rattle.extent_file.proofs.writing.put.Goals as goal
+
+pub returns-clause-any_moment : goal.returns-clause-any_moment
+returns-clause-any_moment g c place lies apart h held =
+    let file = c.args.file in let middle = (g.H.Host.seen c.fill_to.new.host).past in
+    let first = c.fill_to.ensures.any_moment place lies h held in
+    let lie : LiesAt place lies (contents (of file middle)) = at_end first (contents (of file middle)) (g.met.H.Host.reads_an_image c.fill_to.new.host file h) in
+    joined first
+    (weakened (λ past kept bytes image. lies_beside place c.args.at (c.args.at + length c.args.bytes.now) lies (contents (of file middle)) bytes lie apart (kept bytes image))
+    (c.write_over.ensures.any_moment h))
+
+pub returns-clause-whole : goal.returns-clause-whole
+returns-clause-whole g c =
+    let file = c.args.file in let at = c.args.at in let bytes = c.args.bytes.now in
+    let middle = contents (of file (g.H.Host.seen c.fill_to.new.host).past) in
+    on_ok_weaker c.write_over.result
+    (λ whole h. (drop (at + length bytes) middle, ap (drop at) (whole h) ∙ drop_there middle at bytes (c.in_ok-fill_to.ensures.reaches h)))
+    c.write_over.ensures.whole

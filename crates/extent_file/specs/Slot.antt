@@ -1,0 +1,27 @@
+-- The places of a tier's file: slots of one size, one after the other.
+use Rattle.std.specs.Prelude.{◌==◌, ℕ, ◌+◌, ◌-◌, ◌*◌, ◌≤◌, if◌then◌else◌}
+use Rattle.host_model.specs.declared.file.File.{File}
+use Rattle.host_model.specs.Past.{file_number}
+
+-- the file is that of a tier
+abbrev pub IsTierFile : File → Type 0
+IsTierFile file = 4 ≤ file_number file
+
+abbrev pub tier_of : File → ℕ
+tier_of file = file_number file - 4
+
+-- how many bytes an item has: a word in tier 0, a record in another
+abbrev pub item_size : ℕ → ℕ
+item_size tier = if tier == 0 then 4 else 56
+
+-- the most items of a page
+abbrev pub most_items : ℕ → ℕ
+most_items tier = if tier == 0 then 1024 else 73
+
+-- how many bytes a slot has, in a tier whose segments have so many items
+abbrev pub slot_size : ℕ → ℕ → ℕ
+slot_size tier items = 24 + (items + 65536) * (24 + item_size tier)
+
+-- where a slot begins
+abbrev pub slot_start : ℕ → ℕ → ℕ → ℕ
+slot_start tier items slot = slot * slot_size tier items

@@ -1,0 +1,55 @@
+ghost use Rattle.std.specs.Prelude.{◌≡◌, ◌+◌, ◌*◌, ◌-◌, ◌^◌, ◌<◌, ◌≤◌, ℕ, List, [], length, take, IfOk, IsErrOf};
+ghost use Rattle.extent_file.specs.Form.{Form, Rest, StopsAt, Leads};
+ghost use Rattle.extent_file.specs.Slot.{item_size};
+ghost use Rattle.extent_file.specs.Directory.{at_first, directory_form, AreInOrder};
+
+use crate::entry::{Before, Entry, read_entry};
+use crate::fault::ExtentFault;
+use fixed_num::ListOf;
+use std::alloc::Global;
+
+/// The entries of a directory of so many pages, in an extent of this size that begins at a place of its file.
+pub(crate) fn read_directory(
+    alloc: Global,
+    seen: &[u8],
+    start: u64,
+    tier: u32,
+    size: u64,
+    pages: u32,
+) -> Result<ListOf<Entry>, ExtentFault>
+    requires start { start ≤ 2 ^ 36 }
+    requires size { size ≤ 2 ^ 40 }
+    requires fits { 24 + 24 * pages ≤ size }
+    requires inside { 24 ≤ length seen.now }
+    ensures order { IfOk result (λ entries. AreInOrder tier (at_first pages) entries
+        × (length entries ≡ pages)) }
+    ensures whole { IfOk result (λ entries. (bytes : List ℕ) (window : ℕ) (form : Form)
+        → seen.now ≡ take window bytes → 24 + 24 * pages ≤ window
+        → Leads form bytes 24 (directory_form tier size pages (at_first pages) [])
+        → Leads form bytes (24 + 24 * pages) (Rest (size - (24 + 24 * pages)) entries)) }
+    ensures bad { (place : ℕ) → IsErrOf result (ExtentFault.BadExtent place)
+        → (bytes : List ℕ) (window : ℕ) (form : Form)
+        → seen.now ≡ take window bytes → 24 + 24 * pages ≤ window
+        → Leads form bytes 24 (directory_form tier size pages (at_first pages) [])
+        → (at : ℕ) × (place ≡ start + at) × StopsAt form bytes at }
+    ensures disk { IsErrOf result ExtentFault.DiskFault → ⊥ }
+{
+    let mut entries = ListOf::new(alloc);
+    let mut before = Before {
+        series: 0,
+        free: 0,
+        place: 24 + 24 * u64::from(pages),
+    };
+    for index in 0..pages {
+        let at = 24 + 24 * index as usize;
+        let entry = match read_entry(seen, at, tier, size, pages - 1 - index, before) {
+            Ok(entry) => entry,
+            Err(place) => return Err(ExtentFault::BadExtent(start + place as u64)),
+        };
+        if entries.push(entry).is_err() {
+            return Err(ExtentFault::Memory);
+        }
+        before = entry.after(tier);
+    }
+    Ok(entries)
+}

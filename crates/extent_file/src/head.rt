@@ -1,0 +1,57 @@
+ghost use Rattle.std.specs.Prelude.{◌≡◌, ◌+◌, ◌*◌, ◌/◌, ◌-◌, ◌^◌, ◌<◌, ◌≤◌, ℕ, [], if◌then◌else◌, nat_le, min, max, length, IfOk, IfErr};
+ghost use Rattle.extent_file.specs.Fields.{IsField};
+ghost use Rattle.extent_file.specs.Form.{GoesTo};
+ghost use Rattle.extent_file.specs.Slot.{item_size};
+ghost use Rattle.extent_file.specs.Directory.{between, pages_field, at_first, directory_form, extent_form};
+
+use crate::entry::exactly;
+use crate::field::{Field, read_at};
+use crate::sizes::item_size;
+
+/// How many bytes stand before the directory.
+pub(crate) const HEAD: usize = 24;
+
+/// The number that the first 8 bytes of an extent, `NDAEXT01`, are.
+pub(crate) const MARK: u64 = 0x3130_5458_4541_444E;
+
+/// How many pages an extent may have.
+fn pages_field(tier: u32, slot: u64, size: u64) -> Field
+    requires { slot ≤ 2 ^ 26 }
+    ensures value { result ≡ pages_field tier slot size }
+    ensures form { IsField result }
+{
+    let room = size.min(slot).saturating_sub(24);
+    Field {
+        width: 4,
+        low: u64::from(size > 24),
+        high: room / (24 + item_size(tier)),
+    }
+}
+
+/// The sizes that an extent may say.
+fn size_field(slot: u64, size: u64) -> Field
+    ensures { result ≡ between 8 (max size 24) (min size slot) }
+{
+    Field {
+        width: 8,
+        low: size.max(24),
+        high: size.min(slot),
+    }
+}
+
+/// The number of pages of an extent of this size, of which at least the head was seen, or the place at which the
+/// form does not go on.
+pub(crate) fn read_head(seen: &[u8], tier: u32, slot: u64, size: u64) -> Result<u32, usize>
+    requires { slot ≤ 2 ^ 26 }
+    ensures fits { IfOk result (λ pages. (24 + pages * (24 + item_size tier) ≤ size)
+        × (24 ≤ length seen.now) × (size ≤ slot)) }
+    ensures reaches { IfErr result (λ place. place ≤ length seen.now) }
+    ensures leads { GoesTo seen.now 0 24 (extent_form tier slot size)
+        (λ pages. directory_form tier size pages (at_first pages) []) result }
+{
+    read_at(seen, 0, exactly(8, MARK))?;
+    read_at(seen, 8, exactly(4, u64::from(tier)))?;
+    let pages = read_at(seen, 12, pages_field(tier, slot, size))?;
+    read_at(seen, 16, size_field(slot, size))?;
+    Ok(pages as u32)
+}

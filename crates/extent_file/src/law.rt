@@ -1,0 +1,22 @@
+ghost use Rattle.std.specs.Prelude.{◌≡◌, ℕ, ◌+◌, ◌*◌, List, length, take, drop, slice_get, Some};
+ghost use Rattle.extent_file.specs.declared.entry.Entry.{Entry as AnEntry};
+ghost use Rattle.extent_file.specs.declared.page.Page.{Page as APage};
+ghost use Rattle.extent_file.specs.Form.{Form, Says};
+ghost use Rattle.extent_file.specs.Directory.{bytes_of, extent_form};
+ghost use Rattle.extent_file.specs.Pages.{IsExtentOf, IsItemsOf, extent_size, entries_of};
+
+/// The law of extents: of the extent of some pages, what is read are the pages' entries, and at the place of
+/// an entry stand the items of its page. It does nothing.
+pub fn any_extent()
+    ensures one { (form : Form) (bytes : List ℕ) (entries others : List AnEntry)
+        → Says form bytes entries → Says form bytes others → entries ≡ others }
+    ensures entries { (tier slot : ℕ) (pages : List APage) (bytes : List ℕ) (entries : List AnEntry)
+        → IsExtentOf tier slot pages bytes
+        → Says (extent_form tier slot (extent_size tier pages)) bytes entries
+        → entries ≡ entries_of tier (24 + 24 * length pages) pages }
+    ensures items { (tier slot : ℕ) (pages : List APage) (bytes : List ℕ) (index : ℕ)
+        (page : APage) (entry : AnEntry) → IsExtentOf tier slot pages bytes
+        → slice_get pages index ≡ Some page
+        → slice_get (entries_of tier (24 + 24 * length pages) pages) index ≡ Some entry
+        → IsItemsOf page (take (bytes_of tier entry) (drop entry.place bytes)) }
+{}

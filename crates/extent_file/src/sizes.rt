@@ -1,0 +1,52 @@
+ghost use Rattle.std.specs.Prelude.{◌≡◌, ◌<◌, ◌≤◌, ◌^◌};
+ghost use Rattle.extent_file.specs.Slot.{IsTierFile, tier_of, item_size, most_items, slot_size, slot_start};
+
+use host_model::File;
+
+/// The most items of a segment.
+pub const MOST_ITEMS: u32 = 262_144;
+
+/// The most slots of a tier's file, but one.
+pub const MOST_SLOTS: u32 = 1_024;
+
+/// The tier whose extents lie in a file.
+pub(crate) fn tier_of(file: File) -> u32
+    requires { IsTierFile file }
+    ensures value { result ≡ tier_of file }
+    ensures below { result < 5 }
+{
+    (file.number() - 4) as u32
+}
+
+/// How many bytes an item has.
+pub(crate) fn item_size(tier: u32) -> u64
+    ensures { result ≡ item_size tier }
+{
+    if tier == 0 { 4 } else { 56 }
+}
+
+/// The most items of a page.
+pub(crate) fn most_items(tier: u32) -> u64
+    ensures { result ≡ most_items tier }
+{
+    if tier == 0 { 1_024 } else { 73 }
+}
+
+/// How many bytes a slot has.
+pub(crate) fn slot_size(tier: u32, items: u32) -> u64
+    requires { items ≤ MOST_ITEMS }
+    ensures value { result ≡ slot_size tier items }
+    ensures most { result ≤ 2 ^ 26 }
+{
+    24 + (u64::from(items) + 65_536) * (24 + item_size(tier))
+}
+
+/// Where a slot begins.
+pub(crate) fn slot_start(tier: u32, items: u32, slot: u32) -> u64
+    requires items { items ≤ MOST_ITEMS }
+    requires slot { slot ≤ MOST_SLOTS }
+    ensures value { result ≡ slot_start tier items slot }
+    ensures most { result ≤ 2 ^ 36 }
+{
+    u64::from(slot) * slot_size(tier, items)
+}

@@ -1,0 +1,269 @@
+use super::*;
+use crate::entry::Entry;
+use crate::finding::first_wanted;
+use host_model::{CallList, File, Host, Keep, MemoryHost};
+use page_buffer::{RecordPage, SlotPage};
+use page_pool::{PagePool, RawPage};
+use std::alloc::Global;
+use std::process::Abort;
+use std::test::Fail;
+
+fn raw_page(alloc: Global) -> Result<RawPage, Fail> {
+    let mut pool = PagePool::new(alloc);
+    pool.reserve(1)?;
+    Ok(pool.take().ok_or("no page is spare")?)
+}
+
+/// A page with a point at each of some moments.
+fn slots(alloc: Global, series: u32, first: u32, step: u32, moments: &[u32]) -> Result<Page, Fail> {
+    let mut page = SlotPage::new(raw_page(alloc)?, series, first, step.max(1));
+    for moment in moments {
+        page.push(*moment, 7)?;
+    }
+    Ok(Page::Slots(page))
+}
+
+fn host_of(alloc: Global) -> Result<MemoryHost, Fail> {
+    Ok(MemoryHost::new(alloc, CallList::from_vec(Vec::new(alloc)))?)
+}
+
+fn one_page(alloc: Global) -> Result<PageList, Fail> {
+    let mut pages = PageList::new(alloc);
+    let page = slots(alloc, 3, 60, 1, &[60])?;
+    if pages.push(page).is_err() {
+        return Err(Fail::from("out of memory"));
+    }
+    Ok(pages)
+}
+
+/// Two pages, whose extent has 84 bytes.
+fn two_pages(alloc: Global) -> Result<PageList, Fail> {
+    let mut pages = PageList::new(alloc);
+    let first = slots(alloc, 1, 10, 10, &[10])?;
+    let second = slots(alloc, 2, 5, 1, &[5, 6])?;
+    if pages.push(first).is_err() || pages.push(second).is_err() {
+        return Err(Fail::from("out of memory"));
+    }
+    Ok(pages)
+}
+
+#[test]
+fn an_extent_of_one_point_has_52_bytes(rt: HostRuntime) -> Result<(), Fail> {
+    let mut host = host_of(rt.alloc())?;
+    let pages = one_page(rt.alloc())?;
+    let size = write_extent(rt.alloc(), &mut host, File::Tier0, 1, 0, &pages)?;
+    assert_eq!(rt; size, 52);
+    assert_eq!(rt; host.len(File::Tier0)?, 52);
+    let extent = Extent::open(rt.alloc(), &mut host, File::Tier0, 1, 0, size)?;
+    assert_eq!(rt; extent.entries(), 1);
+    assert_eq!(rt; extent.head(0), (3, 60, 1, 1));
+    assert_eq!(rt; extent.find(3, 60), Some(0));
+    assert_eq!(rt; extent.find(3, 61), None);
+    assert_eq!(rt; extent.find(2, 1), None);
+    let read = extent.read_page(&mut host, 0, raw_page(rt.alloc())?)?;
+    assert_eq!(rt; read.as_slice(), [7, 0, 0, 0].as_slice());
+    Ok(())
+}
+
+#[test]
+fn the_bytes_of_an_extent(rt: HostRuntime) -> Result<(), Fail> {
+    let mut host = host_of(rt.alloc())?;
+    let pages = one_page(rt.alloc())?;
+    write_extent(rt.alloc(), &mut host, File::Tier0, 1, 0, &pages)?;
+    let mut bytes = [0_u8; 52];
+    host.read(File::Tier0, 0, &mut bytes)?;
+    let front = b"NDAEXT01\0\0\0\0\x01\0\0\0\x34\0\0\0\0\0\0\0\x03\0\0\0\x3c\0\0\0\x01\0\0\0";
+    assert_eq!(rt; &bytes[..36], front.as_slice());
+    assert_eq!(rt;
+        &bytes[36..],
+        b"\x01\0\0\0\x30\0\0\0\0\0\0\0\x07\0\0\0".as_slice()
+    );
+    Ok(())
+}
+
+#[test]
+fn records_lie_in_the_other_tiers(rt: HostRuntime) -> Result<(), Fail> {
+    let mut host = host_of(rt.alloc())?;
+    let mut page = RecordPage::new(raw_page(rt.alloc())?, 9, 60, 60);
+    let item = fixed_num::Record {
+        min: -1,
+        max: 2,
+        sum: 1,
+        count: 2,
+        anomalies: 0,
+    };
+    page.push(60, item)?;
+    page.push(120, item)?;
+    let mut pages = PageList::new(rt.alloc());
+    pages.push(Page::Records(page))?;
+    let size = write_extent(rt.alloc(), &mut host, File::Tier1, 1, 0, &pages)?;
+    assert_eq!(rt; size, 160);
+    let extent = Extent::open(rt.alloc(), &mut host, File::Tier1, 1, 0, size)?;
+    assert_eq!(rt; extent.head(0), (9, 60, 60, 2));
+    assert_eq!(rt; extent.find(9, 120), Some(0));
+    let read = extent.read_page(&mut host, 0, raw_page(rt.alloc())?)?;
+    let again = RecordPage::decode(read.as_slice(), raw_page(rt.alloc())?, 9, 60, 60)?;
+    assert_eq!(rt; again.slot(120), Some(item));
+    Ok(())
+}
+
+/// Writes the first extent into slot 0, and then another into slot 1 until the call fails. After a stop the
+/// first is there, and so is the second where its write was told to be done.
+fn survive(rt: &impl Abort, alloc: Global, call: u64, keep: Keep) -> Result<(), Fail> {
+    let mut host = MemoryHost::fused(alloc, call)?;
+    let first = one_page(alloc)?;
+    let second = two_pages(alloc)?;
+    let one = write_extent(alloc, &mut host, File::Tier0, 1, 0, &first).is_ok();
+    let two = one && write_extent(alloc, &mut host, File::Tier0, 1, 1, &second).is_ok();
+    let mut host = host.stop(keep)?;
+    if one {
+        let extent = Extent::open(alloc, &mut host, File::Tier0, 1, 0, 52)?;
+        assert_eq!(rt; extent.head(0), (3, 60, 1, 1), "call {call}, {keep:?}");
+    }
+    if two {
+        let extent = Extent::open(alloc, &mut host, File::Tier0, 1, 1, 84)?;
+        assert_eq!(rt; extent.entries(), 2, "call {call}, {keep:?}");
+    }
+    Ok(())
+}
+
+#[test]
+fn a_stop_leaves_the_other_slot(rt: HostRuntime) -> Result<(), Fail> {
+    for call in [0, 2, 4, 6, 7, 300, 455, 456, 457, 458] {
+        for keep in [Keep::All, Keep::None, Keep::Fill(255)] {
+            survive(&rt, rt.alloc(), call, keep)?;
+        }
+    }
+    Ok(())
+}
+
+/// A byte of the extent of two pages that is changed, and the first byte at which no extent goes on.
+#[derive(Clone, Copy)]
+struct Row {
+    at: u64,
+    byte: u8,
+    stops: u64,
+}
+
+fn changed(at: u64, byte: u8, stops: u64) -> Row {
+    Row { at, byte, stops }
+}
+
+#[test]
+fn a_changed_byte_is_found(rt: HostRuntime) -> Result<(), Fail> {
+    let rows = [
+        changed(0, b'M', 0),
+        changed(7, b'2', 7),
+        changed(8, 1, 8),
+        changed(12, 0, 12),
+        changed(12, 3, 12),
+        changed(13, 1, 13),
+        changed(16, 85, 16),
+        changed(23, 1, 23),
+        changed(24, 3, 51),
+        changed(32, 0, 35),
+        changed(36, 0, 36),
+        changed(36, 2, 60),
+        changed(37, 1, 37),
+        changed(40, 73, 40),
+        changed(48, 1, 55),
+        changed(60, 1, 60),
+        changed(64, 80, 64),
+    ];
+    let pages = two_pages(rt.alloc())?;
+    for row in &rows {
+        let mut host = host_of(rt.alloc())?;
+        write_extent(rt.alloc(), &mut host, File::Tier0, 1, 0, &pages)?;
+        host.write_at(File::Tier0, row.at, &[row.byte])?;
+        let opened = Extent::open(rt.alloc(), &mut host, File::Tier0, 1, 0, 84);
+        assert_eq!(rt;
+            opened.err(),
+            Some(ExtentFault::BadExtent(row.stops)),
+            "byte {}",
+            row.at
+        );
+    }
+    Ok(())
+}
+
+#[test]
+fn a_file_that_is_cut_ends_early(rt: HostRuntime) -> Result<(), Fail> {
+    let pages = two_pages(rt.alloc())?;
+    for len in [0, 7, 23, 24, 47, 71, 72, 83] {
+        let mut host = host_of(rt.alloc())?;
+        write_extent(rt.alloc(), &mut host, File::Tier0, 1, 0, &pages)?;
+        let extent = Extent::open(rt.alloc(), &mut host, File::Tier0, 1, 0, 84)?;
+        host.cut(File::Tier0, len)?;
+        let opened = Extent::open(rt.alloc(), &mut host, File::Tier0, 1, 0, 84);
+        assert_eq!(rt; opened.err(), Some(ExtentFault::BadExtent(len)));
+        let read = extent.read_page(&mut host, 1, raw_page(rt.alloc())?);
+        assert_eq!(rt; read.err(), Some(ExtentFault::BadExtent(len)));
+    }
+    Ok(())
+}
+
+#[test]
+fn another_length_is_no_extent(rt: HostRuntime) -> Result<(), Fail> {
+    let mut host = host_of(rt.alloc())?;
+    write_extent(
+        rt.alloc(),
+        &mut host,
+        File::Tier0,
+        1,
+        0,
+        &two_pages(rt.alloc())?,
+    )?;
+    for (bytes, stops) in [(83, 16), (24, 12), (0, 12), (1 << 40, 16)] {
+        let opened = Extent::open(rt.alloc(), &mut host, File::Tier0, 1, 0, bytes);
+        assert_eq!(rt; opened.err(), Some(ExtentFault::BadExtent(stops)));
+    }
+    let late = Extent::open(rt.alloc(), &mut host, File::Tier0, 1, 1, 84);
+    assert_eq!(rt; late.err(), Some(ExtentFault::BadExtent(84)));
+    Ok(())
+}
+
+/// The next of some numbers without an order.
+fn draw(state: &mut u64, below: u64) -> u32 {
+    *state = state
+        .wrapping_mul(6_364_136_223_846_793_005)
+        .wrapping_add(1);
+    ((*state >> 33) % below.max(1)) as u32
+}
+
+/// A directory of few series, in order.
+fn directory(alloc: Global, state: &mut u64) -> Result<Vec<Entry>, Fail> {
+    let mut entries = Vec::new(alloc);
+    let mut series = 0_u32;
+    let mut first = 0_u32;
+    for _ in 0..draw(state, 12) {
+        if draw(state, 3) == 0 {
+            series = series.saturating_add(1);
+            first = 0;
+        }
+        first = first.saturating_add(1 + draw(state, 4));
+        let count = 1 + draw(state, 3);
+        entries.push(Entry {
+            series,
+            first,
+            step: 2,
+            count,
+            place: 0,
+        })?;
+        first = first.saturating_add(2 * count);
+    }
+    Ok(entries)
+}
+
+#[test]
+fn halves_find_what_the_plain_search_finds(rt: HostRuntime) -> Result<(), Fail> {
+    let mut state = 1;
+    for _ in 0..500 {
+        let entries = directory(rt.alloc(), &mut state)?;
+        let series = draw(&mut state, 5);
+        let moment = draw(&mut state, 60);
+        let plain = entries.iter().position(|entry| entry.series == series
+            && u64::from(moment) <= entry.last());
+        assert_eq!(rt; first_wanted(&entries, series, moment), plain);
+    }
+    Ok(())
+}
