@@ -20,7 +20,7 @@ use Rattle.entry_codec.specs.declared.entry.Entry.TheVariants as entry
 use Rattle.entry_codec.specs.Entries.{entry_bytes, IsWithinLimits}
 use Rattle.entry_codec.specs.Lists.{is_ascending}
 use Rattle.entry_codec.proofs.Lengths.{collected-length}
-use Rattle.store_core.specs.declared.beat.BeatPoint.{BeatPoint}
+use Rattle.beat_tiers.specs.declared.item.BeatPoint.{BeatPoint}
 use Rattle.store_core.specs.Beats.{beat_bytes, is_point, series_of, InForm, IsPoint}
 use Rattle.store_core.proofs.BeatLaw.{beat_size}
 use Rattle.agent_core.specs.Kept.{point_of, step_of}

@@ -20,7 +20,7 @@ use Rattle.entry_codec.specs.declared.entry.Entry.TheVariants as entry
 use Rattle.entry_codec.specs.declared.entry.Settings.{Settings}
 use Rattle.entry_codec.specs.Entries.{HasSpelling}
 use Rattle.store_core.specs.declared.beat.Beat.{Beat as StoreBeat}
-use Rattle.store_core.specs.declared.beat.BeatPoint.{BeatPoint}
+use Rattle.beat_tiers.specs.declared.item.BeatPoint.{BeatPoint}
 use Rattle.store_core.specs.Stands.{StandsAround}
 use Rattle.store_core.specs.Store.{counted, raised, IsStoreOf, StoreState}
 use Rattle.store_core.proofs.StoreLemmas.{every_image_of}

@@ -16,7 +16,7 @@ use Rattle.history.specs.Registry.{Registry, is_chart, chart_of}
 use Rattle.chart_registry.proofs.Places.{find-position}
 use Rattle.beat_points.specs.declared.series_word.SeriesWord.{SeriesWord}
 use Rattle.beat_points.specs.Points.{beat_points}
-use Rattle.store_core.specs.declared.beat.BeatPoint.{BeatPoint}
+use Rattle.beat_tiers.specs.declared.item.BeatPoint.{BeatPoint}
 use Rattle.agent_core.specs.Kept.{point_of, step_of, stored_points}
 use Rattle.agent_core.specs.Notes.{names_series}
 

@@ -21,7 +21,7 @@ use Rattle.beat_entries.proofs.DefinedLemmas.{chart-alike, chart-itself, dimensi
 use Rattle.beat_entries.proofs.FollowLemmas.{beat-goes-on, last-is}
 use Rattle.beat_entries.proofs.PutLemmas.{apart-put_all}
 use Rattle.store_core.specs.declared.beat.Beat.{Beat as StoreBeat}
-use Rattle.store_core.specs.declared.beat.BeatPoint.{BeatPoint}
+use Rattle.beat_tiers.specs.declared.item.BeatPoint.{BeatPoint}
 use Rattle.agent_core.specs.declared.fault.AgentFault.{AgentFault}
 use Rattle.agent_core.specs.declared.fault.AgentFault.TheVariants.{Damaged, Memory}
 use Rattle.agent_core.specs.declared.left.Left.{Left}

@@ -18,7 +18,7 @@ use Rattle.entry_codec.specs.Entries.{entry_bytes, HasSpelling}
 use Rattle.beat_entries.specs.Copied.{copied_entry_of, MayCopy}
 use Rattle.history.specs.Numbered.{numbered_beat}
 use Rattle.store_core.specs.declared.beat.Beat.{Beat as StoreBeat}
-use Rattle.store_core.specs.declared.beat.BeatPoint.{BeatPoint}
+use Rattle.beat_tiers.specs.declared.item.BeatPoint.{BeatPoint}
 use Rattle.store_core.specs.Stands.{is_made, Stands}
 use Rattle.agent_core.specs.Roles.{may_copy, role_of}
 use Rattle.agent_core.specs.Rules.{beat_refusal, IsOpenBeat}

@@ -14,7 +14,7 @@ use Rattle.entry_codec.specs.Entries.{read_entry}
 use Rattle.beat_entries.specs.Copied.{copied_goes_on, defined_by}
 use Rattle.beat_entries.specs.Next.{goes_on, is_number, with_numbered}
 use Rattle.store_core.specs.declared.beat.Beat.{Beat as StoreBeat}
-use Rattle.store_core.specs.declared.beat.BeatPoint.{BeatPoint}
+use Rattle.beat_tiers.specs.declared.item.BeatPoint.{BeatPoint}
 use Rattle.store_core.specs.Stands.{Stands}
 use Rattle.agent_core.specs.declared.left.Left.{Left}
 use Rattle.agent_core.specs.declared.left.Role.TheVariants.{Undecided, Collects, Copies}

@@ -14,7 +14,7 @@ use Rattle.entry_codec.specs.Entries.{entry_bytes, is_canonical, read_entry, set
 use Rattle.entry_codec.specs.Lists.{is_ascending}
 use Rattle.entry_codec.proofs.EntriesLaw.{reads_back, is_read}
 use Rattle.store_core.specs.declared.beat.Beat.{Beat}
-use Rattle.store_core.specs.declared.beat.BeatPoint.{BeatPoint}
+use Rattle.beat_tiers.specs.declared.item.BeatPoint.{BeatPoint}
 use Rattle.store_core.specs.Beats.{beat_bytes, beat_in, is_point, is_timed, moment_bytes, point_bytes, series_of, InForm}
 use Rattle.store_core.specs.FirstRecord.{are_tiers, is_tier, settings_beat, settings_body, settings_in, settings_of_beat, settings_of_entry, settings_of_note, InLimits}
 use Rattle.store_core.proofs.BeatLaw.{beat_again, beat_found}

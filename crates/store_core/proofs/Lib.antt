@@ -7,3 +7,4 @@ pub mod OpenLemmas
 pub mod RecordLaw
 pub mod StandLemmas
 pub mod StoreLemmas
+pub mod TierLemmas

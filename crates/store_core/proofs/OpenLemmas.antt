@@ -1,5 +1,5 @@
 -- What a store is when it was opened.
-use Rattle.std.proofs.Common.{◌≡◌, ℕ, List, [], Option, Some, None, refl, sym, ap, ◌∙◌, subst}
+use Rattle.std.proofs.Common.{◌≡◌, ℕ, true, List, [], Option, Some, None, refl, sym, ap, ◌∙◌, subst}
 use Rattle.host_model.specs.declared.file.File.TheVariants.{JournalA}
 use Rattle.host_model.specs.Images.{contents}
 use Rattle.host_model.specs.Past.{Event, of}
@@ -7,8 +7,12 @@ use Rattle.host_model.specs.Disks.{reads_as}
 use Rattle.journal_core.specs.Form.{StandsFor}
 use Rattle.journal_core.specs.Journal.{IsOpen, JournalState}
 use Rattle.journal_core.proofs.GrammarLemmas.{records_once}
+use Rattle.beat_tiers.specs.State.{TiersState, no_beats}
 use Rattle.entry_codec.specs.declared.entry.Settings.{Settings}
 use Rattle.store_core.specs.declared.beat.Beat.{Beat}
+use Rattle.store_core.specs.FirstRecord.{are_tiers}
+use Rattle.store_core.specs.Tiers.{first_tier, other_tiers, HasTiers}
+use Rattle.store_core.proofs.TierLemmas.{tiers_begin}
 use Rattle.store_core.specs.Records.{history_in, records, with_all}
 use Rattle.store_core.specs.Stands.{Stands}
 use Rattle.store_core.specs.Store.{IsPlaced, OpensAt, StoreState}
@@ -33,9 +37,9 @@ found_records old new journal bodies set beats found stands =
     stands.journal
 
 pub opens : (old new : List Event) (store : StoreState) (bodies : List (List ℕ)) → WasFound old new store.journal bodies
-    → Some (store.settings, store.waiting) ≡ history_in bodies → store.count ≡ 0 → store.last ≡ 0 → store.fault ≡ None
+    → Some (store.settings, store.waiting) ≡ history_in bodies → store.count ≡ 0 → store.last ≡ 0 → store.tiers ≡ no_beats (first_tier store.settings) (other_tiers store.settings) → store.fault ≡ None
     → (set : Settings) (beats : List Beat) → Stands set beats (reads_as old) → OpensAt new store set beats
-opens old new store bodies found read count last going set beats stands =
+opens old new store bodies found read count last tiers going set beats stands =
     let order = oldest_first beats in
     let all = found_records old new store.journal bodies set beats found stands in
     let again = ap history_in all ∙ history_again set beats order.rest order.whole stands.limits stands.beats_are in
@@ -55,6 +59,8 @@ opens old new store bodies found read count last going set beats stands =
         waiting = ap (λ (p : Settings × List Beat). p.1) same;
         count = count;
         last = last;
+        tiers = subst (λ (s : Settings). HasTiers s [] store.tiers) (ap (λ (p : Settings × List Beat). p.0) same)
+            (subst (λ (state : TiersState). HasTiers store.settings [] state) (sym tiers) (tiers_begin store.settings (subst (λ (s : Settings). are_tiers s ≡ true) (sym (ap (λ (p : Settings × List Beat). p.0) same)) stands.limits.tiers)));
         going = going;
       };
     }

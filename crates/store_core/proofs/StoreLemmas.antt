@@ -1,5 +1,5 @@
 -- What a store is, from call to call.
-use Rattle.std.proofs.Common.{◌≡◌, ℕ, suc, inl, inr, true, false, List, [], ◌∷◌, ◌++◌, length, None, refl, sym, ap, ◌∙◌, subst, arith}
+use Rattle.std.proofs.Common.{◌≡◌, ℕ, suc, inl, inr, true, false, List, [], ◌∷◌, ◌++◌, length, Some, None, refl, sym, ap, ◌∙◌, subst, arith}
 use Rattle.host_model.specs.declared.file.File.{File}
 use Rattle.host_model.specs.declared.file.File.TheVariants.{JournalA}
 use Rattle.host_model.specs.Images.{Change, contents}
@@ -17,8 +17,10 @@ use Rattle.store_core.specs.Beats.{beat_bytes, InForm}
 use Rattle.store_core.specs.FirstRecord.{settings_body, InLimits}
 use Rattle.store_core.specs.Records.{is_later, last_after, last_moment, records, with_all, AreBeats}
 use Rattle.store_core.specs.Stands.{is_begun, HoldsIfBegun, Stands, StandsAround, StandsIfMade}
-use Rattle.store_core.specs.Store.{counted, raised, IsPlaced, IsReady, IsReplayed, IsStoreAt, IsStoreOf, StoreState}
+use Rattle.store_core.specs.Store.{counted, raised, IsPlaced, IsReady, IsReplayed, IsStoreAt, IsStoreOf, Replays, StoreState}
+use Rattle.beat_tiers.specs.State.{TiersState, after_beat}
 use Rattle.store_core.proofs.StandLemmas.{empty_not_begun}
+use Rattle.store_core.proofs.TierLemmas.{tiers_more}
 
 -- what an open journal reads as
 pub open_reads : (changes : List Change) (journal : JournalState) (bodies : List (List ℕ)) → IsPlaced journal → IsOpen changes journal bodies → StandsFor 0 (contents changes) bodies
@@ -89,6 +91,7 @@ store_elsewhere old new store set beats rest same is_at = record {
   waiting = is_at.waiting;
   count = is_at.count;
   last = is_at.last;
+  tiers = is_at.tiers;
   going = is_at.going;
 }
 
@@ -144,7 +147,12 @@ counted-more n = omega arith
 
 -- the store after it was added
 abbrev pub applied : StoreState → JournalState → Beat → StoreState
-applied store journal beat = record store { count = raised store.count; last = last_after store.last beat.moment; journal = journal }
+applied store journal beat = record store {
+  count = raised store.count;
+  last = last_after store.last beat.moment;
+  tiers = after_beat beat.moment beat.points store.tiers;
+  journal = journal;
+}
 
 pub one_more : (old new : List Event) (store : StoreState) (journal : JournalState) (set : Settings) (beats : List Beat) (beat : Beat) → IsStoreOf old store set beats
     → InForm beat → is_later store.last beat.moment ≡ true → IsPlaced journal → IsOpen (of JournalA new) journal (records set beats ++ beat_bytes beat ∷ [])
@@ -158,6 +166,7 @@ one_more old new store journal set beats beat is_of form later place is_open = r
   waiting = is_of.waiting;
   count = ap raised is_of.count ∙ counted-more (length beats);
   last = ap (λ (l : ℕ). last_after l beat.moment) is_of.last;
+  tiers = tiers_more set beats beat store.tiers is_of.tiers (with_beat set beats beat store.last is_of.beats_are form is_of.last later);
   going = is_of.going;
 }
 
@@ -209,3 +218,59 @@ made_moments old new set body spelt limits moments =
       limits = limits;
       beats_are = record { forms = tt; rises = tt };
     })
+
+-- the store after a beat, with these tiers
+abbrev pub counted_with : StoreState → TiersState → JournalState → Beat → StoreState
+counted_with store tiers journal beat = record store { count = raised store.count; last = last_after store.last beat.moment; tiers = tiers; journal = journal }
+
+-- ---- a beat that was there at the opening
+
+-- a front of beats that may follow one another
+pub front_are : (beats rest : List Beat) → AreBeats (with_all beats rest) → AreBeats beats
+front_are beats [] are = are
+front_are beats (next ∷ rest) are =
+    let more = front_are (next ∷ beats) rest are in
+    record { forms = more.forms.1; rises = more.rises.1 }
+
+pub next_applied : (past : List Event) (store after : StoreState) (set : Settings) (beats rest : List Beat) (next : Beat) → IsStoreAt past store set beats (next ∷ rest)
+    → after ≡ record store { count = raised store.count; last = last_after store.last next.moment; waiting = rest; tiers = after_beat next.moment next.points store.tiers }
+    → IsStoreAt past after set (next ∷ beats) rest
+next_applied past store after set beats rest next is_at made = subst (λ (s : StoreState). IsStoreAt past s set (next ∷ beats) rest) (sym made) (record {
+  place = is_at.place;
+  journal = is_at.journal;
+  limits = is_at.limits;
+  beats_are = is_at.beats_are;
+  settings = is_at.settings;
+  waiting = refl;
+  count = ap raised is_at.count ∙ counted-more (length beats);
+  last = ap (λ (l : ℕ). last_after l next.moment) is_at.last;
+  tiers = tiers_more set beats next store.tiers is_at.tiers (front_are (next ∷ beats) rest is_at.beats_are);
+  going = is_at.going;
+})
+
+-- the store after the first of the beats that wait, with these others and tiers
+abbrev pub replayed_with : StoreState → List Beat → TiersState → Beat → StoreState
+replayed_with store waiting tiers beat = record store { count = raised store.count; last = last_after store.last beat.moment; waiting = waiting; tiers = tiers }
+
+pub replays_next : (past : List Event) (store after : StoreState) (set : Settings) (beats rest others : List Beat) (next : Beat) → IsStoreAt past store set beats rest
+    → store.waiting ≡ next ∷ others → after ≡ replayed_with store others (after_beat next.moment next.points store.tiers) next
+    → Replays past after set beats rest (Some next)
+replays_next past store after set beats [] others next is_at waits made = absurd (differ next others (sym is_at.waiting ∙ waits))
+  where
+    differ : (one : Beat) (more : List Beat) → [] ≡ one ∷ more → ⊥
+    differ one more e = cc
+replays_next past store after set beats (first ∷ rest) others next is_at waits made =
+    let both : first ∷ rest ≡ next ∷ others = sym is_at.waiting ∙ waits in
+    let same : next ≡ first = same_first both in
+    let left : others ≡ rest = same_rest both in (
+      same,
+      subst (λ (beat : Beat). IsStoreAt past after set (beat ∷ beats) rest) (sym same) (next_applied past store after set beats rest first is_at
+          (made ∙ ap (λ (beat : Beat). replayed_with store others (after_beat beat.moment beat.points store.tiers) beat) same
+          ∙ ap (λ (waiting : List Beat). replayed_with store waiting (after_beat first.moment first.points store.tiers) first) left)),
+    )
+  where
+    same_first : first ∷ rest ≡ next ∷ others → next ≡ first
+    same_first e = cc
+
+    same_rest : first ∷ rest ≡ next ∷ others → others ≡ rest
+    same_rest e = cc

@@ -6,7 +6,7 @@ use Rattle.field_codec.specs.Reading.{ReadOf, read_as, read_u32, read_bytes}
 use Rattle.field_codec.specs.Spelling.{u32_bytes, sized_bytes, list_bytes}
 use Rattle.entry_codec.specs.Lists.{◌>>◌, is_ascending, read_list, IsShortListOf}
 use Rattle.store_core.specs.declared.beat.Beat.{Beat}
-use Rattle.store_core.specs.declared.beat.BeatPoint.{BeatPoint}
+use Rattle.beat_tiers.specs.declared.item.BeatPoint.{BeatPoint}
 
 -- ---- moments
 

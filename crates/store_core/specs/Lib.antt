@@ -4,3 +4,4 @@ pub mod FirstRecord
 pub mod Records
 pub mod Stands
 pub mod Store
+pub mod Tiers

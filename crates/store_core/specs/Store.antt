@@ -3,11 +3,13 @@ use Rattle.std.specs.Prelude.{◌≡◌, ℕ, ◌+◌, ◌-◌, ◌^◌, min, Li
 use Rattle.host_model.specs.declared.file.File.TheVariants.{JournalA}
 use Rattle.host_model.specs.Past.{Event, of}
 use Rattle.journal_core.specs.Journal.{JournalState, IsOpen}
+use Rattle.beat_tiers.specs.State.{TiersState, no_beats}
 use Rattle.entry_codec.specs.declared.entry.Settings.{Settings}
 use Rattle.store_core.specs.declared.beat.Beat.{Beat}
 use Rattle.store_core.specs.declared.fault.Why.{Why}
 use Rattle.store_core.specs.FirstRecord.{InLimits}
 use Rattle.store_core.specs.Records.{last_moment, records, with_all, AreBeats}
+use Rattle.store_core.specs.Tiers.{first_tier, other_tiers, HasTiers}
 
 pub record StoreState : Type 0 where
   pub settings : Settings
@@ -19,6 +21,8 @@ pub record StoreState : Type 0 where
   pub fault : Option Why
   -- the beats that are still to be applied, the oldest first
   pub waiting : List Beat
+  -- what the tiers keep of the beats that were applied
+  pub tiers : TiersState
   pub journal : JournalState
 
 -- a count of so many beats
@@ -49,6 +53,7 @@ pub record IsStoreAt (past : List Event) (store : StoreState) (set : Settings) (
   pub waiting : store.waiting ≡ rest
   pub count : store.count ≡ counted (length beats)
   pub last : store.last ≡ last_moment beats
+  pub tiers : HasTiers set beats store.tiers
   pub going : store.fault ≡ None
 
 -- the store is that of these settings and beats, and all are applied
@@ -88,3 +93,4 @@ pub record IsNew (set : Settings) (store : StoreState) : Type 0 where
   pub last : store.last ≡ 0
   pub fault : store.fault ≡ None
   pub waiting : store.waiting ≡ []
+  pub tiers : store.tiers ≡ no_beats (first_tier set) (other_tiers set)

@@ -2,21 +2,8 @@ ghost use Rattle.std.specs.Prelude.{◌≡◌, ◌≤◌, ◌^◌, ◌↔◌, le
 ghost use Rattle.store_core.specs.Beats.{beat_bytes, InForm};
 
 use crate::form;
-use fixed_num::{ByteList, ListOf};
-
-/// The points of a beat.
-pub type BeatPointList = ListOf<BeatPoint>;
-
-/// The point of a series in a beat.
-#[derive(Clone, Copy, Debug, PartialEq, Eq)]
-pub struct BeatPoint {
-    /// The number of the series, below 65,536.
-    pub series: u32,
-    /// The seconds for which the point stands, from 1 to 86,400.
-    pub step: u32,
-    /// The value, as a storage number.
-    pub word: u32,
-}
+pub use beat_tiers::{BeatPoint, BeatPointList};
+use fixed_num::ByteList;
 
 /// What one beat adds to a database.
 #[derive(Debug, Drop)]

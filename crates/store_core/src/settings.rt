@@ -1,13 +1,16 @@
 //! The first record of a journal.
 
-ghost use Rattle.std.specs.Prelude.{◌≡◌, ◌↔◌, Ok, Err, IsTrue, IfOk};
+ghost use Rattle.std.specs.Prelude.{◌≡◌, ◌↔◌, true, Ok, Err, IsTrue, IfOk};
+ghost use Rattle.beat_tiers.specs.State.{no_beats};
 ghost use Rattle.field_codec.specs.Field.{IsBytes};
 ghost use Rattle.entry_codec.specs.Entries.{entry_bytes, read_entry};
 ghost use Rattle.store_core.specs.FirstRecord.{are_tiers, is_tier, settings_beat, settings_body, settings_in, settings_of_entry, settings_of_beat, InLimits};
+ghost use Rattle.store_core.specs.Tiers.{first_tier, other_tiers, tier_of};
 
 use crate::beat::{Beat, BeatPointList};
 use crate::reading::read_beat;
 use crate::writing::write_beat;
+use beat_tiers::{Tier, Tiers};
 use entry_codec::{Entry, EntryFault, Settings, TierSettings, read_entry, write_entry};
 use fixed_num::ByteList;
 use std::alloc::{AllocError, Global};
@@ -32,6 +35,33 @@ pub fn is_in_limits(settings: &Settings) -> bool
     // A number that is read is known to be in the range of its type.
     let _id = settings.id;
     are_tiers(settings)
+}
+
+/// The seconds of a bucket of tier 1 and of tier 2.
+const WIDTHS: (u32, u32) = (60, 3_600);
+
+fn tier_of(width: u32, tier: &TierSettings) -> Tier
+    ensures { result ≡ tier_of width tier.now }
+{
+    Tier {
+        width,
+        items: tier.items,
+        extents: tier.extents,
+    }
+}
+
+/// The tiers of no beat.
+#[tactic(auto, using(crate::proofs::TierLemmas::is_first, crate::proofs::TierLemmas::are_others))]
+pub(crate) fn new_tiers(alloc: Global, settings: &Settings) -> Result<Tiers, AllocError>
+    requires { are_tiers settings.now ≡ true }
+    ensures { IfOk result (λ tiers. tiers
+        ≡ no_beats (first_tier settings.now) (other_tiers settings.now)) }
+{
+    let others = [
+        tier_of(WIDTHS.0, &settings.tier1),
+        tier_of(WIDTHS.1, &settings.tier2),
+    ];
+    Tiers::new(alloc, tier_of(1, &settings.tier0), &others)
 }
 
 /// The entry that the note of the first record is.

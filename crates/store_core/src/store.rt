@@ -5,6 +5,7 @@ ghost use Rattle.host_model.specs.Past.{Event, of, IsDisk};
 ghost use Rattle.host_model.specs.Disks.{EveryDisk, reads_as};
 ghost use Rattle.host_model.specs.Cause.{HasCause};
 ghost use Rattle.host_model.specs.Moments.{Throughout, EveryImage, OnlyOn};
+ghost use Rattle.beat_tiers.specs.State.{after_beat};
 ghost use Rattle.entry_codec.specs.declared.entry.Settings.{Settings as ASettings};
 ghost use Rattle.store_core.specs.declared.beat.Beat.{Beat as ABeat};
 ghost use Rattle.store_core.specs.Beats.{beat_bytes, InForm};
@@ -17,13 +18,14 @@ use crate::beat::Beat;
 use crate::fault::{StoreFault, Why};
 use crate::file;
 use crate::records::{is_later, last_after, read_records};
-use crate::settings::write_settings;
+use crate::settings::{new_tiers, write_settings};
 use crate::waiting::Waiting;
 use crate::writing::write_beat;
+use beat_tiers::Tiers;
 use entry_codec::Settings;
 use host_model::{File, Host};
 use journal_core::{Journal, JournalFault};
-use std::alloc::Global;
+use std::alloc::{AllocError, Global};
 use std::marker::Model;
 
 /// A database that has been made or opened, with the host that it is on. Each call on it is handed that
@@ -39,6 +41,8 @@ pub struct Store {
     /// The first cause for which the database must be opened again.
     fault: Option<Why>,
     waiting: Waiting,
+    /// What the tiers keep of the beats that were applied.
+    tiers: Tiers,
     journal: Journal,
 }
 
@@ -53,6 +57,7 @@ impl Model for Store {
       last = store.last;
       fault = store.fault;
       waiting = store.waiting;
+      tiers = store.tiers;
       journal = store.journal;
     } };
 }
@@ -105,6 +110,9 @@ impl Store {
         let Ok(body) = write_settings(alloc, settings) else {
             return Err(StoreFault::Memory);
         };
+        let Ok(tiers) = new_tiers(alloc, settings) else {
+            return Err(StoreFault::Memory);
+        };
         let journal = file::make(host, body.as_slice())?;
         Ok(Store {
             alloc,
@@ -113,6 +121,7 @@ impl Store {
             last: 0,
             fault: None,
             waiting: Waiting::new(alloc),
+            tiers,
             journal,
         })
     }
@@ -161,15 +170,21 @@ impl Store {
         match read_records(alloc, records.as_slice()) {
             Err(_) => Err(StoreFault::Memory),
             Ok(None) => Err(StoreFault::Damaged(4)),
-            Ok(Some((settings, waiting))) => Ok(Store {
-                alloc,
-                settings,
-                count: 0,
-                last: 0,
-                fault: None,
-                waiting,
-                journal,
-            }),
+            Ok(Some((settings, waiting))) => {
+                let Ok(tiers) = new_tiers(alloc, &settings) else {
+                    return Err(StoreFault::Memory);
+                };
+                Ok(Store {
+                    alloc,
+                    settings,
+                    count: 0,
+                    last: 0,
+                    fault: None,
+                    waiting,
+                    tiers,
+                    journal,
+                })
+            }
         }
     }
 
@@ -234,23 +249,33 @@ impl Store {
         if let Some(cause) = self.fault {
             return Err(StoreFault::Reopen(cause));
         }
-        Ok(self.apply_next())
+        match self.apply_next() {
+            Ok(next) => Ok(next),
+            Err(_) => {
+                self.fault = Some(Why::Memory);
+                Err(StoreFault::Memory)
+            }
+        }
     }
 
-    fn apply_next(&mut self) -> Option<Beat>
+    fn apply_next(&mut self) -> Result<Option<Beat>, AllocError>
         ensures next { (past : List Event) (set : ASettings) (beats rest : List ABeat)
             → IsStoreAt past self.old set beats rest
-            → Replays past self.new set beats rest result }
-        ensures takes { TakesFirst self.old.waiting result self.new.waiting }
+            → IfOk result (Replays past self.new set beats rest) }
+        ensures takes { IfOk result
+            (λ next. TakesFirst self.old.waiting next self.new.waiting) }
+        ensures stays { OnErr result
+            ((self.new.count ≡ self.old.count) × (self.new.last ≡ self.old.last)) }
         ensures settings { self.new.settings ≡ self.old.settings }
         ensures journal { self.new.journal ≡ self.old.journal }
         ensures fault { self.new.fault ≡ self.old.fault }
     {
         match self.waiting.take_first() {
-            None => None,
+            None => Ok(None),
             Some(beat) => {
+                self.tiers.take(beat.moment, beat.points.as_slice())?;
                 self.apply(beat.moment);
-                Some(beat)
+                Ok(Some(beat))
             }
         }
     }
@@ -339,9 +364,10 @@ impl Store {
         ensures applied { OnOk result (self.new ≡ record self.old {
           count = raised self.old.count;
           last = last_after self.old.last beat.now.moment;
+          tiers = after_beat beat.now.moment beat.now.points self.old.tiers;
           journal = self.new.journal;
         }) }
-        ensures stays { OnErr result (self.new ≡ self.old) }
+        ensures stays { OnErr result (self.new ≡ record self.old { tiers = self.new.tiers }) }
         ensures only_here { H.honest
             → OnlyOn File.JournalA (H.seen host.old).past (H.seen host.new).past }
         ensures faults { IfErr result IsStepFault }
@@ -355,6 +381,13 @@ impl Store {
             Ok(body) => body,
             Err(_) => return Err(StoreFault::Memory),
         };
+        if self
+            .tiers
+            .take(beat.moment, beat.points.as_slice())
+            .is_err()
+        {
+            return Err(StoreFault::Memory);
+        }
         file::append(&mut self.journal, host, body.as_slice())?;
         self.apply(beat.moment);
         Ok(())

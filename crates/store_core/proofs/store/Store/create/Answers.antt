@@ -1,9 +1,13 @@
-use Rattle.std.proofs.Common.{◌≡◌, List, false, length, inl, sym, ap, ◌∙◌, subst, arith}
-use Rattle.host_model.specs.Past.{Event}
+use Rattle.std.proofs.Common.{◌≡◌, ℕ, List, [], ◌∷◌, false, length, inl, refl, sym, ap, ◌∙◌, subst, arith}
+use Rattle.host_model.specs.declared.file.File.TheVariants.{JournalA}
+use Rattle.host_model.specs.Past.{Event, of}
 use Rattle.host_model.specs.Moments.{Throughout}
 use Rattle.host_model.specs.Disks.{EveryDisk}
 use Rattle.host_model.proofs.CallLemmas.{unmoved}
+use Rattle.journal_core.specs.Journal.{IsOpen}
 use Rattle.store_core.specs.Stands.{is_made, StandsIfMade}
+use Rattle.store_core.specs.Tiers.{HasTiers}
+use Rattle.store_core.proofs.TierLemmas.{tiers_begin}
 use Rattle.store_core.proofs.DiskCases.{no_image_begun}
 use Rattle.store_core.proofs.FirstRecordLaw.{length-settings_body}
 use Rattle.store_core.proofs.StoreLemmas.{made_moments}
@@ -21,6 +25,11 @@ returns-then-made-clause-any_moment g c h none =
 
 pub returns-in_default-write_settings-clause-any_moment : goal.returns-in_default-write_settings-clause-any_moment
 returns-in_default-write_settings-clause-any_moment g c h none =
+    unmoved (EveryDisk (StandsIfMade c.args.settings.now)) (g.H.Host.seen c.args.host.now).past (g.H.Host.seen c.is_made.new.host).past (c.is_made.ensures.past h)
+    (λ disk images. inl (none disk images))
+
+pub returns-in_default-new_tiers-clause-any_moment : goal.returns-in_default-new_tiers-clause-any_moment
+returns-in_default-new_tiers-clause-any_moment g c h none =
     unmoved (EveryDisk (StandsIfMade c.args.settings.now)) (g.H.Host.seen c.args.host.now).past (g.H.Host.seen c.is_made.new.host).past (c.is_made.ensures.past h)
     (λ disk images. inl (none disk images))
 
@@ -49,3 +58,18 @@ returns-clause-any_moment g c h none =
     let begun = no_image_begun middle (λ file. g.met.H.Host.reads_an_image c.is_made.new.host file h) none_here in
     subst (λ (past : List Event). Throughout (EveryDisk (StandsIfMade set)) past new) (c.is_made.ensures.past h)
     (made_moments middle new set c.as_slice.result.now (c.as_slice.ensures ∙ c.in-Ok-write_settings.ensures) c.requires (c.make.ensures.any_moment h begun))
+
+pub returns-clause-created : goal.returns-clause-created
+returns-clause-created g c h = record {
+  place = c.in_ok-journal.ensures.place;
+  journal = subst (λ (body : List ℕ). IsOpen (of JournalA (g.H.Host.seen c.make.new.host).past) c.in_ok-journal.journal (body ∷ []))
+      (c.as_slice.ensures ∙ c.in-Ok-write_settings.ensures) (c.in_ok-journal.ensures.made h);
+  limits = c.requires;
+  beats_are = record { forms = tt; rises = tt };
+  settings = refl;
+  waiting = c.new.ensures;
+  count = refl;
+  last = refl;
+  tiers = subst (HasTiers c.args.settings.now []) (sym c.in-Ok-new_tiers.ensures) (tiers_begin c.args.settings.now c.requires.tiers);
+  going = refl;
+}

@@ -7,7 +7,7 @@ use Rattle.store_core.specs.Records.{history_in, with_all}
 use Rattle.store_core.specs.Stands.{Stands}
 use Rattle.store_core.proofs.DiskCases.{disks_from_before}
 use Rattle.store_core.proofs.OpenLemmas.{damaged, opens, stands_found, WasFound}
-use Rattle.store_core.proofs.RecordLaw.{AreBytes}
+use Rattle.store_core.proofs.RecordLaw.{AreBytes, history_found}
 use Rattle.store_core.proofs.store.Store.open.Goals as goal
 
 pub returns-in_default-clause-any_moment : goal.returns-in_default-clause-any_moment
@@ -44,6 +44,19 @@ returns-clause-any_moment g c h =
     subst (λ (past : List Event). Throughout (EveryDisk (IsDisk past)) past new) (c.is_made.ensures.past h)
     (disks_from_before (g.H.Host.seen c.is_made.new.host).past new (c.open.ensures.only_here h) (c.open.ensures.any_moment h))
 
+pub returns-in_default-new_tiers-clause-any_moment : goal.returns-in_default-new_tiers-clause-any_moment
+returns-in_default-new_tiers-clause-any_moment g c h =
+    let new = (g.H.Host.seen c.open.new.host).past in
+    subst (λ (past : List Event). Throughout (EveryDisk (IsDisk past)) past new) (c.is_made.ensures.past h)
+    (disks_from_before (g.H.Host.seen c.is_made.new.host).past new (c.open.ensures.only_here h) (c.open.ensures.any_moment h))
+
+pub new_tiers-requires : goal.new_tiers-requires
+new_tiers-requires g c =
+    let known = history_found c.in_ok-journal.records c.in-Ok-Some.settings c.in-Ok-Some.waiting
+    (subst AreBytes c.as_slice.ensures (c.in-Ok-Some.ensures.bytes (rw c.in-Ok-Some.field-0-is refl)))
+    (sym (sym c.in-Ok-Some.field-0-is ∙ c.in-Ok-Some.ensures.value ∙ ap history_in c.as_slice.ensures)) in
+    known.limits.tiers
+
 pub returns-in-Ok-None-clause-damaged : goal.returns-in-Ok-None-clause-damaged
 returns-in-Ok-None-clause-damaged g c part is h =
     let middle = (g.H.Host.seen c.is_made.new.host).past in
@@ -67,7 +80,7 @@ returns-clause-opened g c h set beats stands =
     let bodies = c.in_ok-journal.records in
     let found : WasFound middle new journal bodies =
     record { place = c.in_ok-journal.ensures.place; is_open = c.in_ok-journal.ensures.opened h; same = c.open.ensures.same_bytes h } in
-    opens middle new _ bodies found (sym c.in-Ok-Some.field-0-is ∙ c.in-Ok-Some.ensures.value ∙ ap history_in c.as_slice.ensures) refl refl refl set beats
+    opens middle new _ bodies found (sym c.in-Ok-Some.field-0-is ∙ c.in-Ok-Some.ensures.value ∙ ap history_in c.as_slice.ensures) refl refl c.in-Ok-new_tiers.ensures refl set beats
     (subst (λ (past : List Event). Stands set beats (reads_as past)) (sym (c.is_made.ensures.past h)) stands)
 
 pub returns-clause-stands : goal.returns-clause-stands

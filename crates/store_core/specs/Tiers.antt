@@ -1,0 +1,28 @@
+-- The tiers of a database: their settings, and what they see of its beats. A list of beats has the newest first.
+use Rattle.std.specs.Prelude.{ℕ, List, [], ◌∷◌, map}
+use Rattle.beat_tiers.specs.declared.tier.Tier.{Tier}
+use Rattle.beat_tiers.specs.Beats.{TierBeat}
+use Rattle.beat_tiers.specs.State.{TiersState}
+use Rattle.beat_tiers.specs.Tiers.{AreTiersOf}
+use Rattle.entry_codec.specs.declared.entry.Settings.{Settings}
+use Rattle.entry_codec.specs.declared.entry.TierSettings.{TierSettings}
+use Rattle.store_core.specs.declared.beat.Beat.{Beat}
+
+abbrev pub tier_of : ℕ → TierSettings → Tier
+tier_of width tier = record { width = width; items = tier.items; extents = tier.extents }
+
+-- tier 0 has the points, each a second wide
+abbrev pub first_tier : Settings → Tier
+first_tier set = tier_of 1 set.tier0
+
+-- the others have the records of minutes and of hours
+abbrev pub other_tiers : Settings → List Tier
+other_tiers set = tier_of 60 set.tier1 ∷ tier_of 3600 set.tier2 ∷ []
+
+-- the moment and the points of a beat
+abbrev pub seen : Beat → TierBeat
+seen beat = record { moment = beat.moment; points = beat.points }
+
+-- the tiers are those of these settings and beats
+abbrev pub HasTiers : Settings → List Beat → TiersState → Type 0
+HasTiers set beats tiers = AreTiersOf (first_tier set ∷ other_tiers set) (map seen beats) tiers
