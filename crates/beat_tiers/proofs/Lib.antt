@@ -3,6 +3,7 @@ pub mod BucketLemmas
 pub mod EntryLemmas
 pub mod GivenLemmas
 pub mod GroupLemmas
+pub mod KeptBeats
 pub mod KeptLemmas
 pub mod Ordered
 pub mod RecordLemmas

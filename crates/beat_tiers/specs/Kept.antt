@@ -1,9 +1,12 @@
 -- The beats that are kept, by the items that are.
-use Rattle.std.specs.Prelude.{ℕ, ◌==◌, if◌then◌else◌, List, [], ◌∷◌, ◌++◌}
+use Rattle.std.specs.Prelude.{ℕ, ◌==◌, if◌then◌else◌, List, [], ◌∷◌, ◌++◌, map}
+use Rattle.std.specs.Option.{option_map_or}
+use Rattle.beat_tiers.specs.declared.item.BeatPoint.{BeatPoint}
 use Rattle.beat_tiers.specs.declared.item.Item.{Item}
 use Rattle.beat_tiers.specs.declared.kept.Kept.{Kept}
 use Rattle.beat_tiers.specs.declared.kept.KeptBeat.{KeptBeat}
 use Rattle.beat_tiers.specs.declared.kept.KeptPoint.{KeptPoint}
+use Rattle.beat_tiers.specs.Beats.{TierBeat}
 use Rattle.beat_tiers.specs.Segments.{SegmentsOf, items_of}
 
 abbrev pub point_of_item : Item ℕ → KeptPoint
@@ -27,6 +30,15 @@ beats_in (item ∷ items) = before_beats item (beats_in items)
 -- how many beats gave what has expired, and the beats that gave what is kept
 abbrev pub kept_in : SegmentsOf ℕ → Kept
 kept_in segments = record { before = segments.before; beats = beats_in (items_of segments) }
+
+-- ---- of a beat
+
+abbrev pub kept_point_of : BeatPoint → KeptPoint
+kept_point_of point = record { series = point.series; word = point.word }
+
+-- what is answered of a beat that is kept
+abbrev pub kept_beat_of : TierBeat → KeptBeat
+kept_beat_of beat = record { moment = option_map_or (λ moment. moment) beat.moment 0; points = map kept_point_of beat.points }
 
 -- ---- one item after the other
 

@@ -4,8 +4,8 @@
 //! are the points of each beat or the records that close at it, are cut into segments, and only so many sealed
 //! segments are kept: what is older has expired, and lies below the tier's floor. `Tiers` takes beats one after
 //! the other and answers for the points and records at or above each floor, for the floors, and for the beats
-//! that are kept. It is proved that floors, points and records are those of their definitions over all beats,
-//! whatever has expired, and that the kept beats are those of the points that are kept.
+//! that are kept. It is proved that floors, points, records and kept beats are those of their definitions over
+//! all beats, whatever has expired. How many beats came before the kept ones is counted as segments expire.
 //!
 //! A beat costs by its points and by the records that close at it, and not by what is kept. A tier is a queue
 //! of segments, each a vector of items in their order: a sealed segment is put at the queue's end as it is, and
@@ -17,6 +17,7 @@
 
 mod item;
 mod kept;
+mod kept_law;
 mod law;
 mod record_tier;
 mod searching;
@@ -28,6 +29,7 @@ mod tiers;
 
 pub use item::{BeatPoint, BeatPointList, Item};
 pub use kept::{Kept, KeptBeat, KeptBeatList, KeptPoint, KeptPointList};
+pub use kept_law::any_kept_beats;
 pub use law::any_beats;
 pub use tier::Tier;
 pub use tiers::Tiers;

@@ -1,17 +1,19 @@
 -- What stays of a file in which bytes are written, at each moment.
-use Rattle.std.proofs.Common.{◌≡◌, ◌⊎◌, ℕ, ◌+◌, ◌*◌, ◌-◌, ◌<◌, ◌≤◌, List, [], ◌∷◌, ◌++◌, length, take, drop, refl, sym, ap, ◌∙◌, inl, inr, arith}
+use Rattle.std.proofs.Common.{◌≡◌, ◌⊎◌, ℕ, ◌+◌, ◌*◌, ◌-◌, ◌<◌, ◌≤◌, List, [], ◌∷◌, ◌++◌, length, take, drop, Result, refl, sym, ap, ◌∙◌, inl, inr, arith}
+use Rattle.std.specs.Result.{OnOk, OnErr}
 use Rattle.std.proofs.lemmas.List.{length-take, length-drop, take_all, drop-drop, drop-take, take-take, append_assoc, drop_at}
 use Rattle.std.proofs.lemmas.Bool.{cases_lt, cases_order}
 use Rattle.std.proofs.Math.Nat.{add-mul}
 use Rattle.std.proofs.lemmas.Nat.{mul-le}
 use Rattle.host_model.specs.declared.file.File.{File}
-use Rattle.host_model.specs.Images.{Wrote, contents, written}
-use Rattle.host_model.specs.Past.{Event, On, of}
+use Rattle.host_model.specs.Images.{Wrote, contents, written, greatest}
+use Rattle.host_model.specs.Past.{Event, On, of, MayAdd}
 use Rattle.host_model.proofs.FileLemmas.{length-written}
 use Rattle.host_model.proofs.CallLemmas.{reads_after}
 use Rattle.host_model.specs.Moments.{Throughout, EveryImage}
 use Rattle.host_model.proofs.MomentLemmas.{weakened}
 use Rattle.host_model.proofs.RunLemmas.{RunsFrom, RunsFrom-images, RunsWithin, RunsWithin-images}
+use Rattle.host_model.proofs.SizeLemmas.{within_write}
 use Rattle.extent_file.specs.Writing.{LiesAt, KeepsAll, KeepsBeside}
 
 pub all_moments : (file : File) (old new : List Event) → Throughout (RunsFrom file (length (contents (of file old))) old) old new
@@ -98,3 +100,14 @@ slots_apart other slot size most room apart fits small =
           let more = mul-le (slot + 1) room other room (omega (arith, above)) (omega arith) in let split = add-mul slot 1 room in
           inr (omega (arith, more, split, small))
     ]
+
+-- one more write of so many bytes makes no file too long
+pub zeros_within : {T E : Type 0} (honest : Type 0) (result : Result T E) (size : ℕ) (file : File) (at count : ℕ) (bytes now : List ℕ) (old past new : List Event) → honest
+    → OnOk result (honest → new ≡ On file (Wrote at (length bytes) now) ∷ past) → OnErr result (honest → MayAdd (λ now. On file (Wrote at (length bytes) now)) past new)
+    → length bytes ≡ count → at + count ≤ size
+    → Throughout (λ (past : List Event). greatest (of file past) ≤ size) old past → Throughout (λ (past : List Event). greatest (of file past) ≤ size) old new
+zeros_within honest result size file at count bytes now old past new h done torn long fits moments =
+    within_write honest result size file at (length bytes) now old past new h (omega (arith, long, fits)) done torn moments
+
+pub room_left : (start room long size : ℕ) → start + room ≤ size → long ≤ room → start + long ≤ size
+room_left start room long size fits small = omega (arith, fits, small)

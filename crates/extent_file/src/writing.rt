@@ -1,5 +1,5 @@
 ghost use Rattle.std.specs.Prelude.{◌≡◌, ◌≢◌, ◌⊎◌, ℕ, ◌+◌, ◌≤◌, ◌<◌, ◌^◌, List, ◌++◌, length, drop, IsErr, IfOk, IsErrOf, OnOk};
-ghost use Rattle.host_model.specs.Images.{contents, written, IsSynced};
+ghost use Rattle.host_model.specs.Images.{contents, written, greatest, IsSynced};
 ghost use Rattle.host_model.specs.Past.{of};
 ghost use Rattle.host_model.specs.Cause.{HasCause};
 ghost use Rattle.host_model.specs.Moments.{Throughout, EveryImage, OnlyOn};
@@ -27,6 +27,10 @@ fn write_zeros<H: Host>(host: &mut H, file: File, len: u64, end: u64) -> Result<
     ensures any_moment { H.honest
         → Throughout (EveryImage file (KeepsAll (contents (of file (H.seen host.old).past))))
         (H.seen host.old).past (H.seen host.new).past }
+    ensures bound { (size : ℕ) → end ≤ size → H.honest
+        → greatest (of file (H.seen host.old).past) ≤ size
+        → Throughout (λ past. greatest (of file past) ≤ size) (H.seen host.old).past
+        (H.seen host.new).past }
     ensures only_here { H.honest → OnlyOn file (H.seen host.old).past (H.seen host.new).past }
     ensures cause { HasCause (H.seen host.old).disk_faults (H.seen host.new).disk_faults
         (IsErr result) }
@@ -52,6 +56,10 @@ fn fill_to<H: Host>(host: &mut H, file: File, end: u64) -> Result<(), Failed>
         → EveryImage file (LiesAt place lies) (H.seen host.old).past
         → Throughout (EveryImage file (LiesAt place lies)) (H.seen host.old).past
         (H.seen host.new).past }
+    ensures bound { (size : ℕ) → end ≤ size → H.honest
+        → greatest (of file (H.seen host.old).past) ≤ size
+        → Throughout (λ past. greatest (of file past) ≤ size) (H.seen host.old).past
+        (H.seen host.new).past }
     ensures only_here { H.honest → OnlyOn file (H.seen host.old).past (H.seen host.new).past }
     ensures cause { HasCause (H.seen host.old).disk_faults (H.seen host.new).disk_faults
         (IsErr result) }
@@ -74,6 +82,10 @@ fn write_over<H: Host>(host: &mut H, file: File, at: u64, bytes: &[u8]) -> Resul
         (EveryImage file (KeepsBeside at (at + length bytes.now)
         (contents (of file (H.seen host.old).past))))
         (H.seen host.old).past (H.seen host.new).past }
+    ensures bound { (size : ℕ) → at + length bytes.now ≤ size → H.honest
+        → greatest (of file (H.seen host.old).past) ≤ size
+        → Throughout (λ past. greatest (of file past) ≤ size) (H.seen host.old).past
+        (H.seen host.new).past }
     ensures only_here { H.honest → OnlyOn file (H.seen host.old).past (H.seen host.new).past }
     ensures cause { HasCause (H.seen host.old).disk_faults (H.seen host.new).disk_faults
         (IsErr result) }
@@ -93,6 +105,10 @@ fn put<H: Host>(host: &mut H, file: File, at: u64, bytes: &[u8]) -> Result<(), F
         → ((place + length lies ≤ at) ⊎ (at + length bytes.now ≤ place)) → H.honest
         → EveryImage file (LiesAt place lies) (H.seen host.old).past
         → Throughout (EveryImage file (LiesAt place lies)) (H.seen host.old).past
+        (H.seen host.new).past }
+    ensures bound { (size : ℕ) → at + length bytes.now ≤ size → H.honest
+        → greatest (of file (H.seen host.old).past) ≤ size
+        → Throughout (λ past. greatest (of file past) ≤ size) (H.seen host.old).past
         (H.seen host.new).past }
     ensures only_here { H.honest → OnlyOn file (H.seen host.old).past (H.seen host.new).past }
     ensures cause { HasCause (H.seen host.old).disk_faults (H.seen host.new).disk_faults
@@ -135,6 +151,13 @@ pub fn write_extent<H: Host>(
         (H.seen host.old).past
         → Throughout (EveryImage file (LiesAt (slot_start (tier_of file) items other) lies))
         (H.seen host.old).past (H.seen host.new).past }
+
+    // No stop leaves a file that is longer than it could be before, or than the slot's end.
+    ensures bound { (size : ℕ)
+        → slot_start (tier_of file) items slot + slot_size (tier_of file) items ≤ size → H.honest
+        → greatest (of file (H.seen host.old).past) ≤ size
+        → Throughout (λ past. greatest (of file past) ≤ size) (H.seen host.old).past
+        (H.seen host.new).past }
 
     // The images of all other files and the output stay.
     ensures only_here { H.honest → OnlyOn file (H.seen host.old).past (H.seen host.new).past }

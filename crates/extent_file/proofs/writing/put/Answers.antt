@@ -1,4 +1,4 @@
-use Rattle.std.proofs.Common.{◌+◌, length, drop, ap, ◌∙◌}
+use Rattle.std.proofs.Common.{◌+◌, length, drop, ap, ◌∙◌, arith}
 use Rattle.std.proofs.lemmas.Result.{on_ok_weaker}
 use Rattle.host_model.specs.Images.{contents}
 use Rattle.host_model.specs.Past.{of}
@@ -23,3 +23,11 @@ returns-clause-whole g c =
     on_ok_weaker c.write_over.result
     (λ whole h. (drop (at + length bytes) middle, ap (drop at) (whole h) ∙ drop_there middle at bytes (c.in_ok-fill_to.ensures.reaches h)))
     c.write_over.ensures.whole
+
+pub returns-in_err-fill_to-clause-bound : goal.returns-in_err-fill_to-clause-bound
+returns-in_err-fill_to-clause-bound g c size fits h short = c.fill_to.ensures.bound size (omega (arith, fits)) h short
+
+pub returns-clause-bound : goal.returns-clause-bound
+returns-clause-bound g c size fits h short =
+    let first = c.fill_to.ensures.bound size (omega (arith, fits)) h short in
+    joined first (c.write_over.ensures.bound size fits h (at_end first))

@@ -6,7 +6,7 @@ use Rattle.extent_file.specs.Slot.{tier_of, slot_size, slot_start}
 use Rattle.extent_file.specs.Pages.{extent_size}
 use Rattle.extent_file.proofs.OrderLemmas.{ok_holds}
 use Rattle.extent_file.proofs.SaysLemmas.{extent_moved}
-use Rattle.extent_file.proofs.WriteLemmas.{slots_apart}
+use Rattle.extent_file.proofs.WriteLemmas.{slots_apart, room_left}
 use Rattle.extent_file.proofs.writing.write_extent.Goals as goal
 
 pub returns-in_err-bytes-clause-others : goal.returns-in_err-bytes-clause-others
@@ -47,3 +47,24 @@ returns-clause-held g c h bytes image =
     sym (ap (λ (n : ℕ). drop n bytes) (sym start_is) ∙ ap (λ (l : List ℕ). drop start l) is ∙ whole.1 ∙ ap (λ (l : List ℕ). l ++ whole.0) c.as_slice-2.ensures) in
     extent_moved tier c.tier_of-tier.result (slot_size tier items) c.slot_size.result c.args.pages.now c.as_slice.result.now (drop (slot_start tier items c.args.slot) bytes) (c.in_ok-bytes.bytes ++ whole.0)
     c.tier_of-tier.ensures.value slot_is c.as_slice.ensures there (c.in_ok-bytes.ensures.extent whole.0)
+
+pub returns-in_err-bytes-clause-bound : goal.returns-in_err-bytes-clause-bound
+returns-in_err-bytes-clause-bound g c size fits h short = begins short
+
+pub returns-then-is_err-clause-bound : goal.returns-then-is_err-clause-bound
+returns-then-is_err-clause-bound g c size fits h short =
+    let tier = tier_of c.args.file in let items = c.args.items in let bytes = c.as_slice-2.result.now in
+    let start_is : c.slot_start-start.result ≡ slot_start tier items c.args.slot = c.slot_start-start.ensures.value ∙ ap (λ (t : ℕ). slot_start t items c.args.slot) c.tier_of-tier.ensures.value in
+    let size_is : length bytes ≡ extent_size tier c.args.pages.now =
+    ap length c.as_slice-2.ensures ∙ c.in_ok-bytes.ensures.size ∙ ap (λ (t : ℕ). extent_size t c.as_slice.result.now) c.tier_of-tier.ensures.value ∙ ap (extent_size tier) c.as_slice.ensures in
+    let small : length bytes ≤ slot_size tier items = subst (λ (n : ℕ). n ≤ slot_size tier items) (sym size_is) c.requires.fits in
+    c.put.ensures.bound size (subst (λ (n : ℕ). n + length bytes ≤ size) (sym start_is) (room_left (slot_start tier items c.args.slot) (slot_size tier items) (length bytes) size fits small)) h short
+
+pub returns-clause-bound : goal.returns-clause-bound
+returns-clause-bound g c size fits h short =
+    let tier = tier_of c.args.file in let items = c.args.items in let bytes = c.as_slice-2.result.now in
+    let start_is : c.slot_start-start.result ≡ slot_start tier items c.args.slot = c.slot_start-start.ensures.value ∙ ap (λ (t : ℕ). slot_start t items c.args.slot) c.tier_of-tier.ensures.value in
+    let size_is : length bytes ≡ extent_size tier c.args.pages.now =
+    ap length c.as_slice-2.ensures ∙ c.in_ok-bytes.ensures.size ∙ ap (λ (t : ℕ). extent_size t c.as_slice.result.now) c.tier_of-tier.ensures.value ∙ ap (extent_size tier) c.as_slice.ensures in
+    let small : length bytes ≤ slot_size tier items = subst (λ (n : ℕ). n ≤ slot_size tier items) (sym size_is) c.requires.fits in
+    c.put.ensures.bound size (subst (λ (n : ℕ). n + length bytes ≤ size) (sym start_is) (room_left (slot_start tier items c.args.slot) (slot_size tier items) (length bytes) size fits small)) h short

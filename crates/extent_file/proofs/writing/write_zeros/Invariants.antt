@@ -1,6 +1,6 @@
-use Rattle.std.proofs.Common.{◌≡◌, ◌≤◌, ◌-◌, length}
-use Rattle.host_model.specs.Images.{contents}
-use Rattle.host_model.specs.Past.{of}
+use Rattle.std.proofs.Common.{◌≡◌, ◌≤◌, ◌-◌, ℕ, List, length}
+use Rattle.host_model.specs.Images.{contents, greatest}
+use Rattle.host_model.specs.Past.{Event, of}
 use Rattle.host_model.specs.Moments.{Throughout, OnlyOn}
 use Rattle.host_model.proofs.RunLemmas.{RunsFrom}
 use Rattle.extent_file.proofs.writing.write_zeros.Given as goal
@@ -11,6 +11,8 @@ invariant-loop-at g l = record {
   end : g.H.Host.honest → l.at ≡ length (contents (of l.file (g.H.Host.seen l.host).past));
   moments : g.H.Host.honest → Throughout (RunsFrom l.file l.len (g.H.Host.seen l.initial.host).past) (g.H.Host.seen l.initial.host).past (g.H.Host.seen l.host).past;
   only_here : g.H.Host.honest → Throughout (OnlyOn l.file (g.H.Host.seen l.initial.host).past) (g.H.Host.seen l.initial.host).past (g.H.Host.seen l.host).past;
+  bound : (size : ℕ) → l.end ≤ size → g.H.Host.honest → greatest (of l.file (g.H.Host.seen l.initial.host).past) ≤ size
+      → Throughout (λ (past : List Event). greatest (of l.file past) ≤ size) (g.H.Host.seen l.initial.host).past (g.H.Host.seen l.host).past;
   faults : (g.H.Host.seen l.host).disk_faults ≡ (g.H.Host.seen l.initial.host).disk_faults;
   output : (g.H.Host.seen l.host).tell_faults ≡ (g.H.Host.seen l.initial.host).tell_faults;
 }
