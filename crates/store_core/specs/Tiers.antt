@@ -1,7 +1,8 @@
 -- The tiers of a database: their settings, and what they see of its beats. A list of beats has the newest first.
-use Rattle.std.specs.Prelude.{ℕ, List, [], ◌∷◌, map}
+use Rattle.std.specs.Prelude.{ℕ, zero, suc, List, [], ◌∷◌, map}
 use Rattle.beat_tiers.specs.declared.tier.Tier.{Tier}
 use Rattle.beat_tiers.specs.Beats.{TierBeat}
+use Rattle.beat_tiers.specs.Floors.{floor_of}
 use Rattle.beat_tiers.specs.State.{TiersState}
 use Rattle.beat_tiers.specs.Tiers.{AreTiersOf}
 use Rattle.entry_codec.specs.declared.entry.Settings.{Settings}
@@ -26,3 +27,12 @@ seen beat = record { moment = beat.moment; points = beat.points }
 -- the tiers are those of these settings and beats
 abbrev pub HasTiers : Settings → List Beat → TiersState → Type 0
 HasTiers set beats tiers = AreTiersOf (first_tier set ∷ other_tiers set) (map seen beats) tiers
+
+abbrev pub tier_with : Settings → ℕ → Tier
+tier_with set zero = first_tier set
+tier_with set (suc zero) = tier_of 60 set.tier1
+tier_with set (suc (suc number)) = tier_of 3600 set.tier2
+
+-- the floor of a tier of these beats
+abbrev pub floor_at : Settings → List Beat → ℕ → ℕ
+floor_at set beats number = floor_of number (tier_with set number) (map seen beats)

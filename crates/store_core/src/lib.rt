@@ -10,9 +10,14 @@
 //! database or that it is damaged; `replay` then gives the beats one by one. Once the disk has failed or
 //! memory was refused, each call on the store answers so, with the first cause.
 //!
-//! It stands on `journal_core` for the records, on `host_model` for what a stop may leave, and on
-//! `entry_codec` for the entry of the settings. Over a host that tells nothing of its past each call is
-//! still safe and returns. Where records wait for their replay they are kept in memory, and nothing else is.
+//! A store keeps in memory what the tiers of its settings keep of its beats: points, records of minutes and
+//! of hours, and their floors. `floor` is that of the definition over all beats. Points and records are not
+//! handed out yet.
+//!
+//! It stands on `journal_core` for the records, on `beat_tiers` for the tiers, on `host_model` for what a stop
+//! may leave, and on `entry_codec` for the entry of the settings. Over a host that tells nothing of its past each call is
+//! still safe and returns. While it is opened its records, and then the beats that wait for their replay, are in
+//! memory.
 #![tactic(auto)]
 
 mod beat;

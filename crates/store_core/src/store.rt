@@ -1,4 +1,4 @@
-ghost use Rattle.std.specs.Prelude.{◌≡◌, ℕ, ◌+◌, ◌≤◌, ◌^◌, ◌↔◌, ◌⊎◌, true, false, List, [], ◌∷◌, length, IsTrue, IsErrOf, IsSomeAnd, IfOk, IfErr, OnOk, OnErr, Err};
+ghost use Rattle.std.specs.Prelude.{◌≡◌, ℕ, ◌+◌, ◌<◌, ◌≤◌, ◌^◌, ◌↔◌, ◌⊎◌, true, false, List, [], ◌∷◌, length, IsTrue, IsErrOf, IsSomeAnd, IfOk, IfErr, OnOk, OnErr, Err};
 ghost use Rattle.host_model.specs.declared.file.File.{File as AFile};
 ghost use Rattle.host_model.specs.Images.{IsImage};
 ghost use Rattle.host_model.specs.Past.{Event, of, IsDisk};
@@ -12,6 +12,7 @@ ghost use Rattle.store_core.specs.Beats.{beat_bytes, InForm};
 ghost use Rattle.store_core.specs.Faults.{fault_after, IsCommitFault, IsCreateFault, IsOpenFault, IsReplayFault, IsStepFault, LeavesAll, Reopens};
 ghost use Rattle.store_core.specs.FirstRecord.{InLimits};
 ghost use Rattle.store_core.specs.Records.{is_later, last_after};
+ghost use Rattle.store_core.specs.Tiers.{floor_at};
 ghost use Rattle.store_core.specs.Stands.{is_made, IsDamaged, Stands, StandsAround, StandsIfMade};
 
 use crate::beat::Beat;
@@ -207,6 +208,16 @@ impl Store {
         ensures { result ≡ self.now.last }
     {
         self.last
+    }
+
+    /// The floor of tier 0, 1 or 2 of the beats that were applied: the first moment of which it has what they gave
+    /// it, in seconds, or 0 where nothing has expired.
+    pub fn floor(&self, tier: u8) -> u32
+        requires { tier < 3 }
+        ensures { (past : List Event) (set : ASettings) (beats rest : List ABeat)
+            → IsStoreAt past self.now set beats rest → result ≡ floor_at set beats tier }
+    {
+        self.tiers.floor(tier)
     }
 
     /// Whether all beats that were there at the opening have been applied.

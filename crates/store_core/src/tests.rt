@@ -100,6 +100,7 @@ fn a_new_database_has_68_bytes(rt: HostRuntime) -> Result<(), Fail> {
     assert_eq!(rt; store.count(), 0);
     assert_eq!(rt; store.last(), 0);
     assert_eq!(rt; store.settings().id, 7);
+    assert_eq!(rt; [store.floor(0), store.floor(1), store.floor(2)], [0, 0, 0]);
     assert!(rt; store.is_replayed());
     let again = Store::create(rt.alloc(), &mut host, &SETTINGS);
     assert!(rt; matches!(again, Err(StoreFault::Exists)));
