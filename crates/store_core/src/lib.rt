@@ -14,10 +14,10 @@
 //! of hours, and their floors. `floor` is that of the definition over all beats. Points and records are not
 //! handed out yet.
 //!
-//! It stands on `journal_core` for the records, on `beat_tiers` for the tiers, on `host_model` for what a stop
-//! may leave, and on `entry_codec` for the entry of the settings. Over a host that tells nothing of its past each call is
-//! still safe and returns. While it is opened its records, and then the beats that wait for their replay, are in
-//! memory.
+//! It stands on `journal_core` for the records, on `beat_tiers` for the tiers, on `host_model` for what a
+//! stop may leave, and on `entry_codec` for the entry of the settings. Over a host that tells nothing of its
+//! past each call is still safe and returns. While it is opened its records, and then the beats that wait for
+//! their replay, are in memory.
 #![tactic(auto)]
 
 mod beat;
