@@ -34,6 +34,7 @@ use Rattle.alarm_core.specs.declared.gather.Gathered.{Gathered}
 use Rattle.alarm_core.specs.Gathering.{one_of, HasRoomFor, Adds, IsGathered}
 use Rattle.alarm_core.specs.Lookups.{start_of, stop_of, sized, members, group, number, numbers, is_taken, as_point, come_to, together, is_past, percent, sum_of, result, looked_up_in, looked_up}
 use Rattle.alarm_core.specs.Series.{series_of_chart}
+use Rattle.chart_registry.proofs.RegistryLemmas.{or_false}
 
 -- ---- the values of a dimension
 
@@ -373,16 +374,12 @@ nearest-turned n (negsuc d) below =
     ∙ ap (nearest (neg_ℤ n)) (zero_less (negsuc d))
     ∙ turned_by n d
 
-both_false : (a b : Bool) → (a || b) ≡ false → (a ≡ false) × (b ≡ false)
-both_false true b e = absurd (cc)
-both_false false b e = (refl, e)
-
 within_limit : (number : ℤ) → is_past number ≡ false → unsigned_abs number ≤ 10 ^ 29
 within_limit number near = ltb-false (10 ^ 29) (unsigned_abs number) near
 
 pub product_fits : (number all : ℤ) → (is_past number || is_past all) ≡ false → SFits w128 (pos 1000000000 *ℤ number)
 product_fits number all near =
-    let small : unsigned_abs number ≤ 10 ^ 29 = within_limit number (both_false (is_past number) (is_past all) near).0 in
+    let small : unsigned_abs number ≤ 10 ^ 29 = within_limit number (or_false (is_past number) (is_past all) near).0 in
     let size : unsigned_abs (pos 1000000000 *ℤ number) ≡ 1000000000 * unsigned_abs number = unsigned_abs-mul (pos 1000000000) number in
     fits_signed_from_abs w128 (pos 1000000000 *ℤ number) (omega (arith, small, size))
 

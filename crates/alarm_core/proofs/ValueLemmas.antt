@@ -103,9 +103,6 @@ pub members_of_asked : (absolute : Bool) (floor start stop last : ℕ) (points :
 members_of_asked absolute floor start stop last points rising low is =
     ap (map (sized absolute)) (members_asked (is_asked floor start last) start stop 0 points rising (λ point fits e. asked floor start stop last point low is e))
 
-pub asked_rise : (floor start last : ℕ) (points : List Point) → are_rising_from 0 points ≡ true → are_rising_from 0 (points_between floor start last points) ≡ true
-asked_rise floor start last points rising = rising_filter (is_asked floor start last) 0 points rising
-
 -- an empty window has none
 pub members_empty : (absolute : Bool) (start stop : ℕ) (points : List Point) → are_rising_from 0 points ≡ true → stop ≤ start → members absolute start stop points ≡ []
 members_empty absolute start stop points rising empty = nil_from_length (members absolute start stop points) (omega (arith, all_few absolute start stop points rising))

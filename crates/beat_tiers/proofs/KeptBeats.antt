@@ -1,5 +1,5 @@
 -- The beats of what is kept are those at or above the floor.
-use Rattle.std.proofs.Common.{◌≡◌, ℕ, ◌+◌, ◌<◌, ◌≤◌, ◌==◌, Bool, true, false, not, cond, leb, ◌&&◌, List, [], ◌∷◌, ◌++◌, length, map, filter, reverse, inl, inr, Option, Some, None, refl, sym, ap, subst, ◌∙◌, append_assoc, append-nil, arith}
+use Rattle.std.proofs.Common.{◌≡◌, ℕ, ◌+◌, ◌<◌, ◌==◌, Bool, false, not, leb, ◌&&◌, List, [], ◌∷◌, ◌++◌, length, map, filter, reverse, inl, inr, Option, Some, None, refl, sym, ap, ◌∙◌, append_assoc, append-nil, arith}
 use Rattle.std.proofs.lemmas.Bool.{cases_Bool, cond_both, cond-true, cond-false, and_right, eq-eqb, ne_eqb, le-leb, lt-leb}
 use Rattle.std.proofs.lemmas.Bool.Decides.{nat_tests}
 use Rattle.std.proofs.lemmas.List.{map-append}
@@ -56,7 +56,7 @@ run moment items point points below =
     ∙ ap (λ (bs : List KeptBeat). behind_all bs (point_items moment points)) (behind-new (beats_in items) item (earlier-in moment items below))
     ∙ behind-same moment (beats_in items) (kept_point_of point ∷ []) points
 
-after-kept : (tier : Tier) (expired : Option ℕ) (moment : ℕ) → is_after expired moment ≡ leb (floor_in 0 tier expired) moment
+pub after-kept : (tier : Tier) (expired : Option ℕ) (moment : ℕ) → is_after expired moment ≡ leb (floor_in 0 tier expired) moment
 after-kept tier None moment = sym (le-leb 0 moment (omega arith))
 after-kept tier (Some from) moment = grind (arith, nat_tests)
 

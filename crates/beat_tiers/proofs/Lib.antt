@@ -4,6 +4,7 @@ pub mod EntryLemmas
 pub mod GivenLemmas
 pub mod GroupLemmas
 pub mod KeptBeats
+pub mod KeptCounts
 pub mod KeptLemmas
 pub mod Ordered
 pub mod RecordLemmas

@@ -1,8 +1,7 @@
 -- The segments and floors of a tier, and the kept beats, by the whole list of beats. A list of beats has the latest first.
-use Rattle.std.specs.Prelude.{◌≡◌, ℕ, ◌+◌, ◌*◌, ◌/◌, ◌==◌, ◌&&◌, Bool, true, false, not, nat_le, nat_lt, if◌then◌else◌, List, [], ◌∷◌, length, filter, reverse, slice_get, slice_index, Option, Some, None, is_none}
+use Rattle.std.specs.Prelude.{ℕ, ◌+◌, ◌*◌, ◌/◌, ◌==◌, ◌&&◌, Bool, false, not, nat_le, nat_lt, if◌then◌else◌, List, [], ◌∷◌, length, filter, reverse, slice_get, Option, Some, None}
 use Rattle.std.specs.List.{count_by}
 use Rattle.std.specs.Option.{option_map_or}
-use Rattle.beat_tiers.specs.declared.item.BeatPoint.{BeatPoint}
 use Rattle.beat_tiers.specs.declared.tier.Tier.{Tier}
 use Rattle.beat_tiers.specs.Beats.{TierBeat, last, records_in}
 

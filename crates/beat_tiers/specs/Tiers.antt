@@ -1,15 +1,13 @@
 -- Which tiers stand for which beats. A list of beats has the latest first.
-use Rattle.std.specs.Prelude.{◌≡◌, ℕ, suc, ◌+◌, ◌*◌, ◌/◌, ◌^◌, ◌<◌, ◌≤◌, ◌==◌, ◌&&◌, ◌⊎◌, Bool, true, nat_le, nat_lt, if◌then◌else◌, List, [], ◌∷◌, ◌++◌, length, filter, flat_map, map, reverse, slice_get, take, Option, Some, None}
-use Rattle.std.specs.List.{AllByRecursion}
+use Rattle.std.specs.Prelude.{◌≡◌, ℕ, ◌+◌, ◌*◌, ◌/◌, ◌<◌, ◌≤◌, ◌&&◌, ◌⊎◌, Bool, true, nat_le, nat_lt, if◌then◌else◌, List, [], ◌∷◌, length, filter, flat_map, map, reverse, slice_get, take, Option, Some, None}
 use Rattle.std.specs.Option.{option_map_or}
 use Rattle.fixed_num.specs.declared.units.Record.{Record}
 use Rattle.tier_rollup.specs.declared.point.Point.{Point}
-use Rattle.beat_tiers.specs.declared.item.BeatPoint.{BeatPoint}
 use Rattle.beat_tiers.specs.declared.item.Item.{Item}
 use Rattle.beat_tiers.specs.declared.segments.Segment.{Segment}
 use Rattle.beat_tiers.specs.declared.tier.Tier.{Tier}
 use Rattle.beat_tiers.specs.Beats.{TierBeat, Follows, last, record_of, records_in}
-use Rattle.beat_tiers.specs.Floors.{Cuts, cuts_of, floor_of}
+use Rattle.beat_tiers.specs.Floors.{Cuts, cuts_of}
 use Rattle.beat_tiers.specs.Segments.{SegmentsOf}
 use Rattle.beat_tiers.specs.State.{RecordTierState, TiersState, point_items, record_items}
 

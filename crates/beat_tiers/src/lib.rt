@@ -4,8 +4,8 @@
 //! are the points of each beat or the records that close at it, are cut into segments, and only so many sealed
 //! segments are kept: what is older has expired, and lies below the tier's floor. `Tiers` takes beats one after
 //! the other and answers for the points and records at or above each floor, for the floors, and for the beats
-//! that are kept. It is proved that floors, points, records and kept beats are those of their definitions over
-//! all beats, whatever has expired. How many beats came before the kept ones is counted as segments expire.
+//! that are kept, with the number of those before them. It is proved that each answer is that of its definition
+//! over all beats, whatever has expired.
 //!
 //! A beat costs by its points and by the records that close at it, and not by what is kept. A tier is a queue
 //! of segments, each a vector of items in their order: a sealed segment is put at the queue's end as it is, and

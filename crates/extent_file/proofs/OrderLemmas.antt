@@ -48,10 +48,6 @@ all_read tier size pages index before entries form bytes done count leads =
     subst (λ (n : ℕ). Leads form bytes (24 + 24 * index) (directory_form tier size n before entries)) none leads in
     rw (← done, ← count) (rw (← count) at rest)
 
-pub ok_holds : {T E P : Type 0} (result : Result T E) → is_err result ≡ false → OnOk result P → P
-ok_holds (Ok value) _ held = held
-ok_holds (Err fault) failed held = absurd (true≢false failed)
-
 -- what is known of each entry of a directory in order: it stands after others, within so many bytes for each
 pub record IsPlaced (tier most : ℕ) (entry : Entry) : Type 0 where
   pub some : 1 ≤ entry.count

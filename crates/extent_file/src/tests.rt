@@ -1,6 +1,12 @@
+ghost use Rattle.std.specs.Prelude.{◌≡◌, ◌≤◌, [], ◌∷◌, length, IfOk};
+ghost use Rattle.page_buffer.specs.Page.{page_of};
+ghost use Rattle.extent_file.specs.Directory.{at_first};
+ghost use Rattle.extent_file.specs.Pages.{ArePages, extent_size};
+
 use super::*;
 use crate::entry::Entry;
 use crate::finding::first_wanted;
+use fixed_num::Record;
 use host_model::{CallList, File, Host, Keep, MemoryHost};
 use page_buffer::{RecordPage, SlotPage};
 use page_pool::{PagePool, RawPage};
@@ -14,36 +20,60 @@ fn raw_page(alloc: Global) -> Result<RawPage, Fail> {
     Ok(pool.take().ok_or("no page is spare")?)
 }
 
-/// A page with a point at each of some moments.
-fn slots(alloc: Global, series: u32, first: u32, step: u32, moments: &[u32]) -> Result<Page, Fail> {
-    let mut page = SlotPage::new(raw_page(alloc)?, series, first, step.max(1));
-    for moment in moments {
-        page.push(*moment, 7)?;
-    }
-    Ok(Page::Slots(page))
+/// A page with one point.
+fn point(alloc: Global, series: u32, first: u32) -> Result<SlotPage, Fail>
+    ensures { IfOk result (λ page. page ≡ page_of series first 1 (7 ∷ [])) }
+{
+    let mut page = SlotPage::new(raw_page(alloc)?, series, first, 1);
+    page.push(first, 7)?;
+    Ok(page)
+}
+
+/// A page with one record.
+fn record(alloc: Global, item: Record) -> Result<RecordPage, Fail>
+    ensures { IfOk result (λ page. page ≡ page_of 9 60 60 (item ∷ [])) }
+{
+    let mut page = RecordPage::new(raw_page(alloc)?, 9, 60, 60);
+    page.push(60, item)?;
+    Ok(page)
 }
 
 fn host_of(alloc: Global) -> Result<MemoryHost, Fail> {
     Ok(MemoryHost::new(alloc, CallList::from_vec(Vec::new(alloc)))?)
 }
 
-fn one_page(alloc: Global) -> Result<PageList, Fail> {
+/// The page of one point.
+fn one_page(alloc: Global) -> Result<PageList, Fail>
+    ensures { IfOk result (λ pages. ArePages 0 (at_first (length pages)) pages
+        × (extent_size 0 pages ≤ 100)) }
+{
     let mut pages = PageList::new(alloc);
-    let page = slots(alloc, 3, 60, 1, &[60])?;
-    if pages.push(page).is_err() {
-        return Err(Fail::from("out of memory"));
-    }
+    let page = point(alloc, 3, 60)?;
+    pages.push(Page::Slots(page))?;
     Ok(pages)
 }
 
-/// Two pages, whose extent has 84 bytes.
-fn two_pages(alloc: Global) -> Result<PageList, Fail> {
+/// Two pages, whose extent has 80 bytes.
+fn two_pages(alloc: Global) -> Result<PageList, Fail>
+    ensures { IfOk result (λ pages. ArePages 0 (at_first (length pages)) pages
+        × (extent_size 0 pages ≤ 100)) }
+{
     let mut pages = PageList::new(alloc);
-    let first = slots(alloc, 1, 10, 10, &[10])?;
-    let second = slots(alloc, 2, 5, 1, &[5, 6])?;
-    if pages.push(first).is_err() || pages.push(second).is_err() {
-        return Err(Fail::from("out of memory"));
-    }
+    let first = point(alloc, 1, 10)?;
+    let second = point(alloc, 2, 5)?;
+    pages.push(Page::Slots(first))?;
+    pages.push(Page::Slots(second))?;
+    Ok(pages)
+}
+
+/// The page of one record.
+fn record_pages(alloc: Global, item: Record) -> Result<PageList, Fail>
+    ensures { IfOk result (λ pages. ArePages 1 (at_first (length pages)) pages
+        × (extent_size 1 pages ≤ 200)) }
+{
+    let mut pages = PageList::new(alloc);
+    let page = record(alloc, item)?;
+    pages.push(Page::Records(page))?;
     Ok(pages)
 }
 
@@ -55,7 +85,8 @@ fn an_extent_of_one_point_has_52_bytes(rt: HostRuntime) -> Result<(), Fail> {
     assert_eq!(rt; size, 52);
     assert_eq!(rt; host.len(File::Tier0)?, 52);
     let extent = Extent::open(rt.alloc(), &mut host, File::Tier0, 1, 0, size)?;
-    assert_eq!(rt; extent.entries(), 1);
+    let entries = extent.entries();
+    assert!(rt; entries == 1);
     assert_eq!(rt; extent.head(0), (3, 60, 1, 1));
     assert_eq!(rt; extent.find(3, 60), Some(0));
     assert_eq!(rt; extent.find(3, 61), None);
@@ -84,26 +115,24 @@ fn the_bytes_of_an_extent(rt: HostRuntime) -> Result<(), Fail> {
 #[test]
 fn records_lie_in_the_other_tiers(rt: HostRuntime) -> Result<(), Fail> {
     let mut host = host_of(rt.alloc())?;
-    let mut page = RecordPage::new(raw_page(rt.alloc())?, 9, 60, 60);
-    let item = fixed_num::Record {
+    let item = Record {
         min: -1,
         max: 2,
         sum: 1,
         count: 2,
         anomalies: 0,
     };
-    page.push(60, item)?;
-    page.push(120, item)?;
-    let mut pages = PageList::new(rt.alloc());
-    pages.push(Page::Records(page))?;
+    let pages = record_pages(rt.alloc(), item)?;
     let size = write_extent(rt.alloc(), &mut host, File::Tier1, 1, 0, &pages)?;
-    assert_eq!(rt; size, 160);
+    assert_eq!(rt; size, 104);
     let extent = Extent::open(rt.alloc(), &mut host, File::Tier1, 1, 0, size)?;
-    assert_eq!(rt; extent.head(0), (9, 60, 60, 2));
-    assert_eq!(rt; extent.find(9, 120), Some(0));
+    let entries = extent.entries();
+    assert!(rt; entries == 1);
+    assert_eq!(rt; extent.head(0), (9, 60, 60, 1));
+    assert_eq!(rt; extent.find(9, 60), Some(0));
     let read = extent.read_page(&mut host, 0, raw_page(rt.alloc())?)?;
     let again = RecordPage::decode(read.as_slice(), raw_page(rt.alloc())?, 9, 60, 60)?;
-    assert_eq!(rt; again.slot(120), Some(item));
+    assert_eq!(rt; again.slot(60), Some(item));
     Ok(())
 }
 
@@ -118,10 +147,12 @@ fn survive(rt: &impl Abort, alloc: Global, call: u64, keep: Keep) -> Result<(), 
     let mut host = host.stop(keep)?;
     if one {
         let extent = Extent::open(alloc, &mut host, File::Tier0, 1, 0, 52)?;
+        let entries = extent.entries();
+        assert!(rt; entries == 1);
         assert_eq!(rt; extent.head(0), (3, 60, 1, 1), "call {call}, {keep:?}");
     }
     if two {
-        let extent = Extent::open(alloc, &mut host, File::Tier0, 1, 1, 84)?;
+        let extent = Extent::open(alloc, &mut host, File::Tier0, 1, 1, 80)?;
         assert_eq!(rt; extent.entries(), 2, "call {call}, {keep:?}");
     }
     Ok(())
@@ -163,19 +194,21 @@ fn a_changed_byte_is_found(rt: HostRuntime) -> Result<(), Fail> {
         changed(24, 3, 51),
         changed(32, 0, 35),
         changed(36, 0, 36),
-        changed(36, 2, 60),
+        changed(36, 2, 36),
         changed(37, 1, 37),
         changed(40, 73, 40),
         changed(48, 1, 55),
-        changed(60, 1, 60),
+        changed(60, 2, 60),
         changed(64, 80, 64),
     ];
     let pages = two_pages(rt.alloc())?;
     for row in &rows {
         let mut host = host_of(rt.alloc())?;
         write_extent(rt.alloc(), &mut host, File::Tier0, 1, 0, &pages)?;
+        let len = host.len(File::Tier0)?;
+        assert!(rt; row.at <= len);
         host.write_at(File::Tier0, row.at, &[row.byte])?;
-        let opened = Extent::open(rt.alloc(), &mut host, File::Tier0, 1, 0, 84);
+        let opened = Extent::open(rt.alloc(), &mut host, File::Tier0, 1, 0, 80);
         assert_eq!(rt;
             opened.err(),
             Some(ExtentFault::BadExtent(row.stops)),
@@ -189,13 +222,17 @@ fn a_changed_byte_is_found(rt: HostRuntime) -> Result<(), Fail> {
 #[test]
 fn a_file_that_is_cut_ends_early(rt: HostRuntime) -> Result<(), Fail> {
     let pages = two_pages(rt.alloc())?;
-    for len in [0, 7, 23, 24, 47, 71, 72, 83] {
+    for len in [0, 7, 23, 24, 47, 71, 72, 79] {
         let mut host = host_of(rt.alloc())?;
         write_extent(rt.alloc(), &mut host, File::Tier0, 1, 0, &pages)?;
-        let extent = Extent::open(rt.alloc(), &mut host, File::Tier0, 1, 0, 84)?;
+        let extent = Extent::open(rt.alloc(), &mut host, File::Tier0, 1, 0, 80)?;
+        let whole = host.len(File::Tier0)?;
+        assert!(rt; len <= whole);
         host.cut(File::Tier0, len)?;
-        let opened = Extent::open(rt.alloc(), &mut host, File::Tier0, 1, 0, 84);
+        let opened = Extent::open(rt.alloc(), &mut host, File::Tier0, 1, 0, 80);
         assert_eq!(rt; opened.err(), Some(ExtentFault::BadExtent(len)));
+        let entries = extent.entries();
+        assert!(rt; entries == 2);
         let read = extent.read_page(&mut host, 1, raw_page(rt.alloc())?);
         assert_eq!(rt; read.err(), Some(ExtentFault::BadExtent(len)));
     }
@@ -213,12 +250,12 @@ fn another_length_is_no_extent(rt: HostRuntime) -> Result<(), Fail> {
         0,
         &two_pages(rt.alloc())?,
     )?;
-    for (bytes, stops) in [(83, 16), (24, 12), (0, 12), (1 << 40, 16)] {
+    for (bytes, stops) in [(79, 12), (81, 16), (24, 12), (0, 12), (1 << 40, 16)] {
         let opened = Extent::open(rt.alloc(), &mut host, File::Tier0, 1, 0, bytes);
         assert_eq!(rt; opened.err(), Some(ExtentFault::BadExtent(stops)));
     }
-    let late = Extent::open(rt.alloc(), &mut host, File::Tier0, 1, 1, 84);
-    assert_eq!(rt; late.err(), Some(ExtentFault::BadExtent(84)));
+    let late = Extent::open(rt.alloc(), &mut host, File::Tier0, 1, 1, 80);
+    assert_eq!(rt; late.err(), Some(ExtentFault::BadExtent(80)));
     Ok(())
 }
 

@@ -8,7 +8,8 @@ use Rattle.query_engine.specs.Points.{are_series, points_between}
 use Rattle.query_engine.specs.Windows.{group_of}
 use Rattle.query_engine.proofs.JoinLemmas.{counted}
 use Rattle.alarm_core.specs.Lookups.{group, members}
-use Rattle.alarm_core.proofs.ValueLemmas.{members_of_asked, asked_rise, members_empty}
+use Rattle.query_engine.proofs.WindowLemmas.{asked_rising}
+use Rattle.alarm_core.proofs.ValueLemmas.{members_of_asked, members_empty}
 use Rattle.alarm_core.proofs.dimension.read_number.Goals as goal
 
 pub returns-then-window-clause-number : goal.returns-then-window-clause-number
@@ -27,7 +28,7 @@ returns-clause-number g c = λ told tells low.
     let points = told c.args.series in
     let rising : IsTrue (are_series points) = g.met.P.Points.rising_series c.args.points.now told tells c.args.series in
     let is : c.as_slice.result.now ≡ points_between floor window.start (window.stop - 1) points = c.as_slice.ensures ∙ c.in_ok-found.ensures.found told tells in
-    let rise : IsTrue (are_series c.as_slice.result.now) = subst (λ (ps : List Point). IsTrue (are_series ps)) (sym is) (asked_rise floor window.start (window.stop - 1) points rising) in
+    let rise : IsTrue (are_series c.as_slice.result.now) = subst (λ (ps : List Point). IsTrue (are_series ps)) (sym is) (asked_rising floor window.start (window.stop - 1) points rising) in
     let made : c.record_in-record.result ≡ record_of (members lookup.absolute window.start window.stop points) =
     c.record_in-record.ensures rise
     ∙ ap (λ (ps : List Point). record_of (members lookup.absolute window.start window.stop ps)) is

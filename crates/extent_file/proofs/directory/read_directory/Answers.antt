@@ -4,7 +4,8 @@ use Rattle.extent_file.specs.declared.entry.Entry.{Entry}
 use Rattle.extent_file.specs.declared.entry.Before.{Before}
 use Rattle.extent_file.specs.Form.{StopsAt}
 use Rattle.extent_file.specs.Directory.{at_first, after_entry, directory_form, Follows}
-use Rattle.extent_file.proofs.OrderLemmas.{order-push, after_all-push, one_left, one_read, all_read, ok_holds}
+use Rattle.host_model.proofs.CallLemmas.{ok_part}
+use Rattle.extent_file.proofs.OrderLemmas.{order-push, after_all-push, one_left, one_read, all_read}
 use Rattle.extent_file.proofs.directory.read_directory.Goals as goal
 
 pub returns-in-Err-clause-bad : goal.returns-in-Err-clause-bad
@@ -19,7 +20,7 @@ returns-in-Err-clause-bad c place is bytes window form front enough leads =
 pub loop-index-preserved : goal.loop-index-preserved
 loop-index-preserved c =
     let tier = c.args.tier in let first = at_first c.args.pages in let entries = c.loop-index.entries in let entry = c.in-Ok.entry in
-    let more : c.push.new.self ≡ entries ++ entry ∷ [] = ok_holds c.push.result (sym c.if-is_err.ensures.value) c.push.ensures.ok in
+    let more : c.push.new.self ≡ entries ++ entry ∷ [] = ok_part c.push.result (sym c.if-is_err.ensures.value) c.push.ensures.ok in
     let follows : Follows tier c.loop-index.before entry = c.in-Ok.ensures.follows in
     let was = c.loop-index.invariant.before in let place = ap (λ (b : Before). b.place) c.after-before.ensures in
     let count = c.loop-index.invariant.count in let inside = c.in-Ok.ensures.inside in

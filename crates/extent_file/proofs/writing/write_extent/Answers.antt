@@ -4,7 +4,7 @@ use Rattle.host_model.specs.Moments.{begins}
 use Rattle.host_model.proofs.FileLemmas.{image_when_synced}
 use Rattle.extent_file.specs.Slot.{tier_of, slot_size, slot_start}
 use Rattle.extent_file.specs.Pages.{extent_size}
-use Rattle.extent_file.proofs.OrderLemmas.{ok_holds}
+use Rattle.host_model.proofs.CallLemmas.{ok_part}
 use Rattle.extent_file.proofs.SaysLemmas.{extent_moved}
 use Rattle.extent_file.proofs.WriteLemmas.{slots_apart, room_left}
 use Rattle.extent_file.proofs.writing.write_extent.Goals as goal
@@ -40,8 +40,8 @@ returns-clause-held g c h bytes image =
     let past = of c.args.file (g.H.Host.seen c.put.new.host).past in
     let start_is : start ≡ slot_start tier items c.args.slot = c.slot_start-start.ensures.value ∙ ap (λ (t : ℕ). slot_start t items c.args.slot) c.tier_of-tier.ensures.value in
     let slot_is : c.slot_size.result ≡ slot_size tier items = c.slot_size.ensures.value ∙ ap (λ (t : ℕ). slot_size t items) c.tier_of-tier.ensures.value in
-    let stable = ok_holds c.put.result (sym c.if-is_err.ensures.value) c.put.ensures.synced h in
-    let whole = ok_holds c.put.result (sym c.if-is_err.ensures.value) c.put.ensures.whole h in
+    let stable = ok_part c.put.result (sym c.if-is_err.ensures.value) c.put.ensures.synced h in
+    let whole = ok_part c.put.result (sym c.if-is_err.ensures.value) c.put.ensures.whole h in
     let is = image_when_synced past bytes stable image in
     let there : c.in_ok-bytes.bytes ++ whole.0 ≡ drop (slot_start tier items c.args.slot) bytes =
     sym (ap (λ (n : ℕ). drop n bytes) (sym start_is) ∙ ap (λ (l : List ℕ). drop start l) is ∙ whole.1 ∙ ap (λ (l : List ℕ). l ++ whole.0) c.as_slice-2.ensures) in
