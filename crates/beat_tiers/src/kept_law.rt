@@ -14,8 +14,8 @@ pub fn any_kept_beats()
         → (kept_in state.points).beats ≡ map kept_beat_of (kept_beats state.first beats) }
     ensures before_none { (first : ATier) (others : List ATier)
         → (kept_in (no_beats first others).points).before ≡ beats_before first [] }
-    ensures before_more { (set : List ATier) (beats : List TierBeat) (beat : TierBeat) (state : TiersState)
-        → AreTiersOf set beats state → Follows beat beats
+    ensures before_more { (set : List ATier) (beats : List TierBeat) (beat : TierBeat)
+        → (state : TiersState) → AreTiersOf set beats state → Follows beat beats
         → (kept_in state.points).before ≡ beats_before state.first beats
         → (kept_in (after_beat beat.moment beat.points state).points).before
         ≡ beats_before state.first (beat ∷ beats) }

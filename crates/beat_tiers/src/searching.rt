@@ -18,7 +18,8 @@ use tier_rollup::{Point, PointList};
 /// The items from a place on, by halves.
 fn from_place<T>(items: &[Item<T>], low: u64) -> &[Item<T>]
     ensures ordered { AreOrdered items.now → AreOrdered result.now }
-    ensures from { AreOrdered items.now → result.now ≡ filter (λ (item : AnItem T). nat_le low item.place) items.now }
+    ensures from { AreOrdered items.now
+        → result.now ≡ filter (λ (item : AnItem T). nat_le low item.place) items.now }
 {
     let start = items.partition_point(|item| u64::from(item.place) < low);
     items.split_at(start).1
@@ -26,7 +27,8 @@ fn from_place<T>(items: &[Item<T>], low: u64) -> &[Item<T>]
 
 /// The items up to a place, by halves.
 fn to_place<T>(items: &[Item<T>], high: u32) -> &[Item<T>]
-    ensures { AreOrdered items.now → result.now ≡ filter (λ (item : AnItem T). nat_le item.place high) items.now }
+    ensures { AreOrdered items.now
+        → result.now ≡ filter (λ (item : AnItem T). nat_le item.place high) items.now }
 {
     let end = items.partition_point(|item| item.place <= high);
     items.split_at(end).0
@@ -190,7 +192,8 @@ fn find_in_segments(segments: &[Segment<Record>], bucket: u32, series: u32) -> O
 
 /// The record of a bucket's series.
 pub(crate) fn record_of(segments: &Segments<Record>, bucket: u32, series: u32) -> Option<Record>
-    ensures { AreOrdered (items_of segments.now) → result ≡ option_map (λ (item : AnItem ARecord). item.value)
+    ensures { AreOrdered (items_of segments.now)
+        → result ≡ option_map (λ (item : AnItem ARecord). item.value)
         (find (is_item bucket series) (items_of segments.now)) }
 {
     let (earlier, later) = segments.sealed();
