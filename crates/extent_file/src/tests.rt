@@ -277,8 +277,8 @@ fn directory(alloc: Global, state: &mut u64) -> Result<Vec<Entry>, Fail> {
             series = series.saturating_add(1);
             first = 0;
         }
-        first = first.saturating_add(1 + draw(state, 4));
-        let count = 1 + draw(state, 3);
+        first = first.saturating_add(draw(state, 4).saturating_add(1));
+        let count = draw(state, 3).saturating_add(1);
         entries.push(Entry {
             series,
             first,
@@ -286,7 +286,7 @@ fn directory(alloc: Global, state: &mut u64) -> Result<Vec<Entry>, Fail> {
             count,
             place: 0,
         })?;
-        first = first.saturating_add(2 * count);
+        first = first.saturating_add(count.saturating_mul(2));
     }
     Ok(entries)
 }
