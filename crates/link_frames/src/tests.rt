@@ -355,12 +355,14 @@ fn data_of(alloc: Global, charts: &[&str], dimensions: &[(u32, &str)]) -> Result
     }
     data.names.dimensions.clear();
     let mut words = SeriesWordList::new(alloc);
+    let mut series = 0u32;
     for (chart, id) in dimensions {
         words.push(SeriesWord {
-            series: data.names.dimensions.len() as u32,
+            series,
             word: 0x0100_0000,
         })?;
         data.names.dimensions.push(dimension(alloc, *chart, id)?)?;
+        series = series.saturating_add(1);
     }
     data.beats.clear();
     data.beats.push(Beat { moment: 70, words })?;
