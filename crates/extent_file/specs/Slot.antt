@@ -18,7 +18,7 @@ item_size tier = if tier == 0 then 4 else 56
 abbrev pub most_items : ℕ → ℕ
 most_items tier = if tier == 0 then 1024 else 73
 
--- how many bytes a slot has, in a tier whose segments have so many items
+-- how many bytes a slot has, in a tier whose segments are sealed once they have so many items, or more
 abbrev pub slot_size : ℕ → ℕ → ℕ
 slot_size tier items = 24 + (items + 65536) * (24 + item_size tier)
 

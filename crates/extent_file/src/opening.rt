@@ -133,10 +133,10 @@ fn open_directory<H: Host>(
 }
 
 impl Extent {
-    /// Opens the extent of a length in a slot of a tier's file, where the tier's segments have up to
-    /// `items` items. It reads the head and the directory, and only reads. `BadExtent` exactly where the
-    /// file has no extent of that length there, with the first byte of the file at which no extent goes
-    /// on, or its length where it ends before.
+    /// Opens the extent of a length in a slot of a tier's file, where the tier's segments are sealed once
+    /// they have `items` items, or more. It reads the head and the directory, and only reads. `BadExtent`
+    /// exactly where the file has no extent of that length there. It has the first byte of the file at
+    /// which the form, read field by field, does not go on, or the file's length where it ends before.
     pub fn open<H: Host>(
         alloc: Global,
         host: &mut H,

@@ -3,10 +3,10 @@ ghost use Rattle.extent_file.specs.Slot.{IsTierFile, tier_of, item_size, most_it
 
 use host_model::File;
 
-/// The most items of a segment.
+/// The most items at which a segment may be sealed. It has up to 65,535 more.
 pub const MOST_ITEMS: u32 = 262_144;
 
-/// The most slots of a tier's file, but one.
+/// The most extents that a tier keeps. Its file has one slot more: they are numbered from 0 to this.
 pub const MOST_SLOTS: u32 = 1_024;
 
 /// The tier whose extents lie in a file.

@@ -4,8 +4,6 @@ ghost use Rattle.extent_file.specs.Directory.{at_first};
 ghost use Rattle.extent_file.specs.Pages.{ArePages, extent_size};
 
 use super::*;
-use crate::entry::Entry;
-use crate::finding::first_wanted;
 use fixed_num::Record;
 use host_model::{CallList, File, Host, Keep, MemoryHost};
 use page_buffer::{RecordPage, SlotPage};
@@ -103,12 +101,9 @@ fn the_bytes_of_an_extent(rt: HostRuntime) -> Result<(), Fail> {
     write_extent(rt.alloc(), &mut host, File::Tier0, 1, 0, &pages)?;
     let mut bytes = [0_u8; 52];
     host.read(File::Tier0, 0, &mut bytes)?;
-    let front = b"NDAEXT01\0\0\0\0\x01\0\0\0\x34\0\0\0\0\0\0\0\x03\0\0\0\x3c\0\0\0\x01\0\0\0";
-    assert_eq!(rt; &bytes[..36], front.as_slice());
-    assert_eq!(rt;
-        &bytes[36..],
-        b"\x01\0\0\0\x30\0\0\0\0\0\0\0\x07\0\0\0".as_slice()
-    );
+    let wanted =
+        b"NDAEXT01\0\0\0\0\x01\0\0\0\x34\0\0\0\0\0\0\0\x03\0\0\0\x3c\0\0\0\x01\0\0\0\x01\0\0\0\x30\0\0\0\0\0\0\0\x07\0\0\0";
+    assert_eq!(rt; bytes.as_slice(), wanted.as_slice());
     Ok(())
 }
 
@@ -256,51 +251,5 @@ fn another_length_is_no_extent(rt: HostRuntime) -> Result<(), Fail> {
     }
     let late = Extent::open(rt.alloc(), &mut host, File::Tier0, 1, 1, 80);
     assert_eq!(rt; late.err(), Some(ExtentFault::BadExtent(80)));
-    Ok(())
-}
-
-/// The next of some numbers without an order.
-fn draw(state: &mut u64, below: u64) -> u32 {
-    *state = state
-        .wrapping_mul(6_364_136_223_846_793_005)
-        .wrapping_add(1);
-    ((*state >> 33) % below.max(1)) as u32
-}
-
-/// A directory of few series, in order.
-fn directory(alloc: Global, state: &mut u64) -> Result<Vec<Entry>, Fail> {
-    let mut entries = Vec::new(alloc);
-    let mut series = 0_u32;
-    let mut first = 0_u32;
-    for _ in 0..draw(state, 12) {
-        if draw(state, 3) == 0 {
-            series = series.saturating_add(1);
-            first = 0;
-        }
-        first = first.saturating_add(draw(state, 4).saturating_add(1));
-        let count = draw(state, 3).saturating_add(1);
-        entries.push(Entry {
-            series,
-            first,
-            step: 2,
-            count,
-            place: 0,
-        })?;
-        first = first.saturating_add(count.saturating_mul(2));
-    }
-    Ok(entries)
-}
-
-#[test]
-fn halves_find_what_the_plain_search_finds(rt: HostRuntime) -> Result<(), Fail> {
-    let mut state = 1;
-    for _ in 0..500 {
-        let entries = directory(rt.alloc(), &mut state)?;
-        let series = draw(&mut state, 5);
-        let moment = draw(&mut state, 60);
-        let plain = entries.iter().position(|entry| entry.series == series
-            && u64::from(moment) <= entry.last());
-        assert_eq!(rt; first_wanted(&entries, series, moment), plain);
-    }
     Ok(())
 }

@@ -53,7 +53,7 @@ pub fn any_cut()
     ensures held { (bytes : List ℕ) → IsOpen bytes → length bytes < body_limit + 4 }
 {}
 
-/// The laws of bytes that are cut into pieces at any places. It does nothing.
+/// The laws of bytes that are cut into pieces at any places, each piece answered with `Ok`. It does nothing.
 pub fn any_pieces()
     // What a new reader hands out of pieces, one after the other, is what is handed out of all bytes together.
     ensures together { (pieces : List (List ℕ)) (before now : List Frame) (rest : List ℕ)
