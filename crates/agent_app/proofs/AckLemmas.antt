@@ -1,11 +1,10 @@
 -- Which stored beats the whole lines of a text acknowledge.
-use Rattle.std.proofs.Common.{◌≡◌, ℕ, zero, suc, ◌+◌, ◌/◌, ◌%◌, ◌<◌, ◌≤◌, ◌^◌, ⊎_elim, Bool, true, false, cond, nat_eq, nat_lt, List, [], ◌∷◌, ◌++◌, length, take, drop, All, codes, refl, sym, ap, subst, ◌∙◌, append_assoc, append-nil, arith, true≢false, if◌then◌else◌}
-use Rattle.std.specs.Fmt.{decimal, digits, digits_onto, digit_glyph}
-use Rattle.std.specs.List.{slice_index, AllByRecursion}
+use Rattle.std.proofs.Common.{◌≡◌, ℕ, ◌<◌, ◌≤◌, ◌^◌, ⊎_elim, Bool, true, false, List, [], ◌∷◌, ◌++◌, length, take, drop, All, codes, refl, sym, ap, subst, ◌∙◌, append_assoc, append-nil, arith, true≢false, if◌then◌else◌}
+use Rattle.std.specs.Fmt.{decimal}
+use Rattle.std.specs.List.{slice_index}
 use Rattle.std.proofs.Math.ListN.{drop_of_length-le}
 use Rattle.std.proofs.Math.Seq.{drop-append_seam}
 use Rattle.std.proofs.lemmas.Bool.{cases_lt}
-use Rattle.std.proofs.lemmas.Bool.Decides.{nat_tests}
 use Rattle.std.proofs.lemmas.Fmt.{decimal_injective}
 use Rattle.std.proofs.lemmas.List.{append_cancel_left, drop-append-le, take_at, take-append-drop}
 use Rattle.std.proofs.lemmas.List.Elements.{All-append, All-from_recursion, All-take}
@@ -18,42 +17,18 @@ use Rattle.history.specs.Limits.{is_line_feed}
 use Rattle.point_lines.specs.declared.refusal.Refusal.{Refusal}
 use Rattle.point_lines.specs.declared.refusal.Refusal.TheVariants as refusal
 use Rattle.point_lines.specs.Judged.{refusal_number}
+use Rattle.query_text.proofs.ReplyLemmas.{decimal-number, free-append, IsFree}
 use Rattle.agent_core.specs.declared.reply.Reply.{Reply}
 use Rattle.agent_core.specs.Replies.{reply_text}
 use Rattle.agent_app.specs.Convert.{is_limit, refusal_line, refusal_tail}
 use Rattle.agent_app.specs.Run.{stored_line, IsAckedUpTo}
 
 -- ---- texts without a line feed
-abbrev IsFree : List ℕ → Type 0
-IsFree text = AllByRecursion (λ (byte : ℕ). is_line_feed byte ≡ false) text
-
-free-append : (xs ys : List ℕ) → IsFree xs → IsFree ys → IsFree (xs ++ ys)
-free-append [] ys first second = second
-free-append (x ∷ xs) ys first second = (first.0, free-append xs ys first.1 second)
-
-glyph-free : (digit : ℕ) → is_line_feed (digit_glyph false digit) ≡ false
-glyph-free digit = by (nat_lt digit 10)
-  where
-    by : (b : Bool) → is_line_feed (cond b (48 + digit) (87 + digit)) ≡ false
-    by true = grind (arith, nat_tests)
-    by false = grind (arith, nat_tests)
-
-onto-free : (k n : ℕ) (acc : List ℕ) → IsFree acc → IsFree (digits_onto k 10 false n acc)
-onto-free zero n acc free = free
-onto-free (suc k) n acc free =
-    let more : IsFree (digit_glyph false (n % 10) ∷ acc) = (glyph-free (n % 10), free) in
-    by (nat_eq (n / 10) 0) (digit_glyph false (n % 10) ∷ acc) (digits_onto k 10 false (n / 10) (digit_glyph false (n % 10) ∷ acc)) more (onto-free k (n / 10) (digit_glyph false (n % 10) ∷ acc) more)
-  where
-    by : (b : Bool) (xs ys : List ℕ) → IsFree xs → IsFree ys → IsFree (cond b xs ys)
-    by true xs ys here there = here
-    by false xs ys here there = there
-
-decimal-free : (n : ℕ) → IsFree (decimal n)
-unfolding digits
-decimal-free n = onto-free 64 n [] tt
+pub decimal-free : (n : ℕ) → IsFree (decimal n)
+decimal-free n = (decimal-number n).free
 
 -- a text of one line
-one-line : (text : List ℕ) → IsFree text → parts (text ++ 10 ∷ []) ≡ text ∷ [] ∷ []
+pub one-line : (text : List ℕ) → IsFree text → parts (text ++ 10 ∷ []) ≡ text ∷ [] ∷ []
 one-line text free = slice_split_at is_line_feed text 10 [] (All-from_recursion (λ (byte : ℕ). is_line_feed byte ≡ false) text free) refl
 
 -- ---- acknowledged up to a number
@@ -63,7 +38,7 @@ IsKnown n said = (m : ℕ) → m < 2 ^ 64 → said ≡ stored_line m → m ≤ n
 pub acked-nothing : (n : ℕ) → IsAckedUpTo n []
 acked-nothing n = All-from_recursion (IsKnown n) [] tt
 
-acked-one : (n : ℕ) (text : List ℕ) → IsFree text → IsKnown n text → IsAckedUpTo n (text ++ 10 ∷ [])
+pub acked-one : (n : ℕ) (text : List ℕ) → IsFree text → IsKnown n text → IsAckedUpTo n (text ++ 10 ∷ [])
 acked-one n text free known = subst (λ (ps : List (List ℕ)). All (IsKnown n) (but_last ps)) (sym (one-line text free)) (All-from_recursion (IsKnown n) (text ∷ []) (known, tt))
 
 pub acked-more : (n : ℕ) (made text : List ℕ) → rest made ≡ [] → IsAckedUpTo n made → IsAckedUpTo n text → IsAckedUpTo n (made ++ text)
@@ -110,16 +85,16 @@ text-front (Told sent ∷ past) text is = record {
 stored-free : IsFree (codes "STORED ")
 stored-free = (refl, (refl, (refl, (refl, (refl, (refl, (refl, tt)))))))
 
-pub acked-stored : (n count : ℕ) → count < 2 ^ 64 → count ≤ n → IsAckedUpTo n (reply_text (record { count = count }))
+pub acked-stored : (n count : ℕ) → count < 2 ^ 64 → count ≤ n → IsAckedUpTo n (stored_line count ++ 10 ∷ [])
 acked-stored n count small up =
     acked-one n (stored_line count) (free-append (codes "STORED ") (decimal count) stored-free (decimal-free count))
     (λ m small' is. let same = decimal_injective count m small small' (append_cancel_left (codes "STORED ") (decimal count) (decimal m) is) in omega (arith, same, up))
 
-pub closed-stored : (count : ℕ) → rest (reply_text (record { count = count })) ≡ []
+pub closed-stored : (count : ℕ) → rest (stored_line count ++ 10 ∷ []) ≡ []
 closed-stored count = ap last_part (one-line (stored_line count) (free-append (codes "STORED ") (decimal count) stored-free (decimal-free count)))
 
 -- a text that is not empty
-abbrev has-first : List ℕ → Bool
+abbrev pub has-first : List ℕ → Bool
 has-first [] = false
 has-first (byte ∷ text) = true
 
@@ -132,10 +107,10 @@ middle-none [] [] last none = refl
 middle-none [] (byte ∷ middle) last none = absurd (true≢false (ap has-first none))
 middle-none (byte ∷ first) middle last none = absurd (true≢false (ap has-first none))
 
-abbrev first_word : Bool → List ℕ
+abbrev pub first_word : Bool → List ℕ
 first_word limit = if limit then codes "LIMIT " else codes "REFUSED "
 
-first-free : (limit : Bool) → IsFree (first_word limit)
+pub first-free : (limit : Bool) → IsFree (first_word limit)
 first-free true = (refl, (refl, (refl, (refl, (refl, (refl, tt))))))
 first-free false = (refl, (refl, (refl, (refl, (refl, (refl, (refl, (refl, tt))))))))
 
@@ -143,7 +118,7 @@ tail-free : (why : Refusal) → IsFree (refusal_tail why)
 tail-free (refusal.Block (fault.MomentOrder last)) = free-append (codes " ") (decimal last) (refl, tt) (decimal-free last)
 tail-free why = tt
 
-no-stored : (limit : Bool) (more others : List ℕ) → first_word limit ++ more ≡ codes "STORED " ++ others → ⊥
+pub no-stored : (limit : Bool) (more others : List ℕ) → first_word limit ++ more ≡ codes "STORED " ++ others → ⊥
 no-stored true more others same = let first : 76 ≡ 83 = ap (λ (l : List ℕ). slice_index l 0) same in omega (arith, first)
 no-stored false more others same = let first : 82 ≡ 83 = ap (λ (l : List ℕ). slice_index l 0) same in omega (arith, first)
 

@@ -1,86 +1,286 @@
 -- Runs on one host, one after the other: what they stored stays.
-use Rattle.std.proofs.Common.{◌≡◌, ◌⊎◌, inl, inr, ℕ, List, [], ◌∷◌, length, drop, Option, sym, refl, subst, ◌∙◌, append-nil}
+use Rattle.std.proofs.Common.{◌≡◌, ◌⊎◌, inl, inr, ℕ, ◌≤◌, Bool, true, false, List, [], ◌∷◌, length, drop, Option, Some, None, sym, refl, ap, subst, ◌∙◌, append-nil, length-append, arith, true≢false}
+use Rattle.std.proofs.Math.ListN.{drop_of_length-le}
+use Rattle.std.specs.List.{Contains}
 use Rattle.host_model.specs.declared.file.File.{File}
 use Rattle.host_model.specs.declared.status.Status.{Status}
-use Rattle.host_model.specs.declared.status.Status.TheVariants.{DiskFault, Memory}
+use Rattle.host_model.specs.declared.status.Status.TheVariants as status
 use Rattle.host_model.specs.Disks.{EveryDisk, reads_as}
 use Rattle.host_model.specs.Images.{Change, IsImage}
 use Rattle.host_model.specs.Moments.{EveryStop, Throughout}
-use Rattle.host_model.specs.Past.{told, Event, IsDisk, IsText}
+use Rattle.host_model.specs.Past.{told, Event, IsDisk}
 use Rattle.host_model.specs.Seen.{Seen}
 use Rattle.host_model.specs.Source.{Takes}
+use Rattle.host_model.specs.Cause.{Rose}
+use Rattle.host_model.proofs.CallLemmas.{unmoved}
 use Rattle.host_model.proofs.DiskLemmas.{untold}
 use Rattle.host_model.proofs.MomentLemmas.{at_end, full_text, joined, weakened}
 use Rattle.history.specs.History.{Beat}
 use Rattle.entry_codec.specs.declared.entry.Settings.{Settings}
 use Rattle.line_stream.proofs.RunLemmas.{Takes-none}
+use Rattle.store_core.specs.Stands.{is_made}
 use Rattle.store_core.proofs.StandLemmas.{stands_made}
-use Rattle.agent_core.specs.Kept.{StandsForHistory}
-use Rattle.agent_app.specs.Course.{converted, made, made_again, no_run, one_run, ran, Course, HoldsRuns, OneRun}
-use Rattle.agent_app.specs.Run.{history_with_text, no_more, IsAckedUpTo, Keeps, Resumes, RunsOn}
-use Rattle.agent_app.proofs.AckLemmas.{acked-nothing, acked-since, text-front}
-use Rattle.agent_app.proofs.ExtendsLemmas.{extends-whole}
+use Rattle.agent_core.specs.Kept.{StandsForHistory, StandsForNew}
+use Rattle.agent_app.specs.Course.{asked, begun, converted, made_again, no_run, none_found, now_made, one_run, ran, AreStored, Course, Database, HoldsDatabase, HoldsRuns, MayHaveMade, OneRun, WhereWhole}
+use Rattle.agent_app.specs.New.{Makes}
+use Rattle.agent_app.specs.Query.{Asks}
+use Rattle.agent_app.specs.Run.{history_with_text, is_opened, is_whole, no_more, IsAckedUpTo, IsAsFound, Keeps, Resumes, RunsAll, RunsOn}
+use Rattle.agent_app.proofs.AckLemmas.{acked-nothing, acked-since, acked-weaker, text-front, IsFront}
+use Rattle.agent_app.proofs.ExtendsLemmas.{extends-length, extends-whole}
 
-module _ (set : Settings) (runs : List OneRun) (past past' : List Event) (held : EveryDisk (HoldsRuns set runs) past) (first : IsDisk past (reads_as past))
-    (status : Status) (left left' : Option (List ℕ)) (source_rose tell_rose disk_rose : Type 0)
-    (resumes : (h0 : List Beat) → StandsForHistory set h0 (reads_as past) → Resumes status set h0 left left' past past' source_rose tell_rose disk_rose) where
-  -- the run, when this may have been told
-  abbrev so_far : List ℕ → OneRun
-  so_far text = record { left = left; left_after = left'; text = drop (length (told past)) text }
+-- a history is no database that is not there
+made-held : (set : Settings) (h : List Beat) (disk : File → List ℕ) → StandsForHistory set h disk → is_made disk ≡ false → ⊥
+made-held set h disk here unmade = true≢false (sym (stands_made set here.beats disk here.stands) ∙ unmade)
 
-  -- a stop in it leaves a disk that holds what the runs stored
-  abbrev Stored : (File → List ℕ) → List ℕ → Type 0
-  Stored disk text = HoldsRuns set (so_far text ∷ runs) disk
+abbrev ended_with : Status → Option Status
+ended_with s = Some s
 
-  read-as : HoldsRuns set runs (reads_as past)
-  read-as = held (reads_as past) first
+abbrev not_ended : Option Status
+not_ended = None
 
-  run : Resumes status set read-as.stored left left' past past' source_rose tell_rose disk_rose
-  run = resumes read-as.stored read-as.stands
+some-same : (s t : Status) → ended_with s ≡ ended_with t → s ≡ t
+some-same s t e = cc
 
-  module _ (taken : List ℕ) (takes : Takes left taken left') where
-    before-read : (disk : File → List ℕ) (text : List ℕ) → IsDisk past disk → IsText past text → Stored disk text
-    before-read disk text images by_then =
-        let here = held disk images in
-        let front = text-front past text by_then in
-        let acked = acked-since (length here.stored) (told past) [] text front.more (front.whole ∙ sym (append-nil (told past))) (acked-nothing (length here.stored)) in
-        record {
-          stored = here.stored;
-          are = one_run runs (so_far text) here.stored here.stored taken here.are takes no_more (extends-whole here.stored taken) acked;
-          stands = here.stands;
-        }
+none-some : (t : Status) → not_ended ≡ ended_with t → ⊥
+none-some t e = cc
 
-    opening : Throughout (EveryStop Stored) past run.read
-    opening = untold run.silent before-read run.before
+module _ (starts : List (Option Database)) (tried : List Settings) (runs : List OneRun) (honest : Type 0) (h : honest) (host host' : Seen)
+    (held : EveryDisk (HoldsRuns starts tried runs) host.past) (first : IsDisk host.past (reads_as host.past))
+    (s : Status) (left left' : Option (List ℕ)) (faults faults' : ℕ) (all : RunsAll honest s left left' faults faults' host host') where
+  -- the run, which has ended so, or has not, when this may have been told
+  abbrev run_as : Option Status → List ℕ → OneRun
+  run_as ended text = record { status = ended; left = left; left_after = left'; text = drop (length (told host.past)) text }
 
-    once-read : (disk : File → List ℕ) (text : List ℕ) → Keeps set read-as.stored (history_with_text read-as.stored taken) (told run.read) disk text → Stored disk text
-    once-read disk text keeps =
-        let acked = subst (λ (before : List ℕ). IsAckedUpTo (length keeps.stored) (drop (length before) text)) run.silent keeps.acked in
-        record {
-          stored = keeps.stored;
-          are = one_run runs (so_far text) read-as.stored keeps.stored taken read-as.are takes keeps.since keeps.within acked;
-          stands = keeps.stands;
-        }
+  -- a disk that holds what the runs stored
+  abbrev Stored : Option Status → (File → List ℕ) → List ℕ → Type 0
+  Stored ended disk text = HoldsRuns starts tried (run_as ended text ∷ runs) disk
 
-  pub course-moments : Throughout (EveryStop Stored) past past'
-  course-moments = by run.after
+  read-as : HoldsRuns starts tried runs (reads_as host.past)
+  read-as = held (reads_as host.past) first
+
+  -- where the run has stored and told nothing
+  unchanged : (ended : Option Status) (taken : List ℕ) → Takes left taken left' → ((t : Status) → ended ≡ Some t → is_opened t ≡ false) → ((t : Status) → ended ≡ Some t → is_whole t ≡ true → taken ≡ [])
+      → (disk : File → List ℕ) (text : List ℕ) → IsDisk host.past disk → IsFront text (told host.past) → Stored ended disk text
+  unchanged ended taken takes unopened whole disk text images front = by here.stored here.are here.holds
     where
-      by : RunsOn status set read-as.stored left left' run.read past' source_rose tell_rose disk_rose ⊎ (((status ≡ DiskFault) ⊎ (status ≡ Memory)) × (past' ≡ run.read) × (left' ≡ left)) → Throughout (EveryStop Stored) past past'
-      by (inl on) =
-          joined (opening on.runs.taken on.runs.takes)
-          (weakened (λ now keeps disk text images told_by. once-read on.runs.taken on.runs.takes disk text (keeps disk text images told_by)) on.runs.stops)
-      by (inr (short, is, same)) = subst (Throughout (EveryStop Stored) past) (sym is) (opening [] (subst (Takes left []) (sym same) (Takes-none left)))
+      here : HoldsRuns starts tried runs disk
+      here = held disk images
 
-module _ {H : Type 0} (honest : Type 0) (seen : H → Seen) (set : Settings) (first : (host : H) → honest → IsDisk (seen host).past (reads_as (seen host).past)) (h : honest) where
-  pub course-kept : (runs : List OneRun) (host : H) → Course honest seen set runs host → EveryDisk (HoldsRuns set runs) (seen host).past
-  course-kept runs host (made begin stands) = λ disk images. record { stored = []; are = no_run; stands = stands disk images }
-  course-kept runs host (ran before begin end status left left' sf sf' course run) = λ disk images.
-      at_end (course-moments set before (seen begin).past (seen host).past (course-kept before begin course) (first begin h) status left left' _ _ _ (run.resumes h set)) disk
-      (told (seen host).past) images (full_text (seen host).past (told (seen host).past) refl)
+      by : (o : Option Database) → AreStored tried here.start runs o → HoldsDatabase o disk → Stored ended disk text
+      by None are holds =
+          let short : length text ≤ length (told host.past) = omega (arith, ap length front.whole, length-append text front.more) in
+          record { start = here.start; among = here.among; stored = None; are = none_found runs (run_as ended text) are unopened (drop_of_length-le text short); holds = holds }
+      by (Some base) are holds =
+          let before = base.history in
+          let acked = acked-since (length before) (told host.past) [] text front.more (front.whole ∙ sym (append-nil (told host.past))) (acked-nothing (length before)) in
+          record {
+            start = here.start;
+            among = here.among;
+            stored = Some (record { settings = base.settings; history = before });
+            are = one_run runs (run_as ended text) base before taken are takes no_more (extends-whole before taken)
+                (λ t is all. sym (ap (history_with_text before) (whole t is all))) acked;
+            holds = holds;
+          }
+
+  -- ---- there was no database
+  module _ (unmade : is_made (reads_as host.past) ≡ false) where
+    found : IsAsFound honest left left' faults faults' host host'
+    found = all.untaken h (λ notes. true≢false (sym (stands_made notes.settings notes.beats (reads_as host.past) notes.stands) ∙ unmade))
+
+    takes-none : Takes left [] left'
+    takes-none = subst (Takes left []) (sym found.source.0) (Takes-none left)
+
+    not-opened : (t : Status) → Some s ≡ Some t → is_opened t ≡ false
+    not-opened t is = by (all.finds.unmade h unmade)
+      where
+        same : s ≡ t
+        same = some-same s t is
+
+        by : (s ≡ status.NotADatabase) ⊎ (s ≡ status.DiskFault) ⊎ (s ≡ status.Memory) → is_opened t ≡ false
+        by (inl is) = ap is_opened (sym same ∙ is)
+        by (inr (inl is)) = ap is_opened (sym same ∙ is)
+        by (inr (inr is)) = ap is_opened (sym same ∙ is)
+
+    moments-none : Throughout (EveryStop (Stored None)) host.past host'.past
+    moments-none =
+        untold (found.output h)
+        (λ disk text images by_then. unchanged None [] takes-none (λ t is. absurd (none-some t is)) (λ t is. absurd (none-some t is)) disk text images (text-front host.past text by_then)) (found.any_moment h)
+
+    end-none : EveryDisk (λ disk. Stored (Some s) disk (told host'.past)) host'.past
+    end-none disk images =
+        unchanged (Some s) [] takes-none not-opened (λ t is whole. refl) disk (told host'.past) (at_end (found.any_moment h) disk images)
+        (record { more = []; whole = append-nil (told host'.past) ∙ found.output h })
+
+  -- ---- there was one of this history
+  module _ (start : Option Database) (among : Contains starts start) (base : Database) (are : AreStored tried start runs (Some base))
+      (stands : StandsForHistory base.settings base.history (reads_as host.past)) where
+    abbrev set : Settings
+    set = base.settings
+
+    abbrev earlier : List Beat
+    earlier = base.history
+
+    abbrev SourceRose : Type 0
+    SourceRose = Rose faults faults'
+
+    abbrev TellRose : Type 0
+    TellRose = Rose host.tell_faults host'.tell_faults
+
+    abbrev DiskRose : Type 0
+    DiskRose = Rose host.disk_faults host'.disk_faults
+
+    abbrev OnIt : List Event → Type 0
+    OnIt read = RunsOn s set earlier left left' read host'.past SourceRose TellRose DiskRose
+
+    run : Resumes s set earlier left left' host.past host'.past SourceRose TellRose DiskRose
+    run = all.resumes h set earlier stands
+
+    opening : (taken : List ℕ) → Takes left taken left' → Throughout (EveryStop (Stored None)) host.past run.read
+    opening taken takes =
+        untold run.silent
+        (λ disk text images by_then. unchanged None taken takes (λ t is. absurd (none-some t is)) (λ t is. absurd (none-some t is)) disk text images (text-front host.past text by_then)) run.before
+
+    once-read : (ended : Option Status) (taken : List ℕ) → Takes left taken left' → (disk : File → List ℕ) (text : List ℕ) → (keeps : Keeps set earlier (history_with_text earlier taken) (told run.read) disk text)
+        → WhereWhole (run_as ended text) (keeps.stored ≡ history_with_text earlier taken) → Stored ended disk text
+    once-read ended taken takes disk text keeps whole =
+        let acked = subst (λ (first : List ℕ). IsAckedUpTo (length keeps.stored) (drop (length first) text)) run.silent keeps.acked in
+        record {
+          start = start;
+          among = among;
+          stored = Some (record { settings = set; history = keeps.stored });
+          are = one_run runs (run_as ended text) base keeps.stored taken are takes keeps.since keeps.within whole acked;
+          holds = keeps.stands;
+        }
+
+    moments-some : Throughout (EveryStop (Stored None)) host.past host'.past
+    moments-some = by run.after
+      where
+        by : OnIt run.read ⊎ (((s ≡ status.DiskFault) ⊎ (s ≡ status.Memory)) × (host'.past ≡ run.read) × (left' ≡ left)) → Throughout (EveryStop (Stored None)) host.past host'.past
+        by (inl on) =
+            joined (opening on.runs.taken on.runs.takes)
+            (weakened (λ now keeps disk text images told_by. once-read None on.runs.taken on.runs.takes disk text (keeps disk text images told_by) (λ t is. absurd (none-some t is))) on.runs.stops)
+        by (inr (short, is, same)) = subst (Throughout (EveryStop (Stored None)) host.past) (sym is) (opening [] (subst (Takes left []) (sym same) (Takes-none left)))
+
+    -- the run on it ended
+    end-on : OnIt run.read → EveryDisk (λ disk. Stored (Some s) disk (told host'.past)) host'.past
+    end-on on disk images = by (is_whole s) refl
+      where
+        keeps : Keeps set earlier (history_with_text earlier on.runs.taken) (told run.read) disk (told host'.past)
+        keeps = at_end on.runs.stops disk (told host'.past) images (full_text host'.past (told host'.past) refl)
+
+        by : (whole : Bool) → is_whole s ≡ whole → Stored (Some s) disk (told host'.past)
+        by false part =
+            once-read (Some s) on.runs.taken on.runs.takes disk (told host'.past) keeps
+            (λ t is all. absurd (true≢false (sym all ∙ sym (ap is_whole (some-same s t is)) ∙ part)))
+        by true all =
+            once-read (Some s) on.runs.taken on.runs.takes disk (told host'.past)
+            (record {
+              stored = history_with_text earlier on.runs.taken;
+              since = extends-whole earlier on.runs.taken;
+              within = no_more;
+              stands = on.runs.ends all disk images;
+              acked = acked-weaker (length keeps.stored) (length (history_with_text earlier on.runs.taken)) (drop (length (told run.read)) (told host'.past))
+                  (extends-length keeps.stored (history_with_text earlier on.runs.taken) keeps.within) keeps.acked;
+            }) (λ t is whole. refl)
+
+    -- it ended before the database was read
+    end-unread : ((s ≡ status.DiskFault) ⊎ (s ≡ status.Memory)) → host'.past ≡ run.read → left' ≡ left → EveryDisk (λ disk. Stored (Some s) disk (told host'.past)) host'.past
+    end-unread short is same disk images =
+        unchanged (Some s) [] (subst (Takes left []) (sym same) (Takes-none left)) (λ t there. sym (ap is_opened (some-same s t there)) ∙ unopened short) (λ t there whole. refl) disk (told host'.past)
+        (at_end run.before disk (subst (λ (p : List Event). IsDisk p disk) is images))
+        (record { more = []; whole = append-nil (told host'.past) ∙ ap told is ∙ run.silent })
+      where
+        unopened : ((s ≡ status.DiskFault) ⊎ (s ≡ status.Memory)) → is_opened s ≡ false
+        unopened (inl is) = ap is_opened is
+        unopened (inr is) = ap is_opened is
+
+    end-some : EveryDisk (λ disk. Stored (Some s) disk (told host'.past)) host'.past
+    end-some = by run.after
+      where
+        by : OnIt run.read ⊎ (((s ≡ status.DiskFault) ⊎ (s ≡ status.Memory)) × (host'.past ≡ run.read) × (left' ≡ left)) → EveryDisk (λ disk. Stored (Some s) disk (told host'.past)) host'.past
+        by (inl on) = end-on on
+        by (inr (short, is, same)) = end-unread short is same
+
+  pub course-moments : Throughout (EveryStop (Stored None)) host.past host'.past
+  course-moments = by read-as.stored read-as.are read-as.holds
+    where
+      by : (o : Option Database) → AreStored tried read-as.start runs o → HoldsDatabase o (reads_as host.past) → Throughout (EveryStop (Stored None)) host.past host'.past
+      by None are holds = moments-none holds
+      by (Some base) are holds = moments-some read-as.start read-as.among base are holds
+
+  pub course-end : EveryDisk (λ disk. Stored (Some s) disk (told host'.past)) host'.past
+  course-end = by read-as.stored read-as.are read-as.holds
+    where
+      by : (o : Option Database) → AreStored tried read-as.start runs o → HoldsDatabase o (reads_as host.past) → EveryDisk (λ disk. Stored (Some s) disk (told host'.past)) host'.past
+      by None are holds = end-none holds
+      by (Some base) are holds = end-some read-as.start read-as.among base are holds
+
+-- `new` was tried
+module _ (starts : List (Option Database)) (tried : List Settings) (runs : List OneRun) (honest : Type 0) (h : honest) (host host' : Seen)
+    (held : EveryDisk (HoldsRuns starts tried runs) host.past) (first : IsDisk host.past (reads_as host.past))
+    (set : Settings) (s : Status) (known : MayHaveMade s host → Contains tried set) (makes : Makes honest set s host host') where
+  abbrev Moments : Type 0
+  Moments = Throughout (EveryDisk (HoldsRuns starts tried runs)) host.past host'.past
+
+  -- there was no database
+  module _ (unmade : is_made (reads_as host.past) ≡ false) where
+    read-none : HoldsRuns starts tried runs (reads_as host.past)
+    read-none = held (reads_as host.past) first
+
+    none-stored : AreStored tried read-none.start runs None
+    none-stored = by read-none.stored read-none.are read-none.holds
+      where
+        by : (o : Option Database) → AreStored tried read-none.start runs o → HoldsDatabase o (reads_as host.past) → AreStored tried read-none.start runs None
+        by None are holds = are
+        by (Some base) are holds = absurd (made-held base.settings base.history (reads_as host.past) holds unmade)
+
+    -- and it may have made one
+    new-holds : Contains tried set → (disk : File → List ℕ) → IsDisk host.past disk ⊎ StandsForNew set disk → HoldsRuns starts tried runs disk
+    new-holds of disk (inl was) = held disk was
+    new-holds of disk (inr (inl none)) = record { start = read-none.start; among = read-none.among; stored = None; are = none-stored; holds = none }
+    new-holds of disk (inr (inr stands)) = record {
+      start = read-none.start;
+      among = read-none.among;
+      stored = Some (record { settings = set; history = [] });
+      are = now_made runs set of none-stored;
+      holds = stands;
+    }
+
+    new-moments : MayHaveMade s host → Moments
+    new-moments may = weakened (λ past left disk images. new-holds (known may) disk (left disk images)) (makes.any_moment h)
+
+  pub course-new : Moments
+  course-new = by (is_made (reads_as host.past)) refl
+    where
+      -- nothing has happened
+      stays : host'.past ≡ host.past → Moments
+      stays is = unmoved (EveryDisk (HoldsRuns starts tried runs)) host.past host'.past is held
+
+      by : (b : Bool) → is_made (reads_as host.past) ≡ b → Moments
+      by true there = stays (makes.made h there).1
+      by false unmade = which makes.statuses
+        where
+          which : (s ≡ status.Ok) ⊎ (s ≡ status.Exists) ⊎ (s ≡ status.DiskFault) ⊎ (s ≡ status.Memory) → Moments
+          which (inl is) = new-moments unmade (inl is)
+          which (inr (inl is)) = absurd (true≢false (sym (makes.exists is h) ∙ unmade))
+          which (inr (inr (inl is))) = new-moments unmade (inr (is, unmade))
+          which (inr (inr (inr is))) = stays (makes.memory is h)
+
+-- a question was asked
+pub course-asked : (starts : List (Option Database)) (tried : List Settings) (runs : List OneRun) (honest : Type 0) → honest → (host host' : Seen) → EveryDisk (HoldsRuns starts tried runs) host.past → (answer : Settings → List Beat → List ℕ) (s : Status)
+    → Asks honest answer s host host' → Throughout (EveryDisk (HoldsRuns starts tried runs)) host.past host'.past
+course-asked starts tried runs honest h host host' held answer s asks = weakened (λ past before disk images. held disk (before disk images)) (asks.any_moment h)
+
+module _ {H : Type 0} (honest : Type 0) (seen : H → Seen) (starts : List (Option Database)) (tried : List Settings) (first : (host : H) → honest → IsDisk (seen host).past (reads_as (seen host).past)) (h : honest) where
+  pub course-kept : (runs : List OneRun) (host : H) → Course honest seen starts tried runs host → EveryDisk (HoldsRuns starts tried runs) (seen host).past
+  course-kept runs host (begun begin holds) = λ disk images.
+      let here = holds disk images in
+      record { start = here.start; among = here.among; stored = here.start; are = no_run; holds = here.holds }
+  course-kept runs host (ran before begin end s left left' sf sf' course run) =
+      course-end starts tried before honest h (seen begin) (seen host) (course-kept before begin course) (first begin h) s left left' sf sf' run
   course-kept runs host (converted before begin end course leaves) = λ disk images.
       course-kept runs begin course disk (λ file. subst (λ (changes : List Change). IsImage changes (disk file)) (at_end (leaves.any_moment h) file) (images file))
-  course-kept runs host (made_again before begin end other status course makes) =
-      let kept = course-kept runs begin course in
-      let here = kept (reads_as (seen begin).past) (first begin h) in
-      let there = stands_made set here.stands.beats (reads_as (seen begin).past) here.stands.stands in
-      subst (EveryDisk (HoldsRuns set runs)) (sym (makes.made h there).1) kept
+  course-kept runs host (asked before begin end answer s course asks) =
+      at_end (course-asked starts tried runs honest h (seen begin) (seen host) (course-kept runs begin course) answer s asks)
+  course-kept runs host (made_again before begin end set s course known makes) =
+      at_end (course-new starts tried runs honest h (seen begin) (seen host) (course-kept runs begin course) (first begin h) set s known makes)

@@ -1,5 +1,5 @@
 -- How the history of a text's lines grows.
-use Rattle.std.proofs.Common.{◌≡◌, ℕ, ◌≤◌, Bool, true, false, not, List, [], ◌∷◌, ◌++◌, length, Result, Ok, Err, refl, sym, ap, subst, ◌∙◌, arith, if◌then◌else◌}
+use Rattle.std.proofs.Common.{◌≡◌, ℕ, ◌≤◌, Bool, true, false, not, List, [], ◌∷◌, ◌++◌, length, Result, Ok, Err, refl, sym, ap, subst, ◌∙◌, append_assoc, arith, if◌then◌else◌}
 use Rattle.history.specs.declared.line.Line.{Line}
 use Rattle.history.specs.declared.line.Line.TheVariants as line
 use Rattle.history.specs.History.{Beat, collected}
@@ -8,9 +8,10 @@ use Rattle.history.specs.Read.{history_at, is_disable}
 use Rattle.plugin_text.specs.Lines.{parts, fits}
 use Rattle.point_lines.specs.declared.refusal.Refusal.{Refusal}
 use Rattle.point_lines.specs.Judged.{every}
+use Rattle.entry_codec.specs.declared.entry.Settings.{Settings}
 use Rattle.agent_core.specs.Rules.{history_with}
-use Rattle.agent_app.specs.Reading.{HasRead, Rules, line_read, lines_read}
-use Rattle.agent_app.specs.Run.{Extends, no_more, one_more, history_with_text, run_rules}
+use Rattle.agent_app.specs.Reading.{HasRead, LineRules, line_read, lines_read}
+use Rattle.agent_app.specs.Run.{Extends, no_more, one_more, history_with_text, line_rules, run_rules}
 
 pub extends-further : (a b c : List Beat) → Extends a b → Extends b c → Extends a c
 extends-further a b c first no_more = first
@@ -33,9 +34,14 @@ pub with-line : (h0 : List Beat) (past : List Line) (said : Line) → history_wi
 with-line h0 past (line.Moment moment) = refl
 with-line h0 past said = refl
 
+-- lines that were read behind others
+pub record LinesAfter (past read : List Line) : Type 0 where
+  pub later : List Line
+  pub whole : read ≡ later ++ past
+
 module _ (h0 : List Beat) where
-  abbrev rules : Rules Line Refusal
-  rules = run_rules h0
+  abbrev rules : LineRules Line Refusal
+  rules = line_rules h0
 
   -- the history of the lines that are read after these
   extends-lines : (ps : List (List ℕ)) (past : List Line) → Extends (history_at every h0 past) (history_at every h0 (lines_read rules past ps))
@@ -55,12 +61,28 @@ module _ (h0 : List Beat) where
       by true (Err why) later = no_more
       by true (Ok said) later = goes said (is_disable said) (later said)
 
+  -- the lines that are read after these
+  pub lines-after : (ps : List (List ℕ)) (past : List Line) → LinesAfter past (lines_read rules past ps)
+  lines-after [] past = record { later = []; whole = refl }
+  lines-after (part ∷ []) past = record { later = []; whole = refl }
+  lines-after (part ∷ next ∷ more) past = by (fits part) (rules.judge past part) (λ said. lines-after (next ∷ more) (said ∷ past))
+    where
+      goes : (said : Line) (ends : Bool) → LinesAfter (said ∷ past) (lines_read rules (said ∷ past) (next ∷ more)) → LinesAfter past (if ends then past else lines_read rules (said ∷ past) (next ∷ more))
+      goes said true onward = record { later = []; whole = refl }
+      goes said false onward = record { later = onward.later ++ said ∷ []; whole = onward.whole ∙ sym (append_assoc onward.later (said ∷ []) past) }
+
+      by : (short : Bool) (r : Result Line Refusal) → ((said : Line) → LinesAfter (said ∷ past) (lines_read rules (said ∷ past) (next ∷ more)))
+          → LinesAfter past (if not short then past else line_read rules past r (λ (said : Line). lines_read rules (said ∷ past) (next ∷ more)))
+      by false r onward = record { later = []; whole = refl }
+      by true (Err why) onward = record { later = []; whole = refl }
+      by true (Ok said) onward = goes said (is_disable said) (onward said)
+
   -- the history of a text
   pub extends-whole : (text : List ℕ) → Extends h0 (history_with_text h0 text)
   extends-whole text = extends-lines (parts text) []
 
   -- and of one of which these lines are read
-  pub extends-text : (front : List (List ℕ)) (past : List Line) (made : List ℕ) → HasRead rules front past made → (text next : List ℕ) (more : List (List ℕ)) → parts text ≡ front ++ next ∷ more
+  pub extends-text : (set : Settings) (front : List (List ℕ)) (past : List Line) (made : List ℕ) → HasRead (run_rules set h0) front past made → (text next : List ℕ) (more : List (List ℕ)) → parts text ≡ front ++ next ∷ more
       → Extends (history_at every h0 past) (history_with_text h0 text)
-  extends-text front past made has text next more whole =
+  extends-text set front past made has text next more whole =
       subst (λ (read : List Line). Extends (history_at every h0 past) (history_at every h0 read)) (sym (ap (lines_read rules []) whole ∙ has.says next more)) (extends-lines (next ∷ more) past)

@@ -69,12 +69,12 @@ module _ {Line Refusal : Type 0} (rules : Rules Line Refusal) where
   read-start = record { count = refl; onward = λ ended next more. refl; says = λ next more. refl }
 
   -- what a line comes to that is read, and does not end the text
-  line-reads : (past : List Line) (line : List ℕ) (said : Line) → fits line ≡ true → rules.judge past line ≡ Ok said → rules.ends_text said ≡ false → (ended : Bool) (next : List ℕ) (more : List (List ℕ))
+  line-reads : (past : List Line) (line : List ℕ) (said : Line) → fits line ≡ true → rules.lines.judge past line ≡ Ok said → rules.lines.ends_text said ≡ false → (ended : Bool) (next : List ℕ) (more : List (List ℕ))
       → reading rules ended past (line ∷ next ∷ more) ≡ reads_on (rules.tell past said) (reading rules ended (said ∷ past) (next ∷ more))
   line-reads past line said short judged goes_on ended next more = rw (short, judged, goes_on) refl
 
-  line-says : (past : List Line) (line : List ℕ) (said : Line) → fits line ≡ true → rules.judge past line ≡ Ok said → rules.ends_text said ≡ false → (next : List ℕ) (more : List (List ℕ))
-      → lines_read rules past (line ∷ next ∷ more) ≡ lines_read rules (said ∷ past) (next ∷ more)
+  line-says : (past : List Line) (line : List ℕ) (said : Line) → fits line ≡ true → rules.lines.judge past line ≡ Ok said → rules.lines.ends_text said ≡ false → (next : List ℕ) (more : List (List ℕ))
+      → lines_read rules.lines past (line ∷ next ∷ more) ≡ lines_read rules.lines (said ∷ past) (next ∷ more)
   line-says past line said short judged goes_on next more = rw (short, judged, goes_on) refl
 
   reads_on-twice : (first second : List ℕ) (r : Reading Refusal) → reads_on first (reads_on second r) ≡ reads_on (first ++ second) r
@@ -82,40 +82,40 @@ module _ {Line Refusal : Type 0} (rules : Rules Line Refusal) where
 
   module _ (front : List (List ℕ)) (past : List Line) (made : List ℕ) (has : HasRead rules front past made) where
     -- one line more was read
-    pub read-next : (line : List ℕ) (said : Line) → fits line ≡ true → rules.judge past line ≡ Ok said → rules.ends_text said ≡ false → HasRead rules (front ++ line ∷ []) (said ∷ past) (made ++ rules.tell past said)
+    pub read-next : (line : List ℕ) (said : Line) → fits line ≡ true → rules.lines.judge past line ≡ Ok said → rules.lines.ends_text said ≡ false → HasRead rules (front ++ line ∷ []) (said ∷ past) (made ++ rules.tell past said)
     read-next line said short judged goes_on = record {
       count = omega (arith, has.count, length-append front (line ∷ []));
       onward = λ ended next more.
           ap (reading rules ended []) (append_assoc front (line ∷ []) (next ∷ more)) ∙ has.onward ended line (next ∷ more)
           ∙ ap (reads_on made) (line-reads past line said short judged goes_on ended next more) ∙ reads_on-twice made (rules.tell past said) (reading rules ended (said ∷ past) (next ∷ more));
       says = λ next more.
-          ap (lines_read rules []) (append_assoc front (line ∷ []) (next ∷ more)) ∙ has.says line (next ∷ more) ∙ line-says past line said short judged goes_on next more;
+          ap (lines_read rules.lines []) (append_assoc front (line ∷ []) (next ∷ more)) ∙ has.says line (next ∷ more) ∙ line-says past line said short judged goes_on next more;
     }
 
     -- the next line is refused
-    pub read-refused : (text : List ℕ) (line next : List ℕ) (more : List (List ℕ)) (why : Refusal) (ended : Bool) → parts text ≡ front ++ line ∷ next ∷ more → fits line ≡ true → rules.judge past line ≡ Err why
+    pub read-refused : (text : List ℕ) (line next : List ℕ) (more : List (List ℕ)) (why : Refusal) (ended : Bool) → parts text ≡ front ++ line ∷ next ∷ more → fits line ≡ true → rules.lines.judge past line ≡ Err why
         → reading_of rules ended text ≡ record { told = made; ending = RefusedAt (length front + 1) why }
     read-refused text line next more why ended whole short judged =
         ap (reading rules ended []) whole ∙ has.onward ended line (next ∷ more) ∙ rw (short, judged, append-nil made, has.count) refl
 
-    pub says-refused : (text : List ℕ) (line next : List ℕ) (more : List (List ℕ)) (why : Refusal) → parts text ≡ front ++ line ∷ next ∷ more → fits line ≡ true → rules.judge past line ≡ Err why → lines_read rules [] (parts text) ≡ past
-    says-refused text line next more why whole short judged = ap (lines_read rules []) whole ∙ has.says line (next ∷ more) ∙ rw (short, judged) refl
+    pub says-refused : (text : List ℕ) (line next : List ℕ) (more : List (List ℕ)) (why : Refusal) → parts text ≡ front ++ line ∷ next ∷ more → fits line ≡ true → rules.lines.judge past line ≡ Err why → lines_read rules.lines [] (parts text) ≡ past
+    says-refused text line next more why whole short judged = ap (lines_read rules.lines []) whole ∙ has.says line (next ∷ more) ∙ rw (short, judged) refl
 
     -- the next line ends the text
-    pub read-over : (text : List ℕ) (line next : List ℕ) (more : List (List ℕ)) (said : Line) (ended : Bool) → parts text ≡ front ++ line ∷ next ∷ more → fits line ≡ true → rules.judge past line ≡ Ok said → rules.ends_text said ≡ true
+    pub read-over : (text : List ℕ) (line next : List ℕ) (more : List (List ℕ)) (said : Line) (ended : Bool) → parts text ≡ front ++ line ∷ next ∷ more → fits line ≡ true → rules.lines.judge past line ≡ Ok said → rules.lines.ends_text said ≡ true
         → reading_of rules ended text ≡ record { told = made ++ rules.tell_end past; ending = Ends }
     read-over text line next more said ended whole short judged ends =
         ap (reading rules ended []) whole ∙ has.onward ended line (next ∷ more) ∙ rw (short, judged, ends) refl
 
-    pub says-over : (text : List ℕ) (line next : List ℕ) (more : List (List ℕ)) (said : Line) → parts text ≡ front ++ line ∷ next ∷ more → fits line ≡ true → rules.judge past line ≡ Ok said → rules.ends_text said ≡ true → lines_read rules [] (parts text) ≡ past
-    says-over text line next more said whole short judged ends = ap (lines_read rules []) whole ∙ has.says line (next ∷ more) ∙ rw (short, judged, ends) refl
+    pub says-over : (text : List ℕ) (line next : List ℕ) (more : List (List ℕ)) (said : Line) → parts text ≡ front ++ line ∷ next ∷ more → fits line ≡ true → rules.lines.judge past line ≡ Ok said → rules.lines.ends_text said ≡ true → lines_read rules.lines [] (parts text) ≡ past
+    says-over text line next more said whole short judged ends = ap (lines_read rules.lines []) whole ∙ has.says line (next ∷ more) ∙ rw (short, judged, ends) refl
 
     -- what follows the lines is too long
     long-reads : (long : List ℕ) (more : List (List ℕ)) (ended : Bool) → fits long ≡ false → reading rules ended past (long ∷ more) ≡ record { told = []; ending = RefusedAt (length past + 1) rules.too_long }
     long-reads long [] ended over = rw over refl
     long-reads long (next ∷ more) ended over = rw over refl
 
-    long-says : (long : List ℕ) (more : List (List ℕ)) → fits long ≡ false → lines_read rules past (long ∷ more) ≡ past
+    long-says : (long : List ℕ) (more : List (List ℕ)) → fits long ≡ false → lines_read rules.lines past (long ∷ more) ≡ past
     long-says long [] over = refl
     long-says long (next ∷ more) over = rw over refl
 
@@ -123,17 +123,17 @@ module _ {Line Refusal : Type 0} (rules : Rules Line Refusal) where
     read-long text long more ended whole over =
         ap (reading rules ended []) whole ∙ has.onward ended long more ∙ ap (reads_on made) (long-reads long more ended over) ∙ rw (append-nil made, has.count) refl
 
-    pub says-long : (text : List ℕ) (long : List ℕ) (more : List (List ℕ)) → parts text ≡ front ++ long ∷ more → fits long ≡ false → lines_read rules [] (parts text) ≡ past
-    says-long text long more whole over = ap (lines_read rules []) whole ∙ has.says long more ∙ long-says long more over
+    pub says-long : (text : List ℕ) (long : List ℕ) (more : List (List ℕ)) → parts text ≡ front ++ long ∷ more → fits long ≡ false → lines_read rules.lines [] (parts text) ≡ past
+    says-long text long more whole over = ap (lines_read rules.lines []) whole ∙ has.says long more ∙ long-says long more over
 
     -- the same, however the text goes on
-    pub refused-onward : (text : List ℕ) (line next : List ℕ) (more : List (List ℕ)) (why : Refusal) → parts text ≡ front ++ line ∷ next ∷ more → fits line ≡ true → rules.judge past line ≡ Err why
+    pub refused-onward : (text : List ℕ) (line next : List ℕ) (more : List (List ℕ)) (why : Refusal) → parts text ≡ front ++ line ∷ next ∷ more → fits line ≡ true → rules.lines.judge past line ≡ Err why
         → (ended : Bool) (behind : List ℕ) → reading_of rules ended (text ++ behind) ≡ record { told = made; ending = RefusedAt (length front + 1) why }
     refused-onward text line next more why whole short judged ended behind =
         let on = line-onward text front line next more whole behind in
         read-refused (text ++ behind) line on.next on.more why ended on.whole short judged
 
-    pub over-onward : (text : List ℕ) (line next : List ℕ) (more : List (List ℕ)) (said : Line) → parts text ≡ front ++ line ∷ next ∷ more → fits line ≡ true → rules.judge past line ≡ Ok said → rules.ends_text said ≡ true
+    pub over-onward : (text : List ℕ) (line next : List ℕ) (more : List (List ℕ)) (said : Line) → parts text ≡ front ++ line ∷ next ∷ more → fits line ≡ true → rules.lines.judge past line ≡ Ok said → rules.lines.ends_text said ≡ true
         → (ended : Bool) (behind : List ℕ) → reading_of rules ended (text ++ behind) ≡ record { told = made ++ rules.tell_end past; ending = Ends }
     over-onward text line next more said whole short judged ends ended behind =
         let on = line-onward text front line next more whole behind in
@@ -150,8 +150,8 @@ module _ {Line Refusal : Type 0} (rules : Rules Line Refusal) where
       whole-is : parts text ≡ front ++ rest text ∷ []
       whole-is = parts_whole text ∙ ap (λ (l : List (List ℕ)). l ++ rest text ∷ []) (sym all)
 
-      pub says-all : lines_read rules [] (parts text) ≡ past
-      says-all = ap (lines_read rules []) whole-is ∙ has.says (rest text) []
+      pub says-all : lines_read rules.lines [] (parts text) ≡ past
+      says-all = ap (lines_read rules.lines []) whole-is ∙ has.says (rest text) []
 
       -- the text may go on
       pub read-open : fits (rest text) ≡ true → reading_of rules false text ≡ record { told = made; ending = GoesOn }

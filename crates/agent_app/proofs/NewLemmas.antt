@@ -1,13 +1,22 @@
 -- What `new` promises where it made a database.
-use Rattle.std.proofs.Common.{◌≡◌, inl, [], Ok, refl, sym, ◌∙◌, true≢false}
+use Rattle.std.proofs.Common.{◌≡◌, inl, inr, [], Result, Ok, Err, refl, ap, sym, ◌∙◌, true≢false}
 use Rattle.host_model.specs.declared.status.Status.TheVariants as status
 use Rattle.entry_codec.specs.declared.entry.Settings.{Settings}
+use Rattle.agent_core.specs.declared.fault.AgentFault.{AgentFault}
+use Rattle.agent_core.specs.declared.fault.AgentFault.TheVariants as fault
 use Rattle.agent_core.specs.Agent.{AgentState}
 use Rattle.agent_core.specs.Calls.{Creates}
+use Rattle.agent_core.specs.Faults.{IsCreating}
 use Rattle.host_model.specs.Seen.{Seen}
 use Rattle.agent_app.specs.New.{Makes}
 use Rattle.agent_app.proofs.CauseLemmas.{cause-as}
 use Rattle.agent_app.proofs.RunningLemmas.{stands-all}
+
+abbrev refused : AgentFault → Result AgentState AgentFault
+refused why = Err why
+
+fault-is : (why other : AgentFault) → refused why ≡ refused other → why ≡ other
+fault-is why other e = cc
 
 there : status.Ok ≡ status.Exists → ⊥
 there e = cc
@@ -31,3 +40,37 @@ made-new honest set host host' agent creates = record {
   only_here = creates.only_here;
   tells = creates.tells;
 }
+
+-- there was no memory
+pub want-new : (honest : Type 0) (set : Settings) (host host' : Seen) (why : AgentFault) → Creates honest host set (Err why) host' → (why ≡ fault.Exists → ⊥) → (why ≡ fault.DiskFault → ⊥) → Makes honest set status.Memory host host'
+want-new honest set host host' why creates known stored = by why creates.faults refl
+  where
+    is-short : why ≡ fault.Memory → Makes honest set status.Memory host host'
+    is-short is = record {
+      any_moment = creates.any_moment;
+      created = λ ok. absurd (done ok);
+      none = λ ok. absurd (done ok);
+      memory = λ _ h. creates.memory (ap refused is) h;
+      exists = λ e. absurd (found e);
+      made = λ h made. (inr (inr refl), (creates.made h made).1);
+      statuses = inr (inr (inr refl));
+      disk_cause =
+          cause-as host.disk_faults host'.disk_faults (refused why ≡ refused fault.DiskFault) (status.Memory ≡ status.DiskFault) (λ e. absurd (torn e)) (λ e. absurd (stored (fault-is why fault.DiskFault e))) creates.cause;
+      only_here = creates.only_here;
+      tells = creates.tells;
+    }
+      where
+        done : status.Memory ≡ status.Ok → ⊥
+        done e = cc
+
+        found : status.Memory ≡ status.Exists → ⊥
+        found e = cc
+
+        torn : status.Memory ≡ status.DiskFault → ⊥
+        torn e = cc
+
+    by : (f : AgentFault) → IsCreating f → why ≡ f → Makes honest set status.Memory host host'
+    by fault.DiskFault is e = absurd (stored e)
+    by fault.Exists is e = absurd (known e)
+    by fault.Memory is e = is-short e
+    by other is e = absurd is

@@ -25,17 +25,17 @@ use Rattle.host_model.specs.Seen.{Seen}
 use Rattle.agent_core.specs.Faults.{IsOpening}
 use Rattle.agent_core.specs.Kept.{StandsForHistory}
 use Rattle.agent_app.specs.declared.running.Running.{Running}
-use Rattle.agent_app.specs.Run.{ends_a_run, finds_none, is_opened, is_whole, Keeps, IsAsFound, no_more, run_output, run_reading, run_rules, run_status, HasRunCause, Resumes, Runs, RunsAll}
+use Rattle.agent_app.specs.Run.{ends_a_run, finds_none, is_opened, Finds, is_whole, Keeps, IsAsFound, no_more, run_output, run_reading, run_rules, run_status, HasRunCause, Resumes, Runs, RunsAll}
 use Rattle.agent_app.specs.Running.{opening_status, Counts, DiskRose, IsRunning, TellRose}
 use Rattle.agent_app.proofs.AckLemmas.{acked-nothing, acked-since, text-front}
 use Rattle.agent_app.proofs.CauseLemmas.{both-counts, cause-as, stayed}
 use Rattle.agent_core.proofs.Within.{within-of}
 use Rattle.agent_app.proofs.HasReadLemmas.{read-start}
 use Rattle.agent_app.proofs.RunningLemmas.{stands-all}
-use Rattle.agent_app.proofs.RunLemmas.{EndsFor, both-others, cause-wider, ends-otherwise, run-for, run-over, run_acts}
+use Rattle.agent_app.proofs.RunLemmas.{EndsFor, both-others, cause-wider, ends-otherwise, run-for, run-over, run-quiet, run_acts}
 
 -- at each moment of the opening a stop leaves the history
-opening-stops : (set : Settings) (h0 : List Beat) (old new : List Event) → EveryDisk (StandsForHistory set h0) old → told new ≡ told old → Throughout (EveryDisk (IsDisk old)) old new → Throughout (EveryStop (Keeps set h0 h0 (told old))) old new
+pub opening-stops : (set : Settings) (h0 : List Beat) (old new : List Event) → EveryDisk (StandsForHistory set h0) old → told new ≡ told old → Throughout (EveryDisk (IsDisk old)) old new → Throughout (EveryStop (Keeps set h0 h0 (told old))) old new
 opening-stops set h0 old new stands silent moments = untold silent shows moments
   where
     shows : (disk : File → List ℕ) (text : List ℕ) → IsDisk old disk → IsText old text → Keeps set h0 h0 (told old) disk text
@@ -49,32 +49,32 @@ opening-stops set h0 old new stands silent moments = untold silent shows moments
           acked = acked-since (length h0) (told old) [] text front.more (front.whole ∙ sym (append-nil (told old))) (acked-nothing (length h0));
         }
 
-some-each : (o : Option (List ℕ)) (P : List ℕ → Type 0) → ((x : List ℕ) → o ≡ Some x → P x) → IfSome o P
+pub some-each : (o : Option (List ℕ)) (P : List ℕ → Type 0) → ((x : List ℕ) → o ≡ Some x → P x) → IfSome o P
 some-each None P shows = tt
 some-each (Some x) P shows = shows x refl
 
 -- of all that the source had, what it has left
-complete-by : (left left' : Option (List ℕ)) (text : List ℕ) (P : List ℕ → Type 0) → Takes left text left' → ((more : List ℕ) → left' ≡ Some more → P (text ++ more)) → IfSome left P
+pub complete-by : (left left' : Option (List ℕ)) (text : List ℕ) (P : List ℕ → Type 0) → Takes left text left' → ((more : List ℕ) → left' ≡ Some more → P (text ++ more)) → IfSome left P
 complete-by left None text P takes shows = subst (λ (o : Option (List ℕ)). IfSome o P) (sym takes) tt
 complete-by left (Some more) text P takes shows = subst (λ (o : Option (List ℕ)). IfSome o P) (sym takes) (shows more refl)
 
 -- ---- the database was not opened
-abbrev opened_with : AgentState → Result AgentState AgentFault
+abbrev pub opened_with : AgentState → Result AgentState AgentFault
 opened_with agent = Ok agent
 
-abbrev failed_by : AgentFault → Result AgentState AgentFault
+abbrev pub failed_by : AgentFault → Result AgentState AgentFault
 failed_by why = Err why
 
-fault-is : (why other : AgentFault) → failed_by why ≡ failed_by other → why ≡ other
+pub fault-is : (why other : AgentFault) → failed_by why ≡ failed_by other → why ≡ other
 fault-is why other e = cc
 
 module _ (honest : Type 0) (host host' : Seen) (first : honest → IsDisk host.past (reads_as host.past)) where
   -- by which fault it was not
-  by-fault : (P : AgentFault → Type 0) (why : AgentFault) → (why ≡ fault.DiskFault) ⊎ (why ≡ fault.Memory) → P fault.DiskFault → P fault.Memory → P why
+  pub by-fault : (P : AgentFault → Type 0) (why : AgentFault) → (why ≡ fault.DiskFault) ⊎ (why ≡ fault.Memory) → P fault.DiskFault → P fault.Memory → P why
   by-fault P why (inl is) disk memory = subst P (sym is) disk
   by-fault P why (inr is) disk memory = subst P (sym is) memory
 
-  untold-yet : (why : AgentFault) → opening_status why ≡ status.TellFault → ⊥
+  pub untold-yet : (why : AgentFault) → opening_status why ≡ status.TellFault → ⊥
   untold-yet fault.NotADatabase e = cc
   untold-yet fault.DiskFault e = cc
   untold-yet (fault.Damaged part) e = cc
@@ -96,10 +96,10 @@ module _ (honest : Type 0) (host host' : Seen) (first : honest → IsDisk host.p
         at_end = λ e. absurd (true≢false (sym e));
         stops = opening-stops set h0 host.past host'.past stands (opens.only_here h).output (opens.any_moment h);
         ends = λ all. absurd (true≢false (sym all ∙ short));
-        output = record { sent = []; unsent = run_output h0 false []; whole = refl; tells = (opens.only_here h).output ∙ sym (append-nil (told host.past)); all = λ all. absurd (true≢false (sym all ∙ short)) };
+        output = record { sent = []; unsent = run_output set h0 false []; whole = refl; tells = (opens.only_here h).output ∙ sym (append-nil (told host.past)); all = λ all. absurd (true≢false (sym all ∙ short)) };
         told_for = λ is. absurd (untold-yet why is);
         cause =
-            by-fault (λ (f : AgentFault). why ≡ f → HasRunCause (opening_status f) false (run_reading h0 false []).ending [] source_rose (TellRose host host') (DiskRose host host')) why which
+            by-fault (λ (f : AgentFault). why ≡ f → HasRunCause (opening_status f) false (run_reading set h0 false []).ending [] source_rose (TellRose host host') (DiskRose host host')) why which
             (λ is. opens.cause.failed (ap (λ (f : AgentFault). Err f) is)) (λ is. tt) refl;
       }
 
@@ -113,10 +113,10 @@ module _ (honest : Type 0) (host host' : Seen) (first : honest → IsDisk host.p
   }
 
   unopened-whole : (why : AgentFault) → Opens honest host (Err why) host' → honest → (set : Settings) (h0 : List Beat) → EveryDisk (StandsForHistory set h0) host.past → (text : List ℕ) → (DiskRose host host' → ⊥)
-      → (opening_status why ≡ run_status h0 text) ⊎ (opening_status why ≡ status.Memory)
+      → (opening_status why ≡ run_status set h0 text) ⊎ (opening_status why ≡ status.Memory)
   unopened-whole why opens h set h0 stands text none =
       let which = opens.stands h set h0 (stands (reads_as host.past) (first h)) in
-      by-fault (λ (f : AgentFault). why ≡ f → (opening_status f ≡ run_status h0 text) ⊎ (opening_status f ≡ status.Memory)) why which
+      by-fault (λ (f : AgentFault). why ≡ f → (opening_status f ≡ run_status set h0 text) ⊎ (opening_status f ≡ status.Memory)) why which
       (λ is. absurd (none (opens.cause.failed (ap (λ (f : AgentFault). Err f) is)))) (λ is. inr refl) refl
 
   unopened-none : (why : AgentFault) → Opens honest host (Err why) host' → opening_status why ≡ status.NotADatabase → honest → is_made (reads_as host.past) ≡ false
@@ -181,7 +181,7 @@ module _ (honest : Type 0) (host host' : Seen) (first : honest → IsDisk host.p
   unopened-all other = refl
 
   -- the source was not asked, and nothing was told
-  unread : (why : AgentFault) → opening_status why ≡ status.ReadFault → ⊥
+  pub unread : (why : AgentFault) → opening_status why ≡ status.ReadFault → ⊥
   unread fault.NotADatabase e = cc
   unread fault.DiskFault e = cc
   unread (fault.Damaged part) e = cc
@@ -205,7 +205,7 @@ module _ (honest : Type 0) (host host' : Seen) (first : honest → IsDisk host.p
       apart : status.Memory ≡ status.InputLimit → ⊥
       apart e = cc
 
-  disk-failed : (why : AgentFault) → opening_status why ≡ status.DiskFault → failed_by why ≡ failed_by fault.DiskFault
+  pub disk-failed : (why : AgentFault) → opening_status why ≡ status.DiskFault → failed_by why ≡ failed_by fault.DiskFault
   disk-failed fault.DiskFault is = refl
   disk-failed fault.NotADatabase is = absurd (apart is)
     where
@@ -220,14 +220,11 @@ module _ (honest : Type 0) (host host' : Seen) (first : honest → IsDisk host.p
       apart : status.Memory ≡ status.DiskFault → ⊥
       apart e = cc
 
-  unopened-leaves : (why : AgentFault) → Opens honest host (Err why) host' → (left : Option (List ℕ)) (faults : ℕ) → IsAsFound honest left left faults faults host host'
+  pub unopened-leaves : (why : AgentFault) → Opens honest host (Err why) host' → (left : Option (List ℕ)) (faults : ℕ) → IsAsFound honest left left faults faults host host'
   unopened-leaves why opens left faults = record { source = (refl, refl); output = λ h. (opens.only_here h).output; tells = opens.tells; any_moment = opens.any_moment; same = opens.same }
 
-  pub unopened : (why : AgentFault) → Opens honest host (Err why) host' → (left : Option (List ℕ)) (faults : ℕ) → RunsAll honest (opening_status why) left left faults faults host host'
-  unopened why opens left faults = record {
-    runs = λ h set h0 stands. unopened-runs why opens left (Rose faults faults) h set h0 stands;
-    resumes = λ h set h0 here. unopened-resumes why opens left (Rose faults faults) h set h0 here;
-    complete = λ h set h0 stands. some-each left _ (λ text is none_read none_told none_disk. unopened-whole why opens h set h0 stands text none_disk);
+  pub unopened-finds : (why : AgentFault) → Opens honest host (Err why) host' → Finds honest (opening_status why) host
+  unopened-finds why opens = record {
     none = λ is h. unopened-none why opens is h;
     unmade = λ h unmade. unopened-unmade why opens h unmade;
     damaged = λ part is h set g stands. unopened-damaged why opens part is h set g stands;
@@ -235,6 +232,14 @@ module _ (honest : Type 0) (host host' : Seen) (first : honest → IsDisk host.p
     damaged_records = λ is h. opens.damaged (ap (λ (f : AgentFault). Err f) (damaged-by why 4 is)) h;
     damaged_notes = λ is h. opens.damaged_notes (ap (λ (f : AgentFault). Err f) (damaged-by why 5 is)) h;
     opened = λ is h. absurd (true≢false (sym is ∙ unopened-all why));
+  }
+
+  pub unopened : (why : AgentFault) → Opens honest host (Err why) host' → (left : Option (List ℕ)) (faults : ℕ) → RunsAll honest (opening_status why) left left faults faults host host'
+  unopened why opens left faults = record {
+    runs = λ h set h0 stands. unopened-runs why opens left (Rose faults faults) h set h0 stands;
+    resumes = λ h set h0 here. unopened-resumes why opens left (Rose faults faults) h set h0 here;
+    complete = λ h set h0 stands. some-each left _ (λ text is none_read none_told none_disk. unopened-whole why opens h set h0 stands text none_disk);
+    finds = unopened-finds why opens;
     statuses = opening-statuses why;
     input = record { taken = []; takes = Takes-none left; within = omega arith; limit = λ is. absurd (full why is); read = λ is. absurd (unread why is) };
     leaves = λ _. unopened-leaves why opens left faults;
@@ -254,6 +259,18 @@ found-one status.NotADatabase none ends = true≢false (sym ends)
 found-one (status.Damaged part) none ends = true≢false (sym ends)
 found-one s none ends = true≢false (sym none)
 
+module _ (honest : Type 0) (host : Seen) (agent : AgentState) (middle : Seen) (opens : Opens honest host (Ok agent) middle) (s : Status) (ends : ends_a_run s ≡ true) where
+  pub opened-finds : Finds honest s host
+  opened-finds = record {
+    none = λ is h. absurd (ends-otherwise s ends status.NotADatabase refl is);
+    unmade = λ h unmade. absurd (true≢false (sym (opens.some h) ∙ unmade));
+    damaged = λ part is h set g stands. ends-otherwise s ends (status.Damaged part) refl is;
+    parts = λ part is. absurd (ends-otherwise s ends (status.Damaged part) refl is);
+    damaged_records = λ is h. absurd (ends-otherwise s ends (status.Damaged 4) refl is);
+    damaged_notes = λ is h. absurd (ends-otherwise s ends (status.Damaged 5) refl is);
+    opened = λ is h. opens.notes h;
+  }
+
 module _ {H : Type 0} (honest : Type 0) (seen : H → Seen) (host : Seen) (agent : AgentState) (middle : H) (opens : Opens honest host (Ok agent) (seen middle)) (first : honest → IsDisk host.past (reads_as host.past))
     (running : Running) (agent-is : running.agent ≡ agent) (feed-is : IsFeedOf running.feed every []) (feed-counts : (registry : Registry) → CountsFor running.feed registry) where
   -- by whatever history the disk reads as, and since whatever moment
@@ -262,7 +279,7 @@ module _ {H : Type 0} (honest : Type 0) (seen : H → Seen) (host : Seen) (agent
   begins-at h set h0 here start silent stops = record {
     read = [];
     made = [];
-    has = read-start (run_rules h0);
+    has = read-start (run_rules set h0);
     at = record {
       within = within-of h0 here.beats here.are;
       accepted = tt;
@@ -310,10 +327,7 @@ module _ {H : Type 0} (honest : Type 0) (seen : H → Seen) (host : Seen) (agent
     disk-sooner : DiskRose (seen middle) (seen host') → DiskRose host (seen host')
     disk-sooner = rose-later host.disk_faults (seen middle).disk_faults (seen host').disk_faults opening.disk.later for-all.counts.disk.later
 
-    otherwise : (other : Status) → ends_a_run other ≡ false → s ≡ other → ⊥
-    otherwise = ends-otherwise s for-all.ends
-
-    runs-over : honest → (set : Settings) (h0 : List Beat) (start : List Event) → IsRunning (seen middle).past running set h0 [] start
+    abbrev runs-over : honest → (set : Settings) (h0 : List Beat) (start : List Event) → IsRunning (seen middle).past running set h0 [] start
         → Runs s set h0 left left' start (seen host').past (Rose faults faults') (TellRose host (seen host')) (DiskRose host (seen host'))
     runs-over h set h0 start going =
         let over = run-over honest seen h set h0 start s middle ran.text left' (Rose faults faults') ran.within running going running' host' ran.ended in
@@ -328,7 +342,7 @@ module _ {H : Type 0} (honest : Type 0) (seen : H → Seen) (host : Seen) (agent
           output = over.stops.output;
           told_for = over.stops.told_for;
           cause =
-              cause-wider s over.ended (run_reading h0 over.ended ran.text).ending ran.text (Rose faults faults') (TellRose (seen middle) (seen host')) (DiskRose (seen middle) (seen host'))
+              cause-wider s over.ended (run_reading set h0 over.ended ran.text).ending ran.text (Rose faults faults') (TellRose (seen middle) (seen host')) (DiskRose (seen middle) (seen host'))
               (Rose faults faults') (TellRose host (seen host')) (DiskRose host (seen host')) (λ rose. rose) tells-sooner disk-sooner over.stops.cause;
         }
 
@@ -339,19 +353,18 @@ module _ {H : Type 0} (honest : Type 0) (seen : H → Seen) (host : Seen) (agent
         read = (seen middle).past;
         before = opens.any_moment h;
         silent = (opens.only_here h).output;
-        after = inl (record { stands = stands-now h set h0 here; runs = runs-over h set h0 (seen middle).past (begins-read h set h0 here) });
+        after = inl (record {
+          stands = stands-now h set h0 here;
+          runs = runs-over h set h0 (seen middle).past (begins-read h set h0 here);
+          quiet = λ none. run-quiet honest seen h set h0 (seen middle).past ran.text none s running middle (begins-read h set h0 here) left' (Rose faults faults') running' host' ran.ended;
+          stored_for = (run-over honest seen h set h0 (seen middle).past s middle ran.text left' (Rose faults faults') ran.within running (begins-read h set h0 here) running' host' ran.ended).stops.stored_for;
+        });
       };
       complete = λ h set h0 stands.
           let over = run-over honest seen h set h0 host.past s middle ran.text left' (Rose faults faults') ran.within running (begins-so h set h0 stands) running' host' ran.ended in
-          complete-by left left' ran.text (λ text. (Rose faults faults' → ⊥) → (TellRose host (seen host') → ⊥) → (DiskRose host (seen host') → ⊥) → (s ≡ run_status h0 text) ⊎ (s ≡ status.Memory)) ran.takes
+          complete-by left left' ran.text (λ text. (Rose faults faults' → ⊥) → (TellRose host (seen host') → ⊥) → (DiskRose host (seen host') → ⊥) → (s ≡ run_status set h0 text) ⊎ (s ≡ status.Memory)) ran.takes
           (λ more is none_read none_told none_disk. over.whole more is none_read (λ rose. none_told (tells-sooner rose)) (λ rose. none_disk (disk-sooner rose)));
-      none = λ is h. absurd (otherwise status.NotADatabase refl is);
-      unmade = λ h unmade. absurd (true≢false (sym (opens.some h) ∙ unmade));
-      damaged = λ part is h set g stands. otherwise (status.Damaged part) refl is;
-      parts = λ part is. absurd (otherwise (status.Damaged part) refl is);
-      damaged_records = λ is h. absurd (otherwise (status.Damaged 4) refl is);
-      damaged_notes = λ is h. absurd (otherwise (status.Damaged 5) refl is);
-      opened = λ is h. opens.notes h;
+      finds = opened-finds honest host agent (seen middle) opens s for-all.ends;
       statuses = inl for-all.ends;
       input = record { taken = ran.text; takes = ran.takes; within = ran.within; limit = for-all.limit; read = λ is. (for-all.read is).1 };
       leaves = λ none. absurd (found-one s none for-all.ends);

@@ -20,13 +20,14 @@ use Rattle.line_stream.specs.Run.{input_limit, Ended, at_line, at_pause, at_long
 use Rattle.line_stream.proofs.RunLemmas.{rose-later}
 use Rattle.host_model.specs.Seen.{Seen}
 use Rattle.agent_app.specs.declared.running.Running.{Running}
-use Rattle.agent_app.specs.Convert.{all_told, ending_status}
+use Rattle.agent_app.specs.Convert.{all_told, ending_status, LeavesFiles}
 use Rattle.agent_app.specs.Reading.{Ending, GoesOn, Reading}
-use Rattle.agent_app.specs.Run.{ends_a_run, run_reading, run_rules, run_status, HasRunCause, LeavesOthers}
+use Rattle.agent_app.specs.Run.{ends_a_run, history_with_text, run_reading, run_rules, run_status, HasRunCause, LeavesOthers}
 use Rattle.agent_app.specs.Running.{Counts, DiskRose, EndsRun, IsRunning, IsTakers, Overflows, Pauses, StopsIn, TakesLine, TellRose}
 use Rattle.agent_app.proofs.CauseLemmas.{both-counts, counts-none, gone-counts, same-counts, status-counts}
 use Rattle.agent_app.proofs.ExtendsLemmas.{extends-text}
 use Rattle.agent_app.proofs.HasReadLemmas.{line-onward, read-open, says-all, take-append_past}
+use Rattle.agent_app.proofs.LeavesLemmas.{leaves-further, leaves-nothing}
 use Rattle.agent_app.proofs.StopsLemmas.{output-behind, want-stop, whole-stop}
 
 -- ---- failures
@@ -43,7 +44,8 @@ stops-wider s set h0 ended text start new a b c a' b' c' f g h stop = record {
   ends = stop.ends;
   output = stop.output;
   told_for = stop.told_for;
-  cause = cause-wider s ended (run_reading h0 ended text).ending text a b c a' b' c' f g h stop.cause;
+  stored_for = stop.stored_for;
+  cause = cause-wider s ended (run_reading set h0 ended text).ending text a b c a' b' c' f g h stop.cause;
 }
 
 -- where nothing outside failed, the status is that of how the reading ends, or there was no memory
@@ -59,27 +61,27 @@ status-told status.Memory ended ending taken a b c f g h has = inr refl
 status-told s ended ending taken a b c f g h has = absurd has
 
 -- ---- the status of a text
-module _ (h0 : List Beat) where
+module _ (set : Settings) (h0 : List Beat) where
   -- of one that goes on behind what was taken
   status-onward : (limit : ℕ) (text more : List ℕ) → length text ≤ limit
-      → ending_status (run_reading h0 (nat_lt (length (text ++ more)) limit) (text ++ take (limit - length text) more)).ending ≡ ending_status (run_reading h0 (nat_lt (length (text ++ more)) limit) (take limit (text ++ more))).ending
-  status-onward limit text more within = ap (λ (t : List ℕ). ending_status (run_reading h0 (nat_lt (length (text ++ more)) limit) t).ending) (sym (take-append_past limit text more within))
+      → ending_status (run_reading set h0 (nat_lt (length (text ++ more)) limit) (text ++ take (limit - length text) more)).ending ≡ ending_status (run_reading set h0 (nat_lt (length (text ++ more)) limit) (take limit (text ++ more))).ending
+  status-onward limit text more within = ap (λ (t : List ℕ). ending_status (run_reading set h0 (nat_lt (length (text ++ more)) limit) t).ending) (sym (take-append_past limit text more within))
 
   -- of one that ended
-  status-ended : (limit : ℕ) (text : List ℕ) → length text < limit → ending_status (run_reading h0 true text).ending ≡ ending_status (run_reading h0 (nat_lt (length text) limit) (take limit text)).ending
+  status-ended : (limit : ℕ) (text : List ℕ) → length text < limit → ending_status (run_reading set h0 true text).ending ≡ ending_status (run_reading set h0 (nat_lt (length text) limit) (take limit text)).ending
   status-ended limit text within =
       let ended : nat_lt (length text) limit ≡ true = grind (arith, nat_tests) in
       let all : take limit text ≡ text = take_all limit text (omega arith) in
-      λ i. ending_status (run_reading h0 (sym ended i) (sym all i)).ending
+      λ i. ending_status (run_reading set h0 (sym ended i) (sym all i)).ending
 
   -- of one that fills the limit
   status-full : (limit : ℕ) (text more : List ℕ) → length text ≡ limit
-      → ending_status (run_reading h0 false text).ending ≡ ending_status (run_reading h0 (nat_lt (length (text ++ more)) limit) (take limit (text ++ more))).ending
+      → ending_status (run_reading set h0 false text).ending ≡ ending_status (run_reading set h0 (nat_lt (length (text ++ more)) limit) (take limit (text ++ more))).ending
   status-full limit text more full =
       let longer : limit ≤ length (text ++ more) = omega (arith, length-append text more) in
       let open_end : nat_lt (length (text ++ more)) limit ≡ false = grind (arith, nat_tests) in
       let all : take limit (text ++ more) ≡ text = take-append-le limit text more (omega arith) ∙ take_all limit text (omega arith) in
-      λ i. ending_status (run_reading h0 (sym open_end i) (sym all i)).ending
+      λ i. ending_status (run_reading set h0 (sym open_end i) (sym all i)).ending
 
 rest-fits : (text : List ℕ) → HasNoLongLine text → fits (rest text) ≡ true
 rest-fits text short =
@@ -203,12 +205,44 @@ module _ {H : Type 0} (honest : Type 0) (seen : H → Seen) where
         subst (λ (m : H). IsRunning (seen m).past running'' set h0 lines start) (sym step.2)
         (subst (λ (r : Running). IsRunning (seen middle).past r set h0 lines start) (sym step.1) (chain-runs running host first lines between middle before))
 
+    -- where the text closes no beat, nothing happens to any file
+    module _ (text : List ℕ) (none : history_with_text h0 text ≡ h0) where
+      chain-quiet : (running : Running) (host : H) → IsRunning (seen host).past running set h0 [] start → (front : List (List ℕ)) (running' : Running) (host' : H) → Chain run_acts running host front running' host'
+          → (next : List ℕ) (more : List (List ℕ)) → parts text ≡ front ++ next ∷ more → LeavesFiles (seen host).past (seen host').past
+      chain-quiet running host first front running' host' begins next more whole = leaves-nothing (seen host).past
+      chain-quiet running host first front running' host' (goes_on lines line between running'' middle host'' before step) next more whole =
+          let sooner : parts text ≡ lines ++ line ∷ next ∷ more = whole ∙ append_assoc lines (line ∷ []) (next ∷ more) in
+          leaves-further (seen host).past (seen middle).past (seen host').past (chain-quiet running host first lines between middle before line (next ∷ more) sooner)
+          (step.quiet h set h0 lines start (chain-runs running host first lines between middle before) text next more sooner none)
+      chain-quiet running host first front running' host' (pauses lines between running'' middle host'' before step) next more whole =
+          subst (λ (m : H). LeavesFiles (seen host).past (seen m).past) (sym step.2) (chain-quiet running host first lines between middle before next more whole)
+
+      module _ (s : Status) (running : Running) (host : H) (first : IsRunning (seen host).past running set h0 [] start) (left : Option (List ℕ)) (source_rose : Type 0) where
+        -- all of its lines were taken
+        lines-quiet : (running' : Running) (middle : H) → Chain run_acts running host (lines text) running' middle → LeavesFiles (seen host).past (seen middle).past
+        lines-quiet running' middle chain = chain-quiet running host first (lines text) running' middle chain (rest text) [] (parts_whole text)
+
+        pub run-quiet : (running'' : Running) (host'' : H) → Ended run_acts s running host text running'' host'' left source_rose → LeavesFiles (seen host).past (seen host'').past
+        run-quiet running'' host'' (at_line front line next more running' middle whole short_front short chain step) =
+            leaves-further (seen host).past (seen middle).past (seen host'').past (chain-quiet running host first front running' middle chain line (next ∷ more) whole)
+            (step.quiet h set h0 front start (chain-runs running host first front running' middle chain) text next more whole none)
+        run-quiet running'' host'' (at_pause running' middle took step) = absurd (not-ok s (Err s) refl step.0)
+        run-quiet running'' host'' (at_long_line front long more running' middle whole short over chain step) =
+            leaves-further (seen host).past (seen middle).past (seen host'').past (chain-quiet running host first front running' middle chain long more whole) (step.quiet h)
+        run-quiet running'' host'' (at_end running' middle below nothing took step) =
+            leaves-further (seen host).past (seen middle).past (seen host'').past (lines-quiet running' middle took.chain) (step.quiet h)
+        run-quiet running'' host'' (at_fault is rose below took last) = lines-quiet running'' host'' took.chain
+        run-quiet running'' host'' (at_limit is full took) = lines-quiet running'' host'' took.chain
+        run-quiet running'' host'' (at_want front is took) =
+            let follows = front-followed text front took.begins in
+            chain-quiet running host first front running'' host'' took.chain follows.next follows.more follows.whole
+
     -- how a run over this text ended, and that its status is that of the text where nothing outside fails
     pub record Over (s : Status) (text : List ℕ) (left : Option (List ℕ)) (new : List Event) (source_rose tell_rose disk_rose : Type 0) : Type 0 where
       pub ended : Bool
       pub at_end : ended ≡ true → (length text < input_limit) × IfSome left (λ bytes. bytes ≡ [])
       pub stops : StopsIn s set h0 ended text start new source_rose tell_rose disk_rose
-      pub whole : (more : List ℕ) → left ≡ Some more → (source_rose → ⊥) → (tell_rose → ⊥) → (disk_rose → ⊥) → (s ≡ run_status h0 (text ++ more)) ⊎ (s ≡ status.Memory)
+      pub whole : (more : List ℕ) → left ≡ Some more → (source_rose → ⊥) → (tell_rose → ⊥) → (disk_rose → ⊥) → (s ≡ run_status set h0 (text ++ more)) ⊎ (s ≡ status.Memory)
 
     not-ended : {A : Type 0} → false ≡ true → A
     not-ended e = absurd (true≢false (sym e))
@@ -243,24 +277,24 @@ module _ {H : Type 0} (honest : Type 0) (seen : H → Seen) where
           whole = λ more is none_read none_told none_disk.
               let ended = nat_lt (length (text ++ more)) input_limit in
               let taken = text ++ take (input_limit - length text) more in
-              told-as s (ending_status (run_reading h0 ended taken).ending) (run_status h0 (text ++ more)) (status-onward h0 input_limit text more within)
-              (status-told s ended (run_reading h0 ended taken).ending taken source_rose (TellRose (seen host) (seen host'')) (DiskRose (seen host) (seen host'')) none_read none_told none_disk
+              told-as s (ending_status (run_reading set h0 ended taken).ending) (run_status set h0 (text ++ more)) (status-onward set h0 input_limit text more within)
+              (status-told s ended (run_reading set h0 ended taken).ending taken source_rose (TellRose (seen host) (seen host'')) (DiskRose (seen host) (seen host'')) none_read none_told none_disk
               (over-by ended taken (stops ended (take (input_limit - length text) more))).cause);
         }
 
       -- the run stopped where all lines were taken
-      over-open : (running'' : Running) (host'' : H) → IsRunning (seen host'').past running'' set h0 (lines text) start → HasNoLongLine text → (s ≡ status.TellFault → ⊥)
+      over-open : (running'' : Running) (host'' : H) → IsRunning (seen host'').past running'' set h0 (lines text) start → HasNoLongLine text → (s ≡ status.TellFault → ⊥) → (s ≡ status.DiskFault → ⊥)
           → ((ending : Ending Refusal) → ending ≡ GoesOn → HasRunCause s false ending text source_rose (TellRose (seen host) (seen host'')) (DiskRose (seen host) (seen host'')))
-          → ((more : List ℕ) → left ≡ Some more → (source_rose → ⊥) → (s ≡ run_status h0 (text ++ more)) ⊎ (s ≡ status.Memory))
+          → ((more : List ℕ) → left ≡ Some more → (source_rose → ⊥) → (s ≡ run_status set h0 (text ++ more)) ⊎ (s ≡ status.Memory))
           → Over s text left (seen host'').past source_rose (TellRose (seen host) (seen host'')) (DiskRose (seen host) (seen host''))
-      over-open running'' host'' going short untold cause whole =
-          let reads = read-open (run_rules h0) (lines text) going.read going.made going.has text refl (rest-fits text short) in
+      over-open running'' host'' going short untold stored cause whole =
+          let reads = read-open (run_rules set h0) (lines text) going.read going.made going.has text refl (rest-fits text short) in
           record {
             ended = false;
             at_end = λ e. not-ended e;
-            stops = whole-stop (seen host'').past running'' set h0 start going.read going.made going.at false text source_rose (TellRose (seen host) (seen host'')) (DiskRose (seen host) (seen host'')) s untold
-                (ap all_told reads ∙ append-nil going.made) (ap (history_at every h0) (says-all (run_rules h0) (lines text) going.read going.made going.has text refl))
-                (cause (run_reading h0 false text).ending (ap (λ (r : Reading Refusal). r.ending) reads));
+            stops = whole-stop (seen host'').past running'' set h0 start going.read going.made going.at false text source_rose (TellRose (seen host) (seen host'')) (DiskRose (seen host) (seen host'')) s untold stored
+                (ap all_told reads ∙ append-nil going.made) (ap (history_at every h0) (says-all (run_rules set h0) (lines text) going.read going.made going.has text refl))
+                (cause (run_reading set h0 false text).ending (ap (λ (r : Reading Refusal). r.ending) reads));
             whole = λ more is none_read none_told none_disk. whole more is none_read;
           }
 
@@ -287,20 +321,20 @@ module _ {H : Type 0} (honest : Type 0) (seen : H → Seen) where
               stops = stop;
               whole = λ more is none_read none_told none_disk.
                   let no_more : more ≡ [] = subst (λ (l : Option (List ℕ)). IfSome l (λ bytes. bytes ≡ [])) is nothing in
-                  let same : run_status h0 text ≡ run_status h0 (text ++ more) = ap (run_status h0) (sym (ap (λ (t : List ℕ). text ++ t) no_more ∙ append-nil text)) in
-                  told-as s (ending_status (run_reading h0 true text).ending) (run_status h0 (text ++ more)) (status-ended h0 input_limit text below ∙ same)
-                  (status-told s true (run_reading h0 true text).ending text source_rose (TellRose (seen host) (seen host'')) (DiskRose (seen host) (seen host'')) none_read none_told none_disk stop.cause);
+                  let same : run_status set h0 text ≡ run_status set h0 (text ++ more) = ap (run_status set h0) (sym (ap (λ (t : List ℕ). text ++ t) no_more ∙ append-nil text)) in
+                  told-as s (ending_status (run_reading set h0 true text).ending) (run_status set h0 (text ++ more)) (status-ended set h0 input_limit text below ∙ same)
+                  (status-told s true (run_reading set h0 true text).ending text source_rose (TellRose (seen host) (seen host'')) (DiskRose (seen host) (seen host'')) none_read none_told none_disk stop.cause);
             }
         run-over running'' host'' (at_fault is rose below took last) =
-            over-open running'' host'' (chain-runs running host first (lines text) running'' host'' took.chain) took.short (λ e. cc)
+            over-open running'' host'' (chain-runs running host first (lines text) running'' host'' took.chain) took.short (λ e. cc) (λ e. cc)
             (λ ending goes. subst (λ (a : Status). HasRunCause a false ending text source_rose (TellRose (seen host) (seen host'')) (DiskRose (seen host) (seen host''))) (sym is) (refl, goes, rose))
             (λ more there none. absurd (none rose))
         run-over running'' host'' (at_limit is full took) =
             let going = chain-runs running host first (lines text) running'' host'' took.chain in
-            let reads = read-open (run_rules h0) (lines text) going.read going.made going.has text refl (rest-fits text took.short) in
-            over-open running'' host'' going took.short (λ e. cc)
+            let reads = read-open (run_rules set h0) (lines text) going.read going.made going.has text refl (rest-fits text took.short) in
+            over-open running'' host'' going took.short (λ e. cc) (λ e. cc)
             (λ ending goes. subst (λ (a : Status). HasRunCause a false ending text source_rose (TellRose (seen host) (seen host'')) (DiskRose (seen host) (seen host''))) (sym is) (refl, goes, full))
-            (λ more there none. inl (is ∙ ap (λ (r : Reading Refusal). ending_status r.ending) (sym reads) ∙ status-full h0 input_limit text more full))
+            (λ more there none. inl (is ∙ ap (λ (r : Reading Refusal). ending_status r.ending) (sym reads) ∙ status-full set h0 input_limit text more full))
         run-over running'' host'' (at_want front is took) =
             let going = chain-runs running host first front running'' host'' took.chain in
             let follows = front-followed text front took.begins in
@@ -309,8 +343,8 @@ module _ {H : Type 0} (honest : Type 0) (seen : H → Seen) where
               at_end = λ e. not-ended e;
               stops = subst (λ (a : Status). StopsIn a set h0 false text start (seen host'').past source_rose (TellRose (seen host) (seen host'')) (DiskRose (seen host) (seen host''))) (sym is)
                   (want-stop (seen host'').past running'' set h0 start going.read going.made going.at false text source_rose (TellRose (seen host) (seen host'')) (DiskRose (seen host) (seen host''))
-                  (extends-text h0 front going.read going.made going.has text follows.next follows.more follows.whole)
-                  (output-behind h0 front going.read going.made going.has false text follows.next follows.more follows.whole));
+                  (extends-text h0 set front going.read going.made going.has text follows.next follows.more follows.whole)
+                  (output-behind set h0 front going.read going.made going.has false text follows.next follows.more follows.whole));
               whole = λ more there none_read none_told none_disk. inr is;
             }
 

@@ -39,10 +39,12 @@ agent-told sent past agent set h is_of = record {
     store_of = store_told sent past agent.store set is_of.holds.beats [] is_of.holds.store_of;
     registry_is = is_of.holds.registry_is;
     last_rows_are = is_of.holds.last_rows_are;
+    latest_is = is_of.holds.latest_is;
   };
   last_is = is_of.last_is;
   count = is_of.count;
   copies = is_of.copies;
+  alarms = is_of.alarms;
   going = is_of.going;
 }
 

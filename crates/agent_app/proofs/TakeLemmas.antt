@@ -1,13 +1,13 @@
 -- What each step of a run does.
-use Rattle.std.proofs.Common.{◌≡◌, inl, inr, ℕ, ◌+◌, Bool, true, false, List, [], ◌∷◌, ◌++◌, length, take, Option, Some, None, Result, Ok, Err, IfOk, IfErr, IsErrOf, OnOk, refl, sym, ap, subst, ◌∙◌, append_assoc, append-nil, arith, true≢false, if◌then◌else◌}
+use Rattle.std.proofs.Common.{◌≡◌, ◌⊎◌, inl, inr, ℕ, ◌+◌, Bool, true, false, List, [], ◌∷◌, ◌++◌, length, Option, Some, None, Result, Ok, Err, IfOk, IfErr, IsErrOf, OnOk, refl, sym, ap, subst, ◌∙◌, append_assoc, append-nil, arith, true≢false, if◌then◌else◌}
 use Rattle.std.specs.Option.{option_map_or}
 use Rattle.host_model.specs.Cause.{HasCause, Rose}
-use Rattle.host_model.specs.declared.file.File.{File}
 use Rattle.host_model.specs.declared.status.Status.{Status}
 use Rattle.host_model.specs.declared.status.Status.TheVariants.{Ok as Done, Refused, Limit, TellFault, DiskFault, Memory}
 use Rattle.host_model.specs.Disks.{EveryDisk}
 use Rattle.host_model.specs.Moments.{Throughout}
-use Rattle.host_model.specs.Past.{Event, Told, MayAdd, of, told}
+use Rattle.host_model.specs.Past.{Event, Told, of, told}
+use Rattle.host_model.proofs.MomentLemmas.{at_end}
 use Rattle.history.specs.declared.fault.BlockFault.{BlockFault}
 use Rattle.history.specs.declared.fault.BlockFault.TheVariants.{Unfinished}
 use Rattle.history.specs.declared.line.Line.{Line}
@@ -27,30 +27,36 @@ use Rattle.point_lines.proofs.StepLemmas.{counts-at}
 use Rattle.collect_block.specs.declared.feed.Feed.{Feed}
 use Rattle.collect_block.specs.Feed.{Becomes, CountsFor, IsFeedOf}
 use Rattle.entry_codec.specs.declared.entry.Settings.{Settings}
+use Rattle.alarm_events.specs.declared.event.Event.{Event as AlarmEvent}
 use Rattle.agent_core.specs.declared.fault.AgentFault.{AgentFault}
 use Rattle.agent_core.specs.declared.fault.AgentFault.TheVariants as agent_fault
 use Rattle.agent_core.specs.declared.reply.Reply.{Reply}
 use Rattle.agent_core.specs.declared.reply.Said.{Said}
-use Rattle.agent_core.specs.declared.reply.Said.TheVariants.{Nothing, Stored, Asked, Disabled}
+use Rattle.agent_core.specs.declared.reply.Said.TheVariants.{Nothing, Stored, Table, Disabled}
 use Rattle.agent_core.specs.Agent.{AgentState, IsAgentOf}
-use Rattle.agent_core.specs.Calls.{Lines}
+use Rattle.agent_core.specs.Alarms.{events_at}
+use Rattle.agent_core.specs.Answers.{reply_of}
+use Rattle.agent_core.specs.Calls.{ClosesBeat, Lines}
 use Rattle.host_model.specs.Seen.{Seen}
 use Rattle.agent_core.specs.Faults.{LeavesAll, RefusedBy}
 use Rattle.agent_core.specs.Kept.{StandsForOneOf}
 use Rattle.agent_core.specs.Replies.{reply_text}
 use Rattle.agent_core.specs.Rules.{history_with, line_refusal}
-use Rattle.agent_core.specs.Said.{said_of}
+use Rattle.agent_core.specs.Said.{Answers, IsSaid, TellsEvents}
 use Rattle.store_core.specs.Store.{counted}
 use Rattle.agent_app.specs.declared.running.Running.{Running}
-use Rattle.agent_app.specs.Convert.{all_told, is_limit}
-use Rattle.agent_app.specs.Reading.{Ending, HasRead, RefusedAt, Reading}
-use Rattle.agent_app.specs.Run.{Extends, history_with_text, is_whole, judged_after, run_output, run_reading, run_rules, stored_at, HasRunCause, IsAckedUpTo, LeavesOthers}
-use Rattle.agent_app.specs.Running.{is_query, Counts, DiskRose, EndsRun, IsCutShort, IsTakers, Overflows, RunsAt, TakesLine, TellRose, TellsRefusal}
-use Rattle.agent_app.proofs.AckLemmas.{acked-stored, closed-stored, stored-some}
+use Rattle.agent_app.specs.Convert.{all_told, is_limit, refusal_line, LeavesFiles}
+use Rattle.agent_app.specs.Reading.{Ending, HasRead, RefusedAt, Reading, lines_read, reading}
+use Rattle.agent_app.specs.Run.{Extends, history_with_text, is_whole, judged_after, line_rules, run_output, run_reading, run_rules, told_of, FailsAtMoment, HasRunCause, IsAckedUpTo, LeavesOthers}
+use Rattle.agent_app.specs.Running.{Counts, DiskRose, EndsRun, IsCutShort, IsRunning, IsTakers, Overflows, RunsAt, TakesLine, TellRose, TellsRefusal}
+use Rattle.agent_app.proofs.AckLemmas.{stored-some}
 use Rattle.agent_app.proofs.CauseLemmas.{apart, both-counts, cause-as, counts-none, ended-as, ended-counts, ended_so, going-counts, is_outside, refusal-inside, same-counts, stayed, went_on}
 use Rattle.agent_core.proofs.ClosedLemmas.{text-line}
-use Rattle.agent_app.proofs.ExtendsLemmas.{extends-text}
+use Rattle.agent_app.proofs.EventLemmas.{acked-told, closed-told}
+use Rattle.agent_app.proofs.ExtendsLemmas.{extends-length, extends-start, extends-text, lines-after}
 use Rattle.agent_app.proofs.HasReadLemmas.{read-ended, read-long, read-next, read-over, read-refused, read-unfinished, says-all, says-long, says-over, says-refused}
+use Rattle.agent_app.proofs.LeavesLemmas.{leaves-nothing, may-told, one-told}
+use Rattle.agent_app.proofs.ReplyLemmas.{acked-reply, closed-reply, reply-some}
 use Rattle.agent_app.proofs.RunningLemmas.{line-taken, text-told}
 use Rattle.agent_app.proofs.StopsLemmas.{Behind, cut-stop, line-stop, output-behind, refusal-stop, want-stop, whole-stop}
 
@@ -65,13 +71,9 @@ module _ (status : Status) (honest : Type 0) (text : List ℕ) (old new : List E
   cut-stored (inl (is, rose, torn)) e = cc
   cut-stored (inr (is, same)) e = cc
 
-  cut-others : IsCutShort status honest text old new tell_rose → honest → (file : File) → of file new ≡ of file old
-  cut-others (inl (is, rose, torn)) h file = by (torn h)
-    where
-      by : MayAdd (λ (n : ℕ). Told (take n text)) old new → of file new ≡ of file old
-      by (inl same) = ap (of file) same
-      by (inr (n, added)) = ap (of file) added
-  cut-others (inr (is, same)) h file = ap (of file) same
+  cut-leaves : IsCutShort status honest text old new tell_rose → honest → LeavesFiles old new
+  cut-leaves (inl (is, rose, torn)) h = may-told old new text (torn h)
+  cut-leaves (inr (is, same)) h = subst (LeavesFiles old) (sym same) (leaves-nothing old)
 
 module _ (status : Status) (honest : Type 0) (number : ℕ) (why : Refusal) (old new : List Event) (tell_rose : Type 0) where
   refusal-takers : TellsRefusal status honest number why old new tell_rose → IsTakers status
@@ -86,30 +88,20 @@ module _ (status : Status) (honest : Type 0) (number : ℕ) (why : Refusal) (old
   refusal-stored (inl (is, done)) e = apart status DiskFault (ap is_outside is ∙ refusal-inside number why) refl e
   refusal-stored (inr cut) e = cut-stored status honest _ old new tell_rose cut e
 
-  refusal-others : TellsRefusal status honest number why old new tell_rose → honest → (file : File) → of file new ≡ of file old
-  refusal-others (inl (is, done)) h file = ap (of file) (done h)
-  refusal-others (inr cut) h file = cut-others status honest _ old new tell_rose cut h file
+  refusal-leaves : TellsRefusal status honest number why old new tell_rose → honest → LeavesFiles old new
+  refusal-leaves (inl (is, done)) h = subst (LeavesFiles old) (sym (done h)) (one-told old (refusal_line number why))
+  refusal-leaves (inr cut) h = cut-leaves status honest _ old new tell_rose cut h
 
 told-counts : (host host' : Seen) (tell disk : Type 0) → HasCause host.tell_faults host'.tell_faults tell → host'.disk_faults ≡ host.disk_faults → (disk → ⊥) → Counts host host' tell disk
 told-counts host host' tell disk cause same never = record { tells = cause; disk = stayed host.disk_faults host'.disk_faults disk same never }
 
 -- ---- how a line is judged
-judged-place : (h0 : List Beat) (read : List Line) (said : Line) → is_query said ≡ false → judged_after h0 read (Ok said) ≡ option_map_or (λ (fault : BlockFault). Err (refusal.Block fault)) (refusal_at every h0 read said) (Ok said)
-judged-place h0 read (line.Query text) answer = absurd (true≢false answer)
-judged-place h0 read said answer = refl
-
 module _ (h0 : List Beat) (read : List Line) (bytes : List ℕ) (said : Line) (is : line_of bytes ≡ Ok said) where
-  judged-free : is_query said ≡ false → refusal_at every h0 read said ≡ None → judged_after h0 read (line_of bytes) ≡ Ok said
-  judged-free answer free =
-      ap (judged_after h0 read) is ∙ judged-place h0 read said answer ∙ ap (λ (o : Option BlockFault). option_map_or (λ (fault : BlockFault). Err (refusal.Block fault)) o (Ok said)) free
+  judged-free : refusal_at every h0 read said ≡ None → judged_after h0 read (line_of bytes) ≡ Ok said
+  judged-free free = ap (judged_after h0 read) is ∙ ap (λ (o : Option BlockFault). option_map_or (λ (fault : BlockFault). Err (refusal.Block fault)) o (Ok said)) free
 
-  judged-refused : (fault : BlockFault) → is_query said ≡ false → refusal_at every h0 read said ≡ Some fault → judged_after h0 read (line_of bytes) ≡ Err (refusal.Block fault)
-  judged-refused fault answer reason =
-      ap (judged_after h0 read) is ∙ judged-place h0 read said answer ∙ ap (λ (o : Option BlockFault). option_map_or (λ (fault : BlockFault). Err (refusal.Block fault)) o (Ok said)) reason
-
-pub no-query : (said : Line) → ((text : List ℕ) → said ≡ line.Query text → ⊥) → is_query said ≡ false
-no-query (line.Query text) not = absurd (not text refl)
-no-query said not = refl
+  judged-refused : (fault : BlockFault) → refusal_at every h0 read said ≡ Some fault → judged_after h0 read (line_of bytes) ≡ Err (refusal.Block fault)
+  judged-refused fault reason = ap (judged_after h0 read) is ∙ ap (λ (o : Option BlockFault). option_map_or (λ (fault : BlockFault). Err (refusal.Block fault)) o (Ok said)) reason
 
 disable-same : (h0 : List Beat) (read : List Line) (said : Line) → is_disable said ≡ true → history_at every h0 (said ∷ read) ≡ history_at every h0 read
 disable-same h0 read line.Disable is = refl
@@ -118,6 +110,45 @@ disable-same h0 read said is = absurd (true≢false (sym is))
 pub fault-is : (bytes : List ℕ) (fault : LineFault) → IsFaultFor (line_of bytes) fault → (fault ≡ line_fault.Memory → ⊥) → line_of bytes ≡ Err fault
 fault-is bytes line_fault.Memory told not = absurd (not refl)
 fault-is bytes fault told not = told
+
+-- this is what is told of a line, whole lines that acknowledge no beat but those by then
+pub record IsToldOf (set : Settings) (h0 : List Beat) (read : List Line) (said : Line) (next : List ℕ) : Type 0 where
+  pub is : next ≡ told_of set h0 read said
+  pub acked : IsAckedUpTo (length (history_at every h0 (said ∷ read))) next
+  pub closed : rest next ≡ []
+  pub some : next ≡ [] → ⊥
+
+stored-count : (reply other : Reply) → Stored reply ≡ Stored other → reply ≡ other
+stored-count reply other same = cc
+
+table-same : (a b : List ℕ) → Table a ≡ Table b → a ≡ b
+table-same a b e = cc
+
+-- ---- a line that closes no beat
+abbrev IsMoment : Line → Type 0
+IsMoment (line.Moment moment) = Unit {0}
+IsMoment said = ⊥
+
+moment-or-not : (said : Line) → ((moment : ℕ) × (said ≡ line.Moment moment)) ⊎ ((moment : ℕ) → said ≡ line.Moment moment → ⊥)
+moment-or-not (line.Moment moment) = inl (moment, refl)
+moment-or-not said = inr (λ moment is. subst IsMoment (sym is) tt)
+
+abbrev no_reason : Option BlockFault
+no_reason = None
+
+abbrev some_reason : BlockFault → Option BlockFault
+some_reason fault = Some fault
+
+not-free : (fault : BlockFault) → some_reason fault ≡ no_reason → ⊥
+not-free fault e = cc
+
+-- what a line for a reason against it leaves
+refused-leaves : (r : Result Said AgentFault) (fault : BlockFault) (P : Type 0) → RefusedBy (Some fault) r → IfErr r (λ (f : AgentFault). LeavesAll f → P) → P
+refused-leaves (Ok said) fault P refused left = absurd (not-free fault refused)
+refused-leaves (Err (agent_fault.Refused other)) fault P refused left = left tt
+refused-leaves (Err agent_fault.DiskFault) fault P refused left = absurd (not-free fault refused)
+refused-leaves (Err agent_fault.Memory) fault P refused left = absurd (not-free fault refused)
+refused-leaves (Err other) fault P refused left = absurd refused
 
 -- ---- a line
 module _ (honest : Type 0) (running : Running) (host : Seen) (number : ℕ) (bytes : List ℕ) (short : fits bytes ≡ true) where
@@ -129,11 +160,12 @@ module _ (honest : Type 0) (running : Running) (host : Seen) (number : ℕ) (byt
     run = λ h set h0 front start going number_is ended text next more whole.
         let judge = judged h set h0 start going.read going.made going.at in
         refusal-stop host.past running set h0 start going.read going.made going.at ended text ⊥ (TellRose host host') (DiskRose host host') status honest number why host'.past h telling
-        (read-refused (run_rules h0) front going.read going.made going.has text bytes next more why ended whole short judge ∙ ap (λ (n : ℕ). record { told = going.made; ending = RefusedAt n why }) (sym number_is))
-        (ap (history_at every h0) (says-refused (run_rules h0) front going.read going.made going.has text bytes next more why whole short judge));
+        (read-refused (run_rules set h0) front going.read going.made going.has text bytes next more why ended whole short judge ∙ ap (λ (n : ℕ). record { told = going.made; ending = RefusedAt n why }) (sym number_is))
+        (ap (history_at every h0) (says-refused (run_rules set h0) front going.read going.made going.has text bytes next more why whole short judge));
+    quiet = λ h set h0 front start going text next more whole none. refusal-leaves status honest number why host.past host'.past (TellRose host host') telling h;
     statuses = refusal-takers status honest number why host.past host'.past (TellRose host host') telling;
     counts = ended-counts host host' status (told-counts host host' (status ≡ TellFault) (status ≡ DiskFault) cause same (refusal-stored status honest number why host.past host'.past (TellRose host host') telling));
-    others = λ h file other. refusal-others status honest number why host.past host'.past (TellRose host host') telling h file;
+    others = λ h file other. at_end (refusal-leaves status honest number why host.past host'.past (TellRose host host') telling h) file;
   }
 
   -- there was no memory to read it
@@ -141,7 +173,8 @@ module _ (honest : Type 0) (running : Running) (host : Seen) (number : ℕ) (byt
   want-line = record {
     run = λ h set h0 front start going number_is ended text next more whole.
         want-stop host.past running set h0 start going.read going.made going.at ended text ⊥ (TellRose host host) (DiskRose host host)
-        (extends-text h0 front going.read going.made going.has text bytes (next ∷ more) whole) (output-behind h0 front going.read going.made going.has ended text bytes (next ∷ more) whole);
+        (extends-text h0 set front going.read going.made going.has text bytes (next ∷ more) whole) (output-behind set h0 front going.read going.made going.has ended text bytes (next ∷ more) whole);
+    quiet = λ h set h0 front start going text next more whole none. leaves-nothing host.past;
     statuses = tt;
     counts = ended-counts host host Memory (same-counts host (Memory ≡ TellFault) (Memory ≡ DiskFault) (λ e. cc) (λ e. cc));
     others = λ h file other. refl;
@@ -154,15 +187,8 @@ module _ (honest : Type 0) (running : Running) (host : Seen) (number : ℕ) (byt
   bad-line status host' fault is telling cause same =
       refused-line running status host' (refusal.Line fault) (λ h set h0 start read made at. ap (judged_after h0 read) is) telling cause same
 
-  -- it is a question
-  pub asked-line : (status : Status) (host' : Seen) (said : Line) (text : List ℕ) → line_of bytes ≡ Ok said → said ≡ line.Query text → TellsRefusal status honest number refusal.NotBuilt host.past host'.past (TellRose host host')
-      → HasCause host.tell_faults host'.tell_faults (status ≡ TellFault) → host'.disk_faults ≡ host.disk_faults
-      → TakesLine honest running host number bytes (Err status) running host'
-  asked-line status host' said text is query telling cause same =
-      refused-line running status host' refusal.NotBuilt (λ h set h0 start read made at. ap (judged_after h0 read) (is ∙ ap (λ (l : Line). Ok l) query)) telling cause same
-
   -- ---- a line that says this was handed to the agent
-  module _ (said : Line) (is : line_of bytes ≡ Ok said) (answer : is_query said ≡ false) (result : Result Said AgentFault) (middle : Seen) (agent : AgentState) (feed : Feed)
+  module _ (said : Line) (is : line_of bytes ≡ Ok said) (result : Result Said AgentFault) (middle : Seen) (agent : AgentState) (feed : Feed)
       (lined : Lines honest host running.agent running.feed said result middle agent feed) where
     abbrev now : Running
     now = record running { agent = agent; feed = feed }
@@ -198,7 +224,7 @@ module _ (honest : Type 0) (running : Running) (host : Seen) (number : ℕ) (byt
         free = sym reason-is ∙ subst (λ (r : Result Said AgentFault). RefusedBy (reason read) r) ok refused-by
 
         judged : judged_after h0 read (line_of bytes) ≡ Ok said
-        judged = judged-free h0 read bytes said is answer free
+        judged = judged-free h0 read bytes said is free
 
         taken : RunsAt middle.past now set h0 start (said ∷ read) made
         taken =
@@ -208,11 +234,8 @@ module _ (honest : Type 0) (running : Running) (host : Seen) (number : ℕ) (byt
             (subst (λ (r : Result Said AgentFault). OnOk r (Becomes said running.feed feed)) ok lined.takes every read at.feed)
             (subst (λ (r : Result Said AgentFault). OnOk r (CountsFor running.feed running.agent.registry → CountsFor feed agent.registry)) ok lined.counts_on at.counts) moments (lined.only_here h).output
 
-        reply-is : reply ≡ said_of agent.count said
-        reply-is = subst (λ (r : Result Said AgentFault). IfOk r (λ (s : Said). s ≡ said_of agent.count said)) ok lined.said
-
       -- the history with the line's beat is within that of the text, if nothing stands against the line
-      module _ (front : List (List ℕ)) (has : HasRead (run_rules h0) front read made) (text next : List ℕ) (more : List (List ℕ)) (whole : parts text ≡ front ++ bytes ∷ next ∷ more) where
+      module _ (front : List (List ℕ)) (has : HasRead (run_rules set h0) front read made) (text next : List ℕ) (more : List (List ℕ)) (whole : parts text ≡ front ++ bytes ∷ next ∷ more) where
         with-next : parts text ≡ (front ++ bytes ∷ []) ++ next ∷ more
         with-next = whole ∙ sym (append_assoc front (bytes ∷ []) (next ∷ more))
 
@@ -220,10 +243,75 @@ module _ (honest : Type 0) (running : Running) (host : Seen) (number : ℕ) (byt
         reaches none = by (is_disable said) refl
           where
             by : (ends : Bool) → is_disable said ≡ ends → Extends (history_at every h0 (said ∷ read)) (history_with_text h0 text)
-            by true ends = subst (λ (g : List Beat). Extends g (history_with_text h0 text)) (sym (disable-same h0 read said ends)) (extends-text h0 front read made has text bytes (next ∷ more) whole)
+            by true ends = subst (λ (g : List Beat). Extends g (history_with_text h0 text)) (sym (disable-same h0 read said ends)) (extends-text h0 set front read made has text bytes (next ∷ more) whole)
             by false ends =
-                let judge = judged-free h0 read bytes said is answer (sym reason-is ∙ none) in
-                extends-text h0 (front ++ bytes ∷ []) (said ∷ read) (made ++ stored_at h0 read said) (read-next (run_rules h0) front read made has bytes said short judge ends) text next more with-next
+                let judge = judged-free h0 read bytes said is (sym reason-is ∙ none) in
+                extends-text h0 set (front ++ bytes ∷ []) (said ∷ read) (made ++ told_of set h0 read said) (read-next (run_rules set h0) front read made has bytes said short judge ends) text next more with-next
+
+    module _ (h : honest) (set : Settings) (h0 : List Beat) (start : List Event) (read : List Line) (made : List ℕ) (at : RunsAt host.past running set h0 start read made)
+        (front : List (List ℕ)) (has : HasRead (run_rules set h0) front read made) (ended : Bool) (text next : List ℕ) (more : List (List ℕ)) (whole : parts text ≡ front ++ bytes ∷ next ∷ more) where
+      -- nothing stands against the line, and it is a MOMENT
+      fails-at : (moment : ℕ) → said ≡ line.Moment moment → refusal_at every h0 read said ≡ None → FailsAtMoment set h0 ended text made
+      fails-at moment same none =
+          let has' = read-next (run_rules set h0) front read made has bytes said short (judged-free h0 read bytes said is none) (ap is_disable same) in
+          let on = reading (run_rules set h0) ended (said ∷ read) (next ∷ more) in
+          let split = whole ∙ sym (append_assoc front (bytes ∷ []) (next ∷ more)) in
+          let reads : (run_reading set h0 ended text).told ≡ (made ++ told_of set h0 read said) ++ on.told =
+          ap (λ (ps : List (List ℕ)). (reading (run_rules set h0) ended [] ps).told) split ∙ ap (λ (r : Reading Refusal). r.told) (has'.onward ended next more) in
+          let beyond = lines-after h0 (next ∷ more) (said ∷ read) in
+          record {
+            past = read;
+            moment = moment;
+            later = beyond.later;
+            accepted = ap (lines_read (line_rules h0) []) split ∙ has'.says next more ∙ beyond.whole ∙ ap (λ (l : Line). beyond.later ++ l ∷ read) same;
+            missing = on.told;
+            told = reads ∙ ap (λ (l : Line). made ++ told_of set h0 read l ++ on.told) same;
+          }
+
+      -- the disk failed at a beat
+      failed-at : result ≡ Err agent_fault.DiskFault → FailsAtMoment set h0 ended text made
+      failed-at failed = by said refl (lined.fails failed)
+        where
+          free' : refusal_at every h0 read said ≡ None
+          free' = sym (reason-is h set h0 start read made at) ∙ subst (λ (r : Result Said AgentFault). RefusedBy (reason read) r) failed (refused-by h set h0 start read made at)
+
+          by : (l : Line) → said ≡ l → ClosesBeat l → FailsAtMoment set h0 ended text made
+          by (line.Moment moment) same closes = fails-at moment same free'
+          by other same closes = absurd closes
+
+    -- where the text closes no beat, the agent did nothing to the disk
+    asked-nothing : (h : honest) (set : Settings) (h0 : List Beat) (front : List (List ℕ)) (start : List Event) → IsRunning host.past running set h0 front start → (text next : List ℕ) (more : List (List ℕ)) → parts text ≡ front ++ bytes ∷ next ∷ more
+        → history_with_text h0 text ≡ h0 → middle.past ≡ host.past
+    asked-nothing h set h0 front start going text next more whole none = by (moment-or-not said)
+      where
+        here : List Line
+        here = going.read
+
+        -- the history of the text would be longer
+        accepted : (moment : ℕ) → said ≡ line.Moment moment → reason here ≡ None → ⊥
+        accepted moment same free =
+            let reached = extends-length (history_at every h0 (said ∷ here)) (history_with_text h0 text) (reaches h set h0 start here going.made going.at front going.has text next more whole free) in
+            let one_more : length (history_at every h0 (said ∷ here)) ≡ length (history_at every h0 here) + 1 = ap (λ (l : Line). length (history_at every h0 (l ∷ here))) same ∙ omega arith in
+            omega (arith, reached, one_more, ap length none, extends-length h0 (history_at every h0 here) (extends-start h0 here))
+
+        of-reason : (moment : ℕ) → said ≡ line.Moment moment → (r : Option BlockFault) → reason here ≡ r → middle.past ≡ host.past
+        of-reason moment same None free = absurd (accepted moment same free)
+        of-reason moment same (Some fault) against =
+            ap (λ (s : Seen). s.past)
+            (refused-leaves result fault ((agent ≡ running.agent) × (middle ≡ host)) (subst (λ (r : Option BlockFault). RefusedBy r result) against (refused-by h set h0 start here going.made going.at)) lined.unchanged).1
+
+        by : ((moment : ℕ) × (said ≡ line.Moment moment)) ⊎ ((moment : ℕ) → said ≡ line.Moment moment → ⊥) → middle.past ≡ host.past
+        by (inl (moment, same)) = of-reason moment same (reason here) refl
+        by (inr other) = lined.quiet other h
+
+    -- nor did what was told since
+    written-by : (h : honest) (set : Settings) (h0 : List Beat) (front : List (List ℕ)) (start : List Event) → IsRunning host.past running set h0 front start → (text next : List ℕ) (more : List (List ℕ)) → parts text ≡ front ++ bytes ∷ next ∷ more
+        → history_with_text h0 text ≡ h0 → (host' : Seen) → LeavesFiles middle.past host'.past → LeavesFiles host.past host'.past
+    written-by h set h0 front start going text next more whole none host' leaves = subst (λ (p : List Event). LeavesFiles p host'.past) (asked-nothing h set h0 front start going text next more whole none) leaves
+
+    unwritten : honest → (set : Settings) (h0 : List Beat) (front : List (List ℕ)) (start : List Event) → IsRunning host.past running set h0 front start → (text next : List ℕ) (more : List (List ℕ)) → parts text ≡ front ++ bytes ∷ next ∷ more
+        → history_with_text h0 text ≡ h0 → LeavesFiles host.past middle.past
+    unwritten h set h0 front start going text next more whole none = written-by h set h0 front start going text next more whole none middle (leaves-nothing middle.past)
 
     -- the disk failed, or there was no memory
     pub torn-line : (status : Status) → is_whole status ≡ false → IsTakers status → (status ≡ TellFault → ⊥) → (status ≡ DiskFault → result ≡ Err agent_fault.DiskFault) → (result ≡ Err agent_fault.DiskFault → status ≡ DiskFault)
@@ -234,27 +322,30 @@ module _ (honest : Type 0) (running : Running) (host : Seen) (number : ℕ) (byt
           let read = going.read in
           let made = going.made in
           line-stop host.past running set h0 start read made going.at ended text ⊥ (TellRose host middle) (DiskRose host middle) status said (reason read) middle.past part untold
-          (cause ended (run_reading h0 ended text).ending text) (moments h set h0 start read made going.at) (lined.only_here h).output
-          (extends-text h0 front read made going.has text bytes (next ∷ more) whole) (reaches h set h0 start read made going.at front going.has text next more whole)
-          (output-behind h0 front read made going.has ended text bytes (next ∷ more) whole);
+          (λ is_disk. failed-at h set h0 start read made going.at front going.has ended text next more whole (back is_disk))
+          (cause ended (run_reading set h0 ended text).ending text) (moments h set h0 start read made going.at) (lined.only_here h).output
+          (extends-text h0 set front read made going.has text bytes (next ∷ more) whole) (reaches h set h0 start read made going.at front going.has text next more whole)
+          (output-behind set h0 front read made going.has ended text bytes (next ∷ more) whole);
+      quiet = unwritten;
       statuses = takers;
       counts = ended-counts host middle status (record { tells = lined-tell (status ≡ TellFault) untold; disk = lined-disk (status ≡ DiskFault) back on });
       others = lined-others;
     }
 
     -- it was taken, and nothing is told of it
-    pub quiet-line : (reply : Said) → result ≡ Ok reply → ((h0 : List Beat) (read : List Line) → (is_disable said ≡ false) × (stored_at h0 read said ≡ [])) → TakesLine honest running host number bytes (Ok tt) now middle
+    pub quiet-line : (reply : Said) → result ≡ Ok reply → ((set : Settings) (h0 : List Beat) (read : List Line) → (is_disable said ≡ false) × (told_of set h0 read said ≡ [])) → TakesLine honest running host number bytes (Ok tt) now middle
     quiet-line reply ok quiet = record {
       run = λ h set h0 front start going number_is.
           let read = going.read in
           let made = going.made in
-          let silent = quiet h0 read in
+          let silent = quiet set h0 read in
           record {
             read = said ∷ read;
-            made = made ++ stored_at h0 read said;
-            has = read-next (run_rules h0) front read made going.has bytes said short (judged h set h0 start read made going.at reply ok) silent.0;
+            made = made ++ told_of set h0 read said;
+            has = read-next (run_rules set h0) front read made going.has bytes said short (judged h set h0 start read made going.at reply ok) silent.0;
             at = subst (λ (t : List ℕ). RunsAt middle.past now set h0 start (said ∷ read) t) (sym (ap (λ (l : List ℕ). made ++ l) silent.1 ∙ append-nil made)) (taken h set h0 start read made going.at reply ok);
           };
+      quiet = unwritten;
       statuses = tt;
       counts = going-counts host middle (lined-ok reply ok);
       others = lined-others;
@@ -267,11 +358,12 @@ module _ (honest : Type 0) (running : Running) (host : Seen) (number : ℕ) (byt
           let read = going.read in
           let made = going.made in
           let judge = judged h set h0 start read made going.at reply ok in
-          let reads = read-over (run_rules h0) front read made going.has text bytes next more said ended whole short judge ends in
-          whole-stop middle.past now set h0 start (said ∷ read) made (taken h set h0 start read made going.at reply ok) ended text ⊥ (TellRose host middle) (DiskRose host middle) Done (λ e. cc)
+          let reads = read-over (run_rules set h0) front read made going.has text bytes next more said ended whole short judge ends in
+          whole-stop middle.past now set h0 start (said ∷ read) made (taken h set h0 start read made going.at reply ok) ended text ⊥ (TellRose host middle) (DiskRose host middle) Done (λ e. cc) (λ e. cc)
           (ap all_told reads ∙ append-nil (made ++ []) ∙ append-nil made)
-          (ap (history_at every h0) (says-over (run_rules h0) front read made going.has text bytes next more said whole short judge ends) ∙ sym (disable-same h0 read said ends))
+          (ap (history_at every h0) (says-over (run_rules set h0) front read made going.has text bytes next more said whole short judge ends) ∙ sym (disable-same h0 read said ends))
           (ap (λ (r : Reading Refusal). r.ending) reads);
+      quiet = unwritten;
       statuses = tt;
       counts = ended-counts host middle Done (counts-none host middle (Done ≡ TellFault) (Done ≡ DiskFault) (λ e. cc) (λ e. cc) (lined-ok reply ok));
       others = lined-others;
@@ -284,106 +376,152 @@ module _ (honest : Type 0) (running : Running) (host : Seen) (number : ℕ) (byt
     block-line fault err status host' telling cause stays =
         let same : middle ≡ host = (subst (λ (r : Result Said AgentFault). IfErr r (λ (f : AgentFault). LeavesAll f → (agent ≡ running.agent) × (middle ≡ host))) err lined.unchanged tt).1 in
         refused-line now status host' (refusal.Block fault)
-        (λ h set h0 start read made at. judged-refused h0 read bytes said is fault answer
+        (λ h set h0 start read made at. judged-refused h0 read bytes said is fault
         (sym (reason-is h set h0 start read made at) ∙ subst (λ (r : Result Said AgentFault). RefusedBy (reason read) r) err (refused-by h set h0 start read made at)))
         (subst (λ (s : Seen). TellsRefusal status honest number (refusal.Block fault) s.past host'.past (Rose s.tell_faults host'.tell_faults)) same telling)
         (subst (λ (s : Seen). HasCause s.tell_faults host'.tell_faults (status ≡ TellFault)) same cause) (stays ∙ ap (λ (s : Seen). s.disk_faults) same)
 
-    -- its beat is stored, and that is told
-    module _ (moment : ℕ) (said-is : said ≡ line.Moment moment) (reply : Reply) (ok : result ≡ Ok (Stored reply)) (reply-count : reply ≡ record { count = agent.count }) where
-      abbrev next : List ℕ
-      next = reply_text reply
-
-      module _ (h0 : List Beat) (read : List Line) where
-        abbrev after : List Beat
-        after = history_at every h0 (said ∷ read)
-
-        one-more : length after ≡ length (history_at every h0 read) + 1
-        one-more = ap (λ (l : Line). length (history_at every h0 (l ∷ read))) said-is ∙ omega arith
-
-        goes-on : is_disable said ≡ false
-        goes-on = ap is_disable said-is
-
-        module _ (count-is : agent.count ≡ counted (length after)) where
-          text-is : next ≡ stored_at h0 read said
-          text-is = ap reply_text reply-count ∙ ap (λ (n : ℕ). reply_text (record { count = n })) (count-is ∙ ap counted one-more) ∙ sym (ap (stored_at h0 read) said-is)
-
-          next-acked : IsAckedUpTo (length after) next
-          next-acked = subst (λ (t : List ℕ). IsAckedUpTo (length after) t) (sym (ap reply_text reply-count)) (acked-stored (length after) agent.count (omega (arith, count-is)) (omega (arith, count-is)))
-
-      next-closed : rest next ≡ []
-      next-closed = ap (λ (r : Reply). rest (reply_text r)) reply-count ∙ closed-stored agent.count
-
-      stored-ok : (host' : Seen) → (honest → host'.past ≡ Told next ∷ middle.past) → Counts middle host' (went_on ≡ ended_so TellFault) (went_on ≡ ended_so DiskFault) → TakesLine honest running host number bytes (Ok tt) now host'
-      stored-ok host' telling counts = record {
+    -- something is told of it
+    module _ (reply : Said) (ok : result ≡ Ok reply) (goes : is_disable said ≡ false) (next : List ℕ)
+        (tells : honest → (set : Settings) (h0 : List Beat) (start : List Event) (read : List Line) (made : List ℕ) → RunsAt host.past running set h0 start read made
+        → RunsAt middle.past now set h0 start (said ∷ read) made → IsToldOf set h0 read said next) where
+      told-ok : (host' : Seen) → (honest → host'.past ≡ Told next ∷ middle.past) → Counts middle host' (went_on ≡ ended_so TellFault) (went_on ≡ ended_so DiskFault) → TakesLine honest running host number bytes (Ok tt) now host'
+      told-ok host' telling counts = record {
         run = λ h set h0 front start going number_is.
             let read = going.read in
             let made = going.made in
-            let at = taken h set h0 start read made going.at (Stored reply) ok in
+            let at = taken h set h0 start read made going.at reply ok in
+            let of = tells h set h0 start read made going.at at in
             record {
               read = said ∷ read;
-              made = made ++ stored_at h0 read said;
-              has = read-next (run_rules h0) front read made going.has bytes said short (judged h set h0 start read made going.at (Stored reply) ok) (goes-on h0 read);
-              at = subst (λ (t : List ℕ). RunsAt host'.past now set h0 start (said ∷ read) (made ++ t)) (text-is h0 read at.agent.count)
-                  (text-told middle.past now set h0 start (said ∷ read) made at next (next-acked h0 read at.agent.count) host'.past (telling h) next-closed);
+              made = made ++ told_of set h0 read said;
+              has = read-next (run_rules set h0) front read made going.has bytes said short (judged h set h0 start read made going.at reply ok) goes;
+              at = subst (λ (t : List ℕ). RunsAt host'.past now set h0 start (said ∷ read) (made ++ t)) of.is
+                  (text-told middle.past now set h0 start (said ∷ read) made at next of.acked host'.past (telling h) of.closed);
             };
+        quiet = λ h set h0 front start going text after_next more whole none.
+            written-by h set h0 front start going text after_next more whole none host' (subst (LeavesFiles middle.past) (sym (telling h)) (one-told middle.past next));
         statuses = tt;
-        counts = both-counts host middle host' (went_on ≡ ended_so TellFault) (went_on ≡ ended_so DiskFault) (lined-ok (Stored reply) ok) counts;
+        counts = both-counts host middle host' (went_on ≡ ended_so TellFault) (went_on ≡ ended_so DiskFault) (lined-ok reply ok) counts;
         others = λ h file other. ap (of file) (telling h) ∙ lined-others h file other;
       }
 
-      stored-err : (status : Status) (host' : Seen) → IsCutShort status honest next middle.past host'.past (Rose middle.tell_faults host'.tell_faults)
+      told-err : (status : Status) (host' : Seen) → IsCutShort status honest next middle.past host'.past (Rose middle.tell_faults host'.tell_faults)
           → Counts middle host' (ended_so status ≡ ended_so TellFault) (ended_so status ≡ ended_so DiskFault) → TakesLine honest running host number bytes (Err status) now host'
-      stored-err status host' cut counts =
+      told-err status host' cut counts =
           let cut' : IsCutShort status honest next middle.past host'.past (TellRose host host') = subst (λ (n : ℕ). IsCutShort status honest next middle.past host'.past (Rose n host'.tell_faults)) lined.tells cut in
           record {
             run = λ h set h0 front start going number_is ended text after_next more whole.
                 let read = going.read in
                 let made = going.made in
-                let at = taken h set h0 start read made going.at (Stored reply) ok in
-                let has = read-next (run_rules h0) front read made going.has bytes said short (judged h set h0 start read made going.at (Stored reply) ok) (goes-on h0 read) in
+                let at = taken h set h0 start read made going.at reply ok in
+                let is_of = tells h set h0 start read made going.at at in
+                let has = read-next (run_rules set h0) front read made going.has bytes said short (judged h set h0 start read made going.at reply ok) goes in
                 let whole' = with-next h set h0 start read made going.at front going.has text after_next more whole in
-                let behind = output-behind h0 (front ++ bytes ∷ []) (said ∷ read) (made ++ stored_at h0 read said) has ended text after_next more whole' in
-                cut-stop middle.past now set h0 start (said ∷ read) made at ended text ⊥ (TellRose host host') (DiskRose host host') status honest next host'.past h cut' (next-acked h0 read at.agent.count) (stored-some reply)
-                (extends-text h0 (front ++ bytes ∷ []) (said ∷ read) (made ++ stored_at h0 read said) has text after_next more whole')
-                (subst (λ (t : List ℕ). Behind (made ++ t) (run_output h0 ended text)) (sym (text-is h0 read at.agent.count)) behind);
+                let behind = output-behind set h0 (front ++ bytes ∷ []) (said ∷ read) (made ++ told_of set h0 read said) has ended text after_next more whole' in
+                cut-stop middle.past now set h0 start (said ∷ read) made at ended text ⊥ (TellRose host host') (DiskRose host host') status honest next host'.past h cut' is_of.acked is_of.some
+                (extends-text h0 set (front ++ bytes ∷ []) (said ∷ read) (made ++ told_of set h0 read said) has text after_next more whole')
+                (subst (λ (t : List ℕ). Behind (made ++ t) (run_output set h0 ended text)) (sym is_of.is) behind);
+            quiet = λ h set h0 front start going text after_next more whole none.
+                written-by h set h0 front start going text after_next more whole none host' (cut-leaves status honest next middle.past host'.past (TellRose host host') cut' h);
             statuses = cut-takers status honest next middle.past host'.past (TellRose host host') cut';
-            counts = both-counts host middle host' (ended_so status ≡ ended_so TellFault) (ended_so status ≡ ended_so DiskFault) (lined-ok (Stored reply) ok) counts;
-            others = λ h file other. cut-others status honest next middle.past host'.past (TellRose host host') cut' h file ∙ lined-others h file other;
+            counts = both-counts host middle host' (ended_so status ≡ ended_so TellFault) (ended_so status ≡ ended_so DiskFault) (lined-ok reply ok) counts;
+            others = λ h file other. at_end (cut-leaves status honest next middle.past host'.past (TellRose host host') cut' h) file ∙ lined-others h file other;
           }
 
-      pub stored-line : (answered : Result (Unit {0}) Status) (host' : Seen) → OnOk answered (honest → host'.past ≡ Told next ∷ middle.past)
+      pub told-line : (answered : Result (Unit {0}) Status) (host' : Seen) → OnOk answered (honest → host'.past ≡ Told next ∷ middle.past)
           → IfErr answered (λ (status : Status). IsCutShort status honest next middle.past host'.past (Rose middle.tell_faults host'.tell_faults))
           → HasCause middle.tell_faults host'.tell_faults (IsErrOf answered TellFault) → host'.disk_faults ≡ middle.disk_faults → TakesLine honest running host number bytes answered now host'
-      stored-line (Ok tt) host' done torn cause same =
-          stored-ok host' done (told-counts middle host' (went_on ≡ ended_so TellFault) (went_on ≡ ended_so DiskFault) cause same (λ e. cc))
-      stored-line (Err status) host' done torn cause same =
-          stored-err status host' torn
+      told-line (Ok tt) host' done torn cause same =
+          told-ok host' done (told-counts middle host' (went_on ≡ ended_so TellFault) (went_on ≡ ended_so DiskFault) cause same (λ e. cc))
+      told-line (Err status) host' done torn cause same =
+          told-err status host' torn
           (told-counts middle host' (ended_so status ≡ ended_so TellFault) (ended_so status ≡ ended_so DiskFault) cause same
           (λ e. cut-stored status honest next middle.past host'.past (Rose middle.tell_faults host'.tell_faults) torn (ended-as status DiskFault e)))
 
+    -- its beat is stored
+    module _ (moment : ℕ) (said-is : said ≡ line.Moment moment) (reply : Reply) (ok : result ≡ Ok (Stored reply)) (reply-count : reply.count ≡ agent.count) where
+      stored-told : honest → (set : Settings) (h0 : List Beat) (start : List Event) (read : List Line) (made : List ℕ) → RunsAt host.past running set h0 start read made
+          → RunsAt middle.past now set h0 start (said ∷ read) made → IsToldOf set h0 read said (reply_text reply)
+      stored-told h set h0 start read made before after =
+          let whole = history_at every h0 (said ∷ read) in
+          let closed : List Beat = history_at every h0 (line.Moment moment ∷ read) in
+          let same : closed ≡ whole = ap (λ (l : Line). history_at every h0 (l ∷ read)) (sym said-is) in
+          let one-more : length whole ≡ length (history_at every h0 read) + 1 = ap length (sym same) ∙ omega arith in
+          let tells : TellsEvents set (history_with (history_at every h0 read) every read said) said (Stored reply) =
+          subst (λ (r : Result Said AgentFault). IfOk r (λ (s : Said). honest → (set : Settings) (h : List Beat) (every : ℕ) (past : List Line) → IsAgentOf host.past running.agent set h → IsFeedOf running.feed every past
+          → TellsEvents set (history_with h every past said) said s)) ok lined.events h set (history_at every h0 read) every read before.agent before.feed in
+          let of-moment : TellsEvents set closed (line.Moment moment) (Stored reply) = subst (λ (l : Line). TellsEvents set (history_with (history_at every h0 read) every read l) l (Stored reply)) said-is tells in
+          let reply-is : reply ≡ record { count = of-moment.0; events = events_at set closed } = stored-count reply (record { count = of-moment.0; events = events_at set closed }) of-moment.1 in
+          let told-is : reply ≡ record { count = agent.count; events = events_at set closed } =
+          reply-is ∙ ap (λ (n : ℕ). record { count = n; events = events_at set closed }) (sym (ap (λ (r : Reply). r.count) reply-is) ∙ reply-count) in
+          let text-is : reply_text reply ≡ reply_text (record { count = agent.count; events = events_at set whole }) =
+          ap reply_text told-is ∙ ap (λ (g : List Beat). reply_text (record { count = agent.count; events = events_at set g })) same in
+          record {
+            is = ap reply_text told-is
+                ∙ ap (λ (n : ℕ). reply_text (record { count = n; events = events_at set closed })) (after.agent.count ∙ ap counted one-more) ∙ sym (ap (told_of set h0 read) said-is);
+            acked = subst (IsAckedUpTo (length whole)) (sym text-is)
+                (acked-told (length whole) agent.count set whole after.agent.holds.beats after.agent.holds.are (omega (arith, after.agent.count)) (omega (arith, after.agent.count)));
+            closed = ap rest text-is ∙ closed-told (length whole) agent.count set whole after.agent.holds.beats after.agent.holds.are;
+            some = stored-some reply;
+          }
+
+      pub stored-line : (answered : Result (Unit {0}) Status) (host' : Seen) → OnOk answered (honest → host'.past ≡ Told (reply_text reply) ∷ middle.past)
+          → IfErr answered (λ (status : Status). IsCutShort status honest (reply_text reply) middle.past host'.past (Rose middle.tell_faults host'.tell_faults))
+          → HasCause middle.tell_faults host'.tell_faults (IsErrOf answered TellFault) → host'.disk_faults ≡ middle.disk_faults → TakesLine honest running host number bytes answered now host'
+      stored-line = told-line (Stored reply) ok (ap is_disable said-is) (reply_text reply) stored-told
+
+    -- it is a question, whose answer is told
+    module _ (asked : List ℕ) (said-is : said ≡ line.Query asked) (answer : List ℕ) (ok : result ≡ Ok (Table answer)) where
+      answer-told : honest → (set : Settings) (h0 : List Beat) (start : List Event) (read : List Line) (made : List ℕ) → RunsAt host.past running set h0 start read made → IsToldOf set h0 read said answer
+      answer-told h set h0 start read made at =
+          let now = history_at every h0 read in
+          let beats = at.agent.holds.beats in
+          let are = at.agent.holds.are in
+          let answered : Answers set now said (Table answer) =
+          subst (λ (r : Result Said AgentFault). IfOk r (λ (s : Said). (set : Settings) (h : List Beat) → IsAgentOf host.past running.agent set h → Answers set h said s)) ok lined.answered set now at.agent in
+          let is : answer ≡ reply_of set now asked = table-same answer (reply_of set now asked) (subst (λ (l : Line). Answers set now l (Table answer)) said-is answered) in
+          let same : length (history_at every h0 (said ∷ read)) ≡ length now = ap (λ (l : Line). length (history_at every h0 (l ∷ read))) said-is in
+          record {
+            is = is ∙ sym (ap (told_of set h0 read) said-is);
+            acked = subst (λ (n : ℕ). IsAckedUpTo n answer) (sym same) (subst (IsAckedUpTo (length now)) (sym is) (acked-reply (length now) set now beats are asked));
+            closed = ap rest is ∙ closed-reply set now beats are asked;
+            some = λ none. reply-some set now beats are asked (sym is ∙ none);
+          }
+
+      pub answer-line : (shown : List ℕ) → shown ≡ answer → (answered : Result (Unit {0}) Status) (host' : Seen) → OnOk answered (honest → host'.past ≡ Told shown ∷ middle.past)
+          → IfErr answered (λ (status : Status). IsCutShort status honest shown middle.past host'.past (Rose middle.tell_faults host'.tell_faults))
+          → HasCause middle.tell_faults host'.tell_faults (IsErrOf answered TellFault) → host'.disk_faults ≡ middle.disk_faults → TakesLine honest running host number bytes answered now host'
+      answer-line shown same =
+          told-line (Table answer) ok (ap is_disable said-is) shown
+          (λ h set h0 start read made before after. subst (IsToldOf set h0 read said) (sym same) (answer-told h set h0 start read made before))
+
 -- ---- what the agent said of a line
-pub nothing-said : (count : ℕ) (said : Line) → Nothing ≡ said_of count said → (h0 : List Beat) (read : List Line) → (is_disable said ≡ false) × (stored_at h0 read said ≡ [])
-nothing-said count (line.Moment moment) same h0 read = absurd (apart same)
+pub nothing-said : (count : ℕ) (said : Line) → IsSaid count said Nothing → (set : Settings) (h0 : List Beat) (read : List Line) → (is_disable said ≡ false) × (told_of set h0 read said ≡ [])
+nothing-said count (line.Moment moment) same set h0 read = absurd (apart same.0 same.1)
   where
-    apart : Nothing ≡ Stored (record { count = count }) → ⊥
-    apart e = cc
-nothing-said count line.Disable same h0 read = absurd (apart same)
+    apart : (events : List AlarmEvent) → Nothing ≡ Stored (record { count = count; events = events }) → ⊥
+    apart events e = cc
+nothing-said count (line.Query text) same set h0 read = absurd (apart same.0 same.1)
+  where
+    apart : (reply : List ℕ) → Nothing ≡ Table reply → ⊥
+    apart reply e = cc
+nothing-said count line.Disable same set h0 read = absurd (apart same)
   where
     apart : Nothing ≡ Disabled → ⊥
     apart e = cc
-nothing-said count said same h0 read = (refl, refl)
+nothing-said count said same set h0 read = (refl, refl)
 
-pub disabled-said : (count : ℕ) (said : Line) → Disabled ≡ said_of count said → is_disable said ≡ true
+pub disabled-said : (count : ℕ) (said : Line) → IsSaid count said Disabled → is_disable said ≡ true
 disabled-said count line.Disable same = refl
-disabled-said count (line.Query text) same = absurd (apart same)
+disabled-said count (line.Query text) same = absurd (apart same.0 same.1)
   where
-    apart : Disabled ≡ Asked text → ⊥
-    apart e = cc
-disabled-said count (line.Moment moment) same = absurd (apart same)
+    apart : (reply : List ℕ) → Disabled ≡ Table reply → ⊥
+    apart reply e = cc
+disabled-said count (line.Moment moment) same = absurd (apart same.0 same.1)
   where
-    apart : Disabled ≡ Stored (record { count = count }) → ⊥
-    apart e = cc
+    apart : (events : List AlarmEvent) → Disabled ≡ Stored (record { count = count; events = events }) → ⊥
+    apart events e = cc
 disabled-said count said same = absurd (apart same)
   where
     apart : Disabled ≡ Nothing → ⊥
@@ -393,17 +531,18 @@ disabled-said count said same = absurd (apart same)
 pub record SaidStored (count : ℕ) (said : Line) (reply : Reply) : Type 0 where
   pub moment : ℕ
   pub is : said ≡ line.Moment moment
-  pub reply_is : reply ≡ record { count = count }
+  pub reply_count : reply.count ≡ count
 
-stored-count : (reply other : Reply) → Stored reply ≡ Stored other → reply ≡ other
-stored-count reply other same = cc
-
-pub stored-said : (count : ℕ) (said : Line) (reply : Reply) → Stored reply ≡ said_of count said → SaidStored count said reply
-stored-said count (line.Moment moment) reply same = record { moment = moment; is = refl; reply_is = stored-count reply (record { count = count }) same }
-stored-said count (line.Query text) reply same = absurd (apart same)
+pub stored-said : (count : ℕ) (said : Line) (reply : Reply) → IsSaid count said (Stored reply) → SaidStored count said reply
+stored-said count (line.Moment moment) reply same = record {
+  moment = moment;
+  is = refl;
+  reply_count = ap (λ (r : Reply). r.count) (stored-count reply (record { count = count; events = same.0 }) same.1);
+}
+stored-said count (line.Query text) reply same = absurd (apart same.0 same.1)
   where
-    apart : Stored reply ≡ Asked text → ⊥
-    apart e = cc
+    apart : (answer : List ℕ) → Stored reply ≡ Table answer → ⊥
+    apart answer e = cc
 stored-said count line.Disable reply same = absurd (apart same)
   where
     apart : Stored reply ≡ Disabled → ⊥
@@ -413,6 +552,26 @@ stored-said count said reply same = absurd (apart same)
     apart : Stored reply ≡ Nothing → ⊥
     apart e = cc
 
+-- the text of a question
+pub record SaidTable (said : Line) : Type 0 where
+  pub asked : List ℕ
+  pub is : said ≡ line.Query asked
+
+pub table-said : (count : ℕ) (said : Line) (answer : List ℕ) → IsSaid count said (Table answer) → SaidTable said
+table-said count (line.Query asked) answer same = record { asked = asked; is = refl }
+table-said count (line.Moment moment) answer same = absurd (apart same.0 same.1)
+  where
+    apart : (events : List AlarmEvent) → Table answer ≡ Stored (record { count = count; events = events }) → ⊥
+    apart events e = cc
+table-said count line.Disable answer same = absurd (apart same)
+  where
+    apart : Table answer ≡ Disabled → ⊥
+    apart e = cc
+table-said count said answer same = absurd (apart same)
+  where
+    apart : Table answer ≡ Nothing → ⊥
+    apart e = cc
+
 -- ---- the end of the text
 module _ (honest : Type 0) (running : Running) (host : Seen) where
   pub long-line : (number : ℕ) (status : Status) (host' : Seen) → TellsRefusal status honest number (refusal.Line line_fault.LineTooLong) host.past host'.past (TellRose host host')
@@ -420,11 +579,12 @@ module _ (honest : Type 0) (running : Running) (host : Seen) where
   long-line number status host' telling cause same = record {
     run = λ h set h0 front start going number_is ended text long more whole over.
         refusal-stop host.past running set h0 start going.read going.made going.at ended text ⊥ (TellRose host host') (DiskRose host host') status honest number (refusal.Line line_fault.LineTooLong) host'.past h telling
-        (read-long (run_rules h0) front going.read going.made going.has text long more ended whole over ∙ ap (λ (n : ℕ). record { told = going.made; ending = RefusedAt n (refusal.Line line_fault.LineTooLong) }) (sym number_is))
-        (ap (history_at every h0) (says-long (run_rules h0) front going.read going.made going.has text long more whole over));
+        (read-long (run_rules set h0) front going.read going.made going.has text long more ended whole over ∙ ap (λ (n : ℕ). record { told = going.made; ending = RefusedAt n (refusal.Line line_fault.LineTooLong) }) (sym number_is))
+        (ap (history_at every h0) (says-long (run_rules set h0) front going.read going.made going.has text long more whole over));
+    quiet = refusal-leaves status honest number (refusal.Line line_fault.LineTooLong) host.past host'.past (TellRose host host') telling;
     statuses = refusal-takers status honest number (refusal.Line line_fault.LineTooLong) host.past host'.past (TellRose host host') telling;
     counts = told-counts host host' (status ≡ TellFault) (status ≡ DiskFault) cause same (refusal-stored status honest number (refusal.Line line_fault.LineTooLong) host.past host'.past (TellRose host host') telling);
-    others = λ h file other. refusal-others status honest number (refusal.Line line_fault.LineTooLong) host.past host'.past (TellRose host host') telling h file;
+    others = λ h file other. at_end (refusal-leaves status honest number (refusal.Line line_fault.LineTooLong) host.past host'.past (TellRose host host') telling h) file;
   }
 
   module _ (count : ℕ) (left : List ℕ) (short : fits left ≡ true) where
@@ -433,10 +593,11 @@ module _ (honest : Type 0) (running : Running) (host : Seen) where
       run = λ h set h0 text start going count_is left_is.
           let fit : fits (rest text) ≡ true = subst (λ (t : List ℕ). fits t ≡ true) left_is short in
           let all : is_unfinished every going.read (rest text) ≡ false = subst (λ (t : List ℕ). is_unfinished every going.read t ≡ false) left_is (finished every going.read going.at.feed) in
-          let reads = read-ended (run_rules h0) (lines text) going.read going.made going.has text refl fit all in
-          whole-stop host.past running set h0 start going.read going.made going.at true text ⊥ (TellRose host host) (DiskRose host host) Done (λ e. cc)
-          (ap all_told reads ∙ append-nil (going.made ++ []) ∙ append-nil going.made) (ap (history_at every h0) (says-all (run_rules h0) (lines text) going.read going.made going.has text refl))
+          let reads = read-ended (run_rules set h0) (lines text) going.read going.made going.has text refl fit all in
+          whole-stop host.past running set h0 start going.read going.made going.at true text ⊥ (TellRose host host) (DiskRose host host) Done (λ e. cc) (λ e. cc)
+          (ap all_told reads ∙ append-nil (going.made ++ []) ∙ append-nil going.made) (ap (history_at every h0) (says-all (run_rules set h0) (lines text) going.read going.made going.has text refl))
           (ap (λ (r : Reading Refusal). r.ending) reads);
+      quiet = λ h. leaves-nothing host.past;
       statuses = tt;
       counts = same-counts host (Done ≡ TellFault) (Done ≡ DiskFault) (λ e. cc) (λ e. cc);
       others = λ h file other. refl;
@@ -451,10 +612,11 @@ module _ (honest : Type 0) (running : Running) (host : Seen) where
           let why = unfinished every going.read going.at.feed in
           let open_end : is_unfinished every going.read (rest text) ≡ true = subst (λ (t : List ℕ). is_unfinished every going.read t ≡ true) left_is why.0 in
           refusal-stop host.past running set h0 start going.read going.made going.at true text ⊥ (TellRose host host') (DiskRose host host') status honest count (refusal.Block fault) host'.past h telling
-          (read-unfinished (run_rules h0) (lines text) going.read going.made going.has text refl fit open_end
+          (read-unfinished (run_rules set h0) (lines text) going.read going.made going.has text refl fit open_end
           ∙ (λ i. record { told = going.made; ending = RefusedAt (sym count_is i) (refusal.Block (sym why.1 i)) }))
-          (ap (history_at every h0) (says-all (run_rules h0) (lines text) going.read going.made going.has text refl));
+          (ap (history_at every h0) (says-all (run_rules set h0) (lines text) going.read going.made going.has text refl));
+      quiet = refusal-leaves status honest count (refusal.Block fault) host.past host'.past (TellRose host host') telling;
       statuses = refusal-takers status honest count (refusal.Block fault) host.past host'.past (TellRose host host') telling;
       counts = told-counts host host' (status ≡ TellFault) (status ≡ DiskFault) cause same (refusal-stored status honest count (refusal.Block fault) host.past host'.past (TellRose host host') telling);
-      others = λ h file other. refusal-others status honest count (refusal.Block fault) host.past host'.past (TellRose host host') telling h file;
+      others = λ h file other. at_end (refusal-leaves status honest count (refusal.Block fault) host.past host'.past (TellRose host host') telling h) file;
     }

@@ -1,5 +1,6 @@
 -- The words of a command line.
-use Rattle.std.specs.Prelude.{ℕ, ◌==◌, ◌^◌, Bool, false, not, ◌&&◌, nat_le, nat_lt, List, [], ◌∷◌, Option, Some, None, codes, if◌then◌else◌}
+use Rattle.std.specs.Prelude.{ℕ, ◌==◌, ◌^◌, Bool, false, not, ◌&&◌, nat_le, nat_lt, List, [], ◌∷◌, length, Option, Some, None, codes, if◌then◌else◌}
+use Rattle.std.specs.List.{list_any}
 use Rattle.std.specs.Option.{option_map, option_and_then}
 use Rattle.std.specs.Str.{bytes_eq}
 use Rattle.std.specs.Str.Parse.{digits_value}
@@ -7,7 +8,9 @@ use Rattle.fixed_num.specs.UnitsText.{is_numeral}
 use Rattle.entry_codec.specs.declared.entry.Settings.{Settings}
 use Rattle.entry_codec.specs.declared.entry.TierSettings.{TierSettings}
 use Rattle.agent_app.specs.declared.command.Command.{Command}
-use Rattle.agent_app.specs.declared.command.Command.TheVariants.{Convert, New, Run}
+use Rattle.agent_app.specs.declared.command.Command.TheVariants.{Convert, Health, Log, New, Query, Run}
+use Rattle.agent_app.specs.declared.command.Form.{Form}
+use Rattle.agent_app.specs.declared.command.Form.TheVariants as form
 
 -- ---- numbers
 
@@ -59,10 +62,40 @@ settings_of words = None
 
 -- the command of a single word
 abbrev pub alone : List ℕ → Option Command
-alone word = if bytes_eq word (codes "convert") then Some Convert else if bytes_eq word (codes "run") then Some Run else None
+alone word =
+    if bytes_eq word (codes "convert") then Some Convert
+    else if bytes_eq word (codes "health") then Some Health
+    else if bytes_eq word (codes "run") then Some Run
+    else None
+
+-- the form in which a word asks for the log
+abbrev pub form_named : List ℕ → Option Form
+form_named word = if bytes_eq word (codes "text") then Some form.Text else if bytes_eq word (codes "json") then Some form.Json else None
+
+-- one word gives the form
+abbrev pub form_of : List (List ℕ) → Option Form
+form_of (word ∷ []) = form_named word
+form_of words = None
+
+-- the word begins with `-`
+abbrev pub is_option : List ℕ → Bool
+is_option [] = false
+is_option (first ∷ more) = first == 45
+
+-- five words or more, none of which begins with `-`
+abbrev pub is_question : List (List ℕ) → Bool
+is_question words = nat_le 5 (length words) && not (list_any is_option words)
+
+-- the command of a word with these behind it
+abbrev pub longer : List ℕ → List (List ℕ) → Option Command
+longer word more =
+    if bytes_eq word (codes "log") then option_map Log (form_of more)
+    else if bytes_eq word (codes "new") then option_map New (settings_of more)
+    else if bytes_eq word (codes "query") && is_question more then Some Query
+    else None
 
 -- the command that the words of a command line give, or none where they are in no form
 abbrev pub command_of : List (List ℕ) → Option Command
 command_of [] = None
 command_of (word ∷ []) = alone word
-command_of (word ∷ next ∷ more) = if bytes_eq word (codes "new") then option_map New (settings_of (next ∷ more)) else None
+command_of (word ∷ next ∷ more) = longer word (next ∷ more)

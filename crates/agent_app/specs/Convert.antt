@@ -23,9 +23,8 @@ use Rattle.agent_app.specs.Reading.{Rules, Reading, Ending, GoesOn, Ends, Refuse
 -- the rules of a text whose points are told
 abbrev pub point_rules : Rules Line Refusal
 point_rules = record {
-  judge = judge;
+  lines = record { judge = judge; ends_text = is_disable };
   tell = told_at;
-  ends_text = is_disable;
   tell_end = told_at_end;
   is_unfinished = is_unfinished every;
   too_long = refusal.Line LineTooLong;
@@ -98,9 +97,13 @@ HasStatusCause _ ended ending taken source_rose host_rose = ⊥
 abbrev pub IsUnasked : (past past' : List Event) → (tell_faults tell_faults' : ℕ) → Type 0
 IsUnasked past past' tell_faults tell_faults' = (past' ≡ past) × (tell_faults' ≡ tell_faults)
 
--- at every moment nothing has happened to any file, and no call on the disk was counted as failed
+-- at every moment nothing has happened to any file
+abbrev pub LeavesFiles : (old new : List Event) → Type 0
+LeavesFiles old new = Throughout (λ past. (file : File) → of file past ≡ of file old) old new
+
+-- nothing happens to any file, and no call on the disk was counted as failed
 pub record LeavesDisk (honest : Type 0) (host host' : Seen) : Type 0 where
-  pub any_moment : honest → Throughout (λ past. (file : File) → of file past ≡ of file host.past) host.past host'.past
+  pub any_moment : honest → LeavesFiles host.past host'.past
   pub faults : host'.disk_faults ≡ host.disk_faults
 
 -- A run of `convert`: it took these bytes of the source, and told the output of just these.

@@ -1,20 +1,25 @@
 -- Runs on one host, one after the other.
-use Rattle.std.specs.Prelude.{ℕ, List, [], ◌∷◌, length, drop, Option}
+use Rattle.std.specs.Prelude.{◌≡◌, ◌⊎◌, ℕ, true, false, List, [], ◌∷◌, length, drop, Contains, Option, Some, None}
 use Rattle.host_model.specs.declared.file.File.{File}
 use Rattle.host_model.specs.declared.status.Status.{Status}
-use Rattle.host_model.specs.Disks.{EveryDisk}
+use Rattle.host_model.specs.declared.status.Status.TheVariants.{Ok as Done, DiskFault}
+use Rattle.host_model.specs.Disks.{EveryDisk, reads_as}
 use Rattle.host_model.specs.Past.{told}
 use Rattle.host_model.specs.Seen.{Seen}
 use Rattle.host_model.specs.Source.{Takes}
 use Rattle.history.specs.History.{Beat}
 use Rattle.entry_codec.specs.declared.entry.Settings.{Settings}
+use Rattle.store_core.specs.Stands.{is_made}
 use Rattle.agent_core.specs.Kept.{StandsForHistory}
 use Rattle.agent_app.specs.Convert.{LeavesDisk}
 use Rattle.agent_app.specs.New.{Makes}
-use Rattle.agent_app.specs.Run.{history_with_text, Extends, IsAckedUpTo, RunsAll}
+use Rattle.agent_app.specs.Query.{Asks}
+use Rattle.agent_app.specs.Run.{history_with_text, is_opened, is_whole, Extends, IsAckedUpTo, RunsAll}
 
--- one run: what its source had left, before it and after it, where the source tells that, and what the run told
+-- one run: how it ended, where no stop came before; what its source had left, before it and after it, where the source
+-- tells that; and what the run told
 pub record OneRun : Type 0 where
+  pub status : Option Status
   pub left : Option (List ℕ)
   pub left_after : Option (List ℕ)
   pub text : List ℕ
@@ -23,25 +28,63 @@ pub record OneRun : Type 0 where
 abbrev pub told_since : Seen → Seen → List ℕ
 told_since host host' = drop (length (told host.past)) (told host'.past)
 
--- Of a host on which a new database was made, and then runs were made one after the other, each with whatever input
--- and whatever end: these are the runs, the latest first. Between them texts may be converted, and `new` be tried again.
-pub data Course {H : Type 0} (honest : Type 0) (seen : H → Seen) (set : Settings) : List OneRun → H → Type 0 where
-  made : (host : H) → EveryDisk (StandsForHistory set []) (seen host).past → Course honest seen set [] host
+-- a database: its settings and its history
+pub record Database : Type 0 where
+  pub settings : Settings
+  pub history : List Beat
+
+-- the disk holds this database, or none
+abbrev pub HoldsDatabase : Option Database → (File → List ℕ) → Type 0
+HoldsDatabase None disk = is_made disk ≡ false
+HoldsDatabase (Some base) disk = StandsForHistory base.settings base.history disk
+
+-- the disk holds one of these
+pub record HoldsOneOf (starts : List (Option Database)) (disk : File → List ℕ) : Type 0 where
+  pub start : Option Database
+  pub among : Contains starts start
+  pub holds : HoldsDatabase start disk
+
+-- a `new` that ended so may have made a database: it did, or the disk failed where there was none
+abbrev pub MayHaveMade : Status → Seen → Type 0
+MayHaveMade status host = (status ≡ Done) ⊎ ((status ≡ DiskFault) × (is_made (reads_as host.past) ≡ false))
+
+-- Of a host whose disk held one of these databases whatever a stop left, or none where that is among them, and on which runs
+-- were made one after the other, each with whatever input and whatever end: these are the runs, the latest first. Between
+-- them texts may be converted, questions asked and `new` tried, whatever each ended with. `tried` has the settings of each
+-- `new` that may have made a database.
+pub data Course {H : Type 0} (honest : Type 0) (seen : H → Seen) (starts : List (Option Database)) (tried : List Settings) : List OneRun → H → Type 0 where
+  begun : (host : H) → EveryDisk (HoldsOneOf starts) (seen host).past → Course honest seen starts tried [] host
   ran : (runs : List OneRun) (host host' : H) (status : Status) (left left' : Option (List ℕ)) (source_faults source_faults' : ℕ)
-      → Course honest seen set runs host → RunsAll honest status left left' source_faults source_faults' (seen host) (seen host')
-      → Course honest seen set (record { left = left; left_after = left'; text = told_since (seen host) (seen host') } ∷ runs) host'
-  converted : (runs : List OneRun) (host host' : H) → Course honest seen set runs host → LeavesDisk honest (seen host) (seen host') → Course honest seen set runs host'
-  made_again : (runs : List OneRun) (host host' : H) (other : Settings) (status : Status) → Course honest seen set runs host → Makes honest other status (seen host) (seen host') → Course honest seen set runs host'
+      → Course honest seen starts tried runs host → RunsAll honest status left left' source_faults source_faults' (seen host) (seen host')
+      → Course honest seen starts tried (record { status = Some status; left = left; left_after = left'; text = told_since (seen host) (seen host') } ∷ runs) host'
+  converted : (runs : List OneRun) (host host' : H) → Course honest seen starts tried runs host → LeavesDisk honest (seen host) (seen host') → Course honest seen starts tried runs host'
+  asked : (runs : List OneRun) (host host' : H) (answer : Settings → List Beat → List ℕ) (status : Status) → Course honest seen starts tried runs host → Asks honest answer status (seen host) (seen host') → Course honest seen starts tried runs host'
+  made_again : (runs : List OneRun) (host host' : H) (set : Settings) (status : Status) → Course honest seen starts tried runs host → (MayHaveMade status (seen host) → Contains tried set)
+      → Makes honest set status (seen host) (seen host') → Course honest seen starts tried runs host'
 
--- These runs stored this history: each goes on from what the one before it left, by a front of the beats of the bytes
--- that it took, and every beat that it acknowledged is there.
-pub data AreStored : List OneRun → List Beat → Type 0 where
-  no_run : AreStored [] []
-  one_run : (runs : List OneRun) (run : OneRun) (before stored : List Beat) (taken : List ℕ) → AreStored runs before → Takes run.left taken run.left_after
-      → Extends before stored → Extends stored (history_with_text before taken) → IsAckedUpTo (length stored) run.text → AreStored (run ∷ runs) stored
+-- the run has not ended, or at a status at which the database may not have been opened
+abbrev pub MayHaveFoundNone : OneRun → Type 0
+MayHaveFoundNone run = (status : Status) → run.status ≡ Some status → is_opened status ≡ false
 
--- the disk holds a history that these runs stored
-pub record HoldsRuns (set : Settings) (runs : List OneRun) (disk : File → List ℕ) : Type 0 where
-  pub stored : List Beat
-  pub are : AreStored runs stored
-  pub stands : StandsForHistory set stored disk
+-- where the run has ended at a status at which all beats were stored, this holds
+abbrev pub WhereWhole : OneRun → Type 0 → Type 0
+WhereWhole run holds = (status : Status) → run.status ≡ Some status → is_whole status ≡ true → holds
+
+-- From this start these runs stored this: each goes on from what the one before it left, by a front of the beats of the
+-- bytes that it took, and by all of them where it ended so. Every beat that it acknowledged is there, and the settings stay.
+-- Before there is a database a run tells nothing. One that is made has settings of a `new`, and no beats.
+pub data AreStored (tried : List Settings) (start : Option Database) : List OneRun → Option Database → Type 0 where
+  no_run : AreStored tried start [] start
+  none_found : (runs : List OneRun) (run : OneRun) → AreStored tried start runs None → MayHaveFoundNone run → run.text ≡ [] → AreStored tried start (run ∷ runs) None
+  now_made : (runs : List OneRun) (set : Settings) → Contains tried set → AreStored tried start runs None → AreStored tried start runs (Some (record { settings = set; history = [] }))
+  one_run : (runs : List OneRun) (run : OneRun) (base : Database) (stored : List Beat) (taken : List ℕ) → AreStored tried start runs (Some base) → Takes run.left taken run.left_after
+      → Extends base.history stored → Extends stored (history_with_text base.history taken) → WhereWhole run (stored ≡ history_with_text base.history taken)
+      → IsAckedUpTo (length stored) run.text → AreStored tried start (run ∷ runs) (Some (record { settings = base.settings; history = stored }))
+
+-- the disk holds what these runs stored from one of these starts
+pub record HoldsRuns (starts : List (Option Database)) (tried : List Settings) (runs : List OneRun) (disk : File → List ℕ) : Type 0 where
+  pub start : Option Database
+  pub among : Contains starts start
+  pub stored : Option Database
+  pub are : AreStored tried start runs stored
+  pub holds : HoldsDatabase stored disk

@@ -2,7 +2,14 @@ pub mod Command
 pub mod Convert
 pub mod Converting
 pub mod Course
+pub mod Forms
+pub mod Health
+pub mod HealthText
+pub mod Log
+pub mod LogJson
+pub mod LogText
 pub mod New
+pub mod Query
 pub mod Reading
 pub mod Run
 pub mod Running

@@ -6,6 +6,7 @@ use Rattle.host_model.specs.Cause.{HasCause}
 use Rattle.host_model.specs.Disks.{EveryDisk, reads_as}
 use Rattle.host_model.specs.declared.file.File.TheVariants.{JournalA}
 use Rattle.host_model.specs.Moments.{Throughout, OnlyOn}
+use Rattle.host_model.specs.Past.{IsDisk}
 use Rattle.entry_codec.specs.declared.entry.Settings.{Settings}
 use Rattle.store_core.specs.Stands.{is_made}
 use Rattle.host_model.specs.Seen.{Seen}
@@ -16,16 +17,16 @@ IsNewStatus status = (status ≡ Done) ⊎ (status ≡ Exists) ⊎ (status ≡ D
 
 -- `new` with these settings ended with this status, and left the host so
 pub record Makes (honest : Type 0) (set : Settings) (status : Status) (host host' : Seen) : Type 0 where
-  -- where there was no database whatever a stop left, at every moment a stop leaves none, or the new one
-  pub any_moment : honest → EveryDisk (λ disk. is_made disk ≡ false) host.past → Throughout (EveryDisk (StandsForNew set)) host.past host'.past
+  -- at every moment a stop leaves what it might have left before the call, no database, or the new one
+  pub any_moment : honest → Throughout (EveryDisk (λ disk. IsDisk host.past disk ⊎ StandsForNew set disk)) host.past host'.past
   -- at Ok it leaves the new one, and there was none
   pub created : status ≡ Done → honest → EveryDisk (StandsForHistory set []) host'.past
   pub none : status ≡ Done → honest → is_made (reads_as host.past) ≡ false
   -- where there was no memory nothing has happened
   pub memory : status ≡ Memory → honest → host'.past ≡ host.past
-  -- exactly where there is a database it is refused, or the disk failed, and nothing has happened
+  -- exactly where there is a database it is refused, or the disk failed, or memory was short, and nothing has happened
   pub exists : status ≡ Exists → honest → is_made (reads_as host.past) ≡ true
-  pub made : honest → is_made (reads_as host.past) ≡ true → ((status ≡ Exists) ⊎ (status ≡ DiskFault)) × (host'.past ≡ host.past)
+  pub made : honest → is_made (reads_as host.past) ≡ true → ((status ≡ Exists) ⊎ (status ≡ DiskFault) ⊎ (status ≡ Memory)) × (host'.past ≡ host.past)
   pub statuses : IsNewStatus status
   -- the disk counts a failure exactly where that is why it ended
   pub disk_cause : HasCause host.disk_faults host'.disk_faults (status ≡ DiskFault)

@@ -28,53 +28,59 @@ use Rattle.entry_codec.specs.declared.entry.Settings.{Settings}
 use Rattle.store_core.specs.Stands.{is_made, IsDamaged}
 use Rattle.store_core.specs.Store.{counted}
 use Rattle.host_model.specs.Seen.{Seen}
+use Rattle.agent_core.specs.Alarms.{events_at}
+use Rattle.agent_core.specs.Answers.{reply_of}
 use Rattle.agent_core.specs.Kept.{StandsForHistory}
 use Rattle.agent_core.specs.Notes.{HasNotes}
 use Rattle.agent_core.specs.Replies.{reply_text}
 use Rattle.line_stream.specs.Run.{input_limit}
-use Rattle.agent_app.specs.Convert.{all_told, ending_status, HasStatusCause}
-use Rattle.agent_app.specs.Reading.{Ending, Reading, Rules, lines_read, reading_of}
+use Rattle.agent_app.specs.Convert.{all_told, ending_status, HasStatusCause, LeavesFiles}
+use Rattle.agent_app.specs.Reading.{Ending, LineRules, Reading, Rules, lines_read, reading_of}
 
 -- ---- what a text says behind a history
 
--- a line that says this may stand after these lines, or why not: questions are not answered yet
+-- a line that says this may stand after these lines, or why not
 abbrev pub judged_after : List Beat → List Line → Result Line LineFault → Result Line Refusal
 judged_after h0 past (Err fault) = Err (refusal.Line fault)
-judged_after h0 past (Ok (Query text)) = Err refusal.NotBuilt
 judged_after h0 past (Ok said) = option_map_or (λ (fault : BlockFault). Err (refusal.Block fault)) (refusal_at every h0 past said) (Ok said)
 
--- what is told of a line: of a MOMENT that its beat is stored, with its number in the history
-abbrev pub stored_at : List Beat → List Line → Line → List ℕ
-stored_at h0 past (Moment moment) = reply_text (record { count = counted (length (history_at every h0 past) + 1) })
-stored_at h0 past said = []
+-- what is told of a line: of a MOMENT that its beat is stored, with its number in the history and the events that it
+-- makes, and of a question its reply over the history at its place
+abbrev pub told_of : Settings → List Beat → List Line → Line → List ℕ
+told_of set h0 past (Moment moment) = reply_text (record { count = counted (length (history_at every h0 past) + 1); events = events_at set (history_at every h0 (Moment moment ∷ past)) })
+told_of set h0 past (Query text) = reply_of set (history_at every h0 past) text
+told_of set h0 past said = []
 
--- the rules of a text whose beats are stored behind this history
-abbrev pub run_rules : List Beat → Rules Line Refusal
-run_rules h0 = record {
-  judge = λ past bytes. judged_after h0 past (line bytes);
-  tell = stored_at h0;
-  ends_text = is_disable;
+-- how the lines of a text are read that follows this history
+abbrev pub line_rules : List Beat → LineRules Line Refusal
+line_rules h0 = record { judge = λ past bytes. judged_after h0 past (line bytes); ends_text = is_disable }
+
+-- the rules of a text whose beats are stored behind this history, in a database of these settings
+abbrev pub run_rules : Settings → List Beat → Rules Line Refusal
+run_rules set h0 = record {
+  lines = line_rules h0;
+  tell = told_of set h0;
   tell_end = λ past. [];
   is_unfinished = is_unfinished every;
   too_long = refusal.Line LineTooLong;
   unfinished = refusal.Block Unfinished;
 }
 
-abbrev pub run_reading : List Beat → Bool → List ℕ → Reading Refusal
-run_reading h0 ended text = reading_of (run_rules h0) ended text
+abbrev pub run_reading : Settings → List Beat → Bool → List ℕ → Reading Refusal
+run_reading set h0 ended text = reading_of (run_rules set h0) ended text
 
 -- the history with the beats of the text's accepted lines
 abbrev pub history_with_text : List Beat → List ℕ → List Beat
-history_with_text h0 text = history_at every h0 (lines_read (run_rules h0) [] (parts text))
+history_with_text h0 text = history_at every h0 (lines_read (line_rules h0) [] (parts text))
 
--- all that is told of a text: its stored beats, and then its refusal
-abbrev pub run_output : List Beat → Bool → List ℕ → List ℕ
-run_output h0 ended text = all_told (run_reading h0 ended text)
+-- all that is told of a text: its stored beats and its answers, and then its refusal
+abbrev pub run_output : Settings → List Beat → Bool → List ℕ → List ℕ
+run_output set h0 ended text = all_told (run_reading set h0 ended text)
 
 -- the status of a run over the text, when nothing fails: that of the first refusal in the bytes that it takes, or
 -- else of the end, where that has come
-abbrev pub run_status : List Beat → List ℕ → Status
-run_status h0 text = ending_status (run_reading h0 (nat_lt (length text) input_limit) (take input_limit text)).ending
+abbrev pub run_status : Settings → List Beat → List ℕ → Status
+run_status set h0 text = ending_status (run_reading set h0 (nat_lt (length text) input_limit) (take input_limit text)).ending
 
 -- ---- what stops leave
 
@@ -134,15 +140,33 @@ pub record Runs (status : Status) (set : Settings) (h0 : List Beat) (left left' 
   pub stops : Throughout (EveryStop (Keeps set h0 (history_with_text h0 taken) (told old))) old new
   -- at the end all of them, unless the output, the disk or memory failed
   pub ends : is_whole status ≡ true → EveryDisk (StandsForHistory set (history_with_text h0 taken)) new
-  pub output : TellsRun status (run_output h0 ended taken) old new
+  pub output : TellsRun status (run_output set h0 ended taken) old new
   -- no failure of the output ends a run of which nothing is to be told
-  pub told_for : status ≡ TellFault → run_output h0 ended taken ≡ [] → ⊥
-  pub cause : HasRunCause status ended (run_reading h0 ended taken).ending taken source_rose tell_rose disk_rose
+  pub told_for : status ≡ TellFault → run_output set h0 ended taken ≡ [] → ⊥
+  pub cause : HasRunCause status ended (run_reading set h0 ended taken).ending taken source_rose tell_rose disk_rose
+
+-- The disk failed at a MOMENT that may stand where it does: it is the last but `later` of the lines that are read, behind
+-- these, and of all that is to be told next comes that its beat is stored. So much was told before.
+pub record FailsAtMoment (set : Settings) (h0 : List Beat) (ended : Bool) (text sent : List ℕ) : Type 0 where
+  pub past : List Line
+  pub moment : ℕ
+  pub later : List Line
+  pub accepted : lines_read (line_rules h0) [] (parts text) ≡ later ++ Moment moment ∷ past
+  pub missing : List ℕ
+  pub told : (run_reading set h0 ended text).told ≡ sent ++ told_of set h0 past (Moment moment) ++ missing
+
+-- the disk ended a run over this text at an accepted MOMENT, if it ended it
+abbrev pub FailsAtBeat : Status → Settings → List Beat → Bool → (text sent : List ℕ) → Type 0
+FailsAtBeat status set h0 ended text sent = status ≡ DiskFault → FailsAtMoment set h0 ended text sent
 
 -- from some moment on all that a stop might leave of the disk was a database of this history, and the run was one on it
 pub record RunsOn (status : Status) (set : Settings) (h0 : List Beat) (left left' : Option (List ℕ)) (read new : List Event) (source_rose tell_rose disk_rose : Type 0) : Type 0 where
   pub stands : EveryDisk (StandsForHistory set h0) read
   pub runs : Runs status set h0 left left' read new source_rose tell_rose disk_rose
+  -- a text that closes no beat, as one of questions, writes nothing
+  pub quiet : history_with_text h0 runs.taken ≡ h0 → LeavesFiles read new
+  -- the disk fails at an accepted MOMENT alone
+  pub stored_for : FailsAtBeat status set h0 runs.ended runs.taken runs.output.sent
 
 -- a run on a database that reads as this history, whatever else a stop might have left of it
 pub record Resumes (status : Status) (set : Settings) (h0 : List Beat) (left left' : Option (List ℕ)) (old new : List Event) (source_rose tell_rose disk_rose : Type 0) : Type 0 where
@@ -202,17 +226,8 @@ is_opened DiskFault = false
 is_opened Memory = false
 is_opened status = true
 
--- `run` ended with this status, and left the source and the host so
-pub record RunsAll (honest : Type 0) (status : Status) (left left' : Option (List ℕ)) (source_faults source_faults' : ℕ) (host host' : Seen) : Type 0 where
-  pub runs : honest → (set : Settings) (h0 : List Beat) → EveryDisk (StandsForHistory set h0) host.past
-      → Runs status set h0 left left' host.past host'.past (Rose source_faults source_faults') (Rose host.tell_faults host'.tell_faults) (Rose host.disk_faults host'.disk_faults)
-  -- where the images differ, as after a run that the disk ended, that history counts which the files read as
-  pub resumes : honest → (set : Settings) (h0 : List Beat) → StandsForHistory set h0 (reads_as host.past)
-      → Resumes status set h0 left left' host.past host'.past (Rose source_faults source_faults') (Rose host.tell_faults host'.tell_faults) (Rose host.disk_faults host'.disk_faults)
-  -- where no call on the outside fails, the status is that of the text, or there was no memory
-  pub complete : honest → (set : Settings) (h0 : List Beat) → EveryDisk (StandsForHistory set h0) host.past
-      → IfSome left (λ text. (Rose source_faults source_faults' → ⊥) → (Rose host.tell_faults host'.tell_faults → ⊥) → (Rose host.disk_faults host'.disk_faults → ⊥)
-      → (status ≡ run_status h0 text) ⊎ (status ≡ Memory))
+-- which database a command found that opens one, by the status that it ended with
+pub record Finds (honest : Type 0) (status : Status) (host : Seen) : Type 0 where
   -- where there is no database that is the status, unless the disk or memory failed
   pub none : status ≡ NotADatabase → honest → is_made (reads_as host.past) ≡ false
   pub unmade : honest → is_made (reads_as host.past) ≡ false → (status ≡ NotADatabase) ⊎ (status ≡ DiskFault) ⊎ (status ≡ Memory)
@@ -226,6 +241,19 @@ pub record RunsAll (honest : Type 0) (status : Status) (left left' : Option (Lis
   pub damaged_records : status ≡ Damaged 4 → honest → IsDamaged (reads_as host.past)
   pub damaged_notes : status ≡ Damaged 5 → honest → HasNotes false (reads_as host.past)
   pub opened : is_opened status ≡ true → honest → HasNotes true (reads_as host.past)
+
+-- `run` ended with this status, and left the source and the host so
+pub record RunsAll (honest : Type 0) (status : Status) (left left' : Option (List ℕ)) (source_faults source_faults' : ℕ) (host host' : Seen) : Type 0 where
+  pub runs : honest → (set : Settings) (h0 : List Beat) → EveryDisk (StandsForHistory set h0) host.past
+      → Runs status set h0 left left' host.past host'.past (Rose source_faults source_faults') (Rose host.tell_faults host'.tell_faults) (Rose host.disk_faults host'.disk_faults)
+  -- where the images differ, as after a run that the disk ended, that history counts which the files read as
+  pub resumes : honest → (set : Settings) (h0 : List Beat) → StandsForHistory set h0 (reads_as host.past)
+      → Resumes status set h0 left left' host.past host'.past (Rose source_faults source_faults') (Rose host.tell_faults host'.tell_faults) (Rose host.disk_faults host'.disk_faults)
+  -- where no call on the outside fails, the status is that of the text, or there was no memory
+  pub complete : honest → (set : Settings) (h0 : List Beat) → EveryDisk (StandsForHistory set h0) host.past
+      → IfSome left (λ text. (Rose source_faults source_faults' → ⊥) → (Rose host.tell_faults host'.tell_faults → ⊥) → (Rose host.disk_faults host'.disk_faults → ⊥)
+      → (status ≡ run_status set h0 text) ⊎ (status ≡ Memory))
+  pub finds : Finds honest status host
   -- whatever the host tells, these are the statuses of a run, and no more is taken of the source than may be
   pub statuses : (ends_a_run status ≡ true) ⊎ (finds_none status ≡ true)
   pub input : TakesInput status left left'

@@ -1,76 +1,175 @@
-ghost use Rattle.std.specs.Prelude.{◌≡◌, ◌≤◌, true, None, Some, IfSome, codes, if◌then◌else◌};
-ghost use Rattle.std.specs.Option.{option_map, option_and_then};
-ghost use Rattle.std.specs.Str.{bytes_eq};
+ghost use Rattle.std.specs.Prelude.{◌≡◌, ◌≤◌, ◌<◌, ◌^◌, true, false, Some, Ok, IfSome, IfOk, map, length};
+ghost use Rattle.std.specs.List.{list_any};
+ghost use Rattle.std.specs.Option.{option_and_then};
+ghost use Rattle.clap.specs.Words.{found_of, rows_of, subcommand_rows_of};
 ghost use Rattle.entry_codec.specs.declared.entry.Settings.{Settings as ASettings};
 ghost use Rattle.fixed_num.specs.UnitsText.{is_numeral};
 ghost use Rattle.store_core.specs.FirstRecord.{is_tier, InLimits};
-ghost use Rattle.agent_app.specs.Command.{alone, command_of, default_settings, has_leading_zero, number_of, settings_of, settings_with, tier_of, up_to};
+ghost use Rattle.agent_app.specs.Command.{command_of, default_settings, form_named, form_of, has_leading_zero, is_option, number_of, settings_of, settings_with, tier_of, up_to};
+ghost use Rattle.agent_app.specs.Forms.{command_in, form_in, settings_in};
 
+use crate::forms::parse;
 use agent_core::{Settings, TierSettings};
+use clap::ArgMatches;
+use clap::error::ErrorKind;
 use fixed_num::{Text, WordsList};
+use std::alloc::{AllocError, Global};
+
+/// In which form the log of alarms is told.
+#[derive(Clone, Copy, Debug, PartialEq, Eq)]
+pub enum Form {
+    /// A line for each event.
+    Text,
+    /// One line of JSON.
+    Json,
+}
 
 /// What the words of a command line ask for.
 #[derive(Clone, Copy, Debug, PartialEq, Eq)]
 pub enum Command {
     /// Tells the points of the input's text.
     Convert,
+    /// Stores the input as the configuration of alarms.
+    Health,
+    /// Tells the log of alarms in this form.
+    Log(Form),
     /// Makes a database with these settings.
     New(Settings),
+    /// Answers the question that the words behind the first ask.
+    Query,
     /// Stores the beats of the input's text.
     Run,
 }
 
 impl Command {
-    /// The command that the words give, or `None` where they are in no form.
-    pub fn read(words: &WordsList) -> Option<Command>
-        ensures command { result ≡ command_of words.now }
-        ensures limits { (settings : ASettings) → result ≡ Some (Command.New settings)
+    /// The command that the words give, or `None` where they are in no form. The error is want of
+    /// memory.
+    pub fn read(alloc: Global, words: &WordsList) -> Result<Option<Command>, AllocError>
+        ensures command { IfOk result (λ command. command ≡ command_of words.now) }
+        ensures limits { (settings : ASettings) → result ≡ Ok (Some (Command.New settings))
             → InLimits settings }
     {
-        match words.as_slice() {
-            [] => None,
-            [word] => read_alone(word.as_str()),
-            [word, more @ ..] => read_new(word.as_str(), more),
+        // A word that begins with `-` is in no form, and has a meaning of its own to `clap`.
+        if has_option(words.as_slice()) {
+            return Ok(None);
         }
+        let texts = texts_of(alloc, words.as_slice())?;
+        read_plain(alloc, texts.as_slice())
     }
 }
 
-/// The command of a single word.
-fn read_alone(word: &str) -> Option<Command>
-    ensures command { result ≡ alone word.now }
+/// The texts of the words.
+fn texts_of(alloc: Global, words: &[Text]) -> Result<Vec<&str>, AllocError>
+    ensures { IfOk result (λ texts. map (λ text. text.now) texts.items ≡ words.now) }
 {
-    match word {
+    let mut texts = Vec::new(alloc);
+    for word in words {
+        texts.push(word.as_str())?;
+    }
+    Ok(texts)
+}
+
+/// The command of words that begin with no `-`.
+fn read_plain<'a>(alloc: Global, words: &'a [&'a str]) -> Result<Option<Command>, AllocError>
+    requires plain { list_any is_option (map (λ word. word.now) words.now) ≡ false }
+    requires count { length words.now < 2 ^ 64 }
+    ensures command { IfOk result (λ command.
+        command ≡ command_of (map (λ word. word.now) words.now)) }
+    ensures limits { (settings : ASettings) → result ≡ Ok (Some (Command.New settings))
+        → InLimits settings }
+{
+    match parse(alloc, words) {
+        Ok(matches) => Ok(command_in(&matches)),
+        Err(error) => match error.kind() {
+            ErrorKind::OutOfMemory => Err(AllocError),
+            _ => Ok(None),
+        },
+    }
+}
+
+/// The command that `clap` found.
+fn command_in(matches: &ArgMatches<'_>) -> Option<Command>
+    ensures command { result ≡ command_in (subcommand_rows_of matches.now) }
+    ensures limits { (settings : ASettings) → result ≡ Some (Command.New settings)
+        → InLimits settings }
+{
+    let (name, found) = matches.subcommand()?;
+    match name {
         "convert" => Some(Command::Convert),
+        "health" => Some(Command::Health),
+        "log" => Some(Command::Log(form_in(found)?)),
+        "new" => Some(Command::New(settings_in(found)?)),
+        "query" => Some(Command::Query),
         "run" => Some(Command::Run),
         _ => None,
     }
 }
 
-fn read_new(word: &str, more: &[Text]) -> Option<Command>
-    ensures command { result ≡ (if bytes_eq word.now (codes "new") then option_map
-        (λ settings. Command.New settings) (settings_of more.now) else None) }
-    ensures limits { (settings : ASettings) → result ≡ Some (Command.New settings)
-        → InLimits settings }
+/// The form that the words behind `log` give.
+fn form_in(found: &ArgMatches<'_>) -> Option<Form>
+    ensures { result ≡ form_in (rows_of (found_of found.now)) }
 {
-    if word == "new" {
-        Some(Command::New(read_settings(more)?))
-    } else {
-        None
+    read_form(found.get_raw("words")?)
+}
+
+/// The form of the log that the words ask for, where they are one.
+fn read_form(words: &[&str]) -> Option<Form>
+    ensures { result ≡ form_of (map (λ word. word.now) words.now) }
+{
+    match words {
+        [word] => form_named(word),
+        _ => None,
+    }
+}
+
+/// The form of the log that a word asks for.
+fn form_named(word: &str) -> Option<Form>
+    ensures { result ≡ form_named word.now }
+{
+    match word {
+        "text" => Some(Form::Text),
+        "json" => Some(Form::Json),
+        _ => None,
+    }
+}
+
+/// The settings that the words behind `new` give.
+fn settings_in(found: &ArgMatches<'_>) -> Option<Settings>
+    ensures settings { result ≡ settings_in (rows_of (found_of found.now)) }
+    ensures limits { IfSome result InLimits }
+{
+    read_settings(found.get_raw("words")?)
+}
+
+/// Whether one of the words begins with `-`.
+fn has_option(words: &[Text]) -> bool
+    ensures { result ≡ list_any is_option words.now }
+{
+    words.iter().any(|word| is_option(word.as_str()))
+}
+
+/// Whether a word begins with `-`.
+fn is_option(word: &str) -> bool
+    ensures { result ≡ is_option word.now }
+{
+    match word.as_bytes() {
+        [first, ..] => *first == b'-',
+        _ => false,
     }
 }
 
 /// What a database is to keep: an id, and then nothing or the items and the segments of each tier.
-fn read_settings(words: &[Text]) -> Option<Settings>
-    ensures settings { result ≡ settings_of words.now }
+fn read_settings(words: &[&str]) -> Option<Settings>
+    ensures settings { result ≡ settings_of (map (λ word. word.now) words.now) }
     ensures limits { IfSome result InLimits }
 {
     match words {
-        [id] => Some(default_settings(read_number(id.as_str())?)),
+        [id] => Some(default_settings(read_number(id)?)),
         [id, items0, extents0, items1, extents1, items2, extents2] => settings_with(
-            read_number(id.as_str()),
-            read_tier(items0.as_str(), extents0.as_str()),
-            read_tier(items1.as_str(), extents1.as_str()),
-            read_tier(items2.as_str(), extents2.as_str()),
+            read_number(id),
+            read_tier(items0, extents0),
+            read_tier(items1, extents1),
+            read_tier(items2, extents2),
         ),
         _ => None,
     }

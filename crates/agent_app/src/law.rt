@@ -1,32 +1,53 @@
-ghost use Rattle.std.specs.Prelude.{ℕ, List, ◌∷◌, length, drop, Option};
+ghost use Rattle.std.specs.Prelude.{ℕ, List, ◌∷◌, length, drop, Contains, Option, None};
 ghost use Rattle.host_model.specs.declared.file.File.{File as AFile};
 ghost use Rattle.host_model.specs.declared.status.Status.{Status as AStatus};
 ghost use Rattle.host_model.specs.Disks.{EveryDisk};
 ghost use Rattle.host_model.specs.Moments.{EveryStop, Throughout};
 ghost use Rattle.host_model.specs.Past.{told};
+ghost use Rattle.history.specs.History.{Beat};
 ghost use Rattle.entry_codec.specs.declared.entry.Settings.{Settings as ASettings};
-ghost use Rattle.agent_app.specs.Course.{Course, HoldsRuns, OneRun};
+ghost use Rattle.agent_app.specs.Course.{Course, Database, HoldsRuns, MayHaveMade, OneRun};
+ghost use Rattle.agent_app.specs.New.{Makes};
+ghost use Rattle.agent_app.specs.Query.{Asks};
 ghost use Rattle.agent_app.specs.Run.{RunsAll};
 
 use host_model::Host;
 
 /// The law of runs on one honest host, one after the other, whatever input each has and whatever it ends
-/// with. Whatever a stop leaves at the end, or at any moment of one run more, is a database that holds just
-/// what these runs stored. Each goes on from what the one before left, by a front of the beats of the bytes
-/// that it took, with every beat that it acknowledged. It does nothing.
+/// with. At the start a stop leaves one of the given databases, or none where that is among them. Between the
+/// runs `new` may be tried, also after a `new` that failed. Whatever a stop leaves at the end, or at any moment
+/// of one run, one question or one `new` more, is what these runs stored from one of those. Each goes on from
+/// what the one before left, by a front of the beats of the bytes that it took, and by all of them unless it
+/// ended with 4, 5 or 15. Every beat that it acknowledged is there. It does nothing.
 pub fn any_course<H: Host>()
-    ensures kept { H.honest → (set : ASettings) (runs : List OneRun) (host : H)
-        → Course H.honest H.seen set runs host
-        → EveryDisk (HoldsRuns set runs) (H.seen host).past }
-    ensures moments { H.honest → (set : ASettings) (runs : List OneRun) (host host' : H)
+    ensures kept { H.honest → (starts : List (Option Database)) (tried : List ASettings)
+        (runs : List OneRun) (host : H)
+        → Course H.honest H.seen starts tried runs host
+        → EveryDisk (HoldsRuns starts tried runs) (H.seen host).past }
+    ensures moments { H.honest → (starts : List (Option Database)) (tried : List ASettings)
+        (runs : List OneRun) (host host' : H)
         (status : AStatus) (left left' : Option (List ℕ)) (source_faults source_faults' : ℕ)
-        → Course H.honest H.seen set runs host
+        → Course H.honest H.seen starts tried runs host
         → RunsAll H.honest status left left' source_faults source_faults' (H.seen host)
         (H.seen host')
-        → Throughout (EveryStop (λ disk text. HoldsRuns set (record {
+        → Throughout (EveryStop (λ disk text. HoldsRuns starts tried (record {
+          status = None;
           left = left;
           left_after = left';
           text = drop (length (told (H.seen host).past)) text;
         } ∷ runs) disk))
+        (H.seen host).past (H.seen host').past }
+    ensures asks_moments { H.honest → (starts : List (Option Database)) (tried : List ASettings)
+        (runs : List OneRun) (host host' : H) (answer : ASettings → List Beat → List ℕ) (status : AStatus)
+        → Course H.honest H.seen starts tried runs host
+        → Asks H.honest answer status (H.seen host) (H.seen host')
+        → Throughout (EveryDisk (HoldsRuns starts tried runs))
+        (H.seen host).past (H.seen host').past }
+    ensures makes_moments { H.honest → (starts : List (Option Database)) (tried : List ASettings)
+        (runs : List OneRun) (host host' : H) (set : ASettings) (status : AStatus)
+        → Course H.honest H.seen starts tried runs host
+        → (MayHaveMade status (H.seen host) → Contains tried set)
+        → Makes H.honest set status (H.seen host) (H.seen host')
+        → Throughout (EveryDisk (HoldsRuns starts tried runs))
         (H.seen host).past (H.seen host').past }
 {}

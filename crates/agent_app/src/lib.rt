@@ -3,33 +3,49 @@
 //! `agent_main` is the top call. Over an honest host its contract says, for every input and whatever
 //! fails: what is told is a front of a stated function of the bytes taken, and all of it unless the
 //! output, the disk or memory failed. It says what a stop may leave of the database at any moment, and
-//! why the run ended with the status that it answers. Of `run` it says so where the disk reads as a
-//! database of a history.
+//! why the run ended with the status that it answers. Of `run`, `query`, `health` and `log` it says so where
+//! the disk reads as a database of a history.
 //!
 //! It stands on `line_stream` for the lines of a stream, on `point_lines` for what the lines of a text
 //! tell, on `agent_core` for the agent whose beats are stored, and on `host_model` for the outside.
 #![tactic(auto)]
 
-ghost use Rattle.std.specs.Prelude.{◌≡◌, ◌↔◌, None, Some};
+ghost use Rattle.std.specs.Prelude.{◌≡◌, ◌⊎◌, None, Some};
 ghost use Rattle.agent_app.specs.Command.{command_of};
 ghost use Rattle.agent_app.specs.Convert.{Converts, EndsAsText, LeavesDisk};
+ghost use Rattle.agent_app.specs.declared.command.Form.{Form as AForm};
+ghost use Rattle.agent_app.specs.Health.{ConfiguresAll};
+ghost use Rattle.agent_app.specs.Log.{log_for};
 ghost use Rattle.agent_app.specs.New.{Makes};
+ghost use Rattle.agent_app.specs.Query.{question_of, reply_for, Asks};
 ghost use Rattle.agent_app.specs.Run.{RunsAll};
 ghost use Rattle.entry_codec.specs.declared.entry.Settings.{Settings as ASettings};
 
 use command::Command;
 use convert::convert;
 use fixed_num::WordsList;
+use health::health;
 use host_model::{Host, Source, Status};
+use log::log;
 use new::new;
+use query::query;
 use run::run;
 use std::alloc::Global;
 
 mod command;
 mod convert;
 mod converting;
+mod forms;
+mod health;
+mod health_text;
 mod law;
+mod log;
+mod log_json;
+#[cfg(test)]
+mod log_tests;
+mod log_text;
 mod new;
+mod query;
 mod refusals;
 mod run;
 mod running;
@@ -55,16 +71,31 @@ pub use law::any_course;
 ///
 /// `run` stores the beats of such a text behind those of the database, and tells `STORED` and a
 /// beat's number in the history as soon as the beat is stored: no stop loses it then. A refusal is
-/// told as by `convert`, and the beats before it stay. A QUERY line is refused with 90: nothing
-/// answers questions yet.
+/// told as by `convert`, and the beats before it stay. A QUERY line is answered at its place, over the
+/// history there: with `ROWS`, how many windows there are and the ids of the dimensions, and then a line
+/// for each window, its start and its values; or with `ERROR` and a number, which ends nothing.
+///
+/// `health` stores the input, at most 2^20 bytes, as the configuration of alarms, and tells `STORED`, its number
+/// in the history and a line for each alarm that goes. A text that is refused tells `REFUSED`, the number of
+/// the line and that of the refusal, and too many alarms or bytes tell `LIMIT` so; nothing is stored then.
+///
+/// `log text` tells `DROPPED`, how many events of the alarms are not shown, and a line for each of the last
+/// 1,000, the earliest first. `log json` tells the same as one line of JSON. Nothing changes in the database.
+///
+/// `query CHART AFTER BEFORE WINDOW GROUP [WORD..]` answers that question from the database, which
+/// nothing changes. The status is 0 where `ERROR` is told too. No word of it begins with `-`.
 pub fn agent_main<S: Source, H: Host>(
     alloc: Global,
     words: &WordsList,
     source: &mut S,
     host: &mut H,
 ) -> Status
-    ensures usage { (result ≡ Status.Usage) ↔ (command_of words.now ≡ None) }
-    ensures untouched { result ≡ Status.Usage → (source.new ≡ source.old) × (host.new ≡ host.old) }
+    // Words in no form are refused, or there was no memory to read them. Nothing is touched then.
+    ensures usage { result ≡ Status.Usage → command_of words.now ≡ None }
+    ensures no_form { command_of words.now ≡ None →
+        (result ≡ Status.Usage) ⊎ (result ≡ Status.Memory) }
+    ensures untouched { command_of words.now ≡ None →
+        (source.new ≡ source.old) × (host.new ≡ host.old) }
 
     // What was told, and why the run ended.
     ensures converts { command_of words.now ≡ Some Command.Convert →
@@ -81,9 +112,11 @@ pub fn agent_main<S: Source, H: Host>(
         EndsAsText result (S.left source.old) (S.faults source.old) (S.faults source.new)
         (H.seen host.old).tell_faults (H.seen host.new).tell_faults }
 
-    // What a new database is, and what stops leave of it.
+    // What a new database is, and what stops leave of it. Nothing is touched where there was no memory
+    // to read the words.
     ensures makes { (settings : ASettings) → command_of words.now ≡ Some (Command.New settings) →
-        Makes H.honest settings result (H.seen host.old) (H.seen host.new) }
+        Makes H.honest settings result (H.seen host.old) (H.seen host.new)
+        ⊎ ((result ≡ Status.Memory) × (host.new ≡ host.old)) }
 
     // It takes nothing of the input.
     ensures new_takes_nothing { (settings : ASettings) →
@@ -93,11 +126,33 @@ pub fn agent_main<S: Source, H: Host>(
     ensures runs { command_of words.now ≡ Some Command.Run →
         RunsAll H.honest result (S.left source.old) (S.left source.new)
         (S.faults source.old) (S.faults source.new) (H.seen host.old) (H.seen host.new) }
+
+    // What a question is answered with, and why it was not.
+    ensures asks { command_of words.now ≡ Some Command.Query →
+        Asks H.honest (reply_for (question_of words.now)) result
+        (H.seen host.old) (H.seen host.new) }
+    ensures query_takes_nothing { command_of words.now ≡ Some Command.Query →
+        source.new ≡ source.old }
+
+    // What a configuration of alarms stores and tells, what stops leave, and why it ended.
+    ensures configures { command_of words.now ≡ Some Command.Health →
+        ConfiguresAll H.honest result (S.left source.old) (S.left source.new)
+        (S.faults source.old) (S.faults source.new) (H.seen host.old) (H.seen host.new) }
+
+    // What the log of the alarms is told as, and why it was not.
+    ensures logs { (form : AForm) → command_of words.now ≡ Some (Command.Log form) →
+        Asks H.honest (log_for form) result (H.seen host.old) (H.seen host.new) }
+    ensures log_takes_nothing { (form : AForm) → command_of words.now ≡ Some (Command.Log form) →
+        source.new ≡ source.old }
 {
-    match Command::read(words) {
-        None => Status::Usage,
-        Some(Command::Convert) => convert(alloc, source, host),
-        Some(Command::New(settings)) => new(alloc, &settings, host),
-        Some(Command::Run) => run(alloc, source, host),
+    match Command::read(alloc, words) {
+        Err(_) => Status::Memory,
+        Ok(None) => Status::Usage,
+        Ok(Some(Command::Convert)) => convert(alloc, source, host),
+        Ok(Some(Command::Health)) => health(alloc, source, host),
+        Ok(Some(Command::Log(form))) => log(alloc, form, host),
+        Ok(Some(Command::New(settings))) => new(alloc, &settings, host),
+        Ok(Some(Command::Query)) => query(alloc, words, host),
+        Ok(Some(Command::Run)) => run(alloc, source, host),
     }
 }

@@ -10,15 +10,18 @@ use line_stream::take_text;
 use std::alloc::Global;
 
 /// The status of a run whose database was not opened.
-fn opening_status(fault: AgentFault) -> Status
+pub(crate) fn opening_status(fault: AgentFault) -> Status
     ensures { result ≡ opening_status fault }
 {
     match fault {
         AgentFault::DiskFault => Status::DiskFault,
         AgentFault::NotADatabase => Status::NotADatabase,
         AgentFault::Damaged(part) => Status::Damaged(part),
-        AgentFault::Refused(_) | AgentFault::Reopen(_) | AgentFault::Exists | AgentFault::Memory =>
-            Status::Memory,
+        AgentFault::Refused(_)
+        | AgentFault::Health(_)
+        | AgentFault::Reopen(_)
+        | AgentFault::Exists
+        | AgentFault::Memory => Status::Memory,
     }
 }
 

@@ -1,5 +1,5 @@
 //! A text whose beats are stored, line by line.
-ghost use Rattle.std.specs.Prelude.{◌≡◌, ◌∷◌, ℕ, List, [], take, false, true, IsErr, IsErrOf, IfErr, OnOk, OnErr};
+ghost use Rattle.std.specs.Prelude.{◌≡◌, ◌∷◌, ℕ, List, [], take, true, IsErr, IsErrOf, IfErr, OnOk, OnErr};
 ghost use Rattle.host_model.specs.Cause.{HasCause, Rose};
 ghost use Rattle.host_model.specs.Past.{Told, MayAdd};
 ghost use Rattle.plugin_text.specs.Answer.{IsFaultFor};
@@ -10,7 +10,7 @@ ghost use Rattle.history.specs.Registry.{Registry};
 ghost use Rattle.collect_block.specs.Feed.{CountsFor, IsFeedOf};
 ghost use Rattle.agent_core.specs.Fed.{IsFed};
 ghost use Rattle.agent_core.specs.Replies.{reply_text};
-ghost use Rattle.agent_app.specs.Running.{is_query, IsCutShort, IsFit, TellsRefusal, TakesLine, Pauses, EndsRun, Overflows};
+ghost use Rattle.agent_app.specs.Running.{IsCutShort, IsFit, TellsRefusal, TakesLine, Pauses, EndsRun, Overflows};
 
 use crate::refusals::{push_refusal, refusal_status};
 use agent_core::{Agent, AgentFault, Reply, Said, write_reply};
@@ -34,7 +34,7 @@ pub(crate) struct Running {
 }
 
 /// Tells a text whole, as one event of the host.
-fn tell_text<H: Host>(host: &mut H, text: &str) -> Result<(), Failed>
+pub(crate) fn tell_text<H: Host>(host: &mut H, text: &str) -> Result<(), Failed>
     ensures done { OnOk result (H.honest →
         (H.seen host.new).past ≡ Told text.now ∷ (H.seen host.old).past) }
     ensures torn { OnErr result (H.honest →
@@ -65,11 +65,28 @@ fn tell_refusal<H: Host>(alloc: Global, host: &mut H, line: u64, refusal: Refusa
     }
 }
 
-/// Tells that a beat is stored.
-fn tell_stored<H: Host>(alloc: Global, host: &mut H, reply: Reply) -> Result<(), Status>
+/// Tells a text whole, or says how the run ends.
+fn tell_whole<H: Host>(host: &mut H, text: &str) -> Result<(), Status>
     ensures done { OnOk result (H.honest →
-        (H.seen host.new).past ≡ Told (reply_text reply) ∷ (H.seen host.old).past) }
-    ensures torn { IfErr result (λ status. IsCutShort status H.honest (reply_text reply)
+        (H.seen host.new).past ≡ Told text.now ∷ (H.seen host.old).past) }
+    ensures torn { IfErr result (λ status. IsCutShort status H.honest text.now
+        (H.seen host.old).past (H.seen host.new).past
+        (Rose (H.seen host.old).tell_faults (H.seen host.new).tell_faults)) }
+    ensures cause { HasCause (H.seen host.old).tell_faults (H.seen host.new).tell_faults
+        (IsErrOf result Status.TellFault) }
+    ensures disk { (H.seen host.new).disk_faults ≡ (H.seen host.old).disk_faults }
+{
+    match tell_text(host, text) {
+        Ok(()) => Ok(()),
+        Err(_) => Err(Status::TellFault),
+    }
+}
+
+/// Tells that a beat is stored, and the events that it made.
+pub(crate) fn tell_stored<H: Host>(alloc: Global, host: &mut H, reply: &Reply) -> Result<(), Status>
+    ensures done { OnOk result (H.honest →
+        (H.seen host.new).past ≡ Told (reply_text reply.now) ∷ (H.seen host.old).past) }
+    ensures torn { IfErr result (λ status. IsCutShort status H.honest (reply_text reply.now)
         (H.seen host.old).past (H.seen host.new).past
         (Rose (H.seen host.old).tell_faults (H.seen host.new).tell_faults)) }
     ensures cause { HasCause (H.seen host.old).tell_faults (H.seen host.new).tell_faults
@@ -79,10 +96,7 @@ fn tell_stored<H: Host>(alloc: Global, host: &mut H, reply: Reply) -> Result<(),
     let Ok(text) = write_reply(alloc, reply) else {
         return Err(Status::Memory);
     };
-    match tell_text(host, text.as_str()) {
-        Ok(()) => Ok(()),
-        Err(_) => Err(Status::TellFault),
-    }
+    tell_whole(host, text.as_str())
 }
 
 impl Running {
@@ -112,25 +126,9 @@ impl Running {
     }
 
     /// Takes a line that says this. `Err` is how the run ends.
-    fn take_said<H: Host>(&mut self, host: &mut H, number: u64, said: Line) -> Result<(), Status>
-        requires ready { IsFit H.honest self.old (H.seen host.old) }
-        requires limits { keeps_limits said ≡ true }
-        ensures takes { (bytes : List ℕ) → line_of bytes ≡ Ok said → fits bytes ≡ true
-            → TakesLine H.honest self.old (H.seen host.old) number bytes result
-            self.new (H.seen host.new) }
-        ensures ready { OnOk result (IsFit H.honest self.new (H.seen host.new)) }
-    {
-        match said {
-            Line::Query(_) => Err(tell_refusal(self.alloc, host, number, Refusal::NotBuilt)),
-            _ => self.take(host, number, said),
-        }
-    }
-
-    /// Takes a line that says this and is no question. `Err` is how the run ends.
     fn take<H: Host>(&mut self, host: &mut H, number: u64, said: Line) -> Result<(), Status>
         requires ready { IsFit H.honest self.old (H.seen host.old) }
         requires limits { keeps_limits said ≡ true }
-        requires answer { is_query said ≡ false }
         ensures takes { (bytes : List ℕ) → line_of bytes ≡ Ok said → fits bytes ≡ true
             → TakesLine H.honest self.old (H.seen host.old) number bytes result
             self.new (H.seen host.new) }
@@ -138,9 +136,8 @@ impl Running {
     {
         match self.agent.take_line(host, &mut self.feed, said) {
             Ok(Said::Nothing) => Ok(()),
-            // No question comes here.
-            Ok(Said::Asked(_)) => unreachable!(),
-            Ok(Said::Stored(reply)) => tell_stored(self.alloc, host, reply),
+            Ok(Said::Stored(reply)) => tell_stored(self.alloc, host, &reply),
+            Ok(Said::Table(reply)) => tell_whole(host, reply.as_str()),
             Ok(Said::Disabled) => Err(Status::Ok),
             Err(AgentFault::Refused(fault)) => {
                 Err(tell_refusal(self.alloc, host, number, Refusal::Block(fault)))
@@ -167,7 +164,7 @@ impl<H: Host> Taker<H> for Running {
 
     fn take_line(&mut self, host: &mut H, number: u64, line: &[u8]) -> Result<(), Status> {
         match read_line(self.alloc, line) {
-            Ok(said) => self.take_said(host, number, said),
+            Ok(said) => self.take(host, number, said),
             Err(fault) => Err(self.refuse(host, number, fault)),
         }
     }

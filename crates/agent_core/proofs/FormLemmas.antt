@@ -1,9 +1,11 @@
 -- What is kept of a beat is in form, and a record can hold it.
-use Rattle.std.proofs.Common.{◌≡◌, ℕ, ◌+◌, ◌≤◌, ◌<◌, ◌^◌, true, ◌&&◌, nat_le, nat_lt, List, [], ◌∷◌, length, map, slice_get, Option, Some, None, refl, ap, ◌∙◌, arith, lt-ltb}
+use Rattle.std.proofs.Common.{◌≡◌, ℕ, ◌+◌, ◌≤◌, ◌<◌, ◌^◌, true, ◌&&◌, nat_le, nat_lt, List, [], ◌∷◌, length, map, slice_get, Option, Some, None, refl, sym, ap, subst, ◌∙◌, arith, lt-ltb}
 use Rattle.std.specs.List.{find, list_all, AllByRecursion}
 use Rattle.std.specs.Option.{option_and_then, option_map_or}
 use Rattle.std.proofs.lemmas.Bool.{and_from, and_parts, le-leb, leb-true}
-use Rattle.std.proofs.lemmas.List.{length-map}
+use Rattle.field_codec.specs.Spelling.{sized_bytes, u32_bytes}
+use Rattle.field_codec.proofs.Lengths.{length-u32_bytes}
+use Rattle.std.proofs.lemmas.List.{length-append, length-map}
 use Rattle.std.proofs.lemmas.List.Elements.{All-from_recursion, recursion_from_All}
 use Rattle.storage_number.specs.Word.{is_word}
 use Rattle.history.specs.declared.beat.OpenBeat.{OpenBeat}
@@ -17,7 +19,7 @@ use Rattle.beat_points.specs.declared.series_word.SeriesWord.{SeriesWord}
 use Rattle.beat_points.specs.Points.{ArePointsIn, AreRising}
 use Rattle.chart_registry.proofs.Finding.{found-all}
 use Rattle.entry_codec.specs.declared.entry.Entry.TheVariants as entry
-use Rattle.entry_codec.specs.Entries.{entry_bytes, IsWithinLimits}
+use Rattle.entry_codec.specs.Entries.{entry_bytes, is_canonical, HasSpelling, IsWithinLimits}
 use Rattle.entry_codec.specs.Lists.{is_ascending}
 use Rattle.entry_codec.proofs.Lengths.{collected-length}
 use Rattle.beat_tiers.specs.declared.item.BeatPoint.{BeatPoint}
@@ -129,3 +131,28 @@ module _ (registry : Registry) (grids : HasGrids registry) (few : length registr
 
     pub kept-size : (moment : Option ℕ) → length (beat_bytes (record { moment = moment; points = points; note = note })) ≤ 2 ^ 26
     kept-size moment = omega (arith, beat_size (record { moment = moment; points = points; note = note }), few-points, note-length)
+
+-- ---- a configuration
+health-length : (text : List ℕ) → length (entry_bytes (entry.Health text)) ≡ 5 + length text
+unfolding entry_bytes sized_bytes
+health-length text = omega (arith, length-append (u32_bytes (length text)) text, length-u32_bytes (length text))
+
+module _ (points : List BeatPoint) (note text : List ℕ) (none : points ≡ []) (note_is : note ≡ entry_bytes (entry.Health text)) (few : length text ≤ 2 ^ 20) where
+  pub health-form : InForm (record { moment = None; points = points; note = note })
+  health-form =
+      let size : length note ≡ length (entry_bytes (entry.Health text)) = ap length note_is in
+      subst (λ (ps : List BeatPoint). InForm (record { moment = None; points = ps; note = note })) (sym none) (record {
+        short = record { moment = tt; points = record { count = omega arith; each = tt }; note = omega (arith, size, health-length text, few) };
+        form = refl;
+      })
+
+  pub health-size : length (beat_bytes (record { moment = None; points = points; note = note })) ≤ 2 ^ 26
+  health-size =
+      let size : length note ≡ length (entry_bytes (entry.Health text)) = ap length note_is in
+      let empty : length points ≡ 0 = ap length none in
+      omega (arith, beat_size (record { moment = None; points = points; note = note }), empty, size, health-length text, few)
+
+-- it has a spelling
+pub health-spelt : (text : List ℕ) → length text ≤ 2 ^ 20 → HasSpelling (entry.Health text)
+unfolding is_canonical
+health-spelt text few = record { short = omega (arith, few); canonical = refl }

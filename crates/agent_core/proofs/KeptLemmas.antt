@@ -1,5 +1,5 @@
 -- What is kept of a beat, and what a stop leaves of a history.
-use Rattle.std.proofs.Common.{◌≡◌, ℕ, ◌+◌, ◌⊎◌, inl, inr, List, ◌∷◌, length, map, Option, Some, None, refl, sym, ap, ◌∙◌, subst, arith}
+use Rattle.std.proofs.Common.{◌≡◌, ℕ, ◌+◌, ◌⊎◌, inl, inr, List, [], ◌∷◌, length, map, Option, Some, None, is_some, refl, sym, ap, ◌∙◌, subst, arith}
 use Rattle.host_model.specs.declared.file.File.{File}
 use Rattle.host_model.specs.Past.{Event}
 use Rattle.host_model.specs.Disks.{EveryDisk}
@@ -9,7 +9,7 @@ use Rattle.algorithms.specs.declared.last.Last.{Last}
 use Rattle.history.specs.declared.beat.OpenBeat.{OpenBeat}
 use Rattle.history.specs.declared.fault.BlockFault.{BlockFault}
 use Rattle.history.specs.declared.numbered.NumberedBeat.{NumberedBeat}
-use Rattle.history.specs.History.{Beat, collected, registry_of}
+use Rattle.history.specs.History.{Beat, child, collected, health, last, registry_of}
 use Rattle.history.specs.Registry.{Registry, with_definitions}
 use Rattle.beat_points.specs.declared.series_word.SeriesWord.{SeriesWord}
 use Rattle.beat_points.specs.LastRows.{AreLastOf}
@@ -17,18 +17,25 @@ use Rattle.beat_points.specs.Points.{beat_points, IsNext}
 use Rattle.history.specs.Numbered.{numbered_beat}
 use Rattle.history.specs.Regular.{IsRegular}
 use Rattle.entry_codec.specs.declared.entry.Entry.TheVariants as entry
+use Rattle.alarm_core.specs.Course.{held}
 use Rattle.entry_codec.specs.declared.entry.Settings.{Settings}
-use Rattle.entry_codec.specs.Entries.{HasSpelling}
+use Rattle.entry_codec.specs.Entries.{entry_bytes, HasSpelling}
 use Rattle.store_core.specs.declared.beat.Beat.{Beat as StoreBeat}
 use Rattle.beat_tiers.specs.declared.item.BeatPoint.{BeatPoint}
 use Rattle.store_core.specs.Stands.{StandsAround}
 use Rattle.store_core.specs.Store.{counted, raised, IsStoreOf, StoreState}
 use Rattle.store_core.proofs.StoreLemmas.{every_image_of}
+use Rattle.alarm_core.specs.declared.latest.Latest.{Latest}
 use Rattle.agent_core.specs.Agent.{AgentState, Holds, IsAgentOf}
-use Rattle.agent_core.specs.Kept.{kept_of, note_of, point_of, stored_points, AreBeatsOf, Follows, StandsForHistory, StandsForOneOf}
-use Rattle.agent_core.specs.Replay.{HasTakenRows}
+use Rattle.alarm_events.specs.declared.event.Event.{Event as AlarmEvent}
+use Rattle.agent_core.specs.Alarms.{alarms_at, HaveFollowed}
+use Rattle.agent_core.specs.LastSeen.{IsLatestOf}
+use Rattle.agent_core.specs.Kept.{kept_of, note_of, point_of, stored_points, AreBeatsOf, Follows, StandsForHealth, StandsForHistory, StandsForOneOf}
+use Rattle.agent_core.specs.Replay.{HasSeenBeat, HasTakenRows}
 use Rattle.agent_core.specs.Rules.{beat_refusal, IsOpenBeat}
+use Rattle.agent_core.specs.Health.{health_refusal}
 use Rattle.agent_core.proofs.HistoryLemmas.{before-of, follows-passed}
+use Rattle.agent_core.proofs.LastSeenLemmas.{latest-health}
 
 -- what is kept is put together of its parts
 pub kept-is : (registry : Registry) (lasts : List (Option Last)) (h : List Beat) (moment : ℕ) (beat : OpenBeat) (words : List SeriesWord) (points : List BeatPoint) (note : List ℕ) → IsNext registry lasts h moment beat
@@ -48,8 +55,16 @@ pub rows-taken : (registry : Registry) (lasts lasts' : List (Option Last)) (h : 
 rows-taken registry lasts lasts' h moment beat numbered same taken next regular =
     subst (HasTakenRows registry lasts lasts') same taken h beat next.lasts_are next.registry_is regular refl
 
+-- and so are its rows and points taken as what was last seen
+pub seen-taken : (registry : Registry) (latest latest' : Latest) (h : List Beat) (moment : ℕ) (beat : OpenBeat) (numbered : NumberedBeat) (kept : StoreBeat) → numbered ≡ numbered_beat registry moment beat
+    → HasSeenBeat registry latest latest' numbered kept.points → (beats : List StoreBeat) (lasts : List (Option Last)) → AreBeatsOf h beats → AreLastOf lasts h → IsLatestOf latest h → registry ≡ registry_of (collected moment beat ∷ h) → IsRegular registry beat → kept ≡ kept_of h moment beat
+    → IsLatestOf latest' (collected moment beat ∷ h)
+seen-taken registry latest latest' h moment beat numbered kept same seen beats lasts are last was is regular is_kept =
+    let points : kept.points ≡ stored_points registry h moment beat = ap (λ (k : StoreBeat). k.points) is_kept ∙ ap (λ (r : Registry). stored_points r h moment beat) (sym is) in
+    subst (λ (n : NumberedBeat). HasSeenBeat registry latest latest' n kept.points) same seen h beats lasts beat are last was is regular refl points
+
 -- ---- the parts of an agent
-module _ (past : List Event) (store : StoreState) (registry : Registry) (lasts : List (Option Last)) (set : Settings) (h : List Beat) (holds : Holds past store registry lasts set h) where
+module _ (past : List Event) (store : StoreState) (registry : Registry) (lasts : List (Option Last)) (latest : Latest) (set : Settings) (h : List Beat) (holds : Holds past store registry lasts latest set h) where
   -- whatever a stop leaves, the disk holds the history
   pub stays : EveryDisk (StandsForHistory set h) past
   stays disk images = record { beats = holds.beats; are = holds.are; stands = every_image_of past store set holds.beats holds.store_of disk images }
@@ -91,16 +106,52 @@ module _ (past : List Event) (store : StoreState) (registry : Registry) (lasts :
           → Throughout (EveryDisk (λ disk. StandsForHistory set h disk ⊎ StandsForHistory set (collected moment beat ∷ h) disk)) past new
       climbs new moments = disks_weaker around moments
 
-      pub holds-more : (new : List Event) (store' : StoreState) (registry' : Registry) (lasts' : List (Option Last)) → IsStoreOf new store' set (kept ∷ holds.beats)
-          → registry' ≡ with_definitions registry beat.charts beat.dimensions → AreLastOf lasts' (collected moment beat ∷ h)
-          → Holds new store' registry' lasts' set (collected moment beat ∷ h)
-      holds-more new store' registry' lasts' store_of registry_is last_rows_are = record {
+      pub holds-more : (new : List Event) (store' : StoreState) (registry' : Registry) (lasts' : List (Option Last)) (latest' : Latest) → IsStoreOf new store' set (kept ∷ holds.beats)
+          → registry' ≡ with_definitions registry beat.charts beat.dimensions → AreLastOf lasts' (collected moment beat ∷ h) → IsLatestOf latest' (collected moment beat ∷ h)
+          → Holds new store' registry' lasts' latest' set (collected moment beat ∷ h)
+      holds-more new store' registry' lasts' latest' store_of registry_is last_rows_are latest_is = record {
         beats = kept ∷ holds.beats;
         are = kept-follows;
         store_of = store_of;
         registry_is = registry_is ∙ is_next.registry_is;
         last_rows_are = last_rows_are;
+        latest_is = latest_is;
       }
+
+  -- ---- a configuration
+  module _ (text : List ℕ) (accepted : health_refusal text ≡ None) (kept : StoreBeat) (is_kept : kept ≡ record { moment = None; points = []; note = entry_bytes (entry.Health text) }) (spelt : HasSpelling (entry.Health text)) where
+    health-follows : AreBeatsOf (health text ∷ h) (kept ∷ holds.beats)
+    health-follows = (record { accepted = accepted; is_kept = is_kept; spelt = spelt }, holds.are)
+
+    pub health-climbs : (new : List Event) → Throughout (EveryDisk (StandsAround set holds.beats kept)) past new
+        → Throughout (EveryDisk (λ disk. StandsForHistory set h disk ⊎ StandsForHistory set (health text ∷ h) disk)) past new
+    health-climbs new moments = disks_weaker around-health moments
+      where
+        around-health : (disk : File → List ℕ) → StandsAround set holds.beats kept disk → StandsForHistory set h disk ⊎ StandsForHistory set (health text ∷ h) disk
+        around-health disk (inl stands) = inl (record { beats = holds.beats; are = holds.are; stands = stands })
+        around-health disk (inr stands) = inr (record { beats = kept ∷ holds.beats; are = health-follows; stands = stands })
+
+    pub holds-health : (new : List Event) (store' : StoreState) → IsStoreOf new store' set (kept ∷ holds.beats) → Holds new store' registry lasts latest set (health text ∷ h)
+    holds-health new store' store_of = record {
+      beats = kept ∷ holds.beats;
+      are = health-follows;
+      store_of = store_of;
+      registry_is = holds.registry_is;
+      last_rows_are = record { rows = holds.last_rows_are.rows; within = holds.last_rows_are.within };
+      latest_is = latest-health latest h text holds.latest_is;
+    }
+
+-- whatever moment came before
+pub holds-before : (past : List Event) (store : StoreState) (registry : Registry) (lasts : List (Option Last)) (latest : Latest) (set : Settings) (h : List Beat) (before : ℕ) → Holds past store registry lasts latest set h
+    → Holds past store registry lasts (record latest { before = before }) set h
+holds-before past store registry lasts latest set h before holds = record {
+  beats = holds.beats;
+  are = holds.are;
+  store_of = holds.store_of;
+  registry_is = holds.registry_is;
+  last_rows_are = holds.last_rows_are;
+  latest_is = record { charts = holds.latest_is.charts; points = holds.latest_is.points; raws = holds.latest_is.raws };
+}
 
 -- ---- the agent
 counted-more : (n : ℕ) → raised (counted n) ≡ counted (n + 1)
@@ -118,7 +169,7 @@ module _ (past : List Event) (agent : AgentState) (set : Settings) (h : List Bea
 
   -- nothing has happened yet
   pub nothing_done : (reason : Option BlockFault) (more : List Beat) → EveryDisk (StandsForOneOf set h reason more) past
-  nothing_done reason more disk images = inl (stays past agent.store agent.registry agent.last_rows set h is_of.holds disk images)
+  nothing_done reason more disk images = inl (stays past agent.store agent.registry agent.last_rows agent.latest set h is_of.holds disk images)
 
   pub one_of : (reason : Option BlockFault) (more : List Beat) (new : List Event) → reason ≡ None
       → Throughout (EveryDisk (λ disk. StandsForHistory set h disk ⊎ StandsForHistory set more disk)) past new
@@ -129,25 +180,47 @@ module _ (past : List Event) (agent : AgentState) (set : Settings) (h : List Bea
       either reason more free disk (inl stands) = inl stands
       either reason more free disk (inr stands) = inr (free, stands)
 
-  pub one_more : (new : List Event) (agent' : AgentState) (moment : ℕ) (beat : OpenBeat) → Holds new agent'.store agent'.registry agent'.last_rows set (collected moment beat ∷ h)
-      → agent'.last ≡ moment → agent'.count ≡ raised agent.count → agent'.copies ≡ agent.copies → agent'.fault ≡ None
-      → IsAgentOf new agent' set (collected moment beat ∷ h)
-  one_more new agent' moment beat holds last_is count copies going = record {
+  pub one_more : (new : List Event) (agent' : AgentState) (beat : Beat) → Holds new agent'.store agent'.registry agent'.last_rows agent'.latest set (beat ∷ h)
+      → agent'.last ≡ last (beat ∷ h) → agent'.count ≡ raised agent.count → agent'.copies ≡ is_some (child (beat ∷ h)) → held agent'.alarms ≡ alarms_at set (beat ∷ h) → agent'.fault ≡ None
+      → IsAgentOf new agent' set (beat ∷ h)
+  one_more new agent' beat holds last_is count copies alarms going = record {
     holds = holds;
     last_is = last_is;
     count = count ∙ ap raised is_of.count ∙ counted-more (length h) ∙ ap counted (omega arith);
-    copies = copies ∙ is_of.copies;
+    copies = copies;
+    alarms = alarms;
     going = going;
   }
+
+-- an agent whose parts are of the history with a beat, and whose alarms have followed it
+pub agent-more : (past new : List Event) (agent parts agent' : AgentState) (set : Settings) (h : List Beat) (beat : Beat) (moment : ℕ) (events : List AlarmEvent) → IsAgentOf past agent set h
+    → Holds new parts.store parts.registry parts.last_rows parts.latest set (beat ∷ h) → parts.count ≡ agent.count → parts.copies ≡ agent.copies → parts.fault ≡ None
+    → agent' ≡ record parts { alarms = agent'.alarms; last = moment; count = raised parts.count } → moment ≡ last (beat ∷ h) → is_some (child h) ≡ is_some (child (beat ∷ h))
+    → HaveFollowed set (beat ∷ h) (held agent'.alarms) events → IsAgentOf new agent' set (beat ∷ h)
+agent-more past new agent parts agent' set h beat moment events is_of holds count copies going is at child_is followed =
+    subst (λ (a : AgentState). IsAgentOf new a set (beat ∷ h)) (sym is)
+    (one_more past agent set h is_of new (record parts { alarms = agent'.alarms; last = moment; count = raised parts.count }) beat holds at (ap raised count) (copies ∙ is_of.copies ∙ child_is) followed.held_is going)
 
 -- the moments of a beat that nothing refuses; `inside` is what the agent is made of
 pub beat_moments : (past new : List Event) (agent inside : AgentState) (set : Settings) (h : List Beat) (moment : ℕ) (beat : OpenBeat) → inside ≡ agent → IsOpenBeat beat
     → beat_refusal inside.registry inside.copies inside.last moment beat ≡ None → IsAgentOf past agent set h
-    → (Holds past inside.store inside.registry inside.last_rows set h → Follows h moment beat
+    → (Holds past inside.store inside.registry inside.last_rows inside.latest set h → Follows h moment beat
     → Throughout (EveryDisk (λ disk. StandsForHistory set h disk ⊎ StandsForHistory set (collected moment beat ∷ h) disk)) past new)
     → Throughout (EveryDisk (StandsForOneOf set h (beat_refusal agent.registry agent.copies agent.last moment beat) (collected moment beat ∷ h))) past new
 beat_moments past new agent inside set h moment beat view is_open free is_of moments =
     let free' : beat_refusal agent.registry agent.copies agent.last moment beat ≡ None
     = ap (λ (a : AgentState). beat_refusal a.registry a.copies a.last moment beat) (sym view) ∙ free in
     one_of past agent set h is_of (beat_refusal agent.registry agent.copies agent.last moment beat) (collected moment beat ∷ h) new free'
-    (moments (subst (λ (a : AgentState). Holds past a.store a.registry a.last_rows set h) (sym view) is_of.holds) (follows-of past agent set h is_of moment beat is_open free'))
+    (moments (subst (λ (a : AgentState). Holds past a.store a.registry a.last_rows a.latest set h) (sym view) is_of.holds) (follows-of past agent set h is_of moment beat is_open free'))
+
+-- ---- a configuration that nothing refuses
+pub health-nothing : (past : List Event) (agent : AgentState) (set : Settings) (h : List Beat) (text : List ℕ) → IsAgentOf past agent set h → EveryDisk (StandsForHealth set h text) past
+health-nothing past agent set h text is_of disk images = inl (stays past agent.store agent.registry agent.last_rows agent.latest set h is_of.holds disk images)
+
+pub health-moments : (past new : List Event) (set : Settings) (h : List Beat) (text : List ℕ) → health_refusal text ≡ None
+    → Throughout (EveryDisk (λ disk. StandsForHistory set h disk ⊎ StandsForHistory set (health text ∷ h) disk)) past new → Throughout (EveryDisk (StandsForHealth set h text)) past new
+health-moments past new set h text accepted moments = disks_weaker by moments
+  where
+    by : (disk : File → List ℕ) → StandsForHistory set h disk ⊎ StandsForHistory set (health text ∷ h) disk → StandsForHealth set h text disk
+    by disk (inl stands) = inl stands
+    by disk (inr stands) = inr (accepted, stands)

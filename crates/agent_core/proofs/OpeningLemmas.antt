@@ -5,6 +5,8 @@ use Rattle.host_model.specs.Past.{Event}
 use Rattle.algorithms.specs.declared.last.Last.{Last}
 use Rattle.history.specs.History.{Beat, collected, copied, health, missing, last}
 use Rattle.beat_points.specs.LastRows.{AreLastOf}
+use Rattle.alarm_core.specs.declared.latest.Latest.{Latest}
+use Rattle.alarm_core.specs.Course.{held, nothing, Held}
 use Rattle.entry_codec.specs.declared.entry.Settings.{Settings}
 use Rattle.store_core.specs.declared.beat.Beat.{Beat as StoreBeat}
 use Rattle.store_core.specs.Records.{last_after, last_moment, with_all}
@@ -12,10 +14,13 @@ use Rattle.store_core.specs.Stands.{Stands}
 use Rattle.store_core.specs.Store.{counted, IsReplayed, IsStoreAt, IsStoreOf, OpensAt, Replays, StoreState}
 use Rattle.agent_core.specs.declared.left.Left.{Left}
 use Rattle.agent_core.specs.Agent.{AgentState, IsAgentOf}
+use Rattle.agent_core.specs.Alarms.{alarms_at}
 use Rattle.agent_core.specs.Kept.{AreBeatsOf, IsBeatOf, StandsForHistory}
+use Rattle.agent_core.specs.LastSeen.{IsLatestOf}
 use Rattle.agent_core.specs.Notes.{left_by}
 use Rattle.agent_core.specs.Replay.{onto, AreNextOf, ArePartsOf, IsOpenedFor, IsReplaying}
 use Rattle.agent_core.specs.Roles.{may_collect}
+use Rattle.agent_core.proofs.AlarmLemmas.{none-yet}
 use Rattle.agent_core.proofs.HistoryLemmas.{copies-of}
 
 -- ---- the beginning
@@ -46,9 +51,9 @@ none-front : (front : List Beat) → AreBeatsOf front [] → front ≡ []
 none-front [] are = refl
 none-front (beat ∷ front) are = absurd are
 
-pub replaying-begins : (past : List Event) (store : StoreState) (left : Left) (lasts : List (Option Last)) (set : Settings) (h : List Beat) → IsOpenedFor past store set h
-    → left ≡ left_by [] → AreLastOf lasts [] → IsReplaying past store left lasts set h
-replaying-begins past store left lasts set h opened is_empty none =
+pub replaying-begins : (past : List Event) (store : StoreState) (left : Left) (lasts : List (Option Last)) (latest : Latest) (held : Held) (set : Settings) (h : List Beat) → IsOpenedFor past store set h
+    → left ≡ left_by [] → AreLastOf lasts [] → IsLatestOf latest [] → held ≡ nothing → IsReplaying past store left lasts latest held set h
+replaying-begins past store left lasts latest held set h opened is_empty none unseen no_alarms =
     let opens = opened.opens in
     let found = cut h opens.applied opens.rest (subst (AreBeatsOf h) (sym opens.whole) opened.are) in
     let start : found.front ≡ [] = none-front found.front (subst (AreBeatsOf found.front) opens.from_start found.are) in
@@ -61,8 +66,32 @@ replaying-begins past store left lasts set h opened is_empty none =
       are = found.are;
       next = found.next;
       is_at = opens.is_at;
-      parts = subst (ArePartsOf left lasts) (sym start) (record { left_is = is_empty; last_rows_are = none });
+      parts = subst (ArePartsOf left lasts latest) (sym start) (record { left_is = is_empty; last_rows_are = none; latest_is = unseen });
+      held_is = no_alarms ∙ none-yet set ∙ ap (alarms_at set) (sym start);
     }
+
+-- ---- what a history answers
+
+record Answers (h : List Beat) (beats : List StoreBeat) : Type 0 where
+  last_is : last_moment beats ≡ last h
+  count : length beats ≡ length h
+
+answers : (h : List Beat) (beats : List StoreBeat) → AreBeatsOf h beats → Answers h beats
+answers [] [] are = record { last_is = refl; count = refl }
+answers [] (kept ∷ beats) are = absurd are
+answers (beat ∷ h) [] are = absurd are
+answers (beat ∷ h) (kept ∷ beats) are =
+    let before = answers h beats are.1 in
+    record { last_is = now beat are.0 before.last_is; count = ap suc before.count }
+  where
+    at : (moment : Option ℕ) → kept.moment ≡ moment → last_moment (kept ∷ beats) ≡ last_after (last_moment beats) moment
+    at moment e = ap (last_after (last_moment beats)) e
+
+    now : (beat : Beat) → IsBeatOf h beat kept → last_moment beats ≡ last h → last_moment (kept ∷ beats) ≡ last (beat ∷ h)
+    now (collected moment beat) of before = at (Some moment) (ap (λ (k : StoreBeat). k.moment) of.is_kept)
+    now (copied copy) of before = at (Some copy.moment) (ap (λ (k : StoreBeat). k.moment) of.is_kept)
+    now (health text) of before = at None (ap (λ (k : StoreBeat). k.moment) of.is_kept) ∙ before
+    now (missing gap) of before = at (Some gap.to) (ap (λ (k : StoreBeat). k.moment) of.is_kept)
 
 -- ---- a step
 
@@ -96,18 +125,22 @@ module _ (past : List Event) (store : StoreState) (set : Settings) (h : List Bea
   none-of beats (first ∷ rest) replays = absurd replays
 
 -- the next beat of a history that is replayed
-pub next-of : (past : List Event) (store store' : StoreState) (left : Left) (lasts : List (Option Last)) (set : Settings) (h : List Beat) (kept : StoreBeat)
-    → (was : IsReplaying past store left lasts set h) → Replays past store' set was.beats was.rest (Some kept) → IsNextBeat past store' set h was.front was.beats kept
-next-of past store store' left lasts set h kept was replays =
+pub next-of : (past : List Event) (store store' : StoreState) (left : Left) (lasts : List (Option Last)) (latest : Latest) (held : Held) (set : Settings) (h : List Beat) (kept : StoreBeat)
+    → (was : IsReplaying past store left lasts latest held set h) → Replays past store' set was.beats was.rest (Some kept) → IsNextBeat past store' set h was.front was.beats kept
+next-of past store store' left lasts latest held set h kept was replays =
     step-of past store' set h was.front was.more was.beats was.rest kept was.whole was.next replays
 
-pub replaying-more : (past : List Event) (store store' : StoreState) (left left' : Left) (lasts lasts' : List (Option Last)) (set : Settings) (h : List Beat) (kept : StoreBeat)
-    → IsReplaying past store left lasts set h
+pub replaying-more : (past : List Event) (store store' : StoreState) (left left' : Left) (lasts lasts' : List (Option Last)) (latest latest' : Latest) (held held' : Held) (set : Settings) (h : List Beat) (kept : StoreBeat)
+    → IsReplaying past store left lasts latest held set h
     → ((beats rest : List StoreBeat) → IsStoreAt past store set beats rest → Replays past store' set beats rest (Some kept))
-    → ((g : List Beat) (beats : List StoreBeat) (beat : Beat) → AreBeatsOf g beats → IsBeatOf g beat kept → ArePartsOf left lasts g → ArePartsOf left' lasts' (beat ∷ g))
-    → IsReplaying past store' left' lasts' set h
-replaying-more past store store' left left' lasts lasts' set h kept was replays taken =
-    let step = next-of past store store' left lasts set h kept was (replays was.beats was.rest was.is_at) in
+    → ((g : List Beat) (beats : List StoreBeat) (beat : Beat) → AreBeatsOf g beats → IsBeatOf g beat kept → ArePartsOf left lasts latest g → ArePartsOf left' lasts' latest' (beat ∷ g))
+    → ((g : List Beat) (beats rest : List StoreBeat) (beat : Beat) → AreBeatsOf (beat ∷ g) (kept ∷ beats) → IsStoreAt past store' set (kept ∷ beats) rest → ArePartsOf left' lasts' latest' (beat ∷ g)
+    → store.last ≡ last g → held ≡ alarms_at set g → held' ≡ alarms_at set (beat ∷ g))
+    → IsReplaying past store' left' lasts' latest' held' set h
+replaying-more past store store' left left' lasts lasts' latest latest' held held' set h kept was replays taken followed =
+    let step = next-of past store store' left lasts latest held set h kept was (replays was.beats was.rest was.is_at) in
+    let parts : ArePartsOf left' lasts' latest' (step.beat ∷ was.front) = taken was.front was.beats step.beat was.are step.of was.parts in
+    let before : store.last ≡ last was.front = was.is_at.last ∙ (answers was.front was.beats was.are).last_is in
     record {
       front = step.beat ∷ was.front;
       more = step.more;
@@ -117,23 +150,24 @@ replaying-more past store store' left left' lasts lasts' set h kept was replays 
       are = (step.of, was.are);
       next = step.next;
       is_at = step.is_at;
-      parts = taken was.front was.beats step.beat was.are step.of was.parts;
+      parts = parts;
+      held_is = followed was.front was.beats step.rest step.beat (step.of, was.are) step.is_at parts before was.held_is;
     }
 
 -- the step is not refused for what is kept
-pub replaying-stands : {P : Type 0} (past : List Event) (store store' : StoreState) (left : Left) (lasts : List (Option Last)) (set : Settings) (h : List Beat) (kept : StoreBeat)
-    → IsReplaying past store left lasts set h
+pub replaying-stands : {P : Type 0} (past : List Event) (store store' : StoreState) (left : Left) (lasts : List (Option Last)) (latest : Latest) (held : Held) (set : Settings) (h : List Beat) (kept : StoreBeat)
+    → IsReplaying past store left lasts latest held set h
     → ((beats rest : List StoreBeat) → IsStoreAt past store set beats rest → Replays past store' set beats rest (Some kept))
-    → ((g : List Beat) (beats : List StoreBeat) (beat : Beat) → AreBeatsOf g beats → IsBeatOf g beat kept → ArePartsOf left lasts g → P) → P
-replaying-stands past store store' left lasts set h kept was replays stands =
-    let step = next-of past store store' left lasts set h kept was (replays was.beats was.rest was.is_at) in
+    → ((g : List Beat) (beats : List StoreBeat) (beat : Beat) → AreBeatsOf g beats → IsBeatOf g beat kept → ArePartsOf left lasts latest g → P) → P
+replaying-stands past store store' left lasts latest held set h kept was replays stands =
+    let step = next-of past store store' left lasts latest held set h kept was (replays was.beats was.rest was.is_at) in
     stands was.front was.beats step.beat was.are step.of was.parts
 
-pub replaying-same : (past : List Event) (store store' : StoreState) (left : Left) (lasts : List (Option Last)) (set : Settings) (h : List Beat)
-    → IsReplaying past store left lasts set h
+pub replaying-same : (past : List Event) (store store' : StoreState) (left : Left) (lasts : List (Option Last)) (latest : Latest) (held : Held) (set : Settings) (h : List Beat)
+    → IsReplaying past store left lasts latest held set h
     → ((beats rest : List StoreBeat) → IsStoreAt past store set beats rest → Replays past store' set beats rest None)
-    → IsReplaying past store' left lasts set h
-replaying-same past store store' left lasts set h was replays = record {
+    → IsReplaying past store' left lasts latest held set h
+replaying-same past store store' left lasts latest held set h was replays = record {
   front = was.front;
   more = was.more;
   beats = was.beats;
@@ -143,6 +177,7 @@ replaying-same past store store' left lasts set h was replays = record {
   next = was.next;
   is_at = none-of past store' set h was.beats was.rest (replays was.beats was.rest was.is_at);
   parts = was.parts;
+  held_is = was.held_is;
 }
 
 -- ---- the end
@@ -151,29 +186,7 @@ no-more : (front more : List Beat) → AreNextOf front more [] → more ≡ []
 no-more front [] next = refl
 no-more front (beat ∷ more) next = absurd next
 
--- what a history answers
-record Answers (h : List Beat) (beats : List StoreBeat) : Type 0 where
-  last_is : last_moment beats ≡ last h
-  count : length beats ≡ length h
-
-answers : (h : List Beat) (beats : List StoreBeat) → AreBeatsOf h beats → Answers h beats
-answers [] [] are = record { last_is = refl; count = refl }
-answers [] (kept ∷ beats) are = absurd are
-answers (beat ∷ h) [] are = absurd are
-answers (beat ∷ h) (kept ∷ beats) are =
-    let before = answers h beats are.1 in
-    record { last_is = now beat are.0 before.last_is; count = ap suc before.count }
-  where
-    at : (moment : Option ℕ) → kept.moment ≡ moment → last_moment (kept ∷ beats) ≡ last_after (last_moment beats) moment
-    at moment e = ap (last_after (last_moment beats)) e
-
-    now : (beat : Beat) → IsBeatOf h beat kept → last_moment beats ≡ last h → last_moment (kept ∷ beats) ≡ last (beat ∷ h)
-    now (collected moment beat) of before = at (Some moment) (ap (λ (k : StoreBeat). k.moment) of.is_kept)
-    now (copied copy) of before = at (Some copy.moment) (ap (λ (k : StoreBeat). k.moment) of.is_kept)
-    now (health text) of before = at None (ap (λ (k : StoreBeat). k.moment) of.is_kept) ∙ before
-    now (missing gap) of before = at (Some gap.to) (ap (λ (k : StoreBeat). k.moment) of.is_kept)
-
-pub replayed-is_of : (past : List Event) (agent : AgentState) (left : Left) (set : Settings) (h : List Beat) → IsReplaying past agent.store left agent.last_rows set h → IsReplayed agent.store
+pub replayed-is_of : (past : List Event) (agent : AgentState) (left : Left) (set : Settings) (h : List Beat) → IsReplaying past agent.store left agent.last_rows agent.latest (held agent.alarms) set h → IsReplayed agent.store
     → agent.registry ≡ left.registry → agent.last ≡ agent.store.last → agent.count ≡ agent.store.count → agent.copies ≡ not (may_collect left.role) → agent.fault ≡ None
     → IsAgentOf past agent set h
 replayed-is_of past agent left set h was done registry last_is count copies going =
@@ -189,10 +202,12 @@ replayed-is_of past agent left set h was done registry last_is count copies goin
         store_of = store_of;
         registry_is = registry ∙ ap (λ (l : Left). l.registry) was.parts.left_is;
         last_rows_are = was.parts.last_rows_are;
+        latest_is = was.parts.latest_is;
       };
       last_is = last_is ∙ was.is_at.last ∙ said.last_is;
       count = count ∙ was.is_at.count ∙ ap counted said.count;
       copies = copies ∙ ap (λ (l : Left). not (may_collect l.role)) was.parts.left_is ∙ sym (copies-of was.front was.beats was.are);
+      alarms = was.held_is;
       going = going;
     })
 

@@ -1,5 +1,11 @@
 -- What holds where a call was done, or was not.
-use Rattle.std.proofs.Common.{Result, Ok, Err, OnOk, OnErr}
+use Rattle.std.proofs.Common.{◌≡◌, ◌⊎◌, inl, inr, ℕ, ◌≤◌, Option, None, Result, Ok, Err, IfErr, IsErrOf, OnOk, OnErr, refl, sym, subst, ◌∙◌, le_refl}
+use Rattle.std.proofs.lemmas.Option.{none-some}
+use Rattle.host_model.specs.Cause.{HasCause}
+use Rattle.store_core.specs.declared.fault.Why.{Why}
+use Rattle.agent_core.specs.declared.fault.AgentFault.{AgentFault}
+use Rattle.agent_core.specs.declared.fault.AgentFault.TheVariants.{Refused, Health, DiskFault, NotADatabase, Damaged, Reopen, Exists, Memory}
+use Rattle.agent_core.specs.Faults.{IsHealthRefusal, IsReading, IsRefusal, IsSpending, LeavesAll, ReopensWith}
 
 pub always : {T E : Type 0} (P : Type 0) (result : Result T E) → P → OnOk result P
 always P (Ok value) holds = holds
@@ -12,3 +18,75 @@ on_ok P Q (Err fault) holds shows = tt
 pub on_err : {T E : Type 0} (P Q : Type 0) (result : Result T E) → OnErr result P → (P → Q) → OnErr result Q
 on_err P Q (Ok value) holds shows = tt
 on_err P Q (Err fault) holds shows = shows holds
+
+-- a call that reads fails for memory alone, where no call before it did
+pub fails-free : (before : Option Why) (fault : AgentFault) → IsReading fault → ReopensWith before fault → before ≡ None → IsRefusal None fault
+fails-free before DiskFault reads reopens going = absurd reads
+fails-free before Memory reads reopens going = refl
+fails-free before (Reopen cause) reads reopens going = absurd (none-some cause (sym going ∙ reopens))
+fails-free before (Refused why) reads reopens going = absurd reads
+fails-free before (Health why) reads reopens going = absurd reads
+fails-free before NotADatabase reads reopens going = absurd reads
+fails-free before (Damaged part) reads reopens going = absurd reads
+fails-free before Exists reads reopens going = absurd reads
+
+-- a fault that spends an agent comes of one that was going
+pub spending-reopens : (before : Option Why) (fault : AgentFault) → IsSpending fault → before ≡ None → ReopensWith before fault
+spending-reopens before DiskFault spends going = going
+spending-reopens before Memory spends going = going
+spending-reopens before (Reopen cause) spends going = absurd spends
+spending-reopens before (Refused why) spends going = absurd spends
+spending-reopens before (Health why) spends going = absurd spends
+spending-reopens before NotADatabase spends going = absurd spends
+spending-reopens before (Damaged part) spends going = absurd spends
+spending-reopens before Exists spends going = absurd spends
+
+pub spending-changes : (fault : AgentFault) → IsSpending fault → LeavesAll fault → ⊥
+spending-changes DiskFault spends leaves = leaves
+spending-changes Memory spends leaves = leaves
+spending-changes (Reopen cause) spends leaves = spends
+spending-changes (Refused why) spends leaves = spends
+spending-changes (Health why) spends leaves = spends
+spending-changes NotADatabase spends leaves = spends
+spending-changes (Damaged part) spends leaves = spends
+spending-changes Exists spends leaves = spends
+
+-- it is of the disk or of memory
+pub spending-is : (fault : AgentFault) → IsSpending fault → (fault ≡ DiskFault) ⊎ (fault ≡ Memory)
+spending-is DiskFault spends = inl refl
+spending-is Memory spends = inr refl
+spending-is (Reopen cause) spends = absurd spends
+spending-is (Refused why) spends = absurd spends
+spending-is (Health why) spends = absurd spends
+spending-is NotADatabase spends = absurd spends
+spending-is (Damaged part) spends = absurd spends
+spending-is Exists spends = absurd spends
+
+-- and no health text is refused with it
+pub spending-health : (fault : AgentFault) → IsSpending fault → IsHealthRefusal None fault
+spending-health DiskFault spends = refl
+spending-health Memory spends = tt
+spending-health (Reopen cause) spends = absurd spends
+spending-health (Refused why) spends = absurd spends
+spending-health (Health why) spends = absurd spends
+spending-health NotADatabase spends = absurd spends
+spending-health (Damaged part) spends = absurd spends
+spending-health Exists spends = absurd spends
+
+-- memory that was short spends an agent that was going
+pub short-reopens : (before : Option Why) (fault : AgentFault) → fault ≡ Memory → before ≡ None → ReopensWith before fault
+short-reopens before fault is going = subst (ReopensWith before) (sym is) going
+
+pub short-reads : (fault : AgentFault) → fault ≡ Memory → IsReading fault
+short-reads fault is = subst IsReading (sym is) tt
+
+pub short-changes : (fault : AgentFault) → fault ≡ Memory → LeavesAll fault → ⊥
+short-changes fault is leaves = subst LeavesAll is leaves
+
+-- and the disk did not fail
+pub short-disk : {T : Type 0} (result : Result T AgentFault) (old new : ℕ) → new ≡ old → IfErr result (λ fault. fault ≡ Memory) → HasCause old new (IsErrOf result DiskFault)
+short-disk result old new same short = record { later = subst (λ (n : ℕ). old ≤ n) (sym same) (le_refl old); failed = λ failed. absurd (by result short failed); stays = λ _. same }
+  where
+    by : {T : Type 0} (result : Result T AgentFault) → IfErr result (λ fault. fault ≡ Memory) → IsErrOf result DiskFault → ⊥
+    by (Ok value) short failed = cc
+    by (Err fault) short failed = cc

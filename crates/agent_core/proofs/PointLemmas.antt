@@ -1,6 +1,8 @@
 -- The points of a beat with the steps of their charts, and their series.
 use Rattle.std.proofs.Common.{◌≡◌, ℕ, ◌+◌, ◌<◌, ◌≤◌, nat_lt, Bool, true, List, [], ◌∷◌, ◌++◌, length, take, map, get_or, slice_get, Option, Some, None, IfSome, refl, sym, ap, ◌∙◌, arith}
-use Rattle.std.specs.List.{cons_option, enumerate_from, filter_map, find, list_all}
+use Rattle.std.specs.List.{cons_option, enumerate_from, filter_map, find, list_all, AllByRecursion}
+use Rattle.std.proofs.lemmas.List.Elements.{recursion_from_All}
+use Rattle.storage_number.specs.Word.{is_word}
 use Rattle.std.specs.Option.{option_map, option_map_or, option_and_then}
 use Rattle.std.proofs.lemmas.Bool.{and_from, lt-ltb}
 use Rattle.std.proofs.lemmas.List.{map-append, take_more}
@@ -15,7 +17,7 @@ use Rattle.history.specs.Points.{word_at}
 use Rattle.history.specs.Registry.{Registry, is_chart, chart_of}
 use Rattle.chart_registry.proofs.Places.{find-position}
 use Rattle.beat_points.specs.declared.series_word.SeriesWord.{SeriesWord}
-use Rattle.beat_points.specs.Points.{beat_points}
+use Rattle.beat_points.specs.Points.{beat_points, ArePointsIn}
 use Rattle.beat_tiers.specs.declared.item.BeatPoint.{BeatPoint}
 use Rattle.agent_core.specs.Kept.{point_of, step_of, stored_points}
 use Rattle.agent_core.specs.Notes.{names_series}
@@ -72,3 +74,11 @@ pub points-named : (registry : Registry) (h : List Beat) (moment : ℕ) (beat : 
 points-named registry h moment beat =
     list_all-map (λ (point : BeatPoint). nat_lt point.series (length registry.dimensions)) (point_of registry) (beat_points registry h moment beat)
     ∙ places-below (length registry.dimensions) 0 (word_at packed registry h moment beat) registry.dimensions (omega arith)
+
+-- and so are words that are of its series
+pub words-named : (registry : Registry) (words : List SeriesWord) → ArePointsIn registry words → names_series registry (map (point_of registry) words) ≡ true
+words-named registry words all = each words (recursion_from_All (λ (word : SeriesWord). (word.series < length registry.dimensions) × (is_word word.word ≡ true)) words all)
+  where
+    each : (words : List SeriesWord) → AllByRecursion (λ (word : SeriesWord). (word.series < length registry.dimensions) × (is_word word.word ≡ true)) words → names_series registry (map (point_of registry) words) ≡ true
+    each [] all = refl
+    each (word ∷ words) all = and_from (nat_lt word.series (length registry.dimensions)) (names_series registry (map (point_of registry) words)) (lt-ltb word.series (length registry.dimensions) all.0.0) (each words all.1)

@@ -1,5 +1,5 @@
 -- A kept beat has an entry that goes on from what is before it, and leaves what the beat leaves.
-use Rattle.std.proofs.Common.{◌≡◌, ◌<◌, ◌⊎◌, inl, inr, lt-ltb, true, false, ◌&&◌, nat_lt, List, [], ◌∷◌, length, map, Option, Some, refl, sym, ap, ◌∙◌, subst, true≢false}
+use Rattle.std.proofs.Common.{◌≡◌, ◌<◌, ◌⊎◌, inl, inr, lt-ltb, true, false, ◌&&◌, nat_lt, List, [], ◌∷◌, length, map, Option, Some, is_none, refl, sym, ap, ◌∙◌, subst, true≢false}
 use Rattle.std.proofs.lemmas.Bool.{not-false}
 use Rattle.std.proofs.lemmas.List.Elements.{recursion_from_All}
 use Rattle.std.proofs.lemmas.Option.{same_Some}
@@ -9,6 +9,7 @@ use Rattle.history.specs.Registry.{Registry, same_chart, same_dimension}
 use Rattle.beat_points.specs.LastRows.{AreLastOf}
 use Rattle.history.specs.Regular.{AreApart}
 use Rattle.history.specs.declared.numbered.NumberedBeat.{NumberedBeat}
+use Rattle.alarm_core.specs.declared.latest.Latest.{Latest}
 use Rattle.entry_codec.specs.declared.entry.Entry.{Entry}
 use Rattle.entry_codec.specs.declared.entry.Entry.TheVariants as entry
 use Rattle.entry_codec.specs.Entries.{entry_bytes, read_entry, HasSpelling}
@@ -28,7 +29,11 @@ use Rattle.agent_core.specs.declared.left.Left.{Left}
 use Rattle.agent_core.specs.declared.left.Role.TheVariants.{Collects, Copies}
 use Rattle.agent_core.specs.Kept.{copied_entry, copied_point, gap_entry, AreBeatsOf, IsBeatOf}
 use Rattle.agent_core.specs.Notes.{beats_go_on, entry_goes_on, entry_in, left_by, left_of, moment_of, names_series, takes_note, with_entry, with_note}
-use Rattle.agent_core.specs.Replay.{ArePartsOf, HasRows}
+use Rattle.agent_core.specs.declared.alarming.Stepping.{Stepping}
+use Rattle.agent_core.specs.declared.alarming.Stepping.TheVariants as stepping
+use Rattle.agent_core.specs.Alarms.{IsSteppingOf}
+use Rattle.agent_core.specs.LastSeen.{IsLatestOf}
+use Rattle.agent_core.specs.Replay.{ArePartsOf, HasRows, HasSeen, HasSeenNone, IsDoneBy}
 use Rattle.agent_core.specs.Roles.{may_collect, role_of}
 use Rattle.agent_core.proofs.FollowLemmas.{follows-may, follows-owned, follows-regular}
 use Rattle.agent_core.proofs.HistoryLemmas.{copies-of, follows-alone}
@@ -65,7 +70,7 @@ module _ (g : List Beat) (beats : List StoreBeat) (are : AreBeatsOf g beats) whe
       let goes = beat-goes-on g moment beat (follows-owned g moment beat of.follows) (follows-may g moment beat of.follows (within-of g beats are)) (follows-regular g moment beat of.follows) in
       λ i. may i && goes i
   entry-goes (copied copy) kept of = λ i. of.follows.role i && copied-next g copy of.follows.may i
-  entry-goes (health text) kept of = refl
+  entry-goes (health text) kept of = ap is_none of.accepted
   entry-goes (missing gap) kept of = of.role
 
   -- it leaves what the beat leaves
@@ -126,16 +131,61 @@ last-after g (health text) kept lasts lasts' of was rows =
 last-after g (missing gap) kept lasts lasts' of was rows =
     last-stays lasts lasts' g (missing gap ∷ g) rows (λ was. record { rows = was.rows; within = was.within }) was
 
+-- ---- what was last seen
+none-seen : (latest latest' : Latest) (g h : List Beat) → HasSeenNone latest latest' → (IsLatestOf latest g → IsLatestOf latest h) → IsLatestOf latest g → IsLatestOf latest' h
+none-seen latest latest' g h same carry was =
+    let now = carry was in
+    record {
+      charts = ap (λ (l : Latest). l.charts) same ∙ now.charts;
+      points = ap (λ (l : Latest). l.points) same ∙ now.points;
+      raws = ap (λ (l : Latest). l.raws) same ∙ now.raws;
+    }
+
+latest-after : (g : List Beat) (beats : List StoreBeat) (lasts : List (Option Last)) (beat : Beat) (kept : StoreBeat) (latest latest' : Latest) → AreBeatsOf g beats → AreLastOf lasts g → IsBeatOf g beat kept → IsLatestOf latest g
+    → HasSeen (registry_of (beat ∷ g)) latest latest' (entry_for g beat) kept.points → IsLatestOf latest' (beat ∷ g)
+latest-after g beats lasts (collected moment beat) kept latest latest' are last of was seen = seen g beats lasts beat are last was refl (follows-regular g moment beat of.follows) refl (ap (λ (k : StoreBeat). k.points) of.is_kept)
+latest-after g beats lasts (copied copy) kept latest latest' are last of was seen = seen g beats lasts copy are last was refl refl (ap (λ (k : StoreBeat). k.points) of.is_kept)
+latest-after g beats lasts (health text) kept latest latest' are last of was seen =
+    none-seen latest latest' g (health text ∷ g) seen (λ was. record { charts = was.charts; points = was.points; raws = was.raws }) was
+latest-after g beats lasts (missing gap) kept latest latest' are last of was seen =
+    none-seen latest latest' g (missing gap ∷ g) seen (λ was. record { charts = was.charts; points = was.points; raws = was.raws }) was
+
 -- the parts of an agent are those of the history with the beat
-pub parts-after : (g : List Beat) (beats : List StoreBeat) (beat : Beat) (kept : StoreBeat) (left left' : Left) (lasts lasts' : List (Option Last)) (found : Entry)
-    → AreBeatsOf g beats → IsBeatOf g beat kept → ArePartsOf left lasts g → entry_in kept ≡ Some found → left' ≡ with_note left kept
-    → HasRows left'.registry lasts lasts' found → ArePartsOf left' lasts' (beat ∷ g)
-parts-after g beats beat kept left left' lasts lasts' found are of parts has made rows =
+pub parts-after : (g : List Beat) (beats : List StoreBeat) (beat : Beat) (kept : StoreBeat) (left left' : Left) (lasts lasts' : List (Option Last)) (latest latest' : Latest) (found : Entry)
+    → AreBeatsOf g beats → IsBeatOf g beat kept → ArePartsOf left lasts latest g → entry_in kept ≡ Some found → left' ≡ with_note left kept
+    → HasRows left'.registry lasts lasts' found → HasSeen left'.registry latest latest' found kept.points → ArePartsOf left' lasts' latest' (beat ∷ g)
+parts-after g beats beat kept left left' lasts lasts' latest latest' found are of parts has made rows seen =
     let is : left' ≡ left_by (beat ∷ g) = beat-leaves g beats are beat kept of left left' parts.left_is made in
     let same : found ≡ entry_for g beat = same_Some found (entry_for g beat) (sym has ∙ note-is g beat kept of) in
     let now : HasRows (registry_of (beat ∷ g)) lasts lasts' (entry_for g beat)
     = subst (λ (l : Left). HasRows l.registry lasts lasts' (entry_for g beat)) is (subst (λ (e : Entry). HasRows left'.registry lasts lasts' e) same rows) in
-    record { left_is = is; last_rows_are = last-after g beat kept lasts lasts' of parts.last_rows_are now }
+    let seen_now : HasSeen (registry_of (beat ∷ g)) latest latest' (entry_for g beat) kept.points
+    = subst (λ (l : Left). HasSeen l.registry latest latest' (entry_for g beat) kept.points) is (subst (λ (e : Entry). HasSeen left'.registry latest latest' e kept.points) same seen) in
+    record {
+      left_is = is;
+      last_rows_are = last-after g beat kept lasts lasts' of parts.last_rows_are now;
+      latest_is = latest-after g beats lasts beat kept latest latest' are parts.last_rows_are of parts.latest_is seen_now;
+    }
+
+-- what its entry does to alarms, it does
+does-by : (g : List Beat) (beat : Beat) (does : Stepping) → IsDoneBy (entry_for g beat) does → IsSteppingOf beat does
+does-by g (collected moment beat) (stepping.Beat at) done = done
+does-by g (copied copy) (stepping.Beat at) done = done
+does-by g (health text) (stepping.Configuration config) done = done
+does-by g (missing gap) stepping.Nothing done = done
+does-by g (collected moment beat) (stepping.Configuration config) done = absurd done
+does-by g (collected moment beat) stepping.Nothing done = absurd done
+does-by g (copied copy) (stepping.Configuration config) done = absurd done
+does-by g (copied copy) stepping.Nothing done = absurd done
+does-by g (health text) (stepping.Beat at) done = absurd done
+does-by g (health text) stepping.Nothing done = absurd done
+does-by g (missing gap) (stepping.Beat at) done = absurd done
+does-by g (missing gap) (stepping.Configuration config) done = absurd done
+
+pub does-after : (g : List Beat) (beat : Beat) (kept : StoreBeat) (found : Entry) (does : Stepping) → IsBeatOf g beat kept → entry_in kept ≡ Some found → IsDoneBy found does → IsSteppingOf beat does
+does-after g beat kept found does of has done =
+    let same : found ≡ entry_for g beat = same_Some found (entry_for g beat) (sym has ∙ note-is g beat kept of) in
+    does-by g beat does (subst (λ (e : Entry). IsDoneBy e does) same done)
 
 -- ---- what stays so of any entry
 
@@ -165,9 +215,9 @@ entry-once left left' (entry.Gap gap) made charts dimensions = same-once left le
 -- ---- the faults
 
 -- a beat of a history is taken
-pub never-broken : (g : List Beat) (beats : List StoreBeat) (beat : Beat) (kept : StoreBeat) (left : Left) (lasts : List (Option Last)) → AreBeatsOf g beats → IsBeatOf g beat kept
-    → ArePartsOf left lasts g → takes_note left kept ≡ false → ⊥
-never-broken g beats beat kept left lasts are of parts broken = true≢false (sym (beat-takes g beats are beat kept of left parts.left_is) ∙ broken)
+pub never-broken : (g : List Beat) (beats : List StoreBeat) (beat : Beat) (kept : StoreBeat) (left : Left) (lasts : List (Option Last)) (latest : Latest) → AreBeatsOf g beats → IsBeatOf g beat kept
+    → ArePartsOf left lasts latest g → takes_note left kept ≡ false → ⊥
+never-broken g beats beat kept left lasts latest are of parts broken = true≢false (sym (beat-takes g beats are beat kept of left parts.left_is) ∙ broken)
 
 pub only-memory : (fault : AgentFault) → (fault ≡ Memory) ⊎ (fault ≡ Damaged 5) → (fault ≡ Damaged 5 → ⊥) → fault ≡ Memory
 only-memory fault (inl memory) never = memory

@@ -1,40 +1,44 @@
 -- Each call keeps an agent sound by a history: it is of it, or was before it was spent.
-use Rattle.std.proofs.Common.{◌≡◌, ℕ, ◌⊎◌, inl, inr, List, [], ◌∷◌, Option, Some, None, Result, Ok, Err, refl, sym, ap, ◌∙◌, subst}
+use Rattle.std.proofs.Common.{◌≡◌, ℕ, ◌⊎◌, inl, inr, List, [], ◌∷◌, Option, Some, None, Result, Ok, Err, IsSomeAnd, refl, sym, ap, ◌∙◌, subst}
 use Rattle.std.proofs.lemmas.Option.{none-some}
 use Rattle.host_model.specs.declared.file.File.{File}
 use Rattle.host_model.specs.Disks.{EveryDisk}
 use Rattle.host_model.proofs.MomentLemmas.{at_end}
+use Rattle.health_config.specs.declared.fault.ConfigFault.{ConfigFault}
 use Rattle.history.specs.declared.beat.OpenBeat.{OpenBeat}
 use Rattle.history.specs.declared.fault.BlockFault.{BlockFault}
 use Rattle.history.specs.declared.line.Line.{Line}
 use Rattle.history.specs.declared.line.Line.TheVariants.{Moment}
-use Rattle.history.specs.History.{Beat, collected}
-use Rattle.history.specs.Looking.{beat as open_beat}
+use Rattle.history.specs.History.{Beat, collected, health}
 use Rattle.collect_block.specs.declared.feed.Feed.{Feed}
 use Rattle.collect_block.specs.Feed.{CountsAt, IsFeedOf}
 use Rattle.entry_codec.specs.declared.entry.Settings.{Settings}
 use Rattle.store_core.specs.declared.fault.Why.{Why}
 use Rattle.store_core.specs.declared.fault.Why.TheVariants as why
+use Rattle.beat_tiers.specs.declared.kept.Kept.{Kept}
 use Rattle.store_core.proofs.StoreLemmas.{settings_of}
 use Rattle.agent_core.specs.declared.fault.AgentFault.{AgentFault}
-use Rattle.agent_core.specs.declared.fault.AgentFault.TheVariants.{Refused, DiskFault, NotADatabase, Damaged, Reopen, Exists, Memory}
+use Rattle.agent_core.specs.declared.fault.AgentFault.TheVariants.{Refused, Health, DiskFault, NotADatabase, Damaged, Reopen, Exists, Memory}
 use Rattle.agent_core.specs.declared.reply.Reply.{Reply}
 use Rattle.agent_core.specs.declared.reply.Said.{Said}
 use Rattle.agent_core.specs.Agent.{id_of, AgentState, IsAgentOf, IsSoundBy, IsSpentAfter}
-use Rattle.agent_core.specs.Calls.{Beats, Lines}
+use Rattle.agent_core.specs.Calls.{Beats, Keeps, Lines, Queries, Reads, SetsHealth}
 use Rattle.host_model.specs.Seen.{Seen}
-use Rattle.agent_core.specs.Faults.{cause_of, fault_after, IsRefusal, LeavesAll, ReopensWith}
-use Rattle.agent_core.specs.Kept.{StandsForHistory, StandsForOneOf}
+use Rattle.agent_core.specs.Faults.{cause_of, fault_after, IsHealthRefusal, IsRefusal, LeavesAll, ReopensWith}
+use Rattle.agent_core.specs.Health.{health_refusal}
+use Rattle.agent_core.specs.Kept.{StandsForHealth, StandsForHistory, StandsForOneOf}
 use Rattle.agent_core.specs.Rules.{beat_refusal, history_with, line_refusal}
-use Rattle.agent_core.specs.Sound.{history_after, history_by}
+use Rattle.agent_core.specs.Sound.{closed_by, history_after, history_by, tried_after, tried_with}
+use Rattle.agent_core.proofs.KeptLemmas.{stays}
+use Rattle.agent_core.proofs.Outcomes.{fails-free}
 
 never : (agent : AgentState) (cause : Why) → agent.fault ≡ Some cause → agent.fault ≡ None → ⊥
 never agent cause now none = none-some cause (sym none ∙ now)
 
 -- ---- a call that was refused
 -- what a stop leaves of a history that may have this beat more
-abbrev IsLeft : Settings → List Beat → Beat → (File → List ℕ) → Type 0
-IsLeft set h beat disk = StandsForHistory set h disk ⊎ StandsForHistory set (beat ∷ h) disk
+abbrev IsLeft : Settings → List Beat → Option Beat → (File → List ℕ) → Type 0
+IsLeft set h beat disk = StandsForHistory set h disk ⊎ IsSomeAnd beat (λ last. StandsForHistory set (last ∷ h) disk)
 
 abbrev unstored : AgentFault → Result Reply AgentFault
 unstored fault = Err fault
@@ -42,9 +46,36 @@ unstored fault = Err fault
 abbrev unsaid : AgentFault → Result Said AgentFault
 unsaid fault = Err fault
 
--- a call was refused with this fault, and `reason` stands against it
-record Failed (host : Seen) (agent : AgentState) (reason : Option BlockFault) (fault : AgentFault) (host' : Seen) (agent' : AgentState) : Type 0 where
-  pub refused : agent.fault ≡ None → IsRefusal reason fault
+-- the faults of a call of an agent that was going
+abbrev IsCallFault : AgentFault → Type 0
+IsCallFault NotADatabase = ⊥
+IsCallFault (Damaged part) = ⊥
+IsCallFault Exists = ⊥
+IsCallFault fault = Unit {0}
+
+of-refusal : (reason : Option BlockFault) (fault : AgentFault) → IsRefusal reason fault → IsCallFault fault
+of-refusal reason (Refused why) refused = tt
+of-refusal reason (Health why) refused = tt
+of-refusal reason DiskFault refused = tt
+of-refusal reason NotADatabase refused = refused
+of-refusal reason (Damaged part) refused = refused
+of-refusal reason (Reopen cause) refused = tt
+of-refusal reason Exists refused = refused
+of-refusal reason Memory refused = tt
+
+of-health : (reason : Option ConfigFault) (fault : AgentFault) → IsHealthRefusal reason fault → IsCallFault fault
+of-health reason (Refused why) refused = tt
+of-health reason (Health why) refused = tt
+of-health reason DiskFault refused = tt
+of-health reason NotADatabase refused = refused
+of-health reason (Damaged part) refused = refused
+of-health reason (Reopen cause) refused = tt
+of-health reason Exists refused = refused
+of-health reason Memory refused = tt
+
+-- a call was refused with this fault
+record Failed (host : Seen) (agent : AgentState) (fault : AgentFault) (host' : Seen) (agent' : AgentState) : Type 0 where
+  pub possible : agent.fault ≡ None → IsCallFault fault
   pub unchanged : LeavesAll fault → (agent' ≡ agent) × (host' ≡ host)
   pub spends : agent.fault ≡ None → agent'.fault ≡ cause_of fault
   pub reopens : ReopensWith agent.fault fault
@@ -52,17 +83,17 @@ record Failed (host : Seen) (agent : AgentState) (reason : Option BlockFault) (f
   pub last : agent'.last ≡ agent.last
   pub id : id_of agent' ≡ id_of agent
 
-module _ (host : Seen) (agent : AgentState) (reason : Option BlockFault) (host' : Seen) (agent' : AgentState) (set : Settings) (h : List Beat) (beat : Beat) where
+module _ (host : Seen) (agent : AgentState) (host' : Seen) (agent' : AgentState) (set : Settings) (h : List Beat) (beat tried : Option Beat) where
   abbrev Did : AgentFault → Type 0
-  Did fault = Failed host agent reason fault host' agent'
+  Did fault = Failed host agent fault host' agent'
 
   -- a call that changed nothing
-  same : agent' ≡ agent → host' ≡ host → IsSoundBy host.past agent set h → IsSoundBy host'.past agent' set h
+  same : agent' ≡ agent → host' ≡ host → IsSoundBy host.past agent set h tried → IsSoundBy host'.past agent' set h tried
   same agents hosts sound =
-      subst (λ (s : Seen). IsSoundBy s.past agent' set h) (sym hosts) (subst (λ (a : AgentState). IsSoundBy host.past a set h) (sym agents) sound)
+      subst (λ (s : Seen). IsSoundBy s.past agent' set h tried) (sym hosts) (subst (λ (a : AgentState). IsSoundBy host.past a set h tried) (sym agents) sound)
 
   -- a call of an agent that was going, and was refused for the disk or for memory
-  spent : (fault : AgentFault) (cause : Why) → Did fault → IsAgentOf host.past agent set h → cause_of fault ≡ Some cause → EveryDisk (IsLeft set h beat) host'.past → IsSoundBy host'.past agent' set h
+  spent : (fault : AgentFault) (cause : Why) → Did fault → IsAgentOf host.past agent set h → cause_of fault ≡ Some cause → EveryDisk (IsLeft set h beat) host'.past → IsSoundBy host'.past agent' set h beat
   spent fault cause did is_of leaves images =
       inr (record {
         cause = cause;
@@ -70,21 +101,22 @@ module _ (host : Seen) (agent : AgentState) (reason : Option BlockFault) (host' 
         count = did.count ∙ is_of.count;
         last_is = did.last ∙ is_of.last_is;
         id = did.id ∙ ap (λ (s : Settings). s.id) (settings_of host.past agent.store set is_of.holds.beats [] is_of.holds.store_of);
-        beat = beat;
         images = images;
       })
 
-  of-going : (fault : AgentFault) → Did fault → IsAgentOf host.past agent set h → EveryDisk (IsLeft set h beat) host'.past → IsSoundBy host'.past agent' set h
+  of-going : (fault : AgentFault) → Did fault → IsAgentOf host.past agent set h → EveryDisk (IsLeft set h beat) host'.past → IsSoundBy host'.past agent' set h (tried_with fault beat tried)
   of-going (Refused reason) did is_of images = let kept = did.unchanged tt in same kept.0 kept.1 (inl is_of)
+  of-going (Health reason) did is_of images = let kept = did.unchanged tt in same kept.0 kept.1 (inl is_of)
   of-going DiskFault did is_of images = spent DiskFault why.Disk did is_of refl images
-  of-going NotADatabase did is_of images = absurd (did.refused is_of.going)
-  of-going (Damaged part) did is_of images = absurd (did.refused is_of.going)
+  of-going NotADatabase did is_of images = absurd (did.possible is_of.going)
+  of-going (Damaged part) did is_of images = absurd (did.possible is_of.going)
   of-going (Reopen cause) did is_of images = let kept = did.unchanged tt in same kept.0 kept.1 (inl is_of)
-  of-going Exists did is_of images = absurd (did.refused is_of.going)
+  of-going Exists did is_of images = absurd (did.possible is_of.going)
   of-going Memory did is_of images = spent Memory why.Memory did is_of refl images
 
-  of-spent : (fault : AgentFault) → Did fault → IsSpentAfter host.past agent set h → IsSoundBy host'.past agent' set h
+  of-spent : (fault : AgentFault) → Did fault → IsSpentAfter host.past agent set h tried → IsSoundBy host'.past agent' set h (tried_with fault beat tried)
   of-spent (Refused reason) did was = let kept = did.unchanged tt in same kept.0 kept.1 (inr was)
+  of-spent (Health reason) did was = let kept = did.unchanged tt in same kept.0 kept.1 (inr was)
   of-spent DiskFault did was = absurd (never agent was.cause was.spent did.reopens)
   of-spent NotADatabase did was = absurd (never agent was.cause was.spent did.reopens)
   of-spent (Damaged part) did was = absurd (never agent was.cause was.spent did.reopens)
@@ -93,18 +125,19 @@ module _ (host : Seen) (agent : AgentState) (reason : Option BlockFault) (host' 
   of-spent Memory did was = absurd (never agent was.cause was.spent did.reopens)
 
   -- a refused call keeps an agent sound
-  failed-sound : (fault : AgentFault) → Did fault → (IsAgentOf host.past agent set h → EveryDisk (IsLeft set h beat) host'.past) → IsSoundBy host.past agent set h → IsSoundBy host'.past agent' set h
+  failed-sound : (fault : AgentFault) → Did fault → (IsAgentOf host.past agent set h → EveryDisk (IsLeft set h beat) host'.past) → IsSoundBy host.past agent set h tried
+      → IsSoundBy host'.past agent' set h (tried_with fault beat tried)
   failed-sound fault did images (inl is_of) = of-going fault did is_of (images is_of)
   failed-sound fault did images (inr was) = of-spent fault did was
 
 -- ---- a beat
-module _ (honest : Type 0) (host : Seen) (agent : AgentState) (beat : OpenBeat) (moment : ℕ) (host' : Seen) (agent' : AgentState) (set : Settings) (h : List Beat) (true_host : honest) where
+module _ (honest : Type 0) (host : Seen) (agent : AgentState) (beat : OpenBeat) (moment : ℕ) (host' : Seen) (agent' : AgentState) (set : Settings) (h : List Beat) (tried : Option Beat) (true_host : honest) where
   abbrev beat_reason : Option BlockFault
   beat_reason = beat_refusal agent.registry agent.copies agent.last moment beat
 
-  beat-failed : (fault : AgentFault) → Beats honest host agent beat moment (Err fault) host' agent' → Failed host agent beat_reason fault host' agent'
+  beat-failed : (fault : AgentFault) → Beats honest host agent beat moment (Err fault) host' agent' → Failed host agent fault host' agent'
   beat-failed fault did = record {
-    refused = did.refused;
+    possible = λ going. of-refusal beat_reason fault (did.refused going);
     unchanged = did.unchanged;
     spends = λ going. did.fault ∙ ap (λ (f : Option Why). fault_after f (unstored fault)) going;
     reopens = did.reopens;
@@ -113,27 +146,52 @@ module _ (honest : Type 0) (host : Seen) (agent : AgentState) (beat : OpenBeat) 
     id = did.id;
   }
 
-  beat-left : (disk : File → List ℕ) → StandsForOneOf set h beat_reason (collected moment beat ∷ h) disk → IsLeft set h (collected moment beat) disk
+  beat-left : (disk : File → List ℕ) → StandsForOneOf set h beat_reason (collected moment beat ∷ h) disk → IsLeft set h (Some (collected moment beat)) disk
   beat-left disk (inl stands) = inl stands
   beat-left disk (inr stands) = inr stands.1
 
   -- `beat` keeps an agent sound
-  pub beat-sound : (result : Result Reply AgentFault) → Beats honest host agent beat moment result host' agent' → IsSoundBy host.past agent set h
-      → IsSoundBy host'.past agent' set (history_after result (collected moment beat) h)
+  pub beat-sound : (result : Result Reply AgentFault) → Beats honest host agent beat moment result host' agent' → IsSoundBy host.past agent set h tried
+      → IsSoundBy host'.past agent' set (history_after result (collected moment beat) h) (tried_after result (Some (collected moment beat)) tried)
   beat-sound (Ok reply) did (inl is_of) = inl (did.done true_host set h is_of)
   beat-sound (Ok reply) did (inr was) = absurd (never agent was.cause was.spent did.reopens)
   beat-sound (Err fault) did sound =
-      failed-sound host agent beat_reason host' agent' set h (collected moment beat) fault (beat-failed fault did) (λ is_of disk images. beat-left disk (at_end (did.any_moment true_host set h is_of) disk images)) sound
+      failed-sound host agent host' agent' set h (Some (collected moment beat)) tried fault (beat-failed fault did) (λ is_of disk images. beat-left disk (at_end (did.any_moment true_host set h is_of) disk images)) sound
+
+-- ---- a configuration
+module _ (honest : Type 0) (host : Seen) (agent : AgentState) (text : List ℕ) (host' : Seen) (agent' : AgentState) (set : Settings) (h : List Beat) (tried : Option Beat) (true_host : honest) where
+  health-failed : (fault : AgentFault) → SetsHealth honest host agent text (unstored fault) host' agent' → Failed host agent fault host' agent'
+  health-failed fault did = record {
+    possible = λ going. of-health (health_refusal text) fault (did.refused going);
+    unchanged = did.unchanged;
+    spends = λ going. did.fault ∙ ap (λ (f : Option Why). fault_after f (unstored fault)) going;
+    reopens = did.reopens;
+    count = did.stays;
+    last = did.last;
+    id = did.id;
+  }
+
+  health-left : (disk : File → List ℕ) → StandsForHealth set h text disk → IsLeft set h (Some (health text)) disk
+  health-left disk (inl stands) = inl stands
+  health-left disk (inr stands) = inr stands.1
+
+  -- `set_health` keeps an agent sound
+  pub health-sound : (result : Result Reply AgentFault) → SetsHealth honest host agent text result host' agent' → IsSoundBy host.past agent set h tried
+      → IsSoundBy host'.past agent' set (history_after result (health text) h) (tried_after result (Some (health text)) tried)
+  health-sound (Ok reply) did (inl is_of) = inl (did.done true_host set h is_of)
+  health-sound (Ok reply) did (inr was) = absurd (never agent was.cause was.spent did.reopens)
+  health-sound (Err fault) did sound =
+      failed-sound host agent host' agent' set h (Some (health text)) tried fault (health-failed fault did) (λ is_of disk images. health-left disk (at_end (did.any_moment true_host set h is_of) disk images)) sound
 
 -- ---- a line
-module _ (honest : Type 0) (host : Seen) (agent : AgentState) (feed : Feed) (line : Line) (host' : Seen) (agent' : AgentState) (feed' : Feed) (set : Settings) (h : List Beat) (every : ℕ) (past : List Line)
+module _ (honest : Type 0) (host : Seen) (agent : AgentState) (feed : Feed) (line : Line) (host' : Seen) (agent' : AgentState) (feed' : Feed) (set : Settings) (h : List Beat) (tried : Option Beat) (every : ℕ) (past : List Line)
     (true_host : honest) (is_feed : IsFeedOf feed every past) (at : CountsAt line feed agent.registry) where
   abbrev line_reason : Option BlockFault
   line_reason = line_refusal agent.registry agent.copies agent.last every past line
 
-  line-failed : (fault : AgentFault) → Lines honest host agent feed line (Err fault) host' agent' feed' → Failed host agent line_reason fault host' agent'
+  line-failed : (fault : AgentFault) → Lines honest host agent feed line (Err fault) host' agent' feed' → Failed host agent fault host' agent'
   line-failed fault did = record {
-    refused = λ going. did.refused going every past is_feed at;
+    possible = λ going. of-refusal line_reason fault (did.refused going every past is_feed at);
     unchanged = did.unchanged;
     spends = λ going. did.fault ∙ ap (λ (f : Option Why). fault_after f (unsaid fault)) going;
     reopens = did.reopens;
@@ -142,24 +200,57 @@ module _ (honest : Type 0) (host : Seen) (agent : AgentState) (feed : Feed) (lin
     id = did.id;
   }
 
-  -- the beat that a line closes: a line that closes none leaves the open beat
-  abbrev closed : Line → Beat
-  closed (Moment moment) = collected moment (open_beat every past)
-  closed line = collected 0 (open_beat every past)
-
-  closed-left : (line : Line) (disk : File → List ℕ) → StandsForHistory set (history_with h every past line) disk → IsLeft set h (closed line) disk
+  closed-left : (line : Line) (disk : File → List ℕ) → StandsForHistory set (history_with h every past line) disk → IsLeft set h (closed_by every past line) disk
   closed-left (Moment moment) disk stands = inr stands
   closed-left line disk stands = inl stands
 
-  line-left : (disk : File → List ℕ) → StandsForOneOf set h line_reason (history_with h every past line) disk → IsLeft set h (closed line) disk
+  line-left : (disk : File → List ℕ) → StandsForOneOf set h line_reason (history_with h every past line) disk → IsLeft set h (closed_by every past line) disk
   line-left disk (inl stands) = inl stands
   line-left disk (inr stands) = closed-left line disk stands.1
 
   -- `line` keeps an agent sound
-  pub line-sound : (result : Result Said AgentFault) → Lines honest host agent feed line result host' agent' feed' → IsSoundBy host.past agent set h
-      → IsSoundBy host'.past agent' set (history_by result every past line h)
+  pub line-sound : (result : Result Said AgentFault) → Lines honest host agent feed line result host' agent' feed' → IsSoundBy host.past agent set h tried
+      → IsSoundBy host'.past agent' set (history_by result every past line h) (tried_after result (closed_by every past line) tried)
   line-sound (Ok said) did (inl is_of) = inl (did.done true_host set h every past is_of is_feed)
   line-sound (Ok said) did (inr was) = absurd (never agent was.cause was.spent did.reopens)
   line-sound (Err fault) did sound =
-      failed-sound host agent line_reason host' agent' set h (closed line) fault (line-failed fault did)
+      failed-sound host agent host' agent' set h (closed_by every past line) tried fault (line-failed fault did)
       (λ is_of disk images. line-left disk (at_end (did.any_moment true_host set h every past is_of is_feed) disk images)) sound
+
+-- ---- a call that reads
+module _ (honest : Type 0) (host : Seen) (agent : AgentState) (host' : Seen) (agent' : AgentState) (set : Settings) (h : List Beat) (tried : Option Beat) (true_host : honest) where
+  -- nothing happened to the disk, so that a stop leaves the history
+  read-left : IsAgentOf host.past agent set h → host'.past ≡ host.past → EveryDisk (IsLeft set h None) host'.past
+  read-left is_of quiet = subst (EveryDisk (IsLeft set h None)) (sym quiet) (λ disk images. inl (stays host.past agent.store agent.registry agent.last_rows agent.latest set h is_of.holds disk images))
+
+  module _ (T : Type 0) where
+    abbrev unread : AgentFault → Result T AgentFault
+    unread fault = Err fault
+
+    read-failed : (fault : AgentFault) → Reads honest host agent (unread fault) host' agent' → Failed host agent fault host' agent'
+    read-failed fault did = record {
+      possible = λ going. of-refusal None fault (fails-free agent.fault fault did.faults did.reopens going);
+      unchanged = did.unchanged;
+      spends = λ going. did.fault ∙ ap (λ (f : Option Why). fault_after f (unread fault)) going;
+      reopens = did.reopens;
+      count = did.stays.0;
+      last = did.stays.1;
+      id = did.id;
+    }
+
+    -- it keeps an agent sound
+    read-sound : (result : Result T AgentFault) → Reads honest host agent result host' agent' → IsSoundBy host.past agent set h tried → IsSoundBy host'.past agent' set h (tried_after result None tried)
+    read-sound (Ok value) did (inl is_of) = inl (did.done true_host set h is_of)
+    read-sound (Ok value) did (inr was) = absurd (never agent was.cause was.spent did.reopens)
+    read-sound (Err fault) did sound =
+        failed-sound host agent host' agent' set h None tried fault (read-failed fault did) (λ is_of. read-left is_of (did.quiet true_host)) sound
+
+-- `query` keeps an agent sound
+pub query-sound : (honest : Type 0) (host host' : Seen) (agent agent' : AgentState) (text : List ℕ) (result : Result (List ℕ) AgentFault) (set : Settings) (h : List Beat) (tried : Option Beat) → honest
+    → Queries honest host agent text result host' agent' → IsSoundBy host.past agent set h tried → IsSoundBy host'.past agent' set h (tried_after result None tried)
+query-sound honest host host' agent agent' text result set h tried true_host did = read-sound honest host agent host' agent' set h tried true_host _ result did.reads
+
+-- `kept` keeps an agent sound
+pub kept-sound : (honest : Type 0) (host host' : Seen) (agent agent' : AgentState) (result : Result Kept AgentFault) (set : Settings) (h : List Beat) (tried : Option Beat) → honest
+    → Keeps honest host agent result host' agent' → IsSoundBy host.past agent set h tried → IsSoundBy host'.past agent' set h (tried_after result None tried)
+kept-sound honest host host' agent agent' result set h tried true_host did = read-sound honest host agent host' agent' set h tried true_host _ result did.reads

@@ -1,5 +1,5 @@
 -- What contracts see of an agent, and of what history an agent is.
-use Rattle.std.specs.Prelude.{◌≡◌, ◌⊎◌, ℕ, Bool, not, List, ◌∷◌, length, Option, Some, None, is_some}
+use Rattle.std.specs.Prelude.{◌≡◌, ◌⊎◌, ℕ, Bool, not, List, ◌∷◌, length, Option, Some, None, is_some, IsSomeAnd}
 use Rattle.host_model.specs.Past.{Event}
 use Rattle.host_model.specs.Disks.{EveryDisk}
 use Rattle.algorithms.specs.declared.last.Last.{Last}
@@ -7,11 +7,16 @@ use Rattle.history.specs.History.{Beat, child, last, registry_of}
 use Rattle.history.specs.Registry.{Registry, same_chart, same_dimension}
 use Rattle.beat_points.specs.LastRows.{AreLastOf}
 use Rattle.history.specs.Regular.{AreApart}
+use Rattle.alarm_core.specs.declared.latest.Latest.{Latest}
+use Rattle.alarm_core.specs.declared.alarms.Alarms.{Alarms}
+use Rattle.alarm_core.specs.Course.{held}
 use Rattle.entry_codec.specs.declared.entry.Settings.{Settings}
 use Rattle.store_core.specs.declared.beat.Beat.{Beat as StoreBeat}
 use Rattle.store_core.specs.declared.fault.Why.{Why}
 use Rattle.store_core.specs.Store.{counted, IsReady, IsReplayed, IsStoreOf, StoreState}
+use Rattle.agent_core.specs.Alarms.{alarms_at}
 use Rattle.agent_core.specs.Kept.{AreBeatsOf, StandsForHistory}
+use Rattle.agent_core.specs.LastSeen.{IsLatestOf}
 use Rattle.agent_core.specs.Notes.{left_of}
 use Rattle.agent_core.specs.Roles.{may_collect}
 use Rattle.agent_core.specs.Rules.{HasGrids}
@@ -22,6 +27,10 @@ pub record AgentState : Type 0 where
   pub registry : Registry
   -- the last row in which each series was set
   pub last_rows : List (Option Last)
+  -- what was last seen of each chart and each series
+  pub latest : Latest
+  -- the alarms of its configuration
+  pub alarms : Alarms
   -- the last moment, or 0
   pub last : ℕ
   -- how many beats there are: the count stands still at 2^64 - 1
@@ -36,19 +45,21 @@ abbrev pub id_of : AgentState → ℕ
 id_of agent = agent.store.settings.id
 
 -- these parts of an agent are of this history
-pub record Holds (past : List Event) (store : StoreState) (registry : Registry) (last_rows : List (Option Last)) (set : Settings) (h : List Beat) : Type 0 where
+pub record Holds (past : List Event) (store : StoreState) (registry : Registry) (last_rows : List (Option Last)) (latest : Latest) (set : Settings) (h : List Beat) : Type 0 where
   pub beats : List StoreBeat
   pub are : AreBeatsOf h beats
   pub store_of : IsStoreOf past store set beats
   pub registry_is : registry ≡ registry_of h
   pub last_rows_are : AreLastOf last_rows h
+  pub latest_is : IsLatestOf latest h
 
 -- the agent is of this history
 pub record IsAgentOf (past : List Event) (agent : AgentState) (set : Settings) (h : List Beat) : Type 0 where
-  pub holds : Holds past agent.store agent.registry agent.last_rows set h
+  pub holds : Holds past agent.store agent.registry agent.last_rows agent.latest set h
   pub last_is : agent.last ≡ last h
   pub count : agent.count ≡ counted (length h)
   pub copies : agent.copies ≡ is_some (child h)
+  pub alarms : held agent.alarms ≡ alarms_at set h
   pub going : agent.fault ≡ None
 
 -- the parts of an agent fit each other, whatever history it is of
@@ -65,20 +76,19 @@ pub record Fits (honest : Type 0) (past : List Event) (agent : AgentState) : Typ
 abbrev pub AgentIsReady : Type 0 → List Event → AgentState → Type 0
 AgentIsReady honest past agent = agent.fault ≡ None → Fits honest past agent
 
--- The agent was of this history, and a call of it was refused for the disk or for memory. A stop leaves the
--- history, or the history with one beat more, the same for every stop. What the agent still answers is of the history.
-pub record IsSpentAfter (past : List Event) (agent : AgentState) (set : Settings) (h : List Beat) : Type 0 where
+-- The agent was of this history, and a call of it with this beat, if it had one, was refused for the disk or for memory.
+-- A stop leaves the history, or the history with that beat. What the agent still answers is of the history.
+pub record IsSpentAfter (past : List Event) (agent : AgentState) (set : Settings) (h : List Beat) (tried : Option Beat) : Type 0 where
   pub cause : Why
   pub spent : agent.fault ≡ Some cause
   pub count : agent.count ≡ counted (length h)
   pub last_is : agent.last ≡ last h
   pub id : id_of agent ≡ set.id
-  pub beat : Beat
-  pub images : EveryDisk (λ disk. StandsForHistory set h disk ⊎ StandsForHistory set (beat ∷ h) disk) past
+  pub images : EveryDisk (λ disk. StandsForHistory set h disk ⊎ IsSomeAnd tried (λ beat. StandsForHistory set (beat ∷ h) disk)) past
 
--- the agent is of this history, or was
-abbrev pub IsSoundBy : List Event → AgentState → Settings → List Beat → Type 0
-IsSoundBy past agent set h = IsAgentOf past agent set h ⊎ IsSpentAfter past agent set h
+-- the agent is of this history, or was before a call with this beat
+abbrev pub IsSoundBy : List Event → AgentState → Settings → List Beat → Option Beat → Type 0
+IsSoundBy past agent set h tried = IsAgentOf past agent set h ⊎ IsSpentAfter past agent set h tried
 
 -- the agent was opened with these kept beats, of whatever history they are: it has what their notes leave
 pub record HasLeft (beats : List StoreBeat) (agent : AgentState) : Type 0 where

@@ -2,19 +2,21 @@
 use Rattle.std.specs.Prelude.{◌≡◌, ◌⊎◌, ℕ, false, true, List, [], ◌∷◌, None, Result, IfOk, IfErr, IsErrOf, OnOk, OnErr}
 use Rattle.host_model.specs.declared.file.File.{File}
 use Rattle.host_model.specs.declared.file.File.TheVariants.{JournalA}
-use Rattle.host_model.specs.Past.{IsDisk}
+use Rattle.host_model.specs.Past.{Event, IsDisk}
 use Rattle.host_model.specs.Disks.{EveryDisk, reads_as}
 use Rattle.host_model.specs.Cause.{HasCause}
 use Rattle.host_model.specs.Seen.{Seen}
 use Rattle.host_model.specs.Moments.{Throughout, OnlyOn}
 use Rattle.history.specs.declared.beat.OpenBeat.{OpenBeat}
 use Rattle.history.specs.declared.line.Line.{Line}
-use Rattle.history.specs.declared.line.Line.TheVariants.{Moment}
-use Rattle.history.specs.History.{Beat, collected}
+use Rattle.history.specs.declared.line.Line.TheVariants.{Moment, Query}
+use Rattle.history.specs.History.{Beat, collected, health}
 use Rattle.history.specs.Refusal.{refusal}
 use Rattle.collect_block.specs.declared.feed.Feed.{Feed}
 use Rattle.collect_block.specs.Feed.{IsFeedOf, Becomes, CountsAt, CountsFor}
+use Rattle.alarm_events.specs.declared.log.Log.{Log}
 use Rattle.entry_codec.specs.declared.entry.Settings.{Settings}
+use Rattle.beat_tiers.specs.declared.kept.Kept.{Kept}
 use Rattle.store_core.specs.declared.beat.Beat.{Beat as StoreBeat}
 use Rattle.store_core.specs.Stands.{is_made, IsDamaged, Stands}
 use Rattle.store_core.specs.Store.{raised}
@@ -23,12 +25,15 @@ use Rattle.agent_core.specs.declared.fault.AgentFault.TheVariants.{DiskFault, No
 use Rattle.agent_core.specs.declared.reply.Reply.{Reply}
 use Rattle.agent_core.specs.declared.reply.Said.{Said}
 use Rattle.agent_core.specs.Agent.{id_of, AgentIsReady, AgentState, HasLeft, IsAgentOf, IsNewAgent}
-use Rattle.agent_core.specs.Faults.{fault_after, IsCreating, IsOpening, LeavesAll, RefusedBy, Reopens}
+use Rattle.agent_core.specs.Alarms.{events_at, log_at}
+use Rattle.agent_core.specs.Answers.{kept_of_history, reply_of}
+use Rattle.agent_core.specs.Faults.{fault_after, HealthRefusedBy, IsCreating, IsLogging, IsOpening, IsReading, LeavesAll, RefusedBy, Reopens}
 use Rattle.agent_core.specs.Fed.{IsFed}
-use Rattle.agent_core.specs.Kept.{StandsForHistory, StandsForNew, StandsForOneOf}
+use Rattle.agent_core.specs.Health.{health_refusal}
+use Rattle.agent_core.specs.Kept.{StandsForHealth, StandsForHistory, StandsForNew, StandsForOneOf}
 use Rattle.agent_core.specs.Notes.{HasNotes}
 use Rattle.agent_core.specs.Rules.{beat_refusal, count_with, history_with, last_with, line_refusal}
-use Rattle.agent_core.specs.Said.{said_of}
+use Rattle.agent_core.specs.Said.{Answers, IsSaid, TellsEvents}
 
 -- `beat` with this result left the host and the agent so
 pub record Beats (honest : Type 0) (host : Seen) (agent : AgentState) (beat : OpenBeat) (moment : ℕ) (result : Result Reply AgentFault) (host' : Seen) (agent' : AgentState) : Type 0 where
@@ -37,8 +42,9 @@ pub record Beats (honest : Type 0) (host : Seen) (agent : AgentState) (beat : Op
       → Throughout (EveryDisk (StandsForOneOf set h (beat_refusal agent.registry agent.copies agent.last moment beat) (collected moment beat ∷ h))) host.past host'.past
   -- at Ok the agent is of the history with the beat
   pub done : OnOk result (honest → (set : Settings) (h : List Beat) → IsAgentOf host.past agent set h → IsAgentOf host'.past agent' set (collected moment beat ∷ h))
-  -- the reply has the number of the beat
+  -- the reply has the number of the beat, and the events that alarms make of it
   pub number : IfOk result (λ reply. reply.count ≡ agent'.count)
+  pub events : IfOk result (λ reply. honest → (set : Settings) (h : List Beat) → IsAgentOf host.past agent set h → reply.events ≡ events_at set (collected moment beat ∷ h))
   pub counts : OnOk result (agent'.count ≡ raised agent.count)
   pub last : OnOk result (agent'.last ≡ moment)
   -- it is refused exactly for the first reason against it, in the order of the reasons
@@ -59,18 +65,57 @@ pub record Beats (honest : Type 0) (host : Seen) (agent : AgentState) (beat : Op
   pub only_here : honest → OnlyOn JournalA host.past host'.past
   pub tells : host'.tell_faults ≡ host.tell_faults
 
+-- `set_health` with this result left the host and the agent so
+pub record SetsHealth (honest : Type 0) (host : Seen) (agent : AgentState) (text : List ℕ) (result : Result Reply AgentFault) (host' : Seen) (agent' : AgentState) : Type 0 where
+  -- at every moment a stop leaves the history, or, where nothing refuses the text, the history with it
+  pub any_moment : honest → (set : Settings) (h : List Beat) → IsAgentOf host.past agent set h → Throughout (EveryDisk (StandsForHealth set h text)) host.past host'.past
+  -- at Ok the agent is of the history with the configuration
+  pub done : OnOk result (honest → (set : Settings) (h : List Beat) → IsAgentOf host.past agent set h → IsAgentOf host'.past agent' set (health text ∷ h))
+  -- the reply has the number of this beat, and the events of the alarms that go
+  pub number : IfOk result (λ reply. reply.count ≡ agent'.count)
+  pub events : IfOk result (λ reply. honest → (set : Settings) (h : List Beat) → IsAgentOf host.past agent set h → reply.events ≡ events_at set (health text ∷ h))
+  pub counts : OnOk result (agent'.count ≡ raised agent.count)
+  -- it has no moment, and defines nothing
+  pub last : agent'.last ≡ agent.last
+  pub registry : agent'.registry ≡ agent.registry
+  -- it is refused exactly for the first reason against it; memory may be short before
+  pub refused : agent.fault ≡ None → HealthRefusedBy (health_refusal text) result
+  -- a refusal, and Reopen, change nothing
+  pub unchanged : IfErr result (λ fault. LeavesAll fault → (agent' ≡ agent) × (host' ≡ host))
+  -- after another fault each call answers Reopen with its cause
+  pub fault : agent'.fault ≡ fault_after agent.fault result
+  pub reopens : Reopens agent.fault result
+  -- the count and the id answer as before after any fault
+  pub stays : OnErr result (agent'.count ≡ agent.count)
+  pub id : id_of agent' ≡ id_of agent
+  -- what a later call requires
+  pub ready : AgentIsReady honest host'.past agent'
+  -- the disk fails exactly where the host counted a failure
+  pub cause : HasCause host.disk_faults host'.disk_faults (IsErrOf result DiskFault)
+  -- nothing happens to a file but the journal, and nothing is told
+  pub only_here : honest → OnlyOn JournalA host.past host'.past
+  pub tells : host'.tell_faults ≡ host.tell_faults
+
+-- `log` of an agent with this result
+pub record Logs (agent : AgentState) (result : Result Log AgentFault) : Type 0 where
+  -- the log of the history: its last 1,000 events, and how many came before them
+  pub dropped : IfOk result (λ log. (past : List Event) (set : Settings) (h : List Beat) → IsAgentOf past agent set h → log.dropped ≡ (log_at set h).dropped)
+  pub events : IfOk result (λ log. (past : List Event) (set : Settings) (h : List Beat) → IsAgentOf past agent set h → log.events ≡ (log_at set h).events)
+  pub reopens : Reopens agent.fault result
+  pub faults : IfErr result IsLogging
+
 -- `create` with this result left the host so
 pub record Creates (honest : Type 0) (host : Seen) (set : Settings) (result : Result AgentState AgentFault) (host' : Seen) : Type 0 where
-  -- at every moment a stop leaves no database, or the one without beats
-  pub any_moment : honest → EveryDisk (λ disk. is_made disk ≡ false) host.past → Throughout (EveryDisk (StandsForNew set)) host.past host'.past
+  -- at every moment a stop leaves what it might have left before the call, no database, or the one without beats
+  pub any_moment : honest → Throughout (EveryDisk (λ disk. IsDisk host.past disk ⊎ StandsForNew set disk)) host.past host'.past
   -- at Ok the agent is of the history without beats
   pub created : IfOk result (λ agent. honest → IsAgentOf host'.past agent set [])
   pub ready : IfOk result (AgentIsReady honest host'.past)
   pub new : IfOk result (IsNewAgent set)
-  -- where there is a database it is refused, or the disk failed, and nothing has happened
+  -- where there is a database it is refused, or the disk failed, or memory was short, and nothing has happened
   pub exists : IsErrOf result Exists → honest → is_made (reads_as host.past) ≡ true
   pub none : OnOk result (honest → is_made (reads_as host.past) ≡ false)
-  pub made : honest → is_made (reads_as host.past) ≡ true → (IsErrOf result Exists ⊎ IsErrOf result DiskFault) × (host'.past ≡ host.past)
+  pub made : honest → is_made (reads_as host.past) ≡ true → (IsErrOf result Exists ⊎ (IsErrOf result DiskFault ⊎ IsErrOf result Memory)) × (host'.past ≡ host.past)
   pub memory : IsErrOf result Memory → honest → host'.past ≡ host.past
   pub faults : IfErr result IsCreating
   -- the disk fails exactly where the host counted a failure
@@ -107,12 +152,22 @@ pub record Opens (honest : Type 0) (host : Seen) (result : Result AgentState Age
   pub only_here : honest → OnlyOn JournalA host.past host'.past
   pub tells : host'.tell_faults ≡ host.tell_faults
 
--- the line is a MOMENT that may stand where it does, and the feed gave its beat away
-pub record GivesAway (agent : AgentState) (feed : Feed) (line : Line) (feed' : Feed) : Type 0 where
-  pub moment : ℕ
-  pub is_moment : line ≡ Moment moment
+-- the line is a MOMENT or a QUERY, for which the host is asked
+abbrev pub AsksHost : Line → Type 0
+AsksHost (Moment moment) = Unit {0}
+AsksHost (Query text) = Unit {0}
+AsksHost line = ⊥
+
+-- the line closes a beat
+abbrev pub ClosesBeat : Line → Type 0
+ClosesBeat (Moment moment) = Unit {0}
+ClosesBeat line = ⊥
+
+-- the line asks the host and may stand where it does, and the feed took it: of a MOMENT it gave the beat away
+pub record FeedTakes (agent : AgentState) (feed : Feed) (line : Line) (feed' : Feed) : Type 0 where
+  pub asks : AsksHost line
   pub stands : (every : ℕ) (past : List Line) → IsFeedOf feed every past → refusal agent.registry every past agent.copies agent.last line ≡ None
-  pub gives : Becomes line feed feed'
+  pub takes : Becomes line feed feed'
 
 -- `line` with this result left the host, the agent and the feed so
 pub record Lines (honest : Type 0) (host : Seen) (agent : AgentState) (feed : Feed) (line : Line) (result : Result Said AgentFault) (host' : Seen) (agent' : AgentState) (feed' : Feed) : Type 0 where
@@ -122,20 +177,31 @@ pub record Lines (honest : Type 0) (host : Seen) (agent : AgentState) (feed : Fe
   -- at Ok the agent is of the history with the line's beat, if it closes one
   pub done : OnOk result (honest → (set : Settings) (h : List Beat) (every : ℕ) (past : List Line) → IsAgentOf host.past agent set h → IsFeedOf feed every past
       → IsAgentOf host'.past agent' set (history_with h every past line))
-  pub said : IfOk result (λ said. said ≡ said_of agent'.count line)
+  pub said : IfOk result (IsSaid agent'.count line)
+  -- a question is answered with the reply of the history
+  pub answered : IfOk result (λ said. (set : Settings) (h : List Beat) → IsAgentOf host.past agent set h → Answers set h line said)
+  -- and a MOMENT with the events that alarms make of its beat
+  pub events : IfOk result (λ said. honest → (set : Settings) (h : List Beat) (every : ℕ) (past : List Line) → IsAgentOf host.past agent set h → IsFeedOf feed every past
+      → TellsEvents set (history_with h every past line) line said)
   pub counts : OnOk result (agent'.count ≡ count_with agent.count line)
   pub last : OnOk result (agent'.last ≡ last_with agent.last line)
   -- it is refused exactly for the first reason against it
   pub refused : agent.fault ≡ None → (every : ℕ) (past : List Line) → IsFeedOf feed every past → CountsAt line feed agent.registry
       → RefusedBy (line_refusal agent.registry agent.copies agent.last every past line) result
-  -- the feed takes the line; where a MOMENT may stand there and its beat was not stored, it gave that away
+  -- the feed takes the line, also where a MOMENT may stand there and its beat was not stored, or a QUERY was not answered
   pub takes : OnOk result (Becomes line feed feed')
   -- the feed counts on for the agent's registry
   pub counts_on : OnOk result (CountsFor feed agent.registry → CountsFor feed' agent'.registry)
-  pub leaves : OnErr result ((feed' ≡ feed) ⊎ GivesAway agent feed line feed')
+  pub leaves : OnErr result ((feed' ≡ feed) ⊎ FeedTakes agent feed line feed')
   pub fed : IsFed feed'
-  -- a line that is no MOMENT asks nothing of the host
-  pub asks : ((moment : ℕ) → line ≡ Moment moment → ⊥) → host' ≡ host
+  -- a line that is neither a MOMENT nor a QUERY asks nothing of the host
+  pub asks : (AsksHost line → ⊥) → host' ≡ host
+  -- and changes nothing of the agent
+  pub same : (AsksHost line → ⊥) → OnOk result (agent' ≡ agent)
+  -- a line that is no MOMENT does nothing to the disk
+  pub quiet : ((moment : ℕ) → line ≡ Moment moment → ⊥) → honest → host'.past ≡ host.past
+  -- the disk fails at a MOMENT alone
+  pub fails : IsErrOf result DiskFault → ClosesBeat line
   -- a refusal, and Reopen, change nothing of the agent and the host
   pub unchanged : IfErr result (λ fault. LeavesAll fault → (agent' ≡ agent) × (host' ≡ host))
   -- after another fault each call answers Reopen with its cause
@@ -151,3 +217,37 @@ pub record Lines (honest : Type 0) (host : Seen) (agent : AgentState) (feed : Fe
   -- nothing happens to a file but the journal, and nothing is told
   pub only_here : honest → OnlyOn JournalA host.past host'.past
   pub tells : host'.tell_faults ≡ host.tell_faults
+
+-- a call that reads, with this result, left the host and the agent so
+pub record Reads {T : Type 0} (honest : Type 0) (host : Seen) (agent : AgentState) (result : Result T AgentFault) (host' : Seen) (agent' : AgentState) : Type 0 where
+  -- nothing happens to the disk, and nothing is told: whatever a stop leaves, it may have left before
+  pub quiet : honest → host'.past ≡ host.past
+  -- at Ok the agent is of the history that it was of
+  pub done : OnOk result (honest → (set : Settings) (h : List Beat) → IsAgentOf host.past agent set h → IsAgentOf host'.past agent' set h)
+  -- Reopen changes nothing
+  pub unchanged : IfErr result (λ fault. LeavesAll fault → (agent' ≡ agent) × (host' ≡ host))
+  -- after another fault each call answers Reopen with its cause
+  pub faults : IfErr result IsReading
+  pub fault : agent'.fault ≡ fault_after agent.fault result
+  pub reopens : Reopens agent.fault result
+  -- the count, the last moment, the id and the registry stay after any result
+  pub stays : (agent'.count ≡ agent.count) × (agent'.last ≡ agent.last)
+  pub id : id_of agent' ≡ id_of agent
+  pub registry : agent'.registry ≡ agent.registry
+  -- what a later call requires
+  pub ready : AgentIsReady honest host'.past agent'
+  -- the disk fails exactly where the host counted a failure
+  pub cause : HasCause host.disk_faults host'.disk_faults (IsErrOf result DiskFault)
+  pub tells : host'.tell_faults ≡ host.tell_faults
+
+-- `query` with this result left the host and the agent so
+pub record Queries (honest : Type 0) (host : Seen) (agent : AgentState) (text : List ℕ) (result : Result (List ℕ) AgentFault) (host' : Seen) (agent' : AgentState) : Type 0 where
+  -- the answer is the reply of the history, a refusal too
+  pub answered : IfOk result (λ reply. (set : Settings) (h : List Beat) → IsAgentOf host.past agent set h → reply ≡ reply_of set h text)
+  pub reads : Reads honest host agent result host' agent'
+
+-- `kept` with this result left the host and the agent so
+pub record Keeps (honest : Type 0) (host : Seen) (agent : AgentState) (result : Result Kept AgentFault) (host' : Seen) (agent' : AgentState) : Type 0 where
+  -- the answer has the kept beats of the history
+  pub answered : IfOk result (λ kept. (set : Settings) (h : List Beat) → IsAgentOf host.past agent set h → kept ≡ kept_of_history set h)
+  pub reads : Reads honest host agent result host' agent'

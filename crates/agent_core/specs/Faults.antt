@@ -1,12 +1,13 @@
 -- What a fault of an agent leaves it as.
 use Rattle.std.specs.Prelude.{◌≡◌, ◌⊎◌, Option, Some, None, Result, Ok, Err}
+use Rattle.health_config.specs.declared.fault.ConfigFault.{ConfigFault}
 use Rattle.history.specs.declared.fault.BlockFault.{BlockFault}
 use Rattle.store_core.specs.declared.fault.StoreFault.{StoreFault}
 use Rattle.store_core.specs.declared.fault.StoreFault.TheVariants as store
 use Rattle.store_core.specs.declared.fault.Why.{Why}
 use Rattle.store_core.specs.declared.fault.Why.TheVariants as why
 use Rattle.agent_core.specs.declared.fault.AgentFault.{AgentFault}
-use Rattle.agent_core.specs.declared.fault.AgentFault.TheVariants.{Refused, DiskFault, NotADatabase, Damaged, Reopen, Exists, Memory}
+use Rattle.agent_core.specs.declared.fault.AgentFault.TheVariants.{Refused, Health, DiskFault, NotADatabase, Damaged, Reopen, Exists, Memory}
 
 -- What a fault of its store is for an agent. A store that refuses a moment never comes to it, since an agent
 -- tests the moment before.
@@ -22,6 +23,7 @@ fault_of store.Memory = Some Memory
 -- the cause that a fault leaves
 abbrev pub cause_of : AgentFault → Option Why
 cause_of (Refused fault) = None
+cause_of (Health fault) = None
 cause_of DiskFault = Some why.Disk
 cause_of NotADatabase = None
 cause_of (Damaged part) = None
@@ -38,6 +40,7 @@ fault_after None (Err fault) = cause_of fault
 -- a fault is Reopen with the first cause where there is one, and else it is another
 abbrev pub ReopensWith : Option Why → AgentFault → Type 0
 ReopensWith before (Refused fault) = before ≡ None
+ReopensWith before (Health fault) = before ≡ None
 ReopensWith before DiskFault = before ≡ None
 ReopensWith before NotADatabase = before ≡ None
 ReopensWith before (Damaged part) = before ≡ None
@@ -54,6 +57,7 @@ Reopens before (Err fault) = ReopensWith before fault
 -- nothing stands against the call.
 abbrev pub IsRefusal : Option BlockFault → AgentFault → Type 0
 IsRefusal reason (Refused fault) = reason ≡ Some fault
+IsRefusal reason (Health fault) = ⊥
 IsRefusal reason DiskFault = reason ≡ None
 IsRefusal reason NotADatabase = ⊥
 IsRefusal reason (Damaged part) = ⊥
@@ -66,9 +70,26 @@ abbrev pub RefusedBy : {T : Type 0} → Option BlockFault → Result T AgentFaul
 RefusedBy reason (Ok value) = reason ≡ None
 RefusedBy reason (Err fault) = IsRefusal reason fault
 
+-- A health text is refused with this fault for this reason. The disk fails only where nothing stands against
+-- the text; memory may be short before.
+abbrev pub IsHealthRefusal : Option ConfigFault → AgentFault → Type 0
+IsHealthRefusal reason (Refused fault) = ⊥
+IsHealthRefusal reason (Health fault) = reason ≡ Some fault
+IsHealthRefusal reason DiskFault = reason ≡ None
+IsHealthRefusal reason NotADatabase = ⊥
+IsHealthRefusal reason (Damaged part) = ⊥
+IsHealthRefusal reason (Reopen cause) = ⊥
+IsHealthRefusal reason Exists = ⊥
+IsHealthRefusal reason Memory = Unit {0}
+
+abbrev pub HealthRefusedBy : {T : Type 0} → Option ConfigFault → Result T AgentFault → Type 0
+HealthRefusedBy reason (Ok value) = reason ≡ None
+HealthRefusedBy reason (Err fault) = IsHealthRefusal reason fault
+
 -- the faults that change nothing
 abbrev pub LeavesAll : AgentFault → Type 0
 LeavesAll (Refused fault) = Unit {0}
+LeavesAll (Health fault) = Unit {0}
 LeavesAll DiskFault = ⊥
 LeavesAll NotADatabase = ⊥
 LeavesAll (Damaged part) = ⊥
@@ -79,6 +100,7 @@ LeavesAll Memory = ⊥
 -- the faults after which an agent must be opened again
 abbrev pub IsSpending : AgentFault → Type 0
 IsSpending (Refused fault) = ⊥
+IsSpending (Health fault) = ⊥
 IsSpending DiskFault = Unit {0}
 IsSpending NotADatabase = ⊥
 IsSpending (Damaged part) = ⊥
@@ -89,6 +111,7 @@ IsSpending Memory = Unit {0}
 -- the faults of `create`
 abbrev pub IsCreating : AgentFault → Type 0
 IsCreating (Refused fault) = ⊥
+IsCreating (Health fault) = ⊥
 IsCreating DiskFault = Unit {0}
 IsCreating NotADatabase = ⊥
 IsCreating (Damaged part) = ⊥
@@ -99,9 +122,32 @@ IsCreating Memory = Unit {0}
 -- the faults of `open`
 abbrev pub IsOpening : AgentFault → Type 0
 IsOpening (Refused fault) = ⊥
+IsOpening (Health fault) = ⊥
 IsOpening DiskFault = Unit {0}
 IsOpening NotADatabase = Unit {0}
 IsOpening (Damaged part) = (part ≡ 4) ⊎ (part ≡ 5)
 IsOpening (Reopen cause) = ⊥
 IsOpening Exists = ⊥
 IsOpening Memory = Unit {0}
+
+-- the faults of a call that reads
+abbrev pub IsReading : AgentFault → Type 0
+IsReading (Refused fault) = ⊥
+IsReading (Health fault) = ⊥
+IsReading DiskFault = ⊥
+IsReading NotADatabase = ⊥
+IsReading (Damaged part) = ⊥
+IsReading (Reopen cause) = Unit {0}
+IsReading Exists = ⊥
+IsReading Memory = Unit {0}
+
+-- the faults of `log`
+abbrev pub IsLogging : AgentFault → Type 0
+IsLogging (Refused fault) = ⊥
+IsLogging (Health fault) = ⊥
+IsLogging DiskFault = ⊥
+IsLogging NotADatabase = ⊥
+IsLogging (Damaged part) = ⊥
+IsLogging (Reopen cause) = Unit {0}
+IsLogging Exists = ⊥
+IsLogging Memory = Unit {0}

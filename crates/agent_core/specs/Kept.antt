@@ -20,6 +20,7 @@ use Rattle.history.specs.Numbered.{numbered_beat}
 use Rattle.store_core.specs.declared.beat.Beat.{Beat as StoreBeat}
 use Rattle.beat_tiers.specs.declared.item.BeatPoint.{BeatPoint}
 use Rattle.store_core.specs.Stands.{is_made, Stands}
+use Rattle.agent_core.specs.Health.{health_refusal}
 use Rattle.agent_core.specs.Roles.{may_copy, role_of}
 use Rattle.agent_core.specs.Rules.{beat_refusal, IsOpenBeat}
 
@@ -95,8 +96,9 @@ pub record IsGapOf (h : List Beat) (gap : Gap) (kept : StoreBeat) : Type 0 where
   pub is_kept : kept ≡ record { moment = Some gap.to; points = []; note = entry_bytes (gap_entry gap) }
   pub spelt : HasSpelling (gap_entry gap)
 
--- what a store keeps of a configuration: its entry
+-- what a store keeps of a configuration: its entry. Nothing refuses its text.
 pub record IsHealthOf (text : List ℕ) (kept : StoreBeat) : Type 0 where
+  pub accepted : health_refusal text ≡ None
   pub is_kept : kept ≡ record { moment = None; points = []; note = entry_bytes (entry.Health text) }
   pub spelt : HasSpelling (entry.Health text)
 
@@ -128,3 +130,7 @@ StandsForNew set disk = (is_made disk ≡ false) ⊎ StandsForHistory set [] dis
 -- the disk holds this history, or, where nothing refuses it, with the history after a call
 abbrev pub StandsForOneOf : Settings → List Beat → Option BlockFault → List Beat → (File → List ℕ) → Type 0
 StandsForOneOf set h refusal after disk = StandsForHistory set h disk ⊎ ((refusal ≡ None) × StandsForHistory set after disk)
+
+-- the disk holds this history, or, where nothing refuses the text, with this configuration
+abbrev pub StandsForHealth : Settings → List Beat → List ℕ → (File → List ℕ) → Type 0
+StandsForHealth set h text disk = StandsForHistory set h disk ⊎ ((health_refusal text ≡ None) × StandsForHistory set (health text ∷ h) disk)

@@ -1,9 +1,13 @@
 pub mod Agent
+pub mod Alarms
+pub mod Answers
 pub mod Calls
 pub mod Faults
 pub mod Fed
+pub mod Health
 pub mod Index
 pub mod Kept
+pub mod LastSeen
 pub mod Notes
 pub mod Replay
 pub mod Replies

@@ -18,6 +18,7 @@ use Rattle.beat_tiers.specs.declared.item.BeatPoint.{BeatPoint}
 use Rattle.store_core.specs.Stands.{Stands}
 use Rattle.agent_core.specs.declared.left.Left.{Left}
 use Rattle.agent_core.specs.declared.left.Role.TheVariants.{Undecided, Collects, Copies}
+use Rattle.agent_core.specs.Health.{health_refusal}
 use Rattle.agent_core.specs.Roles.{may_collect, may_copy, role_of}
 
 -- ---- the entry of a note
@@ -46,13 +47,13 @@ entry_in kept = entry_at kept.moment (read_entry kept.note)
 -- ---- what an entry goes on from, and what it leaves
 
 -- Whether an entry goes on: settings are no beat; collected beats do not mix with copies and gaps; and what is
--- defined goes on from what the registry has. The text of a configuration is not read, and a gap's child and
+-- defined goes on from what the registry has. Nothing refuses the text of a configuration. A gap's child and
 -- beginning are compared with nothing.
 abbrev pub entry_goes_on : Left → Entry → Bool
 entry_goes_on left (entry.Settings set) = false
 entry_goes_on left (entry.Collected found) = may_collect left.role && goes_on left.registry found
 entry_goes_on left (entry.Copied found) = may_copy left.role && copied_goes_on left.registry found
-entry_goes_on left (entry.Health text) = true
+entry_goes_on left (entry.Health text) = is_none (health_refusal text)
 entry_goes_on left (entry.Gap gap) = may_copy left.role
 
 -- what is left once it is taken

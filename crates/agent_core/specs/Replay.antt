@@ -1,23 +1,30 @@
 -- How an agent is opened: the beats of its store are replayed, the oldest first.
-use Rattle.std.specs.Prelude.{◌≡◌, true, List, [], ◌∷◌, Option, None}
+use Rattle.std.specs.Prelude.{◌≡◌, ℕ, true, List, [], ◌∷◌, map, Option, None}
 use Rattle.host_model.specs.Past.{Event}
 use Rattle.algorithms.specs.declared.last.Last.{Last}
 use Rattle.history.specs.declared.beat.OpenBeat.{OpenBeat}
 use Rattle.history.specs.History.{Beat, collected, copied, registry_of, Copy}
-use Rattle.history.specs.Numbered.{numbered_beat}
+use Rattle.history.specs.Numbered.{numbered_beat, IsThere}
 use Rattle.history.specs.Registry.{Registry, same_chart, same_dimension}
 use Rattle.beat_points.specs.LastRows.{AreLastOf}
 use Rattle.history.specs.Regular.{AreApart, IsRegular}
 use Rattle.history.specs.declared.numbered.NumberedBeat.{NumberedBeat}
+use Rattle.alarm_core.specs.declared.latest.Latest.{Latest}
+use Rattle.alarm_core.specs.Course.{Held}
 use Rattle.entry_codec.specs.declared.entry.Entry.{Entry}
 use Rattle.entry_codec.specs.declared.entry.Entry.TheVariants as entry
 use Rattle.entry_codec.specs.declared.entry.Settings.{Settings}
+use Rattle.beat_tiers.specs.declared.item.BeatPoint.{BeatPoint}
 use Rattle.store_core.specs.declared.beat.Beat.{Beat as StoreBeat}
 use Rattle.store_core.specs.Records.{with_all}
 use Rattle.store_core.specs.Store.{IsReplayed, IsStoreAt, OpensAt, StoreState}
 use Rattle.agent_core.specs.declared.left.Left.{Left}
 use Rattle.agent_core.specs.Agent.{AgentState}
-use Rattle.agent_core.specs.Kept.{AreBeatsOf, IsBeatOf}
+use Rattle.agent_core.specs.declared.alarming.Stepping.{Stepping}
+use Rattle.agent_core.specs.declared.alarming.Stepping.TheVariants as stepping
+use Rattle.agent_core.specs.Alarms.{alarms_at, IsReadOf}
+use Rattle.agent_core.specs.Kept.{copied_point, stored_points, AreBeatsOf, IsBeatOf}
+use Rattle.agent_core.specs.LastSeen.{IsLatestOf}
 use Rattle.agent_core.specs.Notes.{beats_go_on, left_by, left_of}
 use Rattle.agent_core.specs.Rules.{HasGrids}
 
@@ -42,6 +49,45 @@ HasRows registry lasts lasts' (entry.Copied found) = HasRoom registry lasts last
 HasRows registry lasts lasts' (entry.Health text) = lasts' ≡ lasts
 HasRows registry lasts lasts' (entry.Gap gap) = lasts' ≡ lasts
 
+-- ---- what was last seen
+
+-- what was last seen has taken this numbered beat, with these points
+abbrev pub HasSeenBeat : Registry → Latest → Latest → NumberedBeat → List BeatPoint → Type 0
+HasSeenBeat registry latest latest' beat points =
+    (g : List Beat) (beats : List StoreBeat) (lasts : List (Option Last)) (opened : OpenBeat) → AreBeatsOf g beats → AreLastOf lasts g → IsLatestOf latest g → registry ≡ registry_of (collected beat.moment opened ∷ g) → IsRegular registry opened
+    → beat ≡ numbered_beat registry beat.moment opened → points ≡ stored_points registry g beat.moment opened → IsLatestOf latest' (collected beat.moment opened ∷ g)
+
+-- it has taken a copied beat at this moment, with these points
+abbrev pub HasSeenCopy : Registry → Latest → Latest → ℕ → List BeatPoint → Type 0
+HasSeenCopy registry latest latest' moment points =
+    (g : List Beat) (beats : List StoreBeat) (lasts : List (Option Last)) (copy : Copy) → AreBeatsOf g beats → AreLastOf lasts g → IsLatestOf latest g → registry ≡ registry_of (copied copy ∷ g) → moment ≡ copy.moment
+    → points ≡ map (copied_point registry) copy.words → IsLatestOf latest' (copied copy ∷ g)
+
+-- nothing more was seen
+abbrev pub HasSeenNone : Latest → Latest → Type 0
+HasSeenNone latest latest' = latest' ≡ record latest { before = latest'.before }
+
+-- what was last seen is that after an entry with these points
+abbrev pub HasSeen : Registry → Latest → Latest → Entry → List BeatPoint → Type 0
+HasSeen registry latest latest' (entry.Settings set) points = HasSeenNone latest latest'
+HasSeen registry latest latest' (entry.Collected found) points = HasSeenBeat registry latest latest' found points
+HasSeen registry latest latest' (entry.Copied found) points = HasSeenCopy registry latest latest' found.moment points
+HasSeen registry latest latest' (entry.Health text) points = HasSeenNone latest latest'
+HasSeen registry latest latest' (entry.Gap gap) points = HasSeenNone latest latest'
+
+-- the rows of an entry are of charts and series that the registry has
+abbrev pub IsEntryThere : Registry → Entry → Type 0
+IsEntryThere registry (entry.Collected found) = IsThere registry found
+IsEntryThere registry found = Unit {0}
+
+-- ---- what an entry does to alarms
+abbrev pub IsDoneBy : Entry → Stepping → Type 0
+IsDoneBy (entry.Collected found) (stepping.Beat at) = at ≡ found.moment
+IsDoneBy (entry.Copied found) (stepping.Beat at) = at ≡ found.moment
+IsDoneBy (entry.Health text) (stepping.Configuration config) = IsReadOf text config
+IsDoneBy (entry.Gap gap) stepping.Nothing = Unit {0}
+IsDoneBy found does = ⊥
+
 -- ---- the front of a history
 
 -- a history with these beats, the oldest first, on top of it
@@ -55,13 +101,14 @@ AreNextOf g [] [] = Unit {0}
 AreNextOf g (beat ∷ more) (kept ∷ rest) = IsBeatOf g beat kept × AreNextOf (beat ∷ g) more rest
 AreNextOf g more rest = ⊥
 
--- what is left and the last rows are those of a history
-pub record ArePartsOf (left : Left) (lasts : List (Option Last)) (g : List Beat) : Type 0 where
+-- what is left, the last rows and what was last seen are those of a history
+pub record ArePartsOf (left : Left) (lasts : List (Option Last)) (latest : Latest) (g : List Beat) : Type 0 where
   pub left_is : left ≡ left_by g
   pub last_rows_are : AreLastOf lasts g
+  pub latest_is : IsLatestOf latest g
 
 -- the store has replayed a front of the history, and the other parts are those of that front
-pub record IsReplaying (past : List Event) (store : StoreState) (left : Left) (lasts : List (Option Last)) (set : Settings) (h : List Beat) : Type 0 where
+pub record IsReplaying (past : List Event) (store : StoreState) (left : Left) (lasts : List (Option Last)) (latest : Latest) (held : Held) (set : Settings) (h : List Beat) : Type 0 where
   pub front : List Beat
   pub more : List Beat
   pub beats : List StoreBeat
@@ -70,7 +117,8 @@ pub record IsReplaying (past : List Event) (store : StoreState) (left : Left) (l
   pub are : AreBeatsOf front beats
   pub next : AreNextOf front more rest
   pub is_at : IsStoreAt past store set beats rest
-  pub parts : ArePartsOf left lasts front
+  pub parts : ArePartsOf left lasts latest front
+  pub held_is : held ≡ alarms_at set front
 
 -- the store has replayed a front of these beats, which go on, and this is what they leave
 pub record HasTaken (past : List Event) (store : StoreState) (left : Left) (set : Settings) (beats : List StoreBeat) : Type 0 where

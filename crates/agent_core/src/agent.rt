@@ -1,41 +1,52 @@
-ghost use Rattle.std.specs.Prelude.{◌≡◌, ◌⊎◌, ◌∷◌, [], ℕ, List, None, true, false, IfOk, IfErr, IsErrOf, OnOk, OnErr};
+ghost use Rattle.std.specs.Prelude.{◌≡◌, ◌<◌, ◌⊎◌, ◌∷◌, [], ℕ, List, None, true, false, IfOk, IfErr, IsErrOf, OnOk, OnErr};
 ghost use Rattle.host_model.specs.declared.file.File.{File as AFile};
 ghost use Rattle.host_model.specs.declared.file.File.TheVariants.{JournalA};
 ghost use Rattle.host_model.specs.Past.{Event, IsDisk};
 ghost use Rattle.host_model.specs.Disks.{EveryDisk, reads_as};
 ghost use Rattle.host_model.specs.Cause.{HasCause};
 ghost use Rattle.host_model.specs.Moments.{Throughout, OnlyOn};
-ghost use Rattle.history.specs.History.{Beat as HistoryBeat, collected};
+ghost use Rattle.history.specs.History.{Beat as HistoryBeat, collected, health, last as last_of};
 ghost use Rattle.history.specs.Limits.{keeps_limits};
 ghost use Rattle.entry_codec.specs.declared.entry.Settings.{Settings as ASettings};
 ghost use Rattle.store_core.specs.declared.beat.Beat.{Beat as StoreBeat};
 ghost use Rattle.store_core.specs.FirstRecord.{InLimits};
 ghost use Rattle.store_core.specs.Stands.{is_made, IsDamaged, Stands};
 ghost use Rattle.store_core.specs.Store.{raised, OpensAt};
-ghost use Rattle.agent_core.specs.Calls.{Beats, Creates, Lines, Opens};
+ghost use Rattle.agent_core.specs.Answers.{floor_of_history, kept_of_history, reply_of};
+ghost use Rattle.agent_core.specs.Agent.{Holds};
+ghost use Rattle.alarm_core.specs.Course.{held};
+ghost use Rattle.agent_core.specs.Alarms.{alarms_at, events_at, HaveFollowed, IsSteppingOf};
+ghost use Rattle.agent_core.specs.Calls.{Beats, Creates, Keeps, Lines, Logs, Opens, Queries, SetsHealth};
 ghost use Rattle.agent_core.specs.Fed.{IsFed};
-ghost use Rattle.agent_core.specs.Faults.{fault_after, IsCreating, IsOpening, LeavesAll, RefusedBy, Reopens};
-ghost use Rattle.agent_core.specs.Kept.{StandsForHistory, StandsForNew, StandsForOneOf};
+ghost use Rattle.agent_core.specs.Faults.{fault_after, HealthRefusedBy, IsCreating, IsOpening, IsReading, LeavesAll, RefusedBy, Reopens};
+ghost use Rattle.agent_core.specs.Health.{health_refusal};
+ghost use Rattle.agent_core.specs.Kept.{StandsForHealth, StandsForHistory, StandsForNew, StandsForOneOf};
 ghost use Rattle.agent_core.specs.Notes.{beats_go_on, HasNotes};
 ghost use Rattle.agent_core.specs.Replay.{HasReplayed, IsOpenedFor};
 ghost use Rattle.agent_core.specs.Rules.{beat_refusal, IsOpenBeat};
 ghost use Rattle.agent_core.specs.Steps.{IsOpenStep, Takes};
 
+use crate::alarming::{Stepping, follow};
+use crate::answering;
 use crate::fault::{AgentFault, store_fault};
-use crate::keeping::add;
+use crate::keeping::{add, add_health};
+use crate::last_seen::nothing_seen;
 use crate::left::{Left, Role};
 use crate::refusal::refusal;
 use crate::replaying::{open_store, replay_all};
 use crate::reply::{Reply, Said};
+use alarm_core::{Alarms, Latest, Log};
 use beat_points::LastRows;
 use chart_registry::Registry;
 use collect_block::{Feed, Step};
 use entry_codec::Settings;
+use fixed_num::Text;
+use health_config::{Config, ConfigFault};
 use history::{BlockFault, Line, OpenBeat};
 use host_model::Host;
 use std::alloc::Global;
 use std::marker::Model;
-use store_core::{Store, Why};
+use store_core::{Kept, Store, Why};
 
 /// The agent of one history, with the host that its database is on. Each call on it is handed that host,
 /// which since the agent was made or opened only its calls, and `tell`, have touched.
@@ -45,6 +56,8 @@ pub struct Agent {
     store: Store,
     registry: Registry,
     last_rows: LastRows,
+    latest: Latest,
+    alarms: Alarms,
     /// The last moment, or 0.
     last: u32,
     /// How many beats there are.
@@ -56,14 +69,20 @@ pub struct Agent {
 }
 
 impl Model for Agent {
+    ghost use Rattle.std.specs.Coded.{codes};
+    ghost use Rattle.health_expr.specs.contracts.expr.Expr as expr;
     ghost use Rattle.agent_core.specs.Agent.{AgentState};
 
     ghost Value = { AgentState };
+
+    ghost coded = { Prim.hlevel (codes, expr.the_row.coded) };
 
     ghost view = { λ agent. record {
       store = agent.store;
       registry = agent.registry;
       last_rows = agent.last_rows;
+      latest = agent.latest;
+      alarms = agent.alarms;
       last = agent.last;
       count = agent.count;
       copies = agent.copies;
@@ -83,9 +102,8 @@ impl Agent {
 
     /// Makes the agent of a history without beats, and its database, where there is none.
     ///
-    /// `Exists` exactly where there is a database, and then nothing has happened. Where there was none
-    /// whatever a stop left, then at every moment a stop leaves none, or the one without beats; at `Ok` the
-    /// latter.
+    /// `Exists` exactly where there is a database, and then nothing has happened. At every moment a stop
+    /// leaves what it might have left before the call, no database, or the one without beats; at `Ok` the last.
     pub fn create<H: Host>(
         alloc: Global,
         host: &mut H,
@@ -100,10 +118,9 @@ impl Agent {
 
     fn make<H: Host>(alloc: Global, host: &mut H, settings: &Settings) -> Result<Agent, AgentFault>
         requires { InLimits settings.now }
-        ensures any_moment { H.honest
-            → EveryDisk (λ disk. is_made disk ≡ false) (H.seen host.old).past
-            → Throughout (EveryDisk (StandsForNew settings.now)) (H.seen host.old).past
-            (H.seen host.new).past }
+        ensures any_moment { H.honest → Throughout (EveryDisk
+            (λ disk. IsDisk (H.seen host.old).past disk ⊎ StandsForNew settings.now disk))
+            (H.seen host.old).past (H.seen host.new).past }
         ensures created { IfOk result
             (λ agent. H.honest → IsAgentOf (H.seen host.new).past agent settings.now []) }
         ensures ready { IfOk result (AgentIsReady H.honest (H.seen host.new).past) }
@@ -112,7 +129,8 @@ impl Agent {
             → is_made (reads_as (H.seen host.old).past) ≡ true }
         ensures none { OnOk result (H.honest → is_made (reads_as (H.seen host.old).past) ≡ false) }
         ensures made { H.honest → is_made (reads_as (H.seen host.old).past) ≡ true
-            → (IsErrOf result AgentFault.Exists ⊎ IsErrOf result AgentFault.DiskFault)
+            → (IsErrOf result AgentFault.Exists
+            ⊎ (IsErrOf result AgentFault.DiskFault ⊎ IsErrOf result AgentFault.Memory))
             × ((H.seen host.new).past ≡ (H.seen host.old).past) }
         ensures memory { IsErrOf result AgentFault.Memory → H.honest
             → (H.seen host.new).past ≡ (H.seen host.old).past }
@@ -123,12 +141,20 @@ impl Agent {
             → OnlyOn JournalA (H.seen host.old).past (H.seen host.new).past }
         ensures tells { (H.seen host.new).tell_faults ≡ (H.seen host.old).tell_faults }
     {
+        let Ok(alarms) = Alarms::new(alloc) else {
+            return Err(AgentFault::Memory);
+        };
+        let registry = Registry::new(alloc);
+        let last_rows = LastRows::new(alloc);
+        let latest = nothing_seen(alloc);
         match Store::create(alloc, host, settings) {
             Ok(store) => Ok(Agent {
                 alloc,
                 store,
-                registry: Registry::new(alloc),
-                last_rows: LastRows::new(alloc),
+                registry,
+                last_rows,
+                latest,
+                alarms,
                 last: 0,
                 count: 0,
                 copies: false,
@@ -143,10 +169,10 @@ impl Agent {
     /// `NotADatabase` exactly where there is none, and `Damaged` only where what is there stands for no
     /// history: with 4 where its journal holds no settings and beats, and with 5 where a note or a point in it
     /// is bad. A note is bad where it is no entry of a beat with the moment of its record, does not go on from
-    /// those before, mixes copies with collected beats, or has a definition that does not keep its limits. A
-    /// point is bad where it names a series that is not there. The words and steps of points are not compared
-    /// with their definition, the text of a configuration is not read, and a gap's child and beginning are
-    /// compared with nothing.
+    /// those before, mixes copies with collected beats, has a definition that does not keep its limits, or is a
+    /// configuration whose text is refused. A point is bad where it names a series that is not there. The words
+    /// and steps of points are not compared with their definition, and a gap's child and beginning are compared
+    /// with nothing. The alarms are those of that history: each beat steps them as it did when it was stored.
     /// At `Ok` the agent is of just the history that the disk stands for, if it stands for one. The disk is only
     /// read and synced.
     pub fn open<H: Host>(alloc: Global, host: &mut H) -> Result<Agent, AgentFault>
@@ -192,13 +218,13 @@ impl Agent {
         ensures tells { (H.seen host.new).tell_faults ≡ (H.seen host.old).tell_faults }
     {
         match open_store(alloc, host) {
-            Ok(store) => Agent::replayed(alloc, store),
+            Ok(store) => Agent::replayed(alloc, store, host),
             Err(fault) => Err(fault),
         }
     }
 
     /// The agent of a store that was just opened, once all its beats are replayed.
-    fn replayed(alloc: Global, mut store: Store) -> Result<Agent, AgentFault>
+    fn replayed<H: Host>(alloc: Global, mut store: Store, host: &mut H) -> Result<Agent, AgentFault>
         requires going { store.fault ≡ None }
         ensures replayed { IfOk result (HasReplayed store) }
         ensures of { IfOk result (λ agent. (past : List Event) (set : ASettings)
@@ -218,15 +244,29 @@ impl Agent {
             (λ fault. fault ≡ AgentFault.Damaged 5
             → (past : List Event) (set : ASettings) (beats : List StoreBeat)
             → OpensAt past store set beats → beats_go_on beats ≡ false) }
+        ensures host { H.seen host.new ≡ H.seen host.old }
         ensures faults { IfErr result
             (λ fault. (fault ≡ AgentFault.Memory) ⊎ (fault ≡ AgentFault.Damaged 5)) }
     {
+        let Ok(mut alarms) = Alarms::new(alloc) else {
+            return Err(AgentFault::Memory);
+        };
+        let registry = Registry::new(alloc);
         let mut left = Left {
-            registry: Registry::new(alloc),
+            registry,
             role: Role::Undecided,
         };
         let mut last_rows = LastRows::new(alloc);
-        replay_all(alloc, &mut store, &mut left, &mut last_rows)?;
+        let mut latest = nothing_seen(alloc);
+        replay_all(
+            alloc,
+            &mut store,
+            host,
+            &mut left,
+            &mut last_rows,
+            &mut latest,
+            &mut alarms,
+        )?;
         let copies = !left.role.may_collect();
         Ok(Agent {
             alloc,
@@ -235,6 +275,8 @@ impl Agent {
             store,
             registry: left.registry,
             last_rows,
+            latest,
+            alarms,
             copies,
             fault: None,
         })
@@ -247,7 +289,8 @@ impl Agent {
     /// that counts for the agent's registry, as a new one does and goes on to. The feed has taken only lines that
     /// were handed to `Agent::line` or to `Feed::line` and were not refused, and their definitions, as that of
     /// this line, keep their limits. Where the beat of a MOMENT is refused the feed has given it away. After
-    /// `DiskFault` or `Memory` the agent must be opened again. A line that is no MOMENT makes no call on the host.
+    /// `DiskFault`, which comes at a MOMENT alone, or `Memory` the agent must be opened again. A QUERY is answered
+    /// with the reply of the history. A line that is neither a MOMENT nor a QUERY makes no call on the host.
     pub fn line<H: Host>(
         &mut self,
         host: &mut H,
@@ -313,10 +356,13 @@ impl Agent {
     {
         match step {
             Step::Nothing => Ok(Said::Nothing),
-            Step::Query(text) => Ok(Said::Asked(text)),
             Step::Disabled => Ok(Said::Disabled),
             Step::Beat(beat, moment) => match self.beat(host, &beat, moment) {
                 Ok(reply) => Ok(Said::Stored(reply)),
+                Err(fault) => Err(fault),
+            },
+            Step::Query(text) => match self.query(host, text.as_str()) {
+                Ok(reply) => Ok(Said::Table(reply)),
                 Err(fault) => Err(fault),
             },
         }
@@ -358,6 +404,10 @@ impl Agent {
             → IsAgentOf (H.seen host.old).past self.old set h
             → IsAgentOf (H.seen host.new).past self.new set (collected moment beat.now ∷ h)) }
         ensures number { IfOk result (λ reply. reply.count ≡ self.new.count) }
+        ensures events { IfOk result
+            (λ reply. H.honest → (set : ASettings) (h : List HistoryBeat)
+            → IsAgentOf (H.seen host.old).past self.old set h
+            → reply.events ≡ events_at set (collected moment beat.now ∷ h)) }
         ensures counts { OnOk result (self.new.count ≡ raised self.old.count) }
         ensures last { OnOk result (self.new.last ≡ moment) }
         ensures refused { self.old.fault ≡ None
@@ -396,20 +446,244 @@ impl Agent {
             &mut self.store,
             &mut self.registry,
             &mut self.last_rows,
+            &mut self.latest,
             host,
             beat,
             moment,
         ) {
-            Ok(()) => {
-                self.last = moment;
+            Ok(()) => self.tell(host, Stepping::Beat(moment), moment),
+            Err(fault) => {
+                self.fault = fault.cause();
+                Err(fault)
+            }
+        }
+    }
+
+    /// Has the alarms follow a beat that is stored, and counts it. The last moment is then this one.
+    fn tell<H: Host>(
+        &mut self,
+        host: &mut H,
+        stepping: Stepping,
+        last: u32,
+    ) -> Result<Reply, AgentFault>
+        requires going { self.old.fault ≡ None }
+        requires store_going { self.old.store.fault ≡ None }
+        ensures followed { IfOk result (λ reply. (past : List Event) (set : ASettings)
+            (h : List HistoryBeat) (beat : HistoryBeat)
+            → Holds past self.old.store self.old.registry self.old.last_rows self.old.latest set
+            (beat ∷ h)
+            → self.old.latest.before ≡ last_of h → held self.old.alarms ≡ alarms_at set h
+            → IsSteppingOf beat stepping
+            → HaveFollowed set (beat ∷ h) (held self.new.alarms) reply.events) }
+        ensures number { IfOk result (λ reply. reply.count ≡ self.new.count) }
+        ensures told { OnOk result (self.new ≡ record self.old {
+          alarms = self.new.alarms;
+          last = last;
+          count = raised self.old.count;
+        }) }
+        ensures spent { OnErr result (self.new ≡ record self.old {
+          alarms = self.new.alarms;
+          fault = self.new.fault;
+        }) }
+        ensures fault { self.new.fault ≡ fault_after self.old.fault result }
+        ensures memory { IfErr result (λ fault. fault ≡ AgentFault.Memory) }
+        ensures host { H.seen host.new ≡ H.seen host.old }
+    {
+        let followed = follow(
+            self.alloc,
+            &mut self.alarms,
+            &mut self.store,
+            host,
+            &self.registry,
+            &self.latest,
+            stepping,
+        );
+        match followed {
+            Ok(events) => {
+                self.last = last;
                 self.count = raised(self.count);
-                Ok(Reply { count: self.count })
+                Ok(Reply {
+                    count: self.count,
+                    events,
+                })
             }
             Err(fault) => {
                 self.fault = fault.cause();
                 Err(fault)
             }
         }
+    }
+
+    /// Stores another configuration of health, and gives the events of the alarms that it removes.
+    ///
+    /// `Health` exactly where the text is refused, with the first reason, and then nothing has changed; `Memory`
+    /// may come before. After `DiskFault` or `Memory` the agent must be opened again. The configuration is a beat
+    /// without a moment: the last moment stays, and no alarm is stepped.
+    pub fn set_health<H: Host>(&mut self, host: &mut H, text: &[u8]) -> Result<Reply, AgentFault>
+        requires ready { AgentIsReady H.honest (H.seen host.old).past self.old }
+        ensures { SetsHealth H.honest (H.seen host.old) self.old
+            text.now result (H.seen host.new) self.new }
+    {
+        self.change_health(host, text)
+    }
+
+    fn change_health<H: Host>(&mut self, host: &mut H, text: &[u8]) -> Result<Reply, AgentFault>
+        requires ready { AgentIsReady H.honest (H.seen host.old).past self.old }
+        ensures any_moment { H.honest → (set : ASettings) (h : List HistoryBeat)
+            → IsAgentOf (H.seen host.old).past self.old set h
+            → Throughout (EveryDisk (StandsForHealth set h text.now)) (H.seen host.old).past
+            (H.seen host.new).past }
+        ensures done { OnOk result
+            (H.honest → (set : ASettings) (h : List HistoryBeat)
+            → IsAgentOf (H.seen host.old).past self.old set h
+            → IsAgentOf (H.seen host.new).past self.new set (health text.now ∷ h)) }
+        ensures number { IfOk result (λ reply. reply.count ≡ self.new.count) }
+        ensures events { IfOk result
+            (λ reply. H.honest → (set : ASettings) (h : List HistoryBeat)
+            → IsAgentOf (H.seen host.old).past self.old set h
+            → reply.events ≡ events_at set (health text.now ∷ h)) }
+        ensures counts { OnOk result (self.new.count ≡ raised self.old.count) }
+        ensures last { self.new.last ≡ self.old.last }
+        ensures registry { self.new.registry ≡ self.old.registry }
+        ensures refused { self.old.fault ≡ None
+            → HealthRefusedBy (health_refusal text.now) result }
+        ensures unchanged { IfErr result
+            (λ fault. LeavesAll fault → (self.new ≡ self.old) × (host.new ≡ host.old)) }
+        ensures fault { self.new.fault ≡ fault_after self.old.fault result }
+        ensures reopens { Reopens self.old.fault result }
+        ensures stays { OnErr result (self.new.count ≡ self.old.count) }
+        ensures id { id_of self.new ≡ id_of self.old }
+        ensures ready { AgentIsReady H.honest (H.seen host.new).past self.new }
+        ensures cause { HasCause (H.seen host.old).disk_faults (H.seen host.new).disk_faults
+            (IsErrOf result AgentFault.DiskFault) }
+        ensures only_here { H.honest
+            → OnlyOn JournalA (H.seen host.old).past (H.seen host.new).past }
+        ensures tells { (H.seen host.new).tell_faults ≡ (H.seen host.old).tell_faults }
+    {
+        if let Some(cause) = self.fault {
+            return Err(AgentFault::Reopen(cause));
+        }
+        let config = match Config::read(self.alloc, text) {
+            Ok(config) => config,
+            Err(ConfigFault::Memory) => {
+                self.fault = Some(Why::Memory);
+                return Err(AgentFault::Memory);
+            }
+            Err(fault) => return Err(AgentFault::Health(fault)),
+        };
+        match add_health(self.alloc, &mut self.store, host, text) {
+            Ok(()) => {
+                let last = self.last;
+                self.latest.before = last;
+                self.tell(host, Stepping::Configuration(config), last)
+            }
+            Err(fault) => {
+                self.fault = fault.cause();
+                Err(fault)
+            }
+        }
+    }
+
+    /// The log of the alarms: the last 1,000 events, the earliest first, and how many came before them.
+    ///
+    /// `Memory` changes nothing: the agent needs not be opened again.
+    pub fn log(&self) -> Result<Log, AgentFault>
+        ensures { Logs self.now result }
+    {
+        if let Some(cause) = self.fault {
+            return Err(AgentFault::Reopen(cause));
+        }
+        match self.alarms.log() {
+            Ok(log) => Ok(log),
+            Err(_) => Err(AgentFault::Memory),
+        }
+    }
+
+    /// The reply to a query, whose text is what follows the first word of a QUERY line.
+    ///
+    /// It is a table over the points of the history, or the line `ERROR n` of the first of these refusals: 1 fewer
+    /// than five words, an open quote or more than 256 words of a pattern, 2 a bad number, 3 no such chart, 4 no
+    /// such group, 5 more than 10,000 windows. Nothing is stored, and the disk is not asked. After `Memory` the
+    /// agent must be opened again.
+    pub fn query<H: Host>(&mut self, host: &mut H, text: &str) -> Result<Text, AgentFault>
+        requires { AgentIsReady H.honest (H.seen host.old).past self.old }
+        ensures { Queries H.honest (H.seen host.old) self.old text.now
+            result (H.seen host.new) self.new }
+    {
+        self.reply(host, text)
+    }
+
+    fn reply<H: Host>(&mut self, host: &mut H, text: &str) -> Result<Text, AgentFault>
+        requires { AgentIsReady H.honest (H.seen host.old).past self.old }
+        ensures answered { IfOk result (λ reply. (set : ASettings) (h : List HistoryBeat)
+            → IsAgentOf (H.seen host.old).past self.old set h → reply ≡ reply_of set h text.now) }
+        ensures host { H.seen host.new ≡ H.seen host.old }
+        ensures done { OnOk result (self.new ≡ self.old) }
+        ensures unchanged { IfErr result (λ fault. LeavesAll fault → self.new ≡ self.old) }
+        ensures faults { IfErr result IsReading }
+        ensures fault { self.new.fault ≡ fault_after self.old.fault result }
+        ensures reopens { Reopens self.old.fault result }
+        ensures stays { self.new ≡ record self.old { fault = self.new.fault } }
+        ensures cause { HasCause (H.seen host.old).disk_faults (H.seen host.new).disk_faults
+            (IsErrOf result AgentFault.DiskFault) }
+    {
+        if let Some(cause) = self.fault {
+            return Err(AgentFault::Reopen(cause));
+        }
+        match answering::reply(self.alloc, &mut self.store, &self.registry, host, text) {
+            Ok(reply) => Ok(reply),
+            Err(fault) => {
+                self.fault = fault.cause();
+                Err(fault)
+            }
+        }
+    }
+
+    /// The beats with points that are kept, the earliest first, with the number of those before them. The disk is
+    /// not asked.
+    ///
+    /// After `Memory` the agent must be opened again.
+    pub fn kept<H: Host>(&mut self, host: &mut H) -> Result<Kept, AgentFault>
+        requires { AgentIsReady H.honest (H.seen host.old).past self.old }
+        ensures { Keeps H.honest (H.seen host.old) self.old
+            result (H.seen host.new) self.new }
+    {
+        self.kept_beats(host)
+    }
+
+    fn kept_beats<H: Host>(&mut self, host: &mut H) -> Result<Kept, AgentFault>
+        requires { AgentIsReady H.honest (H.seen host.old).past self.old }
+        ensures answered { IfOk result (λ kept. (set : ASettings) (h : List HistoryBeat)
+            → IsAgentOf (H.seen host.old).past self.old set h → kept ≡ kept_of_history set h) }
+        ensures host { H.seen host.new ≡ H.seen host.old }
+        ensures done { OnOk result (self.new ≡ self.old) }
+        ensures unchanged { IfErr result (λ fault. LeavesAll fault → self.new ≡ self.old) }
+        ensures faults { IfErr result IsReading }
+        ensures fault { self.new.fault ≡ fault_after self.old.fault result }
+        ensures reopens { Reopens self.old.fault result }
+        ensures stays { self.new ≡ record self.old { fault = self.new.fault } }
+        ensures cause { HasCause (H.seen host.old).disk_faults (H.seen host.new).disk_faults
+            (IsErrOf result AgentFault.DiskFault) }
+    {
+        if let Some(cause) = self.fault {
+            return Err(AgentFault::Reopen(cause));
+        }
+        match answering::kept(&mut self.store, host) {
+            Ok(kept) => Ok(kept),
+            Err(fault) => {
+                self.fault = fault.cause();
+                Err(fault)
+            }
+        }
+    }
+
+    /// The floor of tier 0, 1 or 2, in seconds: the first moment of which the tier still answers, or 0.
+    pub fn floor(&self, tier: u8) -> u32
+        requires { tier < 3 }
+        ensures { (past : List Event) (set : ASettings) (h : List HistoryBeat)
+            → IsAgentOf past self.now set h → result ≡ floor_of_history set h tier }
+    {
+        self.store.floor(tier)
     }
 
     /// How many beats there are: at most 2^64 - 1.

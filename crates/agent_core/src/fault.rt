@@ -1,6 +1,7 @@
 ghost use Rattle.std.specs.Prelude.{◌≡◌, Some, IsSome};
 ghost use Rattle.agent_core.specs.Faults.{fault_of};
 
+use health_config::ConfigFault;
 use history::BlockFault;
 use store_core::{StoreFault, Why};
 use thiserror::Error;
@@ -11,6 +12,9 @@ pub enum AgentFault {
     /// The history does not take this line or beat.
     #[error("{0}")]
     Refused(BlockFault),
+    /// The health text is refused.
+    #[error("{0}")]
+    Health(ConfigFault),
     /// A call on the disk failed.
     #[error("the disk failed")]
     DiskFault,
@@ -43,6 +47,7 @@ impl AgentFault {
             AgentFault::DiskFault => Some(Why::Disk),
             AgentFault::Memory => Some(Why::Memory),
             AgentFault::Refused(_)
+            | AgentFault::Health(_)
             | AgentFault::NotADatabase
             | AgentFault::Damaged(_)
             | AgentFault::Reopen(_)

@@ -1,20 +1,22 @@
 //! What a store keeps of a beat, and how it is added to a history.
 
-ghost use Rattle.std.specs.Prelude.{◌≡◌, ◌<◌, ◌≤◌, ◌^◌, [], ◌∷◌, ◌⊎◌, ℕ, List, Some, None, true, false, length, All, IfOk, IfErr, IfSome, OnOk, IsErrOf};
+ghost use Rattle.std.specs.Prelude.{◌≡◌, ◌<◌, ◌≤◌, ◌^◌, [], ◌∷◌, ◌⊎◌, ℕ, List, Option, Some, None, true, false, length, All, IfOk, IfErr, IfSome, OnOk, IsErrOf};
+ghost use Rattle.algorithms.specs.declared.last.Last.{Last as ALast};
+ghost use Rattle.alarm_core.specs.declared.latest.Latest.{Latest as ALatest};
 ghost use Rattle.host_model.specs.declared.file.File.TheVariants.{JournalA};
 ghost use Rattle.host_model.specs.Disks.{EveryDisk};
 ghost use Rattle.host_model.specs.Cause.{HasCause};
 ghost use Rattle.host_model.specs.Moments.{Throughout, OnlyOn};
 ghost use Rattle.history.specs.declared.beat.OpenBeat.{OpenBeat as AnOpenBeat};
-ghost use Rattle.history.specs.History.{Beat as HistoryBeat, collected};
-ghost use Rattle.history.specs.Registry.{same_chart, same_dimension, with_definitions};
+ghost use Rattle.history.specs.History.{Beat as HistoryBeat, collected, health};
+ghost use Rattle.history.specs.Registry.{Registry as ARegistry, same_chart, same_dimension, with_definitions};
 ghost use Rattle.beat_points.specs.Points.{IsNext};
 ghost use Rattle.history.specs.Regular.{AreApart, IsRegular};
 ghost use Rattle.beat_entries.specs.Defined.{IsDefinedIn};
 ghost use Rattle.history.specs.Numbered.{numbered_beat, IsThere};
 ghost use Rattle.entry_codec.specs.declared.entry.Entry.TheVariants as entry;
 ghost use Rattle.entry_codec.specs.declared.entry.Settings.{Settings as ASettings};
-ghost use Rattle.entry_codec.specs.Entries.{is_collected_canonical, HasSpelling, IsWithinLimits};
+ghost use Rattle.entry_codec.specs.Entries.{entry_bytes, is_collected_canonical, HasSpelling, IsWithinLimits};
 ghost use Rattle.store_core.specs.declared.beat.Beat.{Beat as StoreBeat};
 ghost use Rattle.store_core.specs.Beats.{beat_bytes, InForm};
 ghost use Rattle.store_core.specs.Records.{last_after};
@@ -23,20 +25,24 @@ ghost use Rattle.store_core.specs.Store.{IsReady, IsReplayed, IsStoreOf};
 ghost use Rattle.agent_core.specs.Agent.{Holds};
 ghost use Rattle.agent_core.specs.Faults.{IsSpending};
 ghost use Rattle.agent_core.specs.Kept.{kept_of, Follows, StandsForHistory};
-ghost use Rattle.agent_core.specs.Replay.{HasRoom, HasTakenRows};
+ghost use Rattle.agent_core.specs.Health.{health_refusal};
+ghost use Rattle.agent_core.specs.Notes.{names_series};
+ghost use Rattle.agent_core.specs.Replay.{HasRoom, HasSeenBeat, HasTakenRows};
 ghost use Rattle.chart_registry.specs.declared.fault.RegistryFault.TheVariants as registry_fault;
 ghost use Rattle.agent_core.specs.Rules.{changes_grid, lacks_chart, lacks_dimension, too_many_charts, too_many_dimensions, HasGrids, IsOpenBeat};
 
 use crate::fault::{AgentFault, store_fault};
+use crate::last_seen::see_collected;
 use crate::points::stored_points;
+use alarm_core::Latest;
 use beat_entries::number_beat;
 use beat_points::LastRows;
 use chart_registry::{Registry, RegistryFault};
-use entry_codec::write_collected;
+use entry_codec::{Entry, EntryFault, write_collected, write_entry};
 use history::{NumberedBeat, OpenBeat};
 use host_model::Host;
 use std::alloc::{AllocError, Global};
-use store_core::{Beat, Store};
+use store_core::{Beat, BeatPointList, ByteList, Store};
 
 /// What a store keeps of a beat, and the beat by number.
 #[derive(Drop)]
@@ -68,6 +74,7 @@ fn stored_beat(
         → kept ≡ kept_of h numbered.now.moment opened) }
     ensures spelt { OnOk result (HasSpelling (entry.Collected numbered.now)) }
     ensures moment { IfOk result (λ kept. kept.moment ≡ Some numbered.now.moment) }
+    ensures named { IfOk result (λ kept. names_series registry.now kept.points ≡ true) }
     ensures form { IfOk result InForm }
     ensures size { IfOk result (λ kept. length (beat_bytes kept) ≤ 2 ^ 26) }
 {
@@ -106,6 +113,7 @@ fn kept_of(
     ensures spelt { OnOk result
         (HasSpelling (entry.Collected (numbered_beat registry.now moment beat.now))) }
     ensures moment { IfOk result (λ kept. kept.beat.moment ≡ Some moment) }
+    ensures named { IfOk result (λ kept. names_series registry.now kept.beat.points ≡ true) }
     ensures form { IfOk result (λ kept. InForm kept.beat) }
     ensures size { IfOk result (λ kept. length (beat_bytes kept.beat) ≤ 2 ^ 26) }
 {
@@ -156,6 +164,7 @@ fn keep(
     ensures spelt { OnOk result
         (HasSpelling (entry.Collected (numbered_beat registry.new moment beat.now))) }
     ensures moment { IfOk result (λ kept. kept.beat.moment ≡ Some moment) }
+    ensures named { IfOk result (λ kept. names_series registry.new kept.beat.points ≡ true) }
     ensures form { IfOk result (λ kept. InForm kept.beat) }
     ensures size { IfOk result (λ kept. length (beat_bytes kept.beat) ≤ 2 ^ 26) }
     ensures regular { OnOk result (IsRegular registry.new beat.now) }
@@ -200,6 +209,85 @@ fn commit<H: Host>(store: &mut Store, host: &mut H, kept: &Beat) -> Result<(), A
     }
 }
 
+/// Why an entry that has a spelling was not written: there was no memory.
+fn unwritten(fault: EntryFault) -> AllocError
+    requires { fault ≡ EntryFault.Memory }
+{
+    match fault {
+        EntryFault::Memory => AllocError,
+        EntryFault::Short
+        | EntryFault::Range
+        | EntryFault::NotText
+        | EntryFault::UnknownKind
+        | EntryFault::NotCanonical => unreachable!(),
+    }
+}
+
+/// What a store keeps of a configuration, whose text is no longer than a health text may be.
+fn health_beat(alloc: Global, text: &[u8]) -> Result<Beat, AllocError>
+    requires { length text.now ≤ 2 ^ 20 }
+    ensures kept { IfOk result (λ kept. kept ≡ record {
+      moment = None;
+      points = [];
+      note = entry_bytes (entry.Health text.now);
+    }) }
+    ensures spelt { OnOk result (HasSpelling (entry.Health text.now)) }
+    ensures form { IfOk result InForm }
+    ensures size { IfOk result (λ kept. length (beat_bytes kept) ≤ 2 ^ 26) }
+{
+    let entry = Entry::Health(ByteList::from_slice(alloc, text)?);
+    match write_entry(alloc, &entry) {
+        Ok(note) => Ok(Beat {
+            moment: None,
+            points: BeatPointList::new(alloc),
+            note,
+        }),
+        Err(fault) => Err(unwritten(fault)),
+    }
+}
+
+/// Adds a configuration, whose text nothing refuses, to a store that is still of use. At every moment a stop
+/// leaves the history with the configuration or without it.
+pub(crate) fn add_health<H: Host>(
+    alloc: Global,
+    store: &mut Store,
+    host: &mut H,
+    text: &[u8],
+) -> Result<(), AgentFault>
+    requires ready { IsReady H.honest (H.seen host.old).past store.old }
+    requires replayed { IsReplayed store.old }
+    requires going { store.old.fault ≡ None }
+    requires accepted { health_refusal text.now ≡ None }
+    requires short { length text.now ≤ 2 ^ 20 }
+    ensures any_moment { H.honest → (registry : ARegistry) (lasts : List (Option ALast))
+        (latest : ALatest) (set : ASettings) (h : List HistoryBeat)
+        → Holds (H.seen host.old).past store.old registry lasts latest set h
+        → Throughout (EveryDisk (λ disk. StandsForHistory set h disk
+        ⊎ StandsForHistory set (health text.now ∷ h) disk)) (H.seen host.old).past
+        (H.seen host.new).past }
+    ensures done { OnOk result
+        (H.honest → (registry : ARegistry) (lasts : List (Option ALast)) (latest : ALatest)
+        (set : ASettings) (h : List HistoryBeat)
+        → Holds (H.seen host.old).past store.old registry lasts latest set h
+        → Holds (H.seen host.new).past store.new registry lasts latest set
+        (health text.now ∷ h)) }
+    ensures ready { IsReady H.honest (H.seen host.new).past store.new }
+    ensures replayed { IsReplayed store.new }
+    ensures going { OnOk result (store.new.fault ≡ None) }
+    ensures last { OnOk result (store.new.last ≡ store.old.last) }
+    ensures settings { store.new.settings ≡ store.old.settings }
+    ensures faults { IfErr result IsSpending }
+    ensures only_here { H.honest → OnlyOn JournalA (H.seen host.old).past (H.seen host.new).past }
+    ensures cause { HasCause (H.seen host.old).disk_faults (H.seen host.new).disk_faults
+        (IsErrOf result AgentFault.DiskFault) }
+    ensures tells { (H.seen host.new).tell_faults ≡ (H.seen host.old).tell_faults }
+{
+    match health_beat(alloc, text) {
+        Ok(kept) => commit(store, host, &kept),
+        Err(_) => Err(AgentFault::Memory),
+    }
+}
+
 /// Takes the rows of a numbered beat as the last ones.
 pub(crate) fn take_rows(
     last_rows: &mut LastRows,
@@ -218,6 +306,28 @@ pub(crate) fn take_rows(
     }
 }
 
+/// Takes a numbered beat and its points as what was last seen.
+fn see_beat(
+    alloc: Global,
+    latest: &mut Latest,
+    registry: &Registry,
+    kept: &Kept,
+    before: u32,
+) -> Result<(), AgentFault>
+    requires there { IsThere registry.now kept.now.numbered }
+    requires named { names_series registry.now kept.now.beat.points ≡ true }
+    ensures seen { OnOk result
+        (HasSeenBeat registry.now latest.old latest.new kept.now.numbered kept.now.beat.points) }
+    ensures before { OnOk result (latest.new.before ≡ before) }
+    ensures memory { IfErr result (λ fault. fault ≡ AgentFault.Memory) }
+{
+    let points = kept.beat.points.as_slice();
+    match see_collected(alloc, latest, registry, &kept.numbered, points, before) {
+        Ok(()) => Ok(()),
+        Err(_) => Err(AgentFault::Memory),
+    }
+}
+
 /// Adds a beat that may follow the history to the parts of an agent. At every moment a stop leaves the
 /// history with the beat or without it. After an `Err` the parts are of no more use.
 pub(crate) fn add<H: Host>(
@@ -225,6 +335,7 @@ pub(crate) fn add<H: Host>(
     store: &mut Store,
     registry: &mut Registry,
     last_rows: &mut LastRows,
+    latest: &mut Latest,
     host: &mut H,
     beat: &OpenBeat,
     moment: u32,
@@ -243,16 +354,16 @@ pub(crate) fn add<H: Host>(
     requires grids { HasGrids registry.old }
     requires later { store.old.last < moment }
     ensures any_moment { H.honest → (set : ASettings) (h : List HistoryBeat)
-        → Holds (H.seen host.old).past store.old registry.old last_rows.old set h
+        → Holds (H.seen host.old).past store.old registry.old last_rows.old latest.old set h
         → Follows h moment beat.now
         → Throughout (EveryDisk (λ disk. StandsForHistory set h disk
         ⊎ StandsForHistory set (collected moment beat.now ∷ h) disk)) (H.seen host.old).past
         (H.seen host.new).past }
     ensures done { OnOk result
         (H.honest → (set : ASettings) (h : List HistoryBeat)
-        → Holds (H.seen host.old).past store.old registry.old last_rows.old set h
+        → Holds (H.seen host.old).past store.old registry.old last_rows.old latest.old set h
         → Follows h moment beat.now
-        → Holds (H.seen host.new).past store.new registry.new last_rows.new set
+        → Holds (H.seen host.new).past store.new registry.new last_rows.new latest.new set
         (collected moment beat.now ∷ h)) }
     ensures ready { IsReady H.honest (H.seen host.new).past store.new }
     ensures replayed { IsReplayed store.new }
@@ -261,6 +372,7 @@ pub(crate) fn add<H: Host>(
     ensures charts { OnOk result (AreApart same_chart registry.new.charts) }
     ensures dimensions { OnOk result (AreApart same_dimension registry.new.dimensions) }
     ensures grids { OnOk result (HasGrids registry.new) }
+    ensures before { OnOk result (latest.new.before ≡ store.old.last) }
     ensures settings { store.new.settings ≡ store.old.settings }
     ensures faults { IfErr result IsSpending }
     ensures only_here { H.honest → OnlyOn JournalA (H.seen host.old).past (H.seen host.new).past }
@@ -271,6 +383,8 @@ pub(crate) fn add<H: Host>(
     let Ok(kept) = keep(alloc, registry, last_rows, beat, moment) else {
         return Err(AgentFault::Memory);
     };
+    let before = store.last();
     commit(store, host, &kept.beat)?;
-    take_rows(last_rows, registry, &kept.numbered)
+    take_rows(last_rows, registry, &kept.numbered)?;
+    see_beat(alloc, latest, registry, &kept, before)
 }

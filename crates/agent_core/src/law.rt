@@ -1,12 +1,15 @@
-ghost use Rattle.std.specs.Prelude.{◌≡◌, ℕ, Bool, true, false, List, ◌∷◌, None, is_some, Result};
+ghost use Rattle.std.specs.Prelude.{◌≡◌, ℕ, Bool, true, false, List, ◌∷◌, Option, Some, None, is_some, reverse, Result};
 ghost use Rattle.host_model.specs.declared.file.File.{File as AFile};
 ghost use Rattle.history.specs.declared.line.Line.{Line};
 ghost use Rattle.history.specs.declared.line.Line.TheVariants.{Moment};
-ghost use Rattle.history.specs.History.{Beat, child, collected, last, registry_of};
+ghost use Rattle.history.specs.History.{Beat, child, collected, health, last, registry_of};
 ghost use Rattle.history.specs.declared.beat.OpenBeat.{OpenBeat};
 ghost use Rattle.history.specs.Looking.{beat as open_beat};
 ghost use Rattle.history.specs.Read.{history_at, refusal_at};
 ghost use Rattle.chart_registry.specs.Accepted.{AreAccepted, IsWithin};
+ghost use Rattle.beat_tiers.specs.declared.kept.Kept.{Kept as AKept};
+ghost use Rattle.alarm_events.specs.Log.{shown};
+ghost use Rattle.beat_tiers.specs.Beats.{series_points};
 ghost use Rattle.entry_codec.specs.declared.entry.Settings.{Settings as ASettings};
 ghost use Rattle.store_core.specs.Stands.{is_made, IsDamaged};
 ghost use Rattle.collect_block.specs.declared.feed.Feed.{Feed};
@@ -15,12 +18,14 @@ ghost use Rattle.agent_core.specs.declared.fault.AgentFault.{AgentFault};
 ghost use Rattle.agent_core.specs.declared.reply.Reply.{Reply};
 ghost use Rattle.agent_core.specs.declared.reply.Said.{Said};
 ghost use Rattle.agent_core.specs.Agent.{AgentState, IsSoundBy};
-ghost use Rattle.agent_core.specs.Calls.{Beats, Lines};
+ghost use Rattle.agent_core.specs.Alarms.{all_events, log_at};
+ghost use Rattle.agent_core.specs.Calls.{Beats, Keeps, Lines, Queries, SetsHealth};
 ghost use Rattle.host_model.specs.Seen.{Seen};
 ghost use Rattle.agent_core.specs.Kept.{StandsForHistory};
+ghost use Rattle.agent_core.specs.Answers.{points_of_history, tier_beats};
 ghost use Rattle.agent_core.specs.Notes.{HasNotes};
 ghost use Rattle.agent_core.specs.Rules.{beat_refusal, line_refusal};
-ghost use Rattle.agent_core.specs.Sound.{history_after, history_by};
+ghost use Rattle.agent_core.specs.Sound.{closed_by, history_after, history_by, tried_after};
 
 use host_model::Host;
 
@@ -56,19 +61,54 @@ pub fn any_notes()
 {}
 
 /// The laws of an agent on an honest host that is sound by a history: it is of that history, or it was before a
-/// call of it was refused for the disk or for memory. Each `beat` and each `line` keeps it so, by what these
-/// calls promise: at `Ok` by the history with the beat, and else by the same. They do nothing.
+/// call of it was refused for the disk or for memory, and then a stop leaves the history, or that with the beat of
+/// that call. Each `beat` and each `line` keeps it so, by what these calls promise: at `Ok` by the history with
+/// the beat, and else by the same. `set_health` does with the configuration. `query` and `kept`, which have no beat,
+/// keep it so by the same history. They do nothing.
 pub fn any_call<H: Host>()
     ensures beat { H.honest → (host host' : Seen) (agent agent' : AgentState) (beat : OpenBeat)
         (moment : ℕ) (result : Result Reply AgentFault) (set : ASettings) (h : List Beat)
+        (tried : Option Beat)
         → Beats H.honest host agent beat moment result host' agent'
-        → IsSoundBy host.past agent set h
-        → IsSoundBy host'.past agent' set (history_after result (collected moment beat) h) }
+        → IsSoundBy host.past agent set h tried
+        → IsSoundBy host'.past agent' set (history_after result (collected moment beat) h)
+        (tried_after result (Some (collected moment beat)) tried) }
     ensures line { H.honest → (host host' : Seen) (agent agent' : AgentState) (feed feed' : Feed)
         (line : Line) (result : Result Said AgentFault)
-        (set : ASettings) (h : List Beat) (every : ℕ) (past : List Line)
+        (set : ASettings) (h : List Beat) (tried : Option Beat) (every : ℕ) (past : List Line)
         → IsFeedOf feed every past → CountsAt line feed agent.registry
         → Lines H.honest host agent feed line result host' agent' feed'
-        → IsSoundBy host.past agent set h
-        → IsSoundBy host'.past agent' set (history_by result every past line h) }
+        → IsSoundBy host.past agent set h tried
+        → IsSoundBy host'.past agent' set (history_by result every past line h)
+        (tried_after result (closed_by every past line) tried) }
+    ensures query { H.honest → (host host' : Seen) (agent agent' : AgentState) (text : List ℕ)
+        (result : Result (List ℕ) AgentFault) (set : ASettings) (h : List Beat)
+        (tried : Option Beat)
+        → Queries H.honest host agent text result host' agent'
+        → IsSoundBy host.past agent set h tried
+        → IsSoundBy host'.past agent' set h (tried_after result None tried) }
+    ensures kept { H.honest → (host host' : Seen) (agent agent' : AgentState)
+        (result : Result AKept AgentFault) (set : ASettings) (h : List Beat) (tried : Option Beat)
+        → Keeps H.honest host agent result host' agent'
+        → IsSoundBy host.past agent set h tried
+        → IsSoundBy host'.past agent' set h (tried_after result None tried) }
+    ensures set_health { H.honest → (host host' : Seen) (agent agent' : AgentState)
+        (text : List ℕ) (result : Result Reply AgentFault) (set : ASettings) (h : List Beat)
+        (tried : Option Beat)
+        → SetsHealth H.honest host agent text result host' agent'
+        → IsSoundBy host.past agent set h tried
+        → IsSoundBy host'.past agent' set (history_after result (health text) h)
+        (tried_after result (Some (health text)) tried) }
+{}
+
+/// The law of what is answered of a history: the points that its tiers see of a series are its points, so that
+/// answers, floors and kept beats speak of the same points. It does nothing.
+pub fn any_history()
+    ensures { (h : List Beat) (series : ℕ)
+        → reverse (series_points (tier_beats h) series) ≡ points_of_history h series }
+{}
+
+/// The law of a history's alarms: their log shows all events of the history, the earliest first. It does nothing.
+pub fn any_log()
+    ensures { (set : ASettings) (h : List Beat) → log_at set h ≡ shown (all_events set h) }
 {}

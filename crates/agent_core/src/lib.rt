@@ -6,23 +6,35 @@
 //! the history, or the history with the beat, and a beat that was answered with `Ok` is never lost again. `line`
 //! takes a line of a text and stores the beat that it closes. `create` makes the agent of a history without
 //! beats: over an honest host a stop leaves at every moment no database, or that of this history. `open` gives
-//! the agent of just the history that an honest host's disk stands for. After a failure of
+//! the agent of just the history that an honest host's disk stands for. `query` gives the reply to a question:
+//! the table, or the line of a refusal, that the definitions give over all beats of the history, whatever has
+//! expired below the floors. `line` answers a QUERY so. After a failure of
 //! the disk, or where memory was refused, each call answers that the agent must be opened again, with the first
 //! cause, and the count, the last moment and the id answer as before. What a call promises is one record of
-//! facts (`Beats`, `Lines`, `Creates`, `Opens`). It is proved from these records alone that an agent stays sound
+//! facts (`Beats`, `Lines`, `SetsHealth`, `Logs`, `Creates`, `Opens`, `Queries`, `Keeps`). It is proved from these records alone that an agent stays sound
 //! by its history.
 //!
 //! It stands on the store of `store_core`, which keeps of each beat its moment, its points by `beat_points`
-//! and its entry by `beat_entries`, on the feed of `collect_block` and on the numbers of `chart_registry`. It
-//! names no file and no byte of a journal. No call stores copies, gaps and configurations, but a database that
+//! and its entry by `beat_entries`, on the feed of `collect_block` and on the numbers of `chart_registry`, and for
+//! replies on `query_engine` and `query_text`. It
+//! names no file and no byte of a journal. No call stores copies and gaps, but a database that
 //! holds them opens where its notes go on, and then an agent with copies or gaps refuses every beat.
+//!
+//! Its alarms are those of `alarm_core` over the history, as `specs/Alarms.antt` says of any history: a beat that
+//! is stored steps them, and its reply has the events; `set_health` stores another configuration as a beat
+//! without a moment, which steps nothing; `open` gives the alarms and the log of the history that it opens. What
+//! was last seen of each chart and series is kept by number. A beat that is stored and whose alarms lack memory
+//! is there when the agent is opened again.
 #![tactic(auto)]
 
 mod agent;
+mod alarming;
+mod answering;
 mod beat_index;
 mod definitions;
 mod fault;
 mod keeping;
+mod last_seen;
 mod law;
 mod left;
 mod notes;
@@ -32,11 +44,13 @@ mod replaying;
 mod reply;
 
 pub use agent::Agent;
+pub use alarm_core::{Event, EventList, Latest, Log, Status, write_event};
 pub use entry_codec::{Settings, TierSettings};
 pub use fault::AgentFault;
-pub use law::{any_call, any_notes, any_text};
+pub use health_config::ConfigFault;
+pub use law::{any_call, any_history, any_log, any_notes, any_text};
 pub use reply::{Reply, Said, write_reply};
-pub use store_core::{Why, is_in_limits};
+pub use store_core::{Kept, KeptBeat, KeptBeatList, KeptPoint, KeptPointList, Why, is_in_limits};
 
 #[cfg(test)]
 mod tests;

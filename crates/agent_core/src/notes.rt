@@ -1,6 +1,6 @@
 //! What is taken of the note of a kept beat.
 
-ghost use Rattle.std.specs.Prelude.{◌≡◌, ◌⊎◌, ◌∷◌, List, Some, None, true, false, IfOk, IfErr, OnOk};
+ghost use Rattle.std.specs.Prelude.{◌≡◌, ◌⊎◌, ◌∷◌, List, Some, None, is_none, true, false, IfOk, IfErr, OnOk};
 ghost use Rattle.history.specs.History.{Beat as HistoryBeat};
 ghost use Rattle.history.specs.Numbered.{IsThere};
 ghost use Rattle.history.specs.Registry.{same_chart, same_dimension};
@@ -12,16 +12,22 @@ ghost use Rattle.store_core.specs.declared.beat.Beat.{Beat as StoreBeat};
 ghost use Rattle.agent_core.specs.Kept.{AreBeatsOf, IsBeatOf};
 ghost use Rattle.agent_core.specs.Notes.{entry_goes_on, entry_in, moment_of, names_series, takes_note, with_entry, with_note};
 ghost use Rattle.agent_core.specs.Roles.{may_copy};
-ghost use Rattle.agent_core.specs.Replay.{ArePartsOf, HasRows};
+ghost use Rattle.agent_core.specs.Alarms.{IsReadOf, IsSteppingOf};
+ghost use Rattle.agent_core.specs.Health.{health_refusal};
+ghost use Rattle.agent_core.specs.Replay.{ArePartsOf, HasRows, HasSeen, IsDoneBy, IsEntryThere};
 ghost use Rattle.agent_core.specs.Rules.{HasGrids};
 
+use crate::alarming::Stepping;
 use crate::fault::AgentFault;
 use crate::keeping::take_rows;
+use crate::last_seen::{see_collected, see_copied};
 use crate::left::{Left, Role};
+use alarm_core::Latest;
 use beat_entries::{EntryRefusal, define, define_copied};
 use beat_points::LastRows;
 use chart_registry::Registry;
 use entry_codec::{Copied, Entry, EntryFault, read_entry};
+use health_config::{Config, ConfigFault};
 use history::NumberedBeat;
 use std::alloc::Global;
 use store_core::{Beat, BeatPoint};
@@ -118,6 +124,7 @@ fn take_collected(
     last_rows: &mut LastRows,
     entry: &NumberedBeat,
 ) -> Result<(), AgentFault>
+    ensures there { OnOk result (IsThere left.new.registry entry.now) }
     ensures left { OnOk result (left.new ≡ with_entry left.old (Entry.Collected entry.now)) }
     ensures rows { OnOk result
         (HasRows left.new.registry last_rows.old last_rows.new (Entry.Collected entry.now)) }
@@ -180,13 +187,31 @@ fn take_gap(left: &mut Left) -> Result<(), AgentFault>
     }
 }
 
-/// Takes the entry of a beat, which settings are not.
+/// The configuration of a health text, or the database is damaged.
+fn read_health(alloc: Global, text: &[u8]) -> Result<Config, AgentFault>
+    ensures read { IfOk result (IsReadOf text.now) }
+    ensures next { OnOk result (is_none (health_refusal text.now) ≡ true) }
+    ensures broken { IfErr result
+        (λ fault. fault ≡ AgentFault.Damaged 5 → is_none (health_refusal text.now) ≡ false) }
+    ensures faults { IfErr result
+        (λ fault. (fault ≡ AgentFault.Memory) ⊎ (fault ≡ AgentFault.Damaged 5)) }
+{
+    match Config::read(alloc, text) {
+        Ok(config) => Ok(config),
+        Err(ConfigFault::Memory) => Err(AgentFault::Memory),
+        Err(_) => Err(AgentFault::Damaged(5)),
+    }
+}
+
+/// Takes the entry of a beat, which settings are not, and says what the beat does to alarms.
 fn take_entry(
     alloc: Global,
     left: &mut Left,
     last_rows: &mut LastRows,
     entry: &Entry,
-) -> Result<(), AgentFault>
+) -> Result<Stepping, AgentFault>
+    ensures does { IfOk result (IsDoneBy entry.now) }
+    ensures there { OnOk result (IsEntryThere left.new.registry entry.now) }
     ensures left { OnOk result (left.new ≡ with_entry left.old entry.now) }
     ensures rows { OnOk result (HasRows left.new.registry last_rows.old last_rows.new entry.now) }
     ensures next { OnOk result (entry_goes_on left.old entry.now ≡ true) }
@@ -197,10 +222,57 @@ fn take_entry(
 {
     match entry {
         Entry::Settings(_) => Err(AgentFault::Damaged(5)),
-        Entry::Collected(found) => take_collected(left, last_rows, found),
-        Entry::Copied(found) => take_copied(alloc, left, last_rows, found),
-        Entry::Health(_) => Ok(()),
-        Entry::Gap(_) => take_gap(left),
+        Entry::Collected(found) => {
+            take_collected(left, last_rows, found)?;
+            Ok(Stepping::Beat(found.moment))
+        }
+        Entry::Copied(found) => {
+            take_copied(alloc, left, last_rows, found)?;
+            Ok(Stepping::Beat(found.moment))
+        }
+        Entry::Health(text) => {
+            let config = read_health(alloc, text.as_slice())?;
+            Ok(Stepping::Configuration(config))
+        }
+        Entry::Gap(_) => {
+            take_gap(left)?;
+            Ok(Stepping::Nothing)
+        }
+    }
+}
+
+/// Takes an entry and the points of its beat as what was last seen.
+fn see_entry(
+    alloc: Global,
+    latest: &mut Latest,
+    registry: &Registry,
+    entry: &Entry,
+    points: &[BeatPoint],
+    before: u32,
+) -> Result<(), AgentFault>
+    requires there { IsEntryThere registry.now entry.now }
+    requires named { names_series registry.now points.now ≡ true }
+    ensures seen { OnOk result (HasSeen registry.now latest.old latest.new entry.now points.now) }
+    ensures before { OnOk result (latest.new.before ≡ before) }
+    ensures memory { IfErr result (λ fault. fault ≡ AgentFault.Memory) }
+{
+    match entry {
+        Entry::Collected(found) => {
+            match see_collected(alloc, latest, registry, found, points, before) {
+                Ok(()) => Ok(()),
+                Err(_) => Err(AgentFault::Memory),
+            }
+        }
+        Entry::Copied(found) => {
+            match see_copied(alloc, latest, registry, found.moment, points, before) {
+                Ok(()) => Ok(()),
+                Err(_) => Err(AgentFault::Memory),
+            }
+        }
+        Entry::Settings(_) | Entry::Health(_) | Entry::Gap(_) => {
+            latest.before = before;
+            Ok(())
+        }
     }
 }
 
@@ -213,26 +285,33 @@ fn names_series(registry: &Registry, points: &[BeatPoint]) -> bool
         .all(|point| point.series < registry.dimensions())
 }
 
-/// Takes a kept beat by its note.
+/// Takes a kept beat by its note, and says what it does to alarms. `before` is the last moment before it.
 pub(crate) fn replay_beat(
     alloc: Global,
     left: &mut Left,
     last_rows: &mut LastRows,
+    latest: &mut Latest,
     kept: &Beat,
-) -> Result<(), AgentFault>
+    before: u32,
+) -> Result<Stepping, AgentFault>
     requires charts { AreApart same_chart left.old.registry.charts }
     requires dimensions { AreApart same_dimension left.old.registry.dimensions }
     requires grids { HasGrids left.old.registry }
     ensures taken { OnOk result
         ((g : List HistoryBeat) (beats : List StoreBeat) (beat : HistoryBeat) → AreBeatsOf g beats
         → IsBeatOf g beat kept.now
-        → ArePartsOf left.old last_rows.old g → ArePartsOf left.new last_rows.new (beat ∷ g)) }
+        → ArePartsOf left.old last_rows.old latest.old g
+        → ArePartsOf left.new last_rows.new latest.new (beat ∷ g)) }
+    ensures does { IfOk result
+        (λ does. (g : List HistoryBeat) (beat : HistoryBeat) → IsBeatOf g beat kept.now
+        → IsSteppingOf beat does) }
+    ensures before { OnOk result (latest.new.before ≡ before) }
 
     // Where the beat is kept for one that follows the history, only memory can be short.
     ensures stands { IfErr result
         (λ fault. (g : List HistoryBeat) (beats : List StoreBeat) (beat : HistoryBeat)
         → AreBeatsOf g beats → IsBeatOf g beat kept.now
-        → ArePartsOf left.old last_rows.old g → fault ≡ AgentFault.Memory) }
+        → ArePartsOf left.old last_rows.old latest.old g → fault ≡ AgentFault.Memory) }
 
     // Whatever beat it is: its note has an entry that goes on and its points are of series that are there then,
     // or it is damaged.
@@ -247,10 +326,11 @@ pub(crate) fn replay_beat(
         (λ fault. (fault ≡ AgentFault.Memory) ⊎ (fault ≡ AgentFault.Damaged 5)) }
 {
     let entry = entry_in(alloc, kept)?;
-    take_entry(alloc, left, last_rows, &entry)?;
-    if names_series(&left.registry, kept.points.as_slice()) {
-        Ok(())
-    } else {
-        Err(AgentFault::Damaged(5))
+    let does = take_entry(alloc, left, last_rows, &entry)?;
+    let points = kept.points.as_slice();
+    if !names_series(&left.registry, points) {
+        return Err(AgentFault::Damaged(5));
     }
+    see_entry(alloc, latest, &left.registry, &entry, points, before)?;
+    Ok(does)
 }

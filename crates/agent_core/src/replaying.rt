@@ -14,14 +14,17 @@ ghost use Rattle.entry_codec.specs.declared.entry.Settings.{Settings as ASetting
 ghost use Rattle.store_core.specs.declared.beat.Beat.{Beat as StoreBeat};
 ghost use Rattle.store_core.specs.Stands.{is_made, IsDamaged, Stands};
 ghost use Rattle.store_core.specs.Store.{IsReady, IsReplayed, IsStoreAt, OpensAt, Replays, TakesFirst};
+ghost use Rattle.alarm_core.specs.Course.{held};
 ghost use Rattle.agent_core.specs.Faults.{IsOpening};
 ghost use Rattle.agent_core.specs.Notes.{beats_go_on};
 ghost use Rattle.agent_core.specs.Replay.{HasTaken, IsReplaying};
 ghost use Rattle.agent_core.specs.Rules.{HasGrids};
 
+use crate::alarming::follow;
 use crate::fault::{AgentFault, store_fault};
 use crate::left::Left;
 use crate::notes::replay_beat;
+use alarm_core::{Alarms, Latest};
 use beat_points::LastRows;
 use host_model::Host;
 use std::alloc::Global;
@@ -87,11 +90,14 @@ fn next_beat(store: &mut Store) -> Result<Option<Beat>, AgentFault>
 }
 
 /// Replays the next beat, and whether there was one.
-fn replay_next(
+fn replay_next<H: Host>(
     alloc: Global,
     store: &mut Store,
+    host: &mut H,
     left: &mut Left,
     last_rows: &mut LastRows,
+    latest: &mut Latest,
+    alarms: &mut Alarms,
 ) -> Result<bool, AgentFault>
     requires going { store.old.fault ≡ None }
     requires charts { AreApart same_chart left.old.registry.charts }
@@ -99,13 +105,16 @@ fn replay_next(
     requires grids { HasGrids left.old.registry }
     ensures replaying { OnOk result
         ((past : List Event) (set : ASettings) (h : List HistoryBeat)
-        → IsReplaying past store.old left.old last_rows.old set h
-        → IsReplaying past store.new left.new last_rows.new set h) }
+        → IsReplaying past store.old left.old last_rows.old latest.old
+        (held alarms.old) set h
+        → IsReplaying past store.new left.new last_rows.new latest.new
+        (held alarms.new) set h) }
 
     // Where the store is that of a history, only memory can be short.
     ensures stands { IfErr result
         (λ fault. (past : List Event) (set : ASettings) (h : List HistoryBeat)
-        → IsReplaying past store.old left.old last_rows.old set h → fault ≡ AgentFault.Memory) }
+        → IsReplaying past store.old left.old last_rows.old latest.old
+        (held alarms.old) set h → fault ≡ AgentFault.Memory) }
 
     // Whatever beats the store keeps: they go on so far, and where one does not, it is damaged.
     ensures notes { OnOk result
@@ -126,12 +135,15 @@ fn replay_next(
     ensures charts { OnOk result (AreApart same_chart left.new.registry.charts) }
     ensures dimensions { OnOk result (AreApart same_dimension left.new.registry.dimensions) }
     ensures grids { OnOk result (HasGrids left.new.registry) }
+    ensures host { H.seen host.new ≡ H.seen host.old }
     ensures faults { IfErr result
         (λ fault. (fault ≡ AgentFault.Memory) ⊎ (fault ≡ AgentFault.Damaged 5)) }
 {
+    let before = store.last();
     match next_beat(store)? {
         Some(kept) => {
-            replay_beat(alloc, left, last_rows, &kept)?;
+            let does = replay_beat(alloc, left, last_rows, latest, &kept, before)?;
+            follow(alloc, alarms, store, host, &left.registry, latest, does)?;
             Ok(true)
         }
         None => Ok(false),
@@ -139,11 +151,14 @@ fn replay_next(
 }
 
 /// Replays all beats that a store still has to replay.
-pub(crate) fn replay_all(
+pub(crate) fn replay_all<H: Host>(
     alloc: Global,
     store: &mut Store,
+    host: &mut H,
     left: &mut Left,
     last_rows: &mut LastRows,
+    latest: &mut Latest,
+    alarms: &mut Alarms,
 ) -> Result<(), AgentFault>
     requires going { store.old.fault ≡ None }
     requires charts { AreApart same_chart left.old.registry.charts }
@@ -151,13 +166,16 @@ pub(crate) fn replay_all(
     requires grids { HasGrids left.old.registry }
     ensures replaying { OnOk result
         ((past : List Event) (set : ASettings) (h : List HistoryBeat)
-        → IsReplaying past store.old left.old last_rows.old set h
-        → IsReplaying past store.new left.new last_rows.new set h) }
+        → IsReplaying past store.old left.old last_rows.old latest.old
+        (held alarms.old) set h
+        → IsReplaying past store.new left.new last_rows.new latest.new
+        (held alarms.new) set h) }
 
     // Where the store is that of a history, only memory can be short.
     ensures stands { IfErr result
         (λ fault. (past : List Event) (set : ASettings) (h : List HistoryBeat)
-        → IsReplaying past store.old left.old last_rows.old set h → fault ≡ AgentFault.Memory) }
+        → IsReplaying past store.old left.old last_rows.old latest.old
+        (held alarms.old) set h → fault ≡ AgentFault.Memory) }
 
     // Whatever beats the store keeps: they go on so far, and where one does not, it is damaged.
     ensures notes { OnOk result
@@ -176,9 +194,10 @@ pub(crate) fn replay_all(
     ensures charts { OnOk result (AreApart same_chart left.new.registry.charts) }
     ensures dimensions { OnOk result (AreApart same_dimension left.new.registry.dimensions) }
     ensures grids { OnOk result (HasGrids left.new.registry) }
+    ensures host { H.seen host.new ≡ H.seen host.old }
     ensures faults { IfErr result
         (λ fault. (fault ≡ AgentFault.Memory) ⊎ (fault ≡ AgentFault.Damaged 5)) }
 {
-    while replay_next(alloc, store, left, last_rows)? {}
+    while replay_next(alloc, store, host, left, last_rows, latest, alarms)? {}
     Ok(())
 }

@@ -18,6 +18,7 @@ use host_model::{CallList, File, Host, Keep, MemoryHost};
 use std::alloc::{AllocError, Global};
 use std::test::Fail;
 
+mod alarms;
 mod opening;
 
 const TIER: TierSettings = TierSettings {
@@ -236,10 +237,23 @@ fn make<H: Host>(alloc: Global, host: &mut H) -> Result<Taking, AgentFault>
         (λ taking. AgentIsReady H.honest (H.seen host.new).past taking.agent) }
     ensures fed { IfOk result (λ taking. IsFed taking.feed) }
 {
-    if !is_in_limits(&SETTINGS) {
+    make_with(alloc, host, &SETTINGS)
+}
+
+/// The agent of a new database with these settings.
+fn make_with<H: Host>(
+    alloc: Global,
+    host: &mut H,
+    settings: &Settings,
+) -> Result<Taking, AgentFault>
+    ensures ready { IfOk result
+        (λ taking. AgentIsReady H.honest (H.seen host.new).past taking.agent) }
+    ensures fed { IfOk result (λ taking. IsFed taking.feed) }
+{
+    if !is_in_limits(settings) {
         return Err(AgentFault::Memory);
     }
-    match Agent::create(alloc, host, &SETTINGS) {
+    match Agent::create(alloc, host, settings) {
         Ok(agent) => Ok(Taking {
             agent,
             feed: Feed::new(alloc, 1),
@@ -398,7 +412,7 @@ fn each_call_refused_in_turn_and_a_stop(rt: HostRuntime) -> Result<(), Fail> {
     let alloc = rt.alloc();
     let whole = whole_journal(alloc)?;
     for keep in [Keep::All, Keep::None, Keep::Fill(255)] {
-        for fails in 0..60 {
+        for fails in 0..61 {
             let found = found_after(alloc, fails, keep)?;
             assert!(rt; found.is_sound(&whole), "call {fails}");
         }
@@ -409,8 +423,8 @@ fn each_call_refused_in_turn_and_a_stop(rt: HostRuntime) -> Result<(), Fail> {
 #[test]
 fn so_many_calls_are_not_made(rt: HostRuntime) -> Result<(), Fail> {
     let alloc = rt.alloc();
-    assert_eq!(rt; found_after(alloc, 59, Keep::None)?.stored, 3);
-    assert_eq!(rt; found_after(alloc, 20, Keep::None)?.stored, 1);
+    assert_eq!(rt; found_after(alloc, 60, Keep::None)?.stored, 3);
+    assert_eq!(rt; found_after(alloc, 21, Keep::None)?.stored, 1);
     Ok(())
 }
 
@@ -507,7 +521,7 @@ fn twice<H: Host>(alloc: Global, host: &mut H) -> Result<[Option<AgentFault>; 2]
 fn after_a_fault_it_must_be_opened_again(rt: HostRuntime) -> Result<(), Fail> {
     let alloc = rt.alloc();
     // The second sync of the first beat.
-    let mut host = host_of(alloc, &[18])?;
+    let mut host = host_of(alloc, &[19])?;
     let reopen = AgentFault::Reopen(Why::Disk);
     let answers = [Some(AgentFault::DiskFault), Some(reopen)];
     assert_eq!(rt; twice(alloc, &mut host)?, answers);
@@ -630,14 +644,19 @@ fn says_what_is_asked_and_that_a_text_is_over(rt: HostRuntime) -> Result<(), Fai
     let text = asked(rt.alloc(), &mut host)?;
     assert_eq!(rt;
         text.as_str(),
-        "Ok(Asked(Text { string: \"a b\" })) Ok(Disabled)"
+        "Ok(Table(Text { string: \"ERROR 1\\n\" })) Ok(Disabled)"
     );
     Ok(())
 }
 
 #[test]
 fn writes_the_reply_of_a_stored_beat(rt: HostRuntime) -> Result<(), Fail> {
-    let text = write_reply(rt.alloc(), Reply { count: 12 })?;
+    let alloc = rt.alloc();
+    let reply = Reply {
+        count: 12,
+        events: EventList::new(alloc),
+    };
+    let text = write_reply(alloc, &reply)?;
     assert_eq!(rt; text.as_str(), "STORED 12\n");
     Ok(())
 }

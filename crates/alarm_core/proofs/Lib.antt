@@ -9,3 +9,6 @@ pub mod ExprLemmas
 pub mod SameLemmas
 pub mod LogLemmas
 pub mod TableLemmas
+mod WantedLemmas
+mod ChartLemmas
+mod AgainLemmas

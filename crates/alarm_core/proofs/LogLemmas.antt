@@ -1,12 +1,10 @@
 -- The log after all events that were told.
-use Rattle.std.proofs.Common.{◌≡◌, ℕ, suc, ◌+◌, ◌-◌, ◌^◌, ◌<◌, ◌≤◌, min, List, [], ◌∷◌, ◌++◌, length, drop, map, arith, refl, sym, ap, subst, ◌∙◌, append_assoc, append-nil}
+use Rattle.std.proofs.Common.{◌≡◌, ℕ, suc, ◌+◌, ◌-◌, ◌≤◌, List, [], ◌∷◌, ◌++◌, length, drop, map, arith, refl, sym, ap, subst, ◌∙◌, append_assoc, append-nil}
 use Rattle.std.proofs.lemmas.List.{length-append, length-drop, drop-append-le, drop-drop}
-use Rattle.std.specs.List.{fold, range_with_len}
+use Rattle.std.specs.List.{range_with_len}
 use Rattle.alarm_events.specs.declared.event.Event.{Event}
 use Rattle.alarm_events.specs.Log.{Shown, shown, noted, next_id, counted, most_shown}
-use Rattle.health_config.specs.declared.entity.Entity.{Entity}
-use Rattle.history.specs.Registry.{Registry}
-use Rattle.alarm_core.specs.Beats.{Beat, changes}
+use Rattle.alarm_core.specs.Beats.{changes}
 use Rattle.alarm_core.specs.Pairing.{removals}
 use Rattle.alarm_core.specs.Pairs.{wanted}
 use Rattle.alarm_core.specs.declared.telling.Told.{Told}
@@ -108,10 +106,10 @@ silent_shown before log is = is_log_of before (before ++ []) log (sym (append-ni
 called_shown : (before : List Event) (held : Held) (call : Call) → IsLog before held.log
     → IsLog (before ++ (called held call).events) (called held call).held.log
 unfolding configured stepped_by
-called_shown before held (configuration alarms registry moment) is =
-    tell_all_shown before (silent held.log) (removals held.alarms alarms (wanted alarms registry.charts) registry moment held.states) (silent_shown before held.log is)
+called_shown before held (configuration text alarms registry moment) is =
+    tell_all_shown before (silent held.log) (removals held.alarms held.lost alarms (wanted alarms registry.charts) registry moment held.states) (silent_shown before held.log is)
 called_shown before held (beat now) is =
-    let gone : List Event = removals held.alarms held.alarms (wanted held.alarms now.registry.charts) now.registry now.moment held.states in
+    let gone : List Event = removals held.alarms held.lost held.alarms (wanted held.alarms now.registry.charts) now.registry now.moment held.states in
     tell_all_shown before (told_of_pairs held held.alarms now.registry now.moment) (changes now held.alarms (states_of_pairs held held.alarms now.registry))
     (tell_all_shown before (silent held.log) gone (silent_shown before held.log is))
 

@@ -1,12 +1,12 @@
 -- What is made of a list, one item after the other.
-use Rattle.std.proofs.Common.{◌≡◌, ℕ, zero, suc, ◌+◌, ◌<◌, ◌≤◌, Bool, true, false, cond, ◌&&◌, ◌||◌, List, [], ◌∷◌, ◌++◌, length, get_or, drop, map, find, Option, Some, None, arith, refl, sym, ap, subst, ◌∙◌, append_assoc, append-nil}
+use Rattle.std.proofs.Common.{◌≡◌, ℕ, suc, ◌+◌, ◌<◌, ◌≤◌, Bool, true, false, cond, ◌&&◌, ◌||◌, List, [], ◌∷◌, ◌++◌, length, get_or, drop, map, find, Option, Some, None, arith, refl, sym, ap, ◌∙◌, append_assoc, append-nil}
 use Rattle.std.proofs.Math.ListN.{drop_of_length-le}
 use Rattle.std.proofs.Math.Seq.{drop-cons}
 use Rattle.std.specs.Cmp.Lexicographic.{pointwise}
-use Rattle.std.specs.List.{list_any, filter_map, fold, cons_option}
+use Rattle.std.specs.List.{list_any, filter_map, cons_option}
 use Rattle.alarm_events.specs.declared.event.Event.{Event}
 use Rattle.alarm_core.specs.declared.telling.Told.{Told}
-use Rattle.alarm_core.specs.Telling.{tell, tell_some, tell_all}
+use Rattle.alarm_core.specs.Telling.{tell_some, tell_all}
 
 -- what is left from a place on is its item and what is left from the next
 pub drop_next : {A : Type 0} (xs : List A) (i : ℕ) (d : A) → i < length xs → drop i xs ≡ get_or xs i d ∷ drop (i + 1) xs

@@ -1,27 +1,25 @@
 -- Alarms that say the same differ in nothing.
-use Rattle.std.proofs.Common.{◌≡◌, ℕ, ◌==◌, ◌+◌, ◌<◌, Bool, true, false, ◌&&◌, ◌↔◌, IsTrue, List, [], ◌∷◌, ◌++◌, length, Option, Some, None, ℤ, refl, sym, ap, ◌∙◌, arith}
+use Rattle.std.proofs.Common.{◌≡◌, ℕ, ◌==◌, Bool, true, false, ◌↔◌, IsTrue, List, [], ◌∷◌, ◌++◌, Option, Some, None, ℤ, refl, sym, ap, ◌∙◌}
+use Rattle.std.proofs.lemmas.Bool.{and_from, and_parts}
 use Rattle.std.proofs.lemmas.Bool.Decides.{Decides-int_eq, Decides-eqb}
 use Rattle.std.proofs.lemmas.Slice.Eq.{bytes_eq-Decides}
 use Rattle.std.specs.Cmp.Lexicographic.{pointwise}
 use Rattle.std.specs.Bool.{beq}
-use Rattle.std.specs.Option.{option_eq, option_map}
+use Rattle.std.specs.Option.{option_eq}
 use Rattle.std.specs.Ordering.{int_eq}
 use Rattle.std.specs.Str.{bytes_eq}
-use Rattle.health_config.specs.Entity.{Alarm, alarm_of}
-use Rattle.health_config.specs.declared.entity.Entity.{Entity}
+use Rattle.health_config.specs.Entity.{Alarm}
 use Rattle.health_config.specs.declared.lookup.Lookup.{Lookup}
 use Rattle.health_config.specs.declared.lookup.Method.{Method}
 use Rattle.health_config.specs.declared.lookup.Method.TheVariants as method
-use Rattle.health_expr.specs.declared.expr.Expr.{Expr}
 use Rattle.health_expr.specs.declared.operator.Operator.{Operator}
 use Rattle.health_expr.specs.declared.operator.Operator.TheVariants as operator
 use Rattle.health_expr.specs.declared.operator.Prefix.{Prefix}
 use Rattle.health_expr.specs.declared.operator.Prefix.TheVariants as prefix
 use Rattle.health_expr.specs.Tree.{Tree, number, nan, infinity, name, prefixed, combined, chosen}
-use Rattle.health_expr.specs.TreeOf.{tree_of}
 use Rattle.alarm_core.specs.declared.expr_words.Word.{Word}
 use Rattle.alarm_core.specs.declared.expr_words.Word.TheVariants as word
-use Rattle.alarm_core.specs.Same.{words, prefix_number, operator_number, same_word, same_expr, method_number, same_lookup, same_texts, same_numbers, same_delay, same_exprs, is_same}
+use Rattle.alarm_core.specs.Same.{words, prefix_number, operator_number, same_word, same_tree, method_number, same_lookup, same_texts, same_numbers, same_delay, same_trees, is_same}
 
 -- ---- the tree of words, by a stack
 
@@ -111,24 +109,20 @@ word_again (word.Combined one) (word.Combined other) is = ap (λ (operator : Ope
 word_again word.Chosen word.Chosen is = refl
 word_again _ _ is = absurd (cc)
 
-both_true : (a b : Bool) → (a && b) ≡ true → (a ≡ true) × (b ≡ true)
-both_true true b is = (refl, is)
-both_true false b is = absurd (cc)
-
 words_again : (one other : List Word) → pointwise same_word one other ≡ true → one ≡ other
 words_again [] [] is = refl
 words_again [] (y ∷ ys) is = absurd (cc)
 words_again (x ∷ xs) [] is = absurd (cc)
 words_again (x ∷ xs) (y ∷ ys) is =
-    let both = both_true (same_word x y) (pointwise same_word xs ys) is in
+    let both = and_parts (same_word x y) (pointwise same_word xs ys) is in
     let first : x ≡ y = word_again x y both.0 in
     let more : xs ≡ ys = words_again xs ys both.1 in
     cc
 
 -- expressions of the same words have the same tree
-expr_again : (one other : Expr) → same_expr one other ≡ true → tree_of one ≡ tree_of other
-unfolding same_expr
-expr_again one other is = tree_again (tree_of one) (tree_of other) (words_again (words (tree_of one)) (words (tree_of other)) is)
+expr_again : (one other : Tree) → same_tree one other ≡ true → one ≡ other
+unfolding same_tree
+expr_again one other is = tree_again one other (words_again (words one) (words other) is)
 
 -- ---- alarms
 
@@ -152,7 +146,7 @@ same_texts_in [] [] is = refl
 same_texts_in [] (y ∷ ys) is = absurd (cc)
 same_texts_in (x ∷ xs) [] is = absurd (cc)
 same_texts_in (x ∷ xs) (y ∷ ys) is =
-    let both = both_true (bytes_eq x y) (pointwise bytes_eq xs ys) is in
+    let both = and_parts (bytes_eq x y) (pointwise bytes_eq xs ys) is in
     let first : x ≡ y = (bytes_eq-Decides x y).0 both.0 in
     let more : xs ≡ ys = same_texts_in xs ys both.1 in
     cc
@@ -188,12 +182,12 @@ same_fields one other a b c d e f g = lookup_of_same one other a b c d e f g
 lookup_again : (one other : Lookup) → same_lookup one other ≡ true → one ≡ other
 unfolding same_lookup
 lookup_again one other is =
-    let a = both_true (method_number one.method == method_number other.method) _ is in
-    let b = both_true (one.after == other.after) _ a.1 in
-    let c = both_true (one.before == other.before) _ b.1 in
-    let d = both_true (beq one.absolute other.absolute) _ c.1 in
-    let e = both_true (beq one.percentage other.percentage) _ d.1 in
-    let f = both_true (beq one.min2max other.min2max) _ e.1 in
+    let a = and_parts (method_number one.method == method_number other.method) _ is in
+    let b = and_parts (one.after == other.after) _ a.1 in
+    let c = and_parts (one.before == other.before) _ b.1 in
+    let d = and_parts (beq one.absolute other.absolute) _ c.1 in
+    let e = and_parts (beq one.percentage other.percentage) _ d.1 in
+    let f = and_parts (beq one.min2max other.min2max) _ e.1 in
     let method : one.method ≡ other.method = same_method one.method other.method a.0 in
     let after : one.after ≡ other.after = (Decides-eqb one.after other.after).0 b.0 in
     let before : one.before ≡ other.before = (Decides-eqb one.before other.before).0 c.0 in
@@ -203,33 +197,49 @@ lookup_again one other is =
     let dims : one.dims ≡ other.dims = same_option (pointwise bytes_eq) same_texts_in one.dims other.dims f.1 in
     same_fields one other method after before absolute percentage min2max dims
 
-tree_maybe : (one other : Option Expr) → option_eq same_expr one other ≡ true → option_map tree_of one ≡ option_map tree_of other
-tree_maybe None None is = refl
-tree_maybe None (Some y) is = absurd (cc)
-tree_maybe (Some x) None is = absurd (cc)
-tree_maybe (Some x) (Some y) is = ap (λ (tree : Tree). Some tree) (expr_again x y is)
+abbrev itself : Alarm → Alarm
+itself a = record {
+  name = a.name;
+  template = a.template;
+  on = a.on;
+  lookup = a.lookup;
+  calc = a.calc;
+  warn = a.warn;
+  crit = a.crit;
+  every = a.every;
+  green = a.green;
+  red = a.red;
+  units = a.units;
+  info = a.info;
+  to = a.to;
+  up = a.up;
+  down = a.down;
+  multiplier = a.multiplier;
+  max = a.max;
+  no_clear = a.no_clear;
+}
 
--- alarms that say the same are the same, with expressions as trees
-alarm_again : (one other : Entity) → is_same one other ≡ true → alarm_of one ≡ alarm_of other
-unfolding is_same same_texts same_numbers same_delay same_exprs
+-- alarms that say the same are the same
+alarm_again : (one other : Alarm) → is_same one other ≡ true → one ≡ other
+unfolding is_same same_texts same_numbers same_delay same_trees
 alarm_again one other is =
-    let texts = both_true (same_texts one other) _ is in
-    let numbers = both_true (same_numbers one other) _ texts.1 in
-    let delay = both_true (same_delay one other) _ numbers.1 in
-    let lookup = both_true (option_eq same_lookup one.lookup other.lookup) _ delay.1 in
-    let t1 = both_true (bytes_eq one.name other.name) _ texts.0 in
-    let t2 = both_true (bytes_eq one.on other.on) _ t1.1 in
-    let t3 = both_true (bytes_eq one.units other.units) _ t2.1 in
-    let t4 = both_true (bytes_eq one.info other.info) _ t3.1 in
-    let n1 = both_true (beq one.template other.template) _ numbers.0 in
-    let n2 = both_true (one.every == other.every) _ n1.1 in
-    let n3 = both_true (option_eq int_eq one.green other.green) _ n2.1 in
-    let n4 = both_true (option_eq int_eq one.red other.red) _ n3.1 in
-    let d1 = both_true (one.up == other.up) _ delay.0 in
-    let d2 = both_true (one.down == other.down) _ d1.1 in
-    let d3 = both_true (int_eq one.multiplier other.multiplier) _ d2.1 in
-    let e1 = both_true (option_eq same_expr one.calc other.calc) _ lookup.1 in
-    let e2 = both_true (option_eq same_expr one.warn other.warn) _ e1.1 in
+    let texts = and_parts (same_texts one other) _ is in
+    let numbers = and_parts (same_numbers one other) _ texts.1 in
+    let delay = and_parts (same_delay one other) _ numbers.1 in
+    let lookup = and_parts (option_eq same_lookup one.lookup other.lookup) _ delay.1 in
+    let t1 = and_parts (bytes_eq one.name other.name) _ texts.0 in
+    let t2 = and_parts (bytes_eq one.on other.on) _ t1.1 in
+    let t3 = and_parts (bytes_eq one.units other.units) _ t2.1 in
+    let t4 = and_parts (bytes_eq one.info other.info) _ t3.1 in
+    let n1 = and_parts (beq one.template other.template) _ numbers.0 in
+    let n2 = and_parts (one.every == other.every) _ n1.1 in
+    let n3 = and_parts (option_eq int_eq one.green other.green) _ n2.1 in
+    let n4 = and_parts (option_eq int_eq one.red other.red) _ n3.1 in
+    let d1 = and_parts (one.up == other.up) _ delay.0 in
+    let d2 = and_parts (one.down == other.down) _ d1.1 in
+    let d3 = and_parts (int_eq one.multiplier other.multiplier) _ d2.1 in
+    let e1 = and_parts (option_eq same_tree one.calc other.calc) _ lookup.1 in
+    let e2 = and_parts (option_eq same_tree one.warn other.warn) _ e1.1 in
     let f1 : one.name ≡ other.name = (bytes_eq-Decides one.name other.name).0 t1.0 in
     let f2 : one.on ≡ other.on = (bytes_eq-Decides one.on other.on).0 t2.0 in
     let f3 : one.units ≡ other.units = (bytes_eq-Decides one.units other.units).0 t3.0 in
@@ -245,15 +255,13 @@ alarm_again one other is =
     let f13 : one.multiplier ≡ other.multiplier = (Decides-int_eq one.multiplier other.multiplier).0 d3.0 in
     let f14 : one.max ≡ other.max = same_option ◌==◌ (λ x y same. (Decides-eqb x y).0 same) one.max other.max d3.1 in
     let f15 : one.lookup ≡ other.lookup = same_option same_lookup lookup_again one.lookup other.lookup lookup.0 in
-    let f16 : option_map tree_of one.calc ≡ option_map tree_of other.calc = tree_maybe one.calc other.calc e1.0 in
-    let f17 : option_map tree_of one.warn ≡ option_map tree_of other.warn = tree_maybe one.warn other.warn e2.0 in
-    let f18 : option_map tree_of one.crit ≡ option_map tree_of other.crit = tree_maybe one.crit other.crit e2.1 in
-    cc
+    let f16 : one.calc ≡ other.calc = same_option same_tree expr_again one.calc other.calc e1.0 in
+    let f17 : one.warn ≡ other.warn = same_option same_tree expr_again one.warn other.warn e2.0 in
+    let f18 : one.crit ≡ other.crit = same_option same_tree expr_again one.crit other.crit e2.1 in
+    let all : itself one ≡ itself other = cc in
+    all
 
 -- ---- and the other way round
-
-and_true : (a b : Bool) → a ≡ true → b ≡ true → (a && b) ≡ true
-and_true a b is so = ap (λ (c : Bool). c && b) is ∙ so
 
 bool_back : (one other : Bool) → one ≡ other → beq one other ≡ true
 bool_back true true is = refl
@@ -269,12 +277,12 @@ option_back {A} e back (Some x) (Some y) is = let same : x ≡ y = cc in back x 
 
 pointwise_itself : {A : Type 0} (e : A → A → Bool) → ((x : A) → e x x ≡ true) → (xs : List A) → pointwise e xs xs ≡ true
 pointwise_itself {A} e itself [] = refl
-pointwise_itself {A} e itself (x ∷ xs) = and_true (e x x) (pointwise e xs xs) (itself x) (pointwise_itself e itself xs)
+pointwise_itself {A} e itself (x ∷ xs) = and_from (e x x) (pointwise e xs xs) (itself x) (pointwise_itself e itself xs)
 
-number_back : (one other : ℕ) → one ≡ other → (one == other) ≡ true
+pub number_back : (one other : ℕ) → one ≡ other → (one == other) ≡ true
 number_back one other = (Decides-eqb one other).1
 
-bytes_back : (one other : List ℕ) → one ≡ other → bytes_eq one other ≡ true
+pub bytes_back : (one other : List ℕ) → one ≡ other → bytes_eq one other ≡ true
 bytes_back one other = (bytes_eq-Decides one other).1
 
 units_back : (one other : ℤ) → one ≡ other → int_eq one other ≡ true
@@ -289,74 +297,68 @@ word_itself (word.Prefixed prefix) = number_back (prefix_number prefix) (prefix_
 word_itself (word.Combined operator) = number_back (operator_number operator) (operator_number operator) refl
 word_itself word.Chosen = refl
 
-expr_back : (one other : Expr) → tree_of one ≡ tree_of other → same_expr one other ≡ true
-unfolding same_expr
+expr_back : (one other : Tree) → one ≡ other → same_tree one other ≡ true
+unfolding same_tree
 expr_back one other is =
-    ap (λ (tree : Tree). pointwise same_word (words (tree_of one)) (words tree)) (sym is)
-    ∙ pointwise_itself same_word word_itself (words (tree_of one))
-
-expr_maybe : (one other : Option Expr) → option_map tree_of one ≡ option_map tree_of other → option_eq same_expr one other ≡ true
-expr_maybe None None is = refl
-expr_maybe None (Some y) is = absurd (cc)
-expr_maybe (Some x) None is = absurd (cc)
-expr_maybe (Some x) (Some y) is = let same : tree_of x ≡ tree_of y = cc in expr_back x y same
+    ap (λ (tree : Tree). pointwise same_word (words one) (words tree)) (sym is)
+    ∙ pointwise_itself same_word word_itself (words one)
 
 lookup_itself : (one : Lookup) → same_lookup one one ≡ true
 unfolding same_lookup
 lookup_itself one =
-    and_true _ _ (number_back (method_number one.method) (method_number one.method) refl)
-    (and_true _ _ (number_back one.after one.after refl)
-    (and_true _ _ (number_back one.before one.before refl)
-    (and_true _ _ (bool_back one.absolute one.absolute refl)
-    (and_true _ _ (bool_back one.percentage one.percentage refl)
-    (and_true _ _ (bool_back one.min2max one.min2max refl)
+    and_from _ _ (number_back (method_number one.method) (method_number one.method) refl)
+    (and_from _ _ (number_back one.after one.after refl)
+    (and_from _ _ (number_back one.before one.before refl)
+    (and_from _ _ (bool_back one.absolute one.absolute refl)
+    (and_from _ _ (bool_back one.percentage one.percentage refl)
+    (and_from _ _ (bool_back one.min2max one.min2max refl)
     (option_back (pointwise bytes_eq) (λ x y is. ap (λ (z : List (List ℕ)). pointwise bytes_eq x z) (sym is) ∙ pointwise_itself bytes_eq (λ text. bytes_back text text refl) x) one.dims one.dims refl))))))
 
 lookup_back : (one other : Lookup) → one ≡ other → same_lookup one other ≡ true
 lookup_back one other is = ap (λ (lookup : Lookup). same_lookup one lookup) (sym is) ∙ lookup_itself one
 
-texts_back : (one other : Entity) → alarm_of one ≡ alarm_of other → same_texts one other ≡ true
+texts_back : (one other : Alarm) → one ≡ other → same_texts one other ≡ true
 unfolding same_texts
 texts_back one other is =
-    and_true _ _ (bytes_back one.name other.name (ap (λ (a : Alarm). a.name) is))
-    (and_true _ _ (bytes_back one.on other.on (ap (λ (a : Alarm). a.on) is))
-    (and_true _ _ (bytes_back one.units other.units (ap (λ (a : Alarm). a.units) is))
-    (and_true _ _ (bytes_back one.info other.info (ap (λ (a : Alarm). a.info) is))
+    and_from _ _ (bytes_back one.name other.name (ap (λ (a : Alarm). a.name) is))
+    (and_from _ _ (bytes_back one.on other.on (ap (λ (a : Alarm). a.on) is))
+    (and_from _ _ (bytes_back one.units other.units (ap (λ (a : Alarm). a.units) is))
+    (and_from _ _ (bytes_back one.info other.info (ap (λ (a : Alarm). a.info) is))
     (bytes_back one.to other.to (ap (λ (a : Alarm). a.to) is)))))
 
-numbers_back : (one other : Entity) → alarm_of one ≡ alarm_of other → same_numbers one other ≡ true
+numbers_back : (one other : Alarm) → one ≡ other → same_numbers one other ≡ true
 unfolding same_numbers
 numbers_back one other is =
-    and_true _ _ (bool_back one.template other.template (ap (λ (a : Alarm). a.template) is))
-    (and_true _ _ (number_back one.every other.every (ap (λ (a : Alarm). a.every) is))
-    (and_true _ _ (option_back int_eq units_back one.green other.green (ap (λ (a : Alarm). a.green) is))
-    (and_true _ _ (option_back int_eq units_back one.red other.red (ap (λ (a : Alarm). a.red) is))
+    and_from _ _ (bool_back one.template other.template (ap (λ (a : Alarm). a.template) is))
+    (and_from _ _ (number_back one.every other.every (ap (λ (a : Alarm). a.every) is))
+    (and_from _ _ (option_back int_eq units_back one.green other.green (ap (λ (a : Alarm). a.green) is))
+    (and_from _ _ (option_back int_eq units_back one.red other.red (ap (λ (a : Alarm). a.red) is))
     (bool_back one.no_clear other.no_clear (ap (λ (a : Alarm). a.no_clear) is)))))
 
-delay_back : (one other : Entity) → alarm_of one ≡ alarm_of other → same_delay one other ≡ true
+delay_back : (one other : Alarm) → one ≡ other → same_delay one other ≡ true
 unfolding same_delay
 delay_back one other is =
-    and_true _ _ (number_back one.up other.up (ap (λ (a : Alarm). a.up) is))
-    (and_true _ _ (number_back one.down other.down (ap (λ (a : Alarm). a.down) is))
-    (and_true _ _ (units_back one.multiplier other.multiplier (ap (λ (a : Alarm). a.multiplier) is))
+    and_from _ _ (number_back one.up other.up (ap (λ (a : Alarm). a.up) is))
+    (and_from _ _ (number_back one.down other.down (ap (λ (a : Alarm). a.down) is))
+    (and_from _ _ (units_back one.multiplier other.multiplier (ap (λ (a : Alarm). a.multiplier) is))
     (option_back ◌==◌ number_back one.max other.max (ap (λ (a : Alarm). a.max) is))))
 
-exprs_back : (one other : Entity) → alarm_of one ≡ alarm_of other → same_exprs one other ≡ true
-unfolding same_exprs
+exprs_back : (one other : Alarm) → one ≡ other → same_trees one other ≡ true
+unfolding same_trees
 exprs_back one other is =
-    and_true _ _ (expr_maybe one.calc other.calc (ap (λ (a : Alarm). a.calc) is))
-    (and_true _ _ (expr_maybe one.warn other.warn (ap (λ (a : Alarm). a.warn) is))
-    (expr_maybe one.crit other.crit (ap (λ (a : Alarm). a.crit) is)))
+    and_from _ _ (option_back same_tree expr_back one.calc other.calc (ap (λ (a : Alarm). a.calc) is))
+    (and_from _ _ (option_back same_tree expr_back one.warn other.warn (ap (λ (a : Alarm). a.warn) is))
+    (option_back same_tree expr_back one.crit other.crit (ap (λ (a : Alarm). a.crit) is)))
 
-alarm_back : (one other : Entity) → alarm_of one ≡ alarm_of other → is_same one other ≡ true
+alarm_back : (one other : Alarm) → one ≡ other → is_same one other ≡ true
 unfolding is_same
 alarm_back one other is =
-    and_true _ _ (texts_back one other is)
-    (and_true _ _ (numbers_back one other is)
-    (and_true _ _ (delay_back one other is)
-    (and_true _ _ (option_back same_lookup lookup_back one.lookup other.lookup (ap (λ (a : Alarm). a.lookup) is))
+    and_from _ _ (texts_back one other is)
+    (and_from _ _ (numbers_back one other is)
+    (and_from _ _ (delay_back one other is)
+    (and_from _ _ (option_back same_lookup lookup_back one.lookup other.lookup (ap (λ (a : Alarm). a.lookup) is))
     (exprs_back one other is))))
 
--- alarms say the same exactly where they are the same, with expressions as trees
-pub alarms_alike : (one other : Entity) → IsTrue (is_same one other) ↔ (alarm_of one ≡ alarm_of other)
+-- alarms say the same exactly where they are the same
+pub alarms_alike : (one other : Alarm) → IsTrue (is_same one other) ↔ (one ≡ other)
 alarms_alike one other = (alarm_again one other, alarm_back one other)

@@ -15,7 +15,7 @@ use Rattle.tier_rollup.specs.declared.point.Point.{Point}
 use Rattle.query_engine.specs.Points.{are_rising_from, is_asked, points_between}
 use Rattle.query_engine.specs.Joining.{joined, HaveRoom}
 use Rattle.query_engine.specs.Windows.{is_between, members_between}
-use Rattle.query_engine.proofs.MemberLemmas.{one, one_out, members_asked, rising_take, rising_filter, between_low, between_high}
+use Rattle.query_engine.proofs.MemberLemmas.{one, one_out, members_asked, rising_take, between_low, between_high}
 use Rattle.query_engine.proofs.JoinLemmas.{joined-none, record_of-append, room}
 use Rattle.alarm_core.specs.Lookups.{sized, members}
 use Rattle.alarm_core.proofs.LookupLemmas.{all_within, all_few, all-append}

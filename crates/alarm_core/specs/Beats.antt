@@ -1,8 +1,7 @@
 -- What a beat makes of the states.
-use Rattle.std.specs.Prelude.{ℕ, Bool, ◌&&◌, nat_lt, if◌then◌else◌, List, length, map, slice_get, Option, Some, None, option_and_then}
+use Rattle.std.specs.Prelude.{ℕ, ◌&&◌, nat_lt, if◌then◌else◌, List, [], length, map, Option, Some, None, option_and_then}
 use Rattle.std.specs.List.{filter_map}
-use Rattle.std.specs.Option.{option_map_or}
-use Rattle.health_config.specs.declared.entity.Entity.{Entity}
+use Rattle.health_config.specs.Entity.{Alarm}
 use Rattle.history.specs.Registry.{Registry}
 use Rattle.chart_registry.specs.Defining.{chart_id}
 use Rattle.tier_rollup.specs.declared.point.Point.{Point}
@@ -11,7 +10,7 @@ use Rattle.alarm_core.specs.declared.latest.Latest.{Latest}
 use Rattle.alarm_core.specs.declared.sight.Sight.{Sight}
 use Rattle.alarm_core.specs.declared.state.State.{State}
 use Rattle.alarm_core.specs.declared.step.Step.{Step}
-use Rattle.alarm_core.specs.Pairing.{alarm_name}
+use Rattle.alarm_core.specs.Pairing.{alarm_at, holder_name}
 use Rattle.alarm_core.specs.Seen.{Seen}
 use Rattle.alarm_core.specs.Step.{is_stepped, is_same, found_by, stepped}
 
@@ -34,7 +33,7 @@ beat_of sight floor told = record {
 }
 
 -- what an alarm sees at a beat
-abbrev pub seen_at : Beat → Entity → State → Seen
+abbrev pub seen_at : Beat → Alarm → State → Seen
 seen_at beat alarm state = record {
   alarm = alarm;
   registry = beat.registry;
@@ -48,13 +47,13 @@ abbrev pub step_by : Seen → Beat → State → Step
 step_by seen beat state = stepped seen (found_by seen beat.floor beat.told) state.value state.delay
 
 -- the step of an alarm, where its chart is there and the alarm is stepped on the beat
-abbrev pub step_with : Beat → State → Entity → Option Step
+abbrev pub step_with : Beat → State → Alarm → Option Step
 step_with beat state alarm =
     if nat_lt state.chart (length beat.registry.charts) && is_stepped (seen_at beat alarm state)
     then Some (step_by (seen_at beat alarm state) beat state) else None
 
-abbrev pub step_of : Beat → List Entity → State → Option Step
-step_of beat alarms state = option_and_then (step_with beat state) (slice_get alarms state.alarm)
+abbrev pub step_of : Beat → List Alarm → State → Option Step
+step_of beat alarms state = option_and_then (step_with beat state) (alarm_at alarms state.alarm)
 
 -- ---- one state
 
@@ -63,12 +62,12 @@ after_step state None = state
 after_step state (Some step) = record state { value = step.value; status = step.status; delay = step.delay }
 
 -- a change of status; its number comes when it is told
-abbrev pub change : List Entity → Registry → ℕ → State → Step → Event
+abbrev pub change : List Alarm → Registry → ℕ → State → Step → Event
 change alarms registry moment state step = record {
   id = 0;
   moment = moment;
   chart = chart_id registry state.chart;
-  alarm = alarm_name alarms state.alarm;
+  alarm = holder_name alarms [] state.alarm;
   old = state.status;
   new = step.status;
   value = step.value;
@@ -76,22 +75,22 @@ change alarms registry moment state step = record {
 }
 
 -- a status that stays is no event
-abbrev pub change_of : List Entity → Registry → ℕ → State → Option Step → Option Event
+abbrev pub change_of : List Alarm → Registry → ℕ → State → Option Step → Option Event
 change_of alarms registry moment state None = None
 change_of alarms registry moment state (Some step) =
     if is_same state.status step.status then None else Some (change alarms registry moment state step)
 
 -- ---- all states
 
-abbrev pub state_after : Beat → List Entity → State → State
+abbrev pub state_after : Beat → List Alarm → State → State
 state_after beat alarms state = after_step state (step_of beat alarms state)
 
-abbrev pub event_of : Beat → List Entity → State → Option Event
+abbrev pub event_of : Beat → List Alarm → State → Option Event
 event_of beat alarms state = change_of alarms beat.registry beat.moment state (step_of beat alarms state)
 
-abbrev pub states_after : Beat → List Entity → List State → List State
+abbrev pub states_after : Beat → List Alarm → List State → List State
 states_after beat alarms states = map (state_after beat alarms) states
 
 -- the events of those that change, in their order
-abbrev pub changes : Beat → List Entity → List State → List Event
+abbrev pub changes : Beat → List Alarm → List State → List Event
 changes beat alarms states = filter_map (event_of beat alarms) states

@@ -1,6 +1,6 @@
 -- The alarms of a history: their states and their log, call after call.
-use Rattle.std.specs.Prelude.{ℕ, List, [], ◌∷◌, ◌++◌}
-use Rattle.health_config.specs.declared.entity.Entity.{Entity}
+use Rattle.std.specs.Prelude.{ℕ, List, [], ◌∷◌, ◌++◌, map}
+use Rattle.health_config.specs.Entity.{Alarm, alarm_of}
 use Rattle.history.specs.Registry.{Registry}
 use Rattle.alarm_events.specs.declared.event.Event.{Event}
 use Rattle.alarm_events.specs.Log.{Shown, shown}
@@ -14,24 +14,38 @@ use Rattle.alarm_core.specs.Telling.{tell_all}
 
 -- a configuration, the states of its pairs, and the log
 pub record Held : Type 0 where
-  pub alarms : List Entity
+  -- the health text
+  pub text : List ℕ
+  -- its alarms
+  pub alarms : List Alarm
+  -- the names of alarms that were found with a state, and that it has not for that state's chart
+  pub lost : List (List ℕ)
   pub states : List State
   pub log : Shown
 
 abbrev pub held : Alarms → Held
-held alarms = record { alarms = alarms.alarms; states = alarms.states; log = alarms.told.log }
+held alarms = record {
+  text = alarms.text;
+  alarms = map alarm_of alarms.alarms;
+  lost = alarms.lost;
+  states = alarms.states;
+  log = alarms.told.log;
+}
 
 -- before the first call
 abbrev pub nothing : Held
-nothing = record { alarms = []; states = []; log = shown [] }
+nothing = record { text = []; alarms = []; lost = []; states = []; log = shown [] }
 
 -- what a call leaves, and the events that it tells
 pub record Outcome : Type 0 where
   pub held : Held
   pub events : List Event
 
-abbrev pub outcome : List Entity → List State → Told → Outcome
-outcome alarms states told = record { held = record { alarms = alarms; states = states; log = told.log }; events = told.events }
+abbrev pub outcome : List ℕ → List Alarm → List State → Told → Outcome
+outcome text alarms states told = record {
+  held = record { text = text; alarms = alarms; lost = []; states = states; log = told.log };
+  events = told.events;
+}
 
 -- nothing is told yet
 abbrev pub silent : Shown → Told
@@ -40,34 +54,34 @@ silent log = record { log = log; events = [] }
 -- ---- one call
 
 -- what goes is told first, in the order of the states before
-abbrev pub told_of_pairs : Held → List Entity → Registry → ℕ → Told
+abbrev pub told_of_pairs : Held → List Alarm → Registry → ℕ → Told
 told_of_pairs held alarms registry moment =
-    tell_all (silent held.log) (removals held.alarms alarms (wanted alarms registry.charts) registry moment held.states)
+    tell_all (silent held.log) (removals held.alarms held.lost alarms (wanted alarms registry.charts) registry moment held.states)
 
 -- the states of the pairs that are wanted now
-abbrev pub states_of_pairs : Held → List Entity → Registry → List State
+abbrev pub states_of_pairs : Held → List Alarm → Registry → List State
 states_of_pairs held alarms registry = states_of held.alarms alarms held.states (wanted alarms registry.charts)
 
 -- a new configuration: what is not wanted any more goes, and what is new stands
-unfoldable pub configured : Held → List Entity → Registry → ℕ → Outcome
-configured held alarms registry moment =
-    outcome alarms (states_of_pairs held alarms registry) (told_of_pairs held alarms registry moment)
+unfoldable pub configured : Held → List ℕ → List Alarm → Registry → ℕ → Outcome
+configured held text alarms registry moment =
+    outcome text alarms (states_of_pairs held alarms registry) (told_of_pairs held alarms registry moment)
 
 -- a beat: the same with the charts as they are now, and then the states are stepped
 unfoldable pub stepped_by : Held → Beat → Outcome
 stepped_by held beat =
     let states = states_of_pairs held held.alarms beat.registry in
-    outcome held.alarms (states_after beat held.alarms states)
+    outcome held.text held.alarms (states_after beat held.alarms states)
     (tell_all (told_of_pairs held held.alarms beat.registry beat.moment) (changes beat held.alarms states))
 
 -- ---- all calls
 
 pub data Call : Type 0 where
-  configuration : (alarms : List Entity) (registry : Registry) (moment : ℕ) → Call
+  configuration : (text : List ℕ) (alarms : List Alarm) (registry : Registry) (moment : ℕ) → Call
   beat : (beat : Beat) → Call
 
 abbrev pub called : Held → Call → Outcome
-called held (configuration alarms registry moment) = configured held alarms registry moment
+called held (configuration text alarms registry moment) = configured held text alarms registry moment
 called held (beat now) = stepped_by held now
 
 -- what stands after these calls, the first of them first

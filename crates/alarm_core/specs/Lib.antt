@@ -9,6 +9,7 @@ pub mod Step
 pub mod Lookups
 pub mod Gathering
 pub mod Pairs
+pub mod Charts
 pub mod Same
 pub mod Telling
 pub mod Pairing
@@ -16,3 +17,5 @@ pub mod Beats
 pub mod Course
 pub mod Rows
 pub mod Faults
+pub mod Kept
+pub mod Whole

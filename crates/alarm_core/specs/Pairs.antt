@@ -5,7 +5,7 @@ use Rattle.std.specs.List.{flat_map, list_any, range_with_len, position_or_len, 
 use Rattle.std.specs.Option.{option_map_or}
 use Rattle.std.specs.Str.{bytes_eq}
 use Rattle.fixed_num.specs.UnitsText.{is_dot}
-use Rattle.health_config.specs.declared.entity.Entity.{Entity}
+use Rattle.health_config.specs.Entity.{Alarm}
 use Rattle.history.specs.declared.chart.ChartDef.{ChartDef}
 use Rattle.alarm_core.specs.declared.pairs.Pair.{Pair}
 
@@ -19,42 +19,42 @@ abbrev pub is_type_and_name : List ℕ → ChartDef → Bool
 is_type_and_name text def =
     has_dot text && (bytes_eq (before_first is_dot text) (before_first is_dot def.id) && bytes_eq (after_first is_dot text) def.name)
 
-abbrev pub says : Entity → ChartDef → Bool
+abbrev pub says : Alarm → ChartDef → Bool
 says entity def =
     if entity.template then bytes_eq entity.on def.context else (bytes_eq entity.on def.id || is_type_and_name entity.on def)
 
 -- an alarm is on a chart that it says; an empty text says none
-abbrev pub is_on : Entity → ChartDef → Bool
+abbrev pub is_on : Alarm → ChartDef → Bool
 is_on entity def = nat_lt 0 (length entity.on) && says entity def
 
 -- ---- which of a name
 
 -- the alarms of this number are on the chart
-abbrev pub is_on_at : List Entity → ChartDef → ℕ → Bool
+abbrev pub is_on_at : List Alarm → ChartDef → ℕ → Bool
 is_on_at entities def e = option_map_or (λ entity. is_on entity def) (slice_get entities e) false
 
 -- of two of one name an alarm goes before a template, and of one kind the first goes before
-abbrev pub goes_before : ℕ → Entity → ℕ → Entity → Bool
+abbrev pub goes_before : ℕ → Alarm → ℕ → Alarm → Bool
 goes_before f other e entity =
     bytes_eq other.name entity.name && (if beq other.template entity.template then nat_lt f e else entity.template)
 
-abbrev pub goes_before_at : List Entity → ℕ → ℕ → Bool
+abbrev pub goes_before_at : List Alarm → ℕ → ℕ → Bool
 goes_before_at entities f e =
     option_map_or (λ entity. option_map_or (λ other. goes_before f other e entity) (slice_get entities f) false) (slice_get entities e) false
 
 -- an alarm is computed for a chart that it is on, unless one that goes before it is on the chart too
-abbrev pub is_computed : List Entity → ChartDef → ℕ → Bool
+abbrev pub is_computed : List Alarm → ChartDef → ℕ → Bool
 is_computed entities def e =
     is_on_at entities def e
     && not (list_any (λ f. goes_before_at entities f e && is_on_at entities def f) (range_with_len 0 (length entities)))
 
 -- ---- all of them
 
-abbrev pub is_pair : List Entity → List ChartDef → ℕ → ℕ → Bool
+abbrev pub is_pair : List Alarm → List ChartDef → ℕ → ℕ → Bool
 is_pair entities charts e chart = option_map_or (λ def. is_computed entities def e) (slice_get charts chart) false
 
 -- the charts of an alarm, in the order of their numbers
-abbrev pub pairs_of : List Entity → List ChartDef → ℕ → List Pair
+abbrev pub pairs_of : List Alarm → List ChartDef → ℕ → List Pair
 pairs_of entities charts e =
     map (λ chart. record { alarm = e; chart = chart }) (filter (is_pair entities charts e) (range_with_len 0 (length charts)))
 
@@ -66,5 +66,5 @@ unfoldable pub first_pairs : List Pair → List Pair
 first_pairs pairs = take most_pairs pairs
 
 -- alarms in the order of their text, each with its charts
-abbrev pub wanted : List Entity → List ChartDef → List Pair
+abbrev pub wanted : List Alarm → List ChartDef → List Pair
 wanted entities charts = first_pairs (flat_map (pairs_of entities charts) (range_with_len 0 (length entities)))

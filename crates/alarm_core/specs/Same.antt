@@ -1,21 +1,19 @@
 -- Whether two alarms say the same.
-use Rattle.std.specs.Prelude.{ℕ, ◌==◌, Bool, true, false, ◌&&◌, List, [], ◌∷◌, ◌++◌, Option, Some, None}
+use Rattle.std.specs.Prelude.{ℕ, ◌==◌, Bool, true, false, ◌&&◌, List, [], ◌∷◌, ◌++◌}
 use Rattle.std.specs.Bool.{beq}
 use Rattle.std.specs.Cmp.Lexicographic.{pointwise}
 use Rattle.std.specs.Option.{option_eq}
 use Rattle.std.specs.Ordering.{int_eq}
 use Rattle.std.specs.Str.{bytes_eq}
-use Rattle.health_config.specs.declared.entity.Entity.{Entity}
+use Rattle.health_config.specs.Entity.{Alarm}
 use Rattle.health_config.specs.declared.lookup.Lookup.{Lookup}
 use Rattle.health_config.specs.declared.lookup.Method.{Method}
 use Rattle.health_config.specs.declared.lookup.Method.TheVariants as method
-use Rattle.health_expr.specs.declared.expr.Expr.{Expr}
 use Rattle.health_expr.specs.declared.operator.Operator.{Operator}
 use Rattle.health_expr.specs.declared.operator.Operator.TheVariants as operator
 use Rattle.health_expr.specs.declared.operator.Prefix.{Prefix}
 use Rattle.health_expr.specs.declared.operator.Prefix.TheVariants as prefix
 use Rattle.health_expr.specs.Tree.{Tree, number, nan, infinity, name, prefixed, combined, chosen}
-use Rattle.health_expr.specs.TreeOf.{tree_of}
 use Rattle.alarm_core.specs.declared.expr_words.Word.{Word}
 use Rattle.alarm_core.specs.declared.expr_words.Word.TheVariants as word
 
@@ -61,9 +59,9 @@ same_word (word.Combined one) (word.Combined other) = operator_number one == ope
 same_word word.Chosen word.Chosen = true
 same_word _ _ = false
 
--- expressions are the same where their trees have the same words
-unfoldable pub same_expr : Expr → Expr → Bool
-same_expr one other = pointwise same_word (words (tree_of one)) (words (tree_of other))
+-- expressions are the same where they have the same words
+unfoldable pub same_tree : Tree → Tree → Bool
+same_tree one other = pointwise same_word (words one) (words other)
 
 -- ---- lookups
 
@@ -87,7 +85,7 @@ same_lookup one other =
 
 -- ---- alarms
 
-unfoldable pub same_texts : Entity → Entity → Bool
+unfoldable pub same_texts : Alarm → Alarm → Bool
 same_texts one other =
     bytes_eq one.name other.name
     && (bytes_eq one.on other.on
@@ -95,7 +93,7 @@ same_texts one other =
     && (bytes_eq one.info other.info
     && bytes_eq one.to other.to)))
 
-unfoldable pub same_numbers : Entity → Entity → Bool
+unfoldable pub same_numbers : Alarm → Alarm → Bool
 same_numbers one other =
     beq one.template other.template
     && ((one.every == other.every)
@@ -103,24 +101,24 @@ same_numbers one other =
     && (option_eq int_eq one.red other.red
     && beq one.no_clear other.no_clear)))
 
-unfoldable pub same_delay : Entity → Entity → Bool
+unfoldable pub same_delay : Alarm → Alarm → Bool
 same_delay one other =
     (one.up == other.up)
     && ((one.down == other.down)
     && (int_eq one.multiplier other.multiplier
     && option_eq ◌==◌ one.max other.max))
 
-unfoldable pub same_exprs : Entity → Entity → Bool
-same_exprs one other =
-    option_eq same_expr one.calc other.calc
-    && (option_eq same_expr one.warn other.warn
-    && option_eq same_expr one.crit other.crit)
+unfoldable pub same_trees : Alarm → Alarm → Bool
+same_trees one other =
+    option_eq same_tree one.calc other.calc
+    && (option_eq same_tree one.warn other.warn
+    && option_eq same_tree one.crit other.crit)
 
 -- they differ in no field
-unfoldable pub is_same : Entity → Entity → Bool
+unfoldable pub is_same : Alarm → Alarm → Bool
 is_same one other =
     same_texts one other
     && (same_numbers one other
     && (same_delay one other
     && (option_eq same_lookup one.lookup other.lookup
-    && same_exprs one other)))
+    && same_trees one other)))

@@ -1,13 +1,13 @@
 -- What an alarm of a chart sees when it is computed.
 use Rattle.std.specs.Prelude.{ℕ}
-use Rattle.health_config.specs.declared.entity.Entity.{Entity}
+use Rattle.health_config.specs.Entity.{Alarm, alarm_of}
 use Rattle.history.specs.Registry.{Registry}
 use Rattle.alarm_events.specs.declared.status.Status.{Status}
 use Rattle.alarm_core.specs.declared.latest.Latest.{Latest}
 use Rattle.alarm_core.specs.declared.scene.Scene.{Scene}
 
 pub record Seen : Type 0 where
-  pub alarm : Entity
+  pub alarm : Alarm
   pub registry : Registry
   pub latest : Latest
   -- the number of the chart
@@ -19,7 +19,7 @@ pub record Seen : Type 0 where
 -- a scene of the code, without its references
 abbrev pub seen : Scene → Seen
 seen scene = record {
-  alarm = scene.alarm.now;
+  alarm = alarm_of scene.alarm.now;
   registry = scene.registry.now;
   latest = scene.latest.now;
   chart = scene.chart;

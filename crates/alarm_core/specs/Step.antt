@@ -5,7 +5,7 @@ use Rattle.health_expr.specs.declared.value.Value.{Value}
 use Rattle.tier_rollup.specs.declared.point.Point.{Point}
 use Rattle.alarm_events.specs.declared.status.Status.{Status}
 use Rattle.alarm_events.specs.Status.{number}
-use Rattle.alarm_core.specs.declared.delay.Delay.{Delay}
+use Rattle.alarm_events.specs.declared.delay.Delay.{Delay}
 use Rattle.alarm_core.specs.Seen.{Seen}
 use Rattle.alarm_core.specs.declared.step.Step.{Step}
 use Rattle.alarm_core.specs.Verdict.{value_at, status_at}

@@ -4,9 +4,7 @@ use Rattle.std.specs.Option.{option_map_or, option_map}
 use Rattle.health_expr.specs.declared.value.Value.{Value}
 use Rattle.health_expr.specs.declared.value.Value.TheVariants.{Nan, Inf, Fixed}
 use Rattle.health_expr.specs.Arithmetic.{is_true}
-use Rattle.health_expr.specs.Tree.{worth}
-use Rattle.health_expr.specs.TreeOf.{tree_of}
-use Rattle.health_expr.specs.declared.expr.Expr.{Expr}
+use Rattle.health_expr.specs.Tree.{Tree, worth}
 use Rattle.alarm_events.specs.declared.status.Status.{Status}
 use Rattle.alarm_events.specs.declared.status.Status.TheVariants.{Undefined, Clear, Warning, Critical}
 use Rattle.alarm_core.specs.Seen.{Seen}
@@ -25,8 +23,8 @@ is_number (Fixed units) = true
 -- ---- the value
 
 -- what an expression is worth, where `$this` is worth so much
-abbrev pub worth_at : Seen → Value → Expr → Value
-worth_at scene this expr = worth (variable scene this) (tree_of expr)
+abbrev pub worth_at : Seen → Value → Tree → Value
+worth_at scene this tree = worth (variable scene this) tree
 
 -- What an alarm is worth, where it looked this up and was worth so much before. `calc` says it, and there
 -- `$this` is what was looked up, or without a lookup the value before. Without `calc` it is what was

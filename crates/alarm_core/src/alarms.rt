@@ -1,17 +1,26 @@
 //! All alarms of a history: their states and their log.
+ghost use Rattle.std.specs.Prelude.{◌≡◌, map};
+ghost use Rattle.health_config.specs.Entity.{alarm_of};
+ghost use Rattle.alarm_core.specs.Charts.{wanted_on};
+
 use crate::beats::step_states;
+use crate::charts::{ChartWordsList, Pairing, are_states_of, pairing_of, renew};
 use crate::fault::AlarmFault;
+use crate::keep::kept_states;
 use crate::latest::Latest;
 use crate::pairing::{Turn, pair_states};
+use crate::pairs::PairList;
+use crate::restore::{Restored, are_known, read_config, restore};
 use crate::series::all_series;
 use crate::sight::Sight;
-use crate::state::StateList;
+use crate::state::{NameList, StateList};
 use crate::telling::Told;
-use alarm_events::{EventList, EventLog, Log};
+use alarm_events::{EventList, EventLog, KeptAlarms, Log, is_short, read_alarms, write_alarms};
 use chart_registry::Registry;
+use fixed_num::ByteList;
 use health_config::{AlarmList, Config};
 use query_engine::Points;
-use std::alloc::Global;
+use std::alloc::{AllocError, Global};
 use std::mem::replace;
 
 /// The alarms of a configuration, how they stand for each chart, and the log of their events.
@@ -20,17 +29,26 @@ use std::mem::replace;
 #[derive(Debug, Drop)]
 pub struct Alarms {
     alloc: Global,
+    text: ByteList,
     alarms: AlarmList,
+    /// The names of alarms that were found with a state, and that the configuration has not for its chart.
+    lost: NameList,
     states: StateList,
     told: Told,
+    /// The alarms that are computed for the charts that were there when this was worked out.
+    pairing: Pairing,
+    ghost paired: { pairing.pairs ≡ wanted_on (map alarm_of alarms) pairing.charts },
 }
 
 impl Alarms {
-    ghost use Rattle.std.specs.Prelude.{◌≡◌, ℕ, List, IfOk, IfErr, OnOk, IsErrOf};
-    ghost use Rattle.health_config.specs.ConfigOf.{entities_of};
+    ghost use Rattle.std.specs.Prelude.{◌≤◌, ◌⊎◌, [], length, Some, None};
+    ghost use Rattle.alarm_events.specs.Alarms.{alarms_bytes, HasSpelling, IsShort};
+    ghost use Rattle.alarm_core.specs.Kept.{kept, held_from, restored};
+    ghost use Rattle.std.specs.Prelude.{ℕ, List, IfOk, IfErr, OnOk, IsErrOf};
+    ghost use Rattle.health_config.specs.ConfigOf.{entities_of, text_of};
     ghost use Rattle.host_model.specs.Cause.{HasCause};
     ghost use Rattle.tier_rollup.specs.declared.point.Point.{Point as APoint};
-    ghost use Rattle.alarm_core.specs.Course.{held, nothing, configured, stepped_by, Outcome};
+    ghost use Rattle.alarm_core.specs.Course.{held, nothing, configured, stepped_by, Outcome, states_of_pairs, told_of_pairs};
     ghost use Rattle.alarm_core.specs.Beats.{Beat};
     ghost use Rattle.alarm_core.specs.declared.fault.AlarmFault.TheVariants.{Memory};
 
@@ -41,11 +59,17 @@ impl Alarms {
     {
         Ok(Alarms {
             alloc,
+            text: ByteList::new(alloc),
             alarms: AlarmList::new(alloc),
+            lost: NameList::new(alloc),
             states: StateList::new(alloc),
             told: Told {
                 log: EventLog::new(alloc)?,
                 events: EventList::new(alloc),
+            },
+            pairing: Pairing {
+                charts: ChartWordsList::new(alloc),
+                pairs: PairList::new(alloc),
             },
         })
     }
@@ -62,22 +86,63 @@ impl Alarms {
         moment: u32,
     ) -> Result<EventList, AlarmFault>
         ensures held { OnOk result (held self.new
-            ≡ (configured (held self.old) (entities_of config) registry.now moment).held) }
+            ≡ (configured (held self.old) (text_of config)
+            (map alarm_of (entities_of config)) registry.now moment).held) }
         ensures events { IfOk result (λ events. events
-            ≡ (configured (held self.old) (entities_of config) registry.now moment).events) }
+            ≡ (configured (held self.old) (text_of config)
+            (map alarm_of (entities_of config)) registry.now moment).events) }
         ensures memory { IfErr result (λ fault. fault ≡ Memory) }
     {
         self.told.events.clear();
-        let alarms = config.into_alarms();
+        let (text, alarms) = config.into_parts();
         let turn = Turn {
             before: self.alarms.as_slice(),
+            lost: self.lost.as_slice(),
             after: alarms.as_slice(),
         };
+        let pairing = pairing_of(self.alloc, alarms.as_slice(), registry)?;
+        let pairs = pairing.pairs.as_slice();
         let states = self.states.as_slice();
-        let made = pair_states(self.alloc, &mut self.told, &turn, registry, moment, states)?;
-        self.states = made;
+        let told = &mut self.told;
+        let made = pair_states(self.alloc, told, &turn, pairs, registry, moment, states)?;
+        self.text = text;
         self.alarms = alarms;
+        self.lost.clear();
+        self.states = made;
+        self.pairing = pairing;
         Ok(replace(&mut self.told.events, EventList::new(self.alloc)))
+    }
+
+    /// Takes the charts as they are now: tells which states go, and makes new ones. Where alarms say the same
+    /// of all charts as before, nothing is worked out.
+    fn pair(&mut self, registry: &Registry, moment: u32) -> Result<(), AllocError>
+        ensures text { self.new.text ≡ self.old.text }
+        ensures alarms { self.new.alarms ≡ self.old.alarms }
+        ensures lost { OnOk result (self.new.lost ≡ []) }
+        ensures states { OnOk result (self.new.states
+            ≡ states_of_pairs (held self.old) (held self.old).alarms registry.now) }
+        ensures told { OnOk result (self.new.told
+            ≡ told_of_pairs (held self.old) (held self.old).alarms registry.now moment) }
+    {
+        self.told.events.clear();
+        let alarms = self.alarms.as_slice();
+        renew(self.alloc, &mut self.pairing, alarms, registry)?;
+        let pairs = self.pairing.pairs.as_slice();
+        let states = self.states.as_slice();
+        if are_states_of(states, pairs) {
+            self.lost.clear();
+            return Ok(());
+        }
+        let turn = Turn {
+            before: alarms,
+            lost: self.lost.as_slice(),
+            after: alarms,
+        };
+        let told = &mut self.told;
+        let paired = pair_states(self.alloc, told, &turn, pairs, registry, moment, states)?;
+        self.lost.clear();
+        self.states = paired;
+        Ok(())
     }
 
     /// Takes a beat at a moment: with the charts as they are now, some alarms of charts may go and others
@@ -111,19 +176,13 @@ impl Alarms {
               told = told;
             })).events) }
         ensures tiers { P.tiers points.new ≡ P.tiers points.old }
+        ensures points_held { P.held points.new ≡ P.held points.old }
         ensures told { (told : ℕ → List APoint) → P.tells points.old told
             → P.tells points.new told }
         ensures cause { HasCause (P.faults points.old) (P.faults points.new)
             (IsErrOf result AlarmFault.Disk) }
     {
-        self.told.events.clear();
-        let alarms = self.alarms.as_slice();
-        let turn = Turn {
-            before: alarms,
-            after: alarms,
-        };
-        let states = self.states.as_slice();
-        let paired = pair_states(self.alloc, &mut self.told, &turn, registry, moment, states)?;
+        self.pair(registry, moment)?;
         let series = all_series(self.alloc, registry)?;
         let sight = Sight {
             moment,
@@ -135,12 +194,103 @@ impl Alarms {
             self.alloc,
             points,
             &sight,
-            alarms,
-            paired.as_slice(),
+            self.alarms.as_slice(),
+            self.states.as_slice(),
             &mut self.told,
         )?;
         self.states = stepped;
         Ok(replace(&mut self.told.events, EventList::new(self.alloc)))
+    }
+
+    /// What is kept of the alarms.
+    fn keep(&self) -> Result<KeptAlarms, AlarmFault>
+        ensures kept { IfOk result (λ kept_alarms. kept_alarms ≡ kept (held self.now)) }
+        ensures memory { IfErr result (λ fault. fault ≡ Memory) }
+    {
+        let Log { dropped, events } = self.told.log.log()?;
+        let alarms = self.alarms.as_slice();
+        let lost = self.lost.as_slice();
+        Ok(KeptAlarms {
+            text: ByteList::from_slice(self.alloc, self.text.as_slice())?,
+            states: kept_states(self.alloc, alarms, lost, self.states.as_slice())?,
+            dropped,
+            events,
+        })
+    }
+
+    /// The alarms as bytes: the health text, the states with the names of their alarms, and the log.
+    /// `TooLong` exactly where no bytes have them, unless memory ran out before: the id of a chart or the
+    /// name of an alarm has more than 65,535 bytes, or a value is past the limit of expressions.
+    pub fn to_bytes(&self) -> Result<ByteList, AlarmFault>
+        ensures bytes { IfOk result (λ bytes. bytes ≡ alarms_bytes (kept (held self.now))) }
+        ensures written { OnOk result (HasSpelling (kept (held self.now))) }
+        ensures refused { IfErr result (λ fault. (fault ≡ Memory)
+            ⊎ ((fault ≡ AlarmFault.TooLong) × (¬ (IsShort (kept (held self.now)))))) }
+    {
+        let kept = self.keep()?;
+        if !is_short(&kept) {
+            return Err(AlarmFault::TooLong);
+        }
+        Ok(write_alarms(self.alloc, &kept)?)
+    }
+
+    /// The alarms of a configuration, with kept states and a kept log.
+    fn from_kept(
+        alloc: Global,
+        registry: &Registry,
+        config: Config,
+        kept: &KeptAlarms,
+    ) -> Result<Alarms, AlarmFault>
+        requires events { length kept.now.events ≤ 1000 }
+        requires text { text_of config ≡ kept.now.text }
+        ensures held { IfOk result (λ alarms. held alarms
+            ≡ held_from kept.now (map alarm_of (entities_of config)) registry.now) }
+        ensures memory { IfErr result (λ fault. fault ≡ Memory) }
+    {
+        let (text, alarms) = config.into_parts();
+        let pairing = pairing_of(alloc, alarms.as_slice(), registry)?;
+        let Restored { states, lost } = restore(
+            alloc,
+            alarms.as_slice(),
+            pairing.pairs.as_slice(),
+            kept.states.as_slice(),
+        )?;
+        let log = EventLog::showing(alloc, kept.dropped, kept.events.as_slice())?;
+        Ok(Alarms {
+            alloc,
+            text,
+            alarms,
+            lost,
+            states,
+            told: Told {
+                log,
+                events: EventList::new(alloc),
+            },
+            pairing,
+        })
+    }
+
+    /// The alarms that bytes stand for, with the charts of a registry: a state's alarm is the one of its name
+    /// that is computed for its chart. A state that has none is removed by the next call that takes charts.
+    /// `BadBytes` exactly where the bytes are in no form of alarms, their health text is refused, or a
+    /// state is of a chart that is not there, unless memory ran out before.
+    #[tactic(auto, unfolding(crate::specs::Kept::restored))]
+    pub fn from_bytes(
+        alloc: Global,
+        bytes: &[u8],
+        registry: &Registry,
+    ) -> Result<Alarms, AlarmFault>
+        ensures held { IfOk result
+            (λ alarms. restored bytes.now registry.now ≡ Some (held alarms)) }
+        ensures refused { IfErr result (λ fault. (fault ≡ Memory)
+            ⊎ ((fault ≡ AlarmFault.BadBytes) × (restored bytes.now registry.now ≡ None))) }
+    {
+        let kept = read_alarms(alloc, bytes)?;
+        let config = read_config(alloc, kept.text.as_slice())?;
+        if !are_known(kept.states.as_slice(), registry) {
+            return Err(AlarmFault::BadBytes);
+        }
+        Alarms::from_kept(alloc, registry, config, &kept)
     }
 
     /// What the log shows: the last 1,000 events, and the number of those before them.

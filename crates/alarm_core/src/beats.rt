@@ -1,12 +1,13 @@
 //! What a beat makes of the states.
-ghost use Rattle.std.specs.Prelude.{◌≡◌, ℕ, ◌∷◌, [], ◌++◌, List, IfOk, OnOk, IsErrOf};
+ghost use Rattle.std.specs.Prelude.{◌≡◌, ℕ, ◌∷◌, [], ◌++◌, List, map, IfOk, OnOk, IsErrOf};
 ghost use Rattle.host_model.specs.Cause.{HasCause};
 ghost use Rattle.tier_rollup.specs.declared.point.Point.{Point as APoint};
+ghost use Rattle.health_config.specs.Entity.{alarm_of};
 ghost use Rattle.alarm_core.specs.Beats as spec;
 ghost use Rattle.alarm_core.specs.Beats.{beat_of};
 ghost use Rattle.alarm_core.specs.Telling.{tell_some, tell_all};
 
-use crate::pairing::{alarm_text, chart_text, push_state};
+use crate::pairing::{alarm_at, chart_text, holder_text, push_state};
 use crate::scene::Scene;
 use crate::sight::Sight;
 use crate::state::{State, StateList};
@@ -28,8 +29,9 @@ fn step_with<P: Points>(
 ) -> Result<Option<Step>, PointFault>
     ensures step { IfOk result (λ step. (told : ℕ → List APoint) → P.tells points.old told
         → step ≡ spec.step_with (beat_of sight.now ((P.tiers points.old).floor 0) told)
-        state alarm.now) }
+        state (alarm_of alarm.now)) }
     ensures tiers { P.tiers points.new ≡ P.tiers points.old }
+    ensures held { P.held points.new ≡ P.held points.old }
     ensures told { (told : ℕ → List APoint) → P.tells points.old told → P.tells points.new told }
     ensures cause { HasCause (P.faults points.old) (P.faults points.new)
         (IsErrOf result PointFault.Disk) }
@@ -63,13 +65,14 @@ fn step_of<P: Points>(
 ) -> Result<Option<Step>, PointFault>
     ensures step { IfOk result (λ step. (told : ℕ → List APoint) → P.tells points.old told
         → step ≡ spec.step_of (beat_of sight.now ((P.tiers points.old).floor 0) told)
-        alarms.now state) }
+        (map alarm_of alarms.now) state) }
     ensures tiers { P.tiers points.new ≡ P.tiers points.old }
+    ensures held { P.held points.new ≡ P.held points.old }
     ensures told { (told : ℕ → List APoint) → P.tells points.old told → P.tells points.new told }
     ensures cause { HasCause (P.faults points.old) (P.faults points.new)
         (IsErrOf result PointFault.Disk) }
 {
-    match alarms.get(state.alarm) {
+    match alarm_at(alarms, state.alarm) {
         Some(alarm) => step_with(alloc, points, sight, alarm, state),
         None => Ok(None),
     }
@@ -100,13 +103,13 @@ fn change(
     step: Step,
 ) -> Result<Event, AllocError>
     ensures { IfOk result
-        (λ event. event ≡ spec.change alarms.now registry.now moment state step) }
+        (λ event. event ≡ spec.change (map alarm_of alarms.now) registry.now moment state step) }
 {
     Ok(Event {
         id: 0,
         moment,
         chart: chart_text(alloc, registry, state.chart)?,
-        alarm: alarm_text(alloc, alarms, state.alarm)?,
+        alarm: holder_text(alloc, alarms, &[], state.alarm)?,
         old: state.status,
         new: step.status,
         value: step.value,
@@ -124,7 +127,7 @@ fn change_of(
     step: Option<Step>,
 ) -> Result<Option<Event>, AllocError>
     ensures { IfOk result
-        (λ event. event ≡ spec.change_of alarms.now registry.now moment state step) }
+        (λ event. event ≡ spec.change_of (map alarm_of alarms.now) registry.now moment state step) }
 {
     let Some(step) = step else {
         return Ok(None);
@@ -147,7 +150,7 @@ fn take_step(
 ) -> Result<(), AllocError>
     ensures states { OnOk result (after.new ≡ after.old ++ spec.after_step state step ∷ []) }
     ensures told { OnOk result (told.new ≡ tell_some told.old
-        (spec.change_of alarms.now sight.now.registry.now sight.now.moment state step)) }
+        (spec.change_of (map alarm_of alarms.now) sight.now.registry.now sight.now.moment state step)) }
 {
     let event = change_of(alloc, alarms, sight.registry, sight.moment, state, step)?;
     telling::tell_some(told, event)?;
@@ -167,12 +170,13 @@ fn step_one<P: Points>(
     ensures states { OnOk result ((series : ℕ → List APoint) → P.tells points.old series
         → after.new ≡ after.old
         ++ spec.state_after (beat_of sight.now ((P.tiers points.old).floor 0) series)
-        alarms.now state ∷ []) }
+        (map alarm_of alarms.now) state ∷ []) }
     ensures events { OnOk result ((series : ℕ → List APoint) → P.tells points.old series
         → told.new ≡ tell_some told.old
         (spec.event_of (beat_of sight.now ((P.tiers points.old).floor 0) series)
-        alarms.now state)) }
+        (map alarm_of alarms.now) state)) }
     ensures tiers { P.tiers points.new ≡ P.tiers points.old }
+    ensures held { P.held points.new ≡ P.held points.old }
     ensures told { (told : ℕ → List APoint) → P.tells points.old told → P.tells points.new told }
     ensures cause { HasCause (P.faults points.old) (P.faults points.new)
         (IsErrOf result PointFault.Disk) }
@@ -194,12 +198,13 @@ pub fn step_states<P: Points>(
     ensures states { IfOk result (λ after. (series : ℕ → List APoint)
         → P.tells points.old series → after
         ≡ spec.states_after (beat_of sight.now ((P.tiers points.old).floor 0) series)
-        alarms.now states.now) }
+        (map alarm_of alarms.now) states.now) }
     ensures events { OnOk result ((series : ℕ → List APoint) → P.tells points.old series
         → told.new ≡ tell_all told.old
         (spec.changes (beat_of sight.now ((P.tiers points.old).floor 0) series)
-        alarms.now states.now)) }
+        (map alarm_of alarms.now) states.now)) }
     ensures tiers { P.tiers points.new ≡ P.tiers points.old }
+    ensures held { P.held points.new ≡ P.held points.old }
     ensures told { (told : ℕ → List APoint) → P.tells points.old told → P.tells points.new told }
     ensures cause { HasCause (P.faults points.old) (P.faults points.new)
         (IsErrOf result PointFault.Disk) }

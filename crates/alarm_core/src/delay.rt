@@ -1,21 +1,11 @@
 //! Until when telling a change of status waits.
 ghost use Rattle.std.specs.Prelude.{◌≡◌};
+ghost use Rattle.health_config.specs.Entity.{alarm_of};
 ghost use Rattle.alarm_core.specs.Delay as spec;
 
-use alarm_events::Status;
+use alarm_events::{Delay, Status};
 use fixed_num::Units;
 use health_config::Entity;
-
-/// How long the changes of an alarm wait until they are told, as they grew so far.
-#[derive(Clone, Copy, Debug, PartialEq, Eq)]
-pub struct Delay {
-    /// How many seconds a rise waits.
-    pub up: u32,
-    /// How many seconds a fall waits.
-    pub down: u32,
-    /// Until when the last change waits. A change up to this moment waits longer than the one before.
-    pub due: u32,
-}
 
 /// How many ten-millionths one has.
 const ONE: u128 = 10_000_000;
@@ -32,7 +22,7 @@ fn grown(multiplier: Units, seconds: u32) -> u32
 
 /// The longest delay of an alarm.
 fn longest(alarm: &Entity) -> u32
-    ensures { result ≡ spec.longest alarm.now }
+    ensures { result ≡ spec.longest (alarm_of alarm.now) }
 {
     match alarm.max {
         Some(max) => max,
@@ -42,7 +32,7 @@ fn longest(alarm: &Entity) -> u32
 
 /// How long a rise waits.
 fn next_up(alarm: &Entity, before: Option<Delay>, moment: u32) -> u32
-    ensures { result ≡ spec.next_up alarm.now before moment }
+    ensures { result ≡ spec.next_up (alarm_of alarm.now) before moment }
 {
     let up = match before {
         Some(delay) if moment <= delay.due => grown(alarm.multiplier, delay.up),
@@ -53,7 +43,7 @@ fn next_up(alarm: &Entity, before: Option<Delay>, moment: u32) -> u32
 
 /// How long a fall waits.
 fn next_down(alarm: &Entity, before: Option<Delay>, moment: u32) -> u32
-    ensures { result ≡ spec.next_down alarm.now before moment }
+    ensures { result ≡ spec.next_down (alarm_of alarm.now) before moment }
 {
     let down = match before {
         Some(delay) if moment <= delay.due => grown(alarm.multiplier, delay.down),
@@ -64,7 +54,7 @@ fn next_down(alarm: &Entity, before: Option<Delay>, moment: u32) -> u32
 
 /// Whether a change of status has a due moment.
 fn is_due(alarm: &Entity, old: Status, new: Status) -> bool
-    ensures { result ≡ spec.is_due alarm.now old new }
+    ensures { result ≡ spec.is_due (alarm_of alarm.now) old new }
 {
     new.is_raised() || (new == Status::Clear && old.is_raised() && !alarm.no_clear)
 }
@@ -78,7 +68,7 @@ pub fn new_delay(
     old: Status,
     new: Status,
 ) -> Option<Delay>
-    ensures { result ≡ spec.new_delay alarm.now before moment old new }
+    ensures { result ≡ spec.new_delay (alarm_of alarm.now) before moment old new }
 {
     if !is_due(alarm, old, new) {
         return None;

@@ -60,6 +60,7 @@ pub fn read_number<P: Points>(
         → (P.tiers points.old).floor 0 ≤ window.start
         → found ≡ number lookup.now window.start window.stop (told series)) }
     ensures tiers { P.tiers points.new ≡ P.tiers points.old }
+    ensures held { P.held points.new ≡ P.held points.old }
     ensures told { (told : ℕ → List APoint) → P.tells points.old told → P.tells points.new told }
     ensures cause { HasCause (P.faults points.old) (P.faults points.new)
         (IsErrOf result PointFault.Disk) }

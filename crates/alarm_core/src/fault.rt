@@ -1,7 +1,8 @@
 ghost use Rattle.std.specs.Prelude.{◌≡◌};
-ghost use Rattle.alarm_core.specs.Faults.{fault_of};
+ghost use Rattle.alarm_core.specs.Faults.{fault_of, fault_of_kept};
 ghost use Rattle.alarm_core.specs.declared.fault.AlarmFault.TheVariants.{Memory};
 
+use alarm_events::KeptFault;
 use query_engine::PointFault;
 use std::alloc::AllocError;
 use thiserror::Error;
@@ -12,6 +13,14 @@ pub enum AlarmFault {
     /// The points could not be read. Who has them counted it.
     #[error("the points could not be read")]
     Disk,
+    /// The bytes are in no form of alarms, their health text is refused, or a state is of a chart that is not
+    /// there.
+    #[error("the bytes are no alarms of this history")]
+    BadBytes,
+    /// No bytes have the alarms: a text of theirs has more than 65,535 bytes, or a value is past the limit of
+    /// expressions.
+    #[error("the alarms are too long for bytes")]
+    TooLong,
     /// There was no memory.
     #[error("out of memory")]
     Memory,
@@ -40,6 +49,17 @@ impl From<PointFault> for AlarmFault {
         match error {
             PointFault::Disk => AlarmFault::Disk,
             PointFault::Memory => AlarmFault::Memory,
+        }
+    }
+}
+
+impl From<KeptFault> for AlarmFault {
+    ghost from_gives = { λ error fault. fault ≡ fault_of_kept error };
+
+    fn from(error: KeptFault) -> AlarmFault {
+        match error {
+            KeptFault::BadBytes => AlarmFault::BadBytes,
+            KeptFault::Memory => AlarmFault::Memory,
         }
     }
 }

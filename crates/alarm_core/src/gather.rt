@@ -95,6 +95,7 @@ fn gather_one<P: Points>(
         HasRoomFor lookup.now.percentage number before
         → Adds (is_taken registry.now lookup.now series) lookup.now.percentage number before after) }
     ensures tiers { P.tiers points.new ≡ P.tiers points.old }
+    ensures held { P.held points.new ≡ P.held points.old }
     ensures told { (told : ℕ → List APoint) → P.tells points.old told → P.tells points.new told }
     ensures cause { HasCause (P.faults points.old) (P.faults points.new)
         (IsErrOf result PointFault.Disk) }
@@ -120,6 +121,7 @@ pub fn gather<P: Points>(
         → IsGathered scene.now.registry.now lookup.now window.start window.stop told
         scene.now.series.now gathered) }
     ensures tiers { P.tiers points.new ≡ P.tiers points.old }
+    ensures held { P.held points.new ≡ P.held points.old }
     ensures told { (told : ℕ → List APoint) → P.tells points.old told → P.tells points.new told }
     ensures cause { HasCause (P.faults points.old) (P.faults points.new)
         (IsErrOf result PointFault.Disk) }

@@ -1,20 +1,32 @@
 //! What is said of all alarms and of all calls.
-ghost use Rattle.std.specs.Prelude.{◌≡◌, ◌↔◌, List, length, map, IsTrue};
+ghost use Rattle.std.specs.Prelude.{◌≡◌, ◌↔◌, ℕ, List, length, map, IsTrue, Some};
 ghost use Rattle.alarm_events.specs.Log.{shown, counted};
 ghost use Rattle.std.specs.List.{range_with_len};
-ghost use Rattle.health_config.specs.Entity.{alarm_of};
-ghost use Rattle.health_config.specs.declared.entity.Entity.{Entity as AnEntity};
-ghost use Rattle.alarm_core.specs.Course.{Call, nothing, held_after, events_of};
+ghost use Rattle.health_config.specs.Entity.{Alarm};
+ghost use Rattle.history.specs.Registry.{Registry};
+ghost use Rattle.alarm_events.specs.Alarms.{alarms_bytes, HasSpelling};
+ghost use Rattle.alarm_core.specs.Beats.{Beat};
+ghost use Rattle.alarm_core.specs.Course.{Call, Held, nothing, held_after, events_of, configured, stepped_by};
+ghost use Rattle.alarm_core.specs.Kept.{kept, restored};
 ghost use Rattle.alarm_core.specs.Same.{is_same};
+ghost use Rattle.alarm_core.specs.Whole.{IsTextOf, IsWhole};
 
 /// The laws of alarms. The log after any calls shows all events that they told, in their order, and these
 /// are numbered from 1; at 2^64 - 1 numbers stand still. Two alarms say the same exactly where they have
-/// the same fields, with expressions as trees. The call does nothing.
+/// the same fields, with expressions as trees. Behind a configuration that was read, and behind each beat
+/// after it, alarms are whole with the charts of that call; and whole alarms are read again from their bytes.
+/// The call does nothing.
 pub fn any_alarms()
     ensures log { (calls : List Call)
         → (held_after nothing calls).log ≡ shown (events_of nothing calls) }
     ensures ids { (calls : List Call) → let events = events_of nothing calls in
         map (λ event. event.id) events ≡ map counted (range_with_len 1 (length events)) }
-    ensures same { (one other : AnEntity)
-        → IsTrue (is_same one other) ↔ (alarm_of one ≡ alarm_of other) }
+    ensures same { (one other : Alarm) → IsTrue (is_same one other) ↔ (one ≡ other) }
+    ensures whole_configured { (held : Held) (text : List ℕ) (alarms : List Alarm)
+        (registry : Registry) (moment : ℕ) → IsTextOf text alarms
+        → IsWhole (configured held text alarms registry moment).held registry }
+    ensures whole_stepped { (held : Held) (beat : Beat) → IsTextOf held.text held.alarms
+        → IsWhole (stepped_by held beat).held beat.registry }
+    ensures again { (held : Held) (registry : Registry) → IsWhole held registry
+        → HasSpelling (kept held) → restored (alarms_bytes (kept held)) registry ≡ Some held }
 {}

@@ -21,24 +21,29 @@
 //! of a dimension is past 2,592,000 times the greatest value of a word, 1.68 * 10^21; all sums of them are
 //! exact in 128 bits, and so is a percentage, whose parts are at most 10^22.
 //!
-//! What it costs: a configuration and a beat compare each alarm with each chart, and where an alarm is on a
-//! chart, its name with those of the others; then each state with each pair, by the number of the chart,
-//! and where that is the same by all that the alarms say. A beat goes once through all dimensions, for those
-//! of each chart. A state that is due costs what its expressions cost, and reads the points of its lookup. A
-//! name that is no dimension's id goes through the names of the chart's dimensions.
+//! What it costs: a configuration compares each alarm with each chart, and where an alarm is on a chart, its
+//! name with those of the others. So does a beat whose charts have another id, name or context than at the
+//! call before, or are more; any other beat compares these three texts of each chart with what they were.
+//! Then states go and come where they are not those of the pairs: that compares each state with each pair,
+//! by the number of the chart, and where that is the same by all that the alarms say. A beat goes once
+//! through all states, and once through all dimensions, for those of each chart. A state that is due costs
+//! what its expressions cost, and reads the points of its lookup. A name that is no dimension's id goes
+//! through the names of the chart's dimensions.
 //!
 //! It stands on `health_config` for alarms, on `health_expr` for expressions and values, on
-//! `alarm_events` for events and their log, on `chart_registry` for charts and dimensions, and on the
+//! `alarm_events` for events, their log and what is kept, on `chart_registry` for charts and dimensions, and on the
 //! points of `query_engine` and the words of `storage_number`.
 #![tactic(auto)]
 
 mod alarms;
 mod beats;
+mod charts;
 mod delay;
 mod dimension;
 mod expr_words;
 mod fault;
 mod gather;
+mod keep;
 mod latest;
 mod law;
 mod lookup;
@@ -46,6 +51,7 @@ mod number;
 mod pairing;
 mod pairs;
 mod record;
+mod restore;
 mod same;
 mod scene;
 mod series;
@@ -59,9 +65,8 @@ mod variable;
 mod verdict;
 mod window;
 
-pub use alarm_events::{Event, EventList, Log, Status, write_event};
+pub use alarm_events::{Delay, Event, EventList, Log, Status, write_event};
 pub use alarms::Alarms;
-pub use delay::Delay;
 pub use fault::AlarmFault;
 pub use latest::{Latest, SeriesPointList, SeriesValueList};
 pub use law::any_alarms;

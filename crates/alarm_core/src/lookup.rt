@@ -110,6 +110,7 @@ fn look_up<P: Points>(
         → found ≡ spec.looked_up scene.now.registry.now scene.now.chart lookup.now scene.now.moment
         ((P.tiers points.old).floor 0) told) }
     ensures tiers { P.tiers points.new ≡ P.tiers points.old }
+    ensures held { P.held points.new ≡ P.held points.old }
     ensures told { (told : ℕ → List APoint) → P.tells points.old told → P.tells points.new told }
     ensures cause { HasCause (P.faults points.old) (P.faults points.new)
         (IsErrOf result PointFault.Disk) }
@@ -132,6 +133,7 @@ impl<'a> Scene<'a> {
         ensures found { IfOk result (λ found. (told : ℕ → List APoint) → P.tells points.old told
             → found ≡ found_by (seen self.now) ((P.tiers points.old).floor 0) told) }
         ensures tiers { P.tiers points.new ≡ P.tiers points.old }
+        ensures held { P.held points.new ≡ P.held points.old }
         ensures told { (told : ℕ → List APoint) → P.tells points.old told
             → P.tells points.new told }
         ensures cause { HasCause (P.faults points.old) (P.faults points.new)

@@ -1,13 +1,13 @@
 //! Which states go, which stay and which are new.
-ghost use Rattle.std.specs.Prelude.{◌≡◌, ◌∷◌, [], ◌++◌, find, IfOk, OnOk};
+ghost use Rattle.std.specs.Prelude.{◌≡◌, ℕ, ◌∷◌, [], ◌++◌, List, find, map, option_map, slice_index_or, IfOk, OnOk};
+ghost use Rattle.health_config.specs.Entity.{alarm_of};
 ghost use Rattle.alarm_core.specs.Pairing as spec;
-ghost use Rattle.alarm_core.specs.Pairs.{wanted};
 ghost use Rattle.alarm_core.specs.Telling.{tell_some, tell_all};
 ghost use Rattle.chart_registry.specs.Defining.{chart_id};
 
-use crate::pairs::{Pair, wanted_pairs};
+use crate::pairs::{Pair, alarm_in};
 use crate::same::is_same;
-use crate::state::{State, StateList};
+use crate::state::{Holder, State, StateList};
 use crate::telling::{self, Told};
 use alarm_events::{Event, Status};
 use chart_registry::Registry;
@@ -20,15 +20,28 @@ use std::alloc::{AllocError, Global};
 #[derive(Clone, Copy, Debug)]
 pub struct Turn<'a> {
     pub before: &'a [Entity],
+    /// The names of alarms of states that the configuration before has not.
+    pub lost: &'a [Text],
     pub after: &'a [Entity],
 }
 
-/// Whether the alarms at these places say the same.
-fn is_same_at(alloc: Global, turn: &Turn, e: usize, f: usize) -> Result<bool, AllocError>
-    ensures { IfOk result
-        (λ same. same ≡ spec.is_same_at turn.now.before.now e turn.now.after.now f) }
+/// The alarm of a state, where its configuration has it.
+pub fn alarm_at(alarms: &[Entity], holder: Holder) -> Option<&Entity>
+    ensures { option_map (λ entity. alarm_of entity.now) result
+        ≡ spec.alarm_at (map alarm_of alarms.now) holder }
 {
-    match (turn.before.get(e), turn.after.get(f)) {
+    match holder {
+        Holder::Alarm(place) => alarm_in(alarms, place),
+        Holder::Lost(_) => None,
+    }
+}
+
+/// Whether the alarm of a state and the alarm at a place say the same.
+fn is_same_at(alloc: Global, turn: &Turn, holder: Holder, f: usize) -> Result<bool, AllocError>
+    ensures { IfOk result (λ same. same ≡ spec.is_same_at (map alarm_of turn.now.before.now) holder
+        (map alarm_of turn.now.after.now) f) }
+{
+    match (alarm_at(turn.before, holder), alarm_in(turn.after, f)) {
         (Some(one), Some(other)) => is_same(alloc, one, other),
         _ => Ok(false),
     }
@@ -37,7 +50,7 @@ fn is_same_at(alloc: Global, turn: &Turn, e: usize, f: usize) -> Result<bool, Al
 /// Whether a state is that of a pair.
 fn is_of(alloc: Global, turn: &Turn, pair: Pair, state: State) -> Result<bool, AllocError>
     ensures { IfOk result
-        (λ is. is ≡ spec.is_of turn.now.before.now turn.now.after.now pair state) }
+        (λ is. is ≡ spec.is_of (map alarm_of turn.now.before.now) (map alarm_of turn.now.after.now) pair state) }
 {
     if state.chart == pair.chart {
         is_same_at(alloc, turn, state.alarm, pair.alarm)
@@ -49,7 +62,7 @@ fn is_of(alloc: Global, turn: &Turn, pair: Pair, state: State) -> Result<bool, A
 /// Whether a state is that of one of these pairs.
 fn stays(alloc: Global, turn: &Turn, pairs: &[Pair], state: State) -> Result<bool, AllocError>
     ensures { IfOk result
-        (λ stays. stays ≡ spec.stays turn.now.before.now turn.now.after.now pairs.now state) }
+        (λ stays. stays ≡ spec.stays (map alarm_of turn.now.before.now) (map alarm_of turn.now.after.now) pairs.now state) }
 {
     for pair in pairs {
         if is_of(alloc, turn, *pair, state)? {
@@ -71,31 +84,58 @@ pub fn chart_text(alloc: Global, registry: &Registry, chart: u32) -> Result<Text
 }
 
 /// The name of an alarm, and nothing where there is none.
-pub fn alarm_text(alloc: Global, alarms: &[Entity], place: usize) -> Result<Text, AllocError>
-    ensures { IfOk result (λ text. text ≡ spec.alarm_name alarms.now place) }
+fn alarm_text(alloc: Global, alarms: &[Entity], place: usize) -> Result<Text, AllocError>
+    ensures { IfOk result (λ text. text ≡ spec.alarm_name (map alarm_of alarms.now) place) }
 {
-    match alarms.get(place) {
+    match alarm_in(alarms, place) {
         Some(alarm) => alarm.name.clone(),
         None => Ok(Text::new(alloc)),
+    }
+}
+
+/// The lost name at a place, and nothing where there is none.
+fn lost_text(alloc: Global, lost: &[Text], place: usize) -> Result<Text, AllocError>
+    ensures { IfOk result (λ text. text ≡ slice_index_or lost.now place []) }
+{
+    match lost.get(place) {
+        Some(name) => name.clone(),
+        None => Ok(Text::new(alloc)),
+    }
+}
+
+/// The name of a state's alarm, also where that is lost.
+pub fn holder_text(
+    alloc: Global,
+    alarms: &[Entity],
+    lost: &[Text],
+    holder: Holder,
+) -> Result<Text, AllocError>
+    ensures { IfOk result
+        (λ text. text ≡ spec.holder_name (map alarm_of alarms.now) lost.now holder) }
+{
+    match holder {
+        Holder::Alarm(place) => alarm_text(alloc, alarms, place),
+        Holder::Lost(place) => lost_text(alloc, lost, place),
     }
 }
 
 /// The event of a state that goes.
 fn removal(
     alloc: Global,
-    alarms: &[Entity],
+    turn: &Turn,
     registry: &Registry,
     moment: u32,
     state: State,
 ) -> Result<Event, AllocError>
     ensures { IfOk result
-        (λ event. event ≡ spec.removal alarms.now registry.now moment state) }
+        (λ event. event ≡ spec.removal (map alarm_of turn.now.before.now) turn.now.lost.now
+        registry.now moment state) }
 {
     Ok(Event {
         id: 0,
         moment,
         chart: chart_text(alloc, registry, state.chart)?,
-        alarm: alarm_text(alloc, alarms, state.alarm)?,
+        alarm: holder_text(alloc, turn.before, turn.lost, state.alarm)?,
         old: state.status,
         new: Status::Removed,
         value: Value::Nan,
@@ -112,13 +152,13 @@ fn removal_of(
     moment: u32,
     state: State,
 ) -> Result<Option<Event>, AllocError>
-    ensures { IfOk result (λ event. event ≡ spec.removal_of turn.now.before.now
-        turn.now.after.now pairs.now registry.now moment state) }
+    ensures { IfOk result (λ event. event ≡ spec.removal_of (map alarm_of turn.now.before.now)
+        turn.now.lost.now (map alarm_of turn.now.after.now) pairs.now registry.now moment state) }
 {
     if stays(alloc, turn, pairs, state)? {
         Ok(None)
     } else {
-        Ok(Some(removal(alloc, turn.before, registry, moment, state)?))
+        Ok(Some(removal(alloc, turn, registry, moment, state)?))
     }
 }
 
@@ -132,8 +172,8 @@ fn tell_removal(
     moment: u32,
     state: State,
 ) -> Result<(), AllocError>
-    ensures { OnOk result (told.new ≡ tell_some told.old (spec.removal_of turn.now.before.now
-        turn.now.after.now pairs.now registry.now moment state)) }
+    ensures { OnOk result (told.new ≡ tell_some told.old (spec.removal_of (map alarm_of turn.now.before.now)
+        turn.now.lost.now (map alarm_of turn.now.after.now) pairs.now registry.now moment state)) }
 {
     let event = removal_of(alloc, turn, pairs, registry, moment, state)?;
     telling::tell_some(told, event)
@@ -149,8 +189,8 @@ fn tell_removals(
     moment: u32,
     states: &[State],
 ) -> Result<(), AllocError>
-    ensures { OnOk result (told.new ≡ tell_all told.old (spec.removals
-        turn.now.before.now turn.now.after.now pairs.now registry.now moment states.now)) }
+    ensures { OnOk result (told.new ≡ tell_all told.old (spec.removals (map alarm_of turn.now.before.now)
+        turn.now.lost.now (map alarm_of turn.now.after.now) pairs.now registry.now moment states.now)) }
 {
     for state in states {
         tell_removal(alloc, told, turn, pairs, registry, moment, *state)?;
@@ -166,7 +206,7 @@ fn state_before(
     pair: Pair,
 ) -> Result<Option<State>, AllocError>
     ensures { IfOk result (λ state. state
-        ≡ find (spec.is_of turn.now.before.now turn.now.after.now pair) states.now) }
+        ≡ find (spec.is_of (map alarm_of turn.now.before.now) (map alarm_of turn.now.after.now) pair) states.now) }
 {
     for state in states {
         if is_of(alloc, turn, pair, *state)? {
@@ -181,7 +221,7 @@ fn fresh(pair: Pair) -> State
     ensures { result ≡ spec.fresh pair }
 {
     State {
-        alarm: pair.alarm,
+        alarm: Holder::Alarm(pair.alarm),
         chart: pair.chart,
         value: Value::Nan,
         status: Status::Uninitialized,
@@ -192,11 +232,11 @@ fn fresh(pair: Pair) -> State
 /// The state of a pair: as it was, or a new one.
 fn state_of(alloc: Global, turn: &Turn, states: &[State], pair: Pair) -> Result<State, AllocError>
     ensures { IfOk result (λ state. state
-        ≡ spec.state_of turn.now.before.now turn.now.after.now states.now pair) }
+        ≡ spec.state_of (map alarm_of turn.now.before.now) (map alarm_of turn.now.after.now) states.now pair) }
 {
     match state_before(alloc, turn, states, pair)? {
         Some(state) => Ok(State {
-            alarm: pair.alarm,
+            alarm: Holder::Alarm(pair.alarm),
             ..state
         }),
         None => Ok(fresh(pair)),
@@ -218,7 +258,7 @@ fn states_of(
     pairs: &[Pair],
 ) -> Result<StateList, AllocError>
     ensures { IfOk result (λ made. made
-        ≡ spec.states_of turn.now.before.now turn.now.after.now states.now pairs.now) }
+        ≡ spec.states_of (map alarm_of turn.now.before.now) (map alarm_of turn.now.after.now) states.now pairs.now) }
 {
     let mut made = StateList::new(alloc);
     for pair in pairs {
@@ -228,30 +268,21 @@ fn states_of(
     Ok(made)
 }
 
-/// Tells which states go, and gives those of the pairs that are wanted.
+/// Tells which states go, and gives those of pairs.
 pub fn pair_states(
     alloc: Global,
     told: &mut Told,
     turn: &Turn,
+    pairs: &[Pair],
     registry: &Registry,
     moment: u32,
     states: &[State],
 ) -> Result<StateList, AllocError>
-    ensures states { IfOk result (λ made. made ≡ spec.states_of turn.now.before.now
-        turn.now.after.now states.now (wanted turn.now.after.now registry.now.charts)) }
-    ensures told { OnOk result (told.new ≡ tell_all told.old (spec.removals
-        turn.now.before.now turn.now.after.now (wanted turn.now.after.now registry.now.charts)
-        registry.now moment states.now)) }
+    ensures states { IfOk result (λ made. made ≡ spec.states_of (map alarm_of turn.now.before.now)
+        (map alarm_of turn.now.after.now) states.now pairs.now) }
+    ensures told { OnOk result (told.new ≡ tell_all told.old (spec.removals (map alarm_of turn.now.before.now)
+        turn.now.lost.now (map alarm_of turn.now.after.now) pairs.now registry.now moment states.now)) }
 {
-    let pairs = wanted_pairs(alloc, turn.after, registry)?;
-    tell_removals(
-        alloc,
-        told,
-        turn,
-        pairs.as_slice(),
-        registry,
-        moment,
-        states,
-    )?;
-    states_of(alloc, turn, states, pairs.as_slice())
+    tell_removals(alloc, told, turn, pairs, registry, moment, states)?;
+    states_of(alloc, turn, states, pairs)
 }

@@ -1,7 +1,8 @@
 //! Which alarms are computed for which charts.
-ghost use Rattle.std.specs.Prelude.{◌≡◌, ◌≤◌, ◌&&◌, [], ◌∷◌, ◌++◌, length, if◌then◌else◌, IfOk, OnOk};
+ghost use Rattle.std.specs.Prelude.{◌≡◌, ◌≤◌, ◌&&◌, [], ◌∷◌, ◌++◌, length, map, slice_get, option_map, if◌then◌else◌, IfOk, OnOk};
 ghost use Rattle.std.specs.List.{before_first, list_any, range_with_len};
 ghost use Rattle.fixed_num.specs.UnitsText.{is_dot};
+ghost use Rattle.health_config.specs.Entity.{alarm_of};
 ghost use Rattle.alarm_core.specs.Pairs as spec;
 
 use chart_registry::Registry;
@@ -47,7 +48,7 @@ fn is_type_and_name(text: &str, def: &ChartDef) -> bool
 
 /// Whether an alarm says a chart.
 fn says(entity: &Entity, def: &ChartDef) -> bool
-    ensures { result ≡ spec.says entity.now def.now }
+    ensures { result ≡ spec.says (alarm_of entity.now) def.now }
 {
     let on = entity.on.as_str();
     if entity.template {
@@ -59,16 +60,24 @@ fn says(entity: &Entity, def: &ChartDef) -> bool
 
 /// Whether an alarm is on a chart.
 fn is_on(entity: &Entity, def: &ChartDef) -> bool
-    ensures { result ≡ spec.is_on entity.now def.now }
+    ensures { result ≡ spec.is_on (alarm_of entity.now) def.now }
 {
     entity.on.len() > 0 && says(entity, def)
 }
 
+/// The alarm at a place.
+pub fn alarm_in(entities: &[Entity], place: usize) -> Option<&Entity>
+    ensures { option_map (λ entity. alarm_of entity.now) result
+        ≡ slice_get (map alarm_of entities.now) place }
+{
+    entities.get(place)
+}
+
 /// The same by the place of the alarm.
 fn is_on_at(entities: &[Entity], def: &ChartDef, e: usize) -> bool
-    ensures { result ≡ spec.is_on_at entities.now def.now e }
+    ensures { result ≡ spec.is_on_at (map alarm_of entities.now) def.now e }
 {
-    match entities.get(e) {
+    match alarm_in(entities, e) {
         Some(entity) => is_on(entity, def),
         None => false,
     }
@@ -76,7 +85,8 @@ fn is_on_at(entities: &[Entity], def: &ChartDef, e: usize) -> bool
 
 /// Whether an alarm goes before another of its name.
 fn goes_before(f: usize, other: &Entity, e: usize, entity: &Entity) -> bool
-    ensures { result ≡ spec.goes_before f other.now e entity.now }
+    ensures { result ≡ spec.goes_before f (alarm_of other.now) e
+        (alarm_of entity.now) }
 {
     if other.name.as_str() != entity.name.as_str() {
         return false;
@@ -90,9 +100,9 @@ fn goes_before(f: usize, other: &Entity, e: usize, entity: &Entity) -> bool
 
 /// The same by their places.
 fn goes_before_at(entities: &[Entity], f: usize, e: usize) -> bool
-    ensures { result ≡ spec.goes_before_at entities.now f e }
+    ensures { result ≡ spec.goes_before_at (map alarm_of entities.now) f e }
 {
-    match (entities.get(e), entities.get(f)) {
+    match (alarm_in(entities, e), alarm_in(entities, f)) {
         (Some(entity), Some(other)) => goes_before(f, other, e, entity),
         _ => false,
     }
@@ -101,7 +111,7 @@ fn goes_before_at(entities: &[Entity], f: usize, e: usize) -> bool
 /// Whether an alarm counts on a chart in place of another.
 fn counts_before(entities: &[Entity], def: &ChartDef, f: usize, e: usize) -> bool
     ensures { result
-        ≡ (spec.goes_before_at entities.now f e && spec.is_on_at entities.now def.now f) }
+        ≡ (spec.goes_before_at (map alarm_of entities.now) f e && spec.is_on_at (map alarm_of entities.now) def.now f) }
 {
     goes_before_at(entities, f, e) && is_on_at(entities, def, f)
 }
@@ -109,8 +119,8 @@ fn counts_before(entities: &[Entity], def: &ChartDef, f: usize, e: usize) -> boo
 /// Whether some alarm counts on a chart in place of this one.
 fn is_replaced(entities: &[Entity], def: &ChartDef, e: usize) -> bool
     ensures { result ≡ list_any
-        (λ f. spec.goes_before_at entities.now f e && spec.is_on_at entities.now def.now f)
-        (range_with_len 0 (length entities.now)) }
+        (λ f. spec.goes_before_at (map alarm_of entities.now) f e && spec.is_on_at (map alarm_of entities.now) def.now f)
+        (range_with_len 0 (length (map alarm_of entities.now))) }
 {
     for f in 0..entities.len() {
         if counts_before(entities, def, f, e) {
@@ -122,7 +132,7 @@ fn is_replaced(entities: &[Entity], def: &ChartDef, e: usize) -> bool
 
 /// Whether an alarm is computed for a chart.
 fn is_computed(entities: &[Entity], def: &ChartDef, e: usize) -> bool
-    ensures { result ≡ spec.is_computed entities.now def.now e }
+    ensures { result ≡ spec.is_computed (map alarm_of entities.now) def.now e }
 {
     is_on_at(entities, def, e) && !is_replaced(entities, def, e)
 }
@@ -158,7 +168,7 @@ fn push_pairs(
 ) -> Result<(), AllocError>
     requires { length pairs.old ≤ MOST_PAIRS }
     ensures { OnOk result (pairs.new
-        ≡ spec.first_pairs (pairs.old ++ spec.pairs_of entities.now registry.now.charts alarm)) }
+        ≡ spec.first_pairs (pairs.old ++ spec.pairs_of (map alarm_of entities.now) registry.now.charts alarm)) }
 {
     for chart in 0..registry.charts() {
         let wanted = is_computed(entities, registry.chart(chart), alarm);
@@ -175,7 +185,7 @@ pub fn wanted_pairs(
     entities: &[Entity],
     registry: &Registry,
 ) -> Result<PairList, AllocError>
-    ensures { IfOk result (λ pairs. pairs ≡ spec.wanted entities.now registry.now.charts) }
+    ensures { IfOk result (λ pairs. pairs ≡ spec.wanted (map alarm_of entities.now) registry.now.charts) }
 {
     let mut pairs = PairList::new(alloc);
     for alarm in 0..entities.len() {

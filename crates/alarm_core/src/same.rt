@@ -1,8 +1,10 @@
 //! Whether two alarms say the same.
 ghost use Rattle.std.specs.Prelude.{◌≡◌, IfOk};
-ghost use Rattle.std.specs.Option.{option_eq};
+ghost use Rattle.std.specs.Option.{option_eq, option_map};
 ghost use Rattle.std.specs.Cmp.Lexicographic.{pointwise};
 ghost use Rattle.std.specs.Str.{bytes_eq};
+ghost use Rattle.health_config.specs.Entity.{alarm_of};
+ghost use Rattle.health_expr.specs.TreeOf.{tree_of};
 ghost use Rattle.alarm_core.specs.Same as spec;
 
 use crate::expr_words::{ExprWordList, push_words, same_words};
@@ -12,9 +14,9 @@ use simple_pattern::Pattern;
 use std::alloc::{AllocError, Global};
 
 /// Whether two expressions are the same.
-#[tactic(auto, unfolding(crate::specs::Same::same_expr))]
+#[tactic(auto, unfolding(crate::specs::Same::same_tree))]
 fn same_expr(alloc: Global, one: &Expr, other: &Expr) -> Result<bool, AllocError>
-    ensures { IfOk result (λ same. same ≡ spec.same_expr one.now other.now) }
+    ensures { IfOk result (λ same. same ≡ spec.same_tree (tree_of one.now) (tree_of other.now)) }
 {
     let mut words = ExprWordList::new(alloc);
     push_words(&mut words, one)?;
@@ -25,7 +27,8 @@ fn same_expr(alloc: Global, one: &Expr, other: &Expr) -> Result<bool, AllocError
 
 /// The same where they may be missing.
 fn same_maybe(alloc: Global, one: &Option<Expr>, other: &Option<Expr>) -> Result<bool, AllocError>
-    ensures { IfOk result (λ same. same ≡ option_eq spec.same_expr one.now other.now) }
+    ensures { IfOk result (λ same. same ≡ option_eq spec.same_tree
+        (option_map tree_of one.now) (option_map tree_of other.now)) }
 {
     match (one, other) {
         (Some(one), Some(other)) => same_expr(alloc, one, other),
@@ -85,7 +88,7 @@ fn same_maybe_lookup(one: &Option<Lookup>, other: &Option<Lookup>) -> bool
 
 #[tactic(auto, unfolding(crate::specs::Same::same_texts))]
 fn same_texts(one: &Entity, other: &Entity) -> bool
-    ensures { result ≡ spec.same_texts one.now other.now }
+    ensures { result ≡ spec.same_texts (alarm_of one.now) (alarm_of other.now) }
 {
     one.name == other.name
         && one.on == other.on
@@ -96,7 +99,7 @@ fn same_texts(one: &Entity, other: &Entity) -> bool
 
 #[tactic(auto, unfolding(crate::specs::Same::same_numbers))]
 fn same_numbers(one: &Entity, other: &Entity) -> bool
-    ensures { result ≡ spec.same_numbers one.now other.now }
+    ensures { result ≡ spec.same_numbers (alarm_of one.now) (alarm_of other.now) }
 {
     one.template == other.template
         && one.every == other.every
@@ -107,7 +110,7 @@ fn same_numbers(one: &Entity, other: &Entity) -> bool
 
 #[tactic(auto, unfolding(crate::specs::Same::same_delay))]
 fn same_delay(one: &Entity, other: &Entity) -> bool
-    ensures { result ≡ spec.same_delay one.now other.now }
+    ensures { result ≡ spec.same_delay (alarm_of one.now) (alarm_of other.now) }
 {
     one.up == other.up
         && one.down == other.down
@@ -115,9 +118,9 @@ fn same_delay(one: &Entity, other: &Entity) -> bool
         && one.max == other.max
 }
 
-#[tactic(auto, unfolding(crate::specs::Same::same_exprs))]
+#[tactic(auto, unfolding(crate::specs::Same::same_trees))]
 fn same_exprs(alloc: Global, one: &Entity, other: &Entity) -> Result<bool, AllocError>
-    ensures { IfOk result (λ same. same ≡ spec.same_exprs one.now other.now) }
+    ensures { IfOk result (λ same. same ≡ spec.same_trees (alarm_of one.now) (alarm_of other.now)) }
 {
     if !same_maybe(alloc, &one.calc, &other.calc)? {
         return Ok(false);
@@ -131,7 +134,7 @@ fn same_exprs(alloc: Global, one: &Entity, other: &Entity) -> Result<bool, Alloc
 /// Whether two alarms differ in no field, their expressions as trees.
 #[tactic(auto, unfolding(crate::specs::Same::is_same))]
 pub fn is_same(alloc: Global, one: &Entity, other: &Entity) -> Result<bool, AllocError>
-    ensures { IfOk result (λ same. same ≡ spec.is_same one.now other.now) }
+    ensures { IfOk result (λ same. same ≡ spec.is_same (alarm_of one.now) (alarm_of other.now)) }
 {
     if !same_texts(one, other) || !same_numbers(one, other) || !same_delay(one, other) {
         return Ok(false);

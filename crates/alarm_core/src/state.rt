@@ -1,14 +1,21 @@
 //! How the alarms of charts stand.
-use crate::delay::Delay;
-use alarm_events::Status;
-use fixed_num::ListOf;
+use alarm_events::{Delay, Status};
+use fixed_num::{ListOf, Text};
 use health_expr::Value;
+
+/// Whose state it is.
+#[derive(Clone, Copy, Debug, PartialEq, Eq)]
+pub enum Holder {
+    /// The alarm at this place of the configuration.
+    Alarm(usize),
+    /// An alarm that the configuration has not for the state's chart: the place of its name among the lost.
+    Lost(usize),
+}
 
 /// How an alarm of a chart stands.
 #[derive(Clone, Copy, Debug, PartialEq, Eq)]
 pub struct State {
-    /// The place of the alarm in its configuration.
-    pub alarm: usize,
+    pub alarm: Holder,
     /// The number of the chart.
     pub chart: u32,
     pub value: Value,
@@ -19,3 +26,6 @@ pub struct State {
 
 /// The states of alarms, in the order of the alarms, and of one alarm in the order of the charts.
 pub type StateList = ListOf<State>;
+
+/// Names of alarms.
+pub type NameList = ListOf<Text>;

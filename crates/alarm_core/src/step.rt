@@ -5,10 +5,10 @@ ghost use Rattle.tier_rollup.specs.declared.point.Point.{Point as APoint};
 ghost use Rattle.alarm_core.specs.Seen.{seen};
 ghost use Rattle.alarm_core.specs.Step as spec;
 
-use crate::delay::{Delay, new_delay};
+use crate::delay::new_delay;
 use crate::scene::Scene;
 use crate::verdict::{status_at, value_at};
-use alarm_events::Status;
+use alarm_events::{Delay, Status};
 use health_expr::Value;
 use query_engine::{PointFault, Points};
 use std::alloc::Global;
@@ -101,6 +101,7 @@ impl<'a> Scene<'a> {
             → let found = spec.found_by (seen self.now) ((P.tiers points.old).floor 0) told in
             step ≡ spec.stepped (seen self.now) found value delay) }
         ensures tiers { P.tiers points.new ≡ P.tiers points.old }
+        ensures held { P.held points.new ≡ P.held points.old }
         ensures told { (told : ℕ → List APoint) → P.tells points.old told
             → P.tells points.new told }
         ensures cause { HasCause (P.faults points.old) (P.faults points.new)

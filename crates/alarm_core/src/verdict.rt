@@ -1,5 +1,6 @@
 //! What an alarm is worth, and its status.
 ghost use Rattle.std.specs.Prelude.{◌≡◌, option_map};
+ghost use Rattle.health_expr.specs.TreeOf.{tree_of};
 ghost use Rattle.health_expr.specs.Value.{IsWithin};
 ghost use Rattle.alarm_core.specs.Seen.{seen};
 ghost use Rattle.alarm_core.specs.Verdict as spec;
@@ -12,14 +13,15 @@ use health_expr::{Expr, Value};
 
 /// What an expression is worth, where `$this` is worth so much.
 fn worth_at(scene: &Scene, this: Value, expr: &Expr) -> Value
-    ensures { result ≡ spec.worth_at (seen scene.now) this expr.now }
+    ensures { result ≡ spec.worth_at (seen scene.now) this (tree_of expr.now) }
 {
     expr.eval(&Variables { scene, this })
 }
 
 /// The same of an expression that may be missing.
 fn condition_at(scene: &Scene, this: Value, condition: &Option<Expr>) -> Option<Value>
-    ensures { result ≡ option_map (spec.worth_at (seen scene.now) this) condition.now }
+    ensures { result ≡ option_map (spec.worth_at (seen scene.now) this)
+        (option_map tree_of condition.now) }
 {
     match condition {
         Some(expr) => Some(worth_at(scene, this, expr)),

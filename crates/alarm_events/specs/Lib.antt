@@ -1,3 +1,11 @@
 pub mod Status
 pub mod Event
 pub mod Log
+pub mod Lists
+pub mod Values
+pub mod Statuses
+pub mod Delays
+pub mod Dues
+pub mod States
+pub mod Events
+pub mod Alarms

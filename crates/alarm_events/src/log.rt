@@ -1,5 +1,5 @@
 //! The log of events.
-ghost use Rattle.std.specs.Prelude.{◌≡◌, [], ◌∷◌, ◌++◌, List, IfOk, OnOk};
+ghost use Rattle.std.specs.Prelude.{◌≡◌, ◌≤◌, ◌<◌, ◌+◌, [], ◌∷◌, ◌++◌, List, length, IfOk, OnOk};
 ghost use Rattle.alarm_events.specs.declared.event.Event.{Event as AnEvent};
 
 use crate::event::{Event, EventList};
@@ -39,6 +39,35 @@ impl Model for EventLog {
     ghost invariant = { λ log. (log.shown.capacity ≡ 1000) × (length log.shown.items ≤ 1000) };
 }
 
+/// A ring with room for all events that a log shows.
+fn empty_ring(alloc: Global) -> Result<HeapCircularBuffer<Event>, AlarmFault>
+    ensures items { IfOk result (λ ring. ring.items ≡ []) }
+    ensures capacity { IfOk result (λ ring. ring.capacity ≡ 1000) }
+{
+    Ok(HeapCircularBuffer::with_capacity(alloc, SHOWN)?)
+}
+
+/// Adds an event to a ring that is not full.
+fn push_event(ring: &mut HeapCircularBuffer<Event>, event: Event)
+    requires { length ring.old.items < ring.old.capacity }
+    ensures items { ring.new.items ≡ ring.old.items ++ event ∷ [] }
+    ensures capacity { ring.new.capacity ≡ ring.old.capacity }
+{
+    let _none = ring.push_back(event);
+}
+
+/// Adds copies of events to a ring that has room for them.
+fn fill(ring: &mut HeapCircularBuffer<Event>, events: &[Event]) -> Result<(), AlarmFault>
+    requires { length ring.old.items + length events.now ≤ ring.old.capacity }
+    ensures items { OnOk result (ring.new.items ≡ ring.old.items ++ events.now) }
+    ensures capacity { ring.new.capacity ≡ ring.old.capacity }
+{
+    for event in events {
+        push_event(ring, event.clone()?);
+    }
+    Ok(())
+}
+
 /// Adds copies of events to a list.
 fn copy_events(list: &mut EventList, events: &[Event]) -> Result<(), AlarmFault>
     ensures { OnOk result (list.new ≡ list.old ++ events.now) }
@@ -50,7 +79,6 @@ fn copy_events(list: &mut EventList, events: &[Event]) -> Result<(), AlarmFault>
 }
 
 impl EventLog {
-    ghost use Rattle.std.specs.Prelude.{◌+◌, length};
     ghost use Rattle.alarm_events.specs.Log.{shown, noted, counted, next_id};
 
     /// The log of no event. It has room for all that it will show. `Memory` where none is left.
@@ -60,7 +88,22 @@ impl EventLog {
         Ok(EventLog {
             alloc,
             dropped: 0,
-            shown: HeapCircularBuffer::with_capacity(alloc, SHOWN)?,
+            shown: empty_ring(alloc)?,
+        })
+    }
+
+    /// The log that shows these events, of which there are at most 1,000, behind so many. `Memory` where none
+    /// is left.
+    pub fn showing(alloc: Global, dropped: u64, events: &[Event]) -> Result<EventLog, AlarmFault>
+        requires { length events.now ≤ 1000 }
+        ensures { IfOk result (λ log. log ≡ record { dropped = dropped; events = events.now }) }
+    {
+        let mut shown = empty_ring(alloc)?;
+        fill(&mut shown, events)?;
+        Ok(EventLog {
+            alloc,
+            dropped,
+            shown,
         })
     }
 

@@ -114,3 +114,11 @@ fn the_log_shows_the_last_events(rt: HostRuntime) -> Result<(), Fail> {
     assert_eq!(rt; log.next_id(), 1_004);
     Ok(())
 }
+
+#[test]
+fn no_alarms_have_twenty_bytes(rt: HostRuntime) -> Result<(), Fail> {
+    let found = read_alarms(rt.alloc(), &[0; 20])?;
+    assert_eq!(rt; found.states.len(), 0);
+    assert_eq!(rt; found.events.len(), 0);
+    Ok(())
+}

@@ -2,7 +2,7 @@
 use Rattle.std.proofs.Common.{◌≡◌, ℕ, ◌+◌, ◌*◌, ◌/◌, ◌^◌, ◌<◌, ◌≤◌, true, false, nat_lt, nat_le, List, [], ◌∷◌, length, inl, inr, Option, Some, None, arith, refl, sym, ap, ◌∙◌}
 use Rattle.std.specs.List.{cons_option, filter_map, find}
 use Rattle.std.specs.Option.{option_map}
-use Rattle.std.proofs.lemmas.Bool.{and_left, cases_Bool, lt-leb}
+use Rattle.std.proofs.lemmas.Bool.{and_left, cases_Bool, cond-false, lt-leb, ne_eqb}
 use Rattle.std.proofs.lemmas.List.Sums.{length-filter, count_by-le-length}
 use Rattle.fixed_num.specs.declared.units.Record.{Record}
 use Rattle.storage_number.specs.declared.point.Point.{Point as Value}
@@ -153,3 +153,23 @@ open_more width moment points beats some are above short ascend =
 pub open_none : (width bucket : ℕ) (beats : List TierBeat) → AreBeats beats → last beats < bucket * width → records_in width bucket beats ≡ []
 open_none width bucket beats are lt =
     entries_none (record_of width bucket beats) 0 series_limit (λ series. record_none width bucket beats series are lt)
+
+-- ---- no beat has a point of a series past the limit
+
+point_beyond : (least series : ℕ) (points : List BeatPoint) → AreAbove least points → 65536 ≤ series → find (is_series series) points ≡ None
+point_beyond least series [] above le = refl
+point_beyond least series (point ∷ points) above le =
+    cond-false (is_series series point) (Some point) (find (is_series series) points) (ne_eqb point.series series (λ e. omega (arith, above.1)))
+    ∙ point_beyond (point.series + 1) series points above.2 le
+
+points_beyond : (series : ℕ) (beats : List TierBeat) → AreBeats beats → 65536 ≤ series → series_points beats series ≡ []
+points_beyond series [] are le = refl
+points_beyond series (beat ∷ beats) are le = by beat.moment (point_beyond 0 series beat.points are.0.points le) (points_beyond series beats are.1 le)
+  where
+    by : (moment : Option ℕ) → find (is_series series) beat.points ≡ None → series_points beats series ≡ [] → series_points (beat_of moment beat.points ∷ beats) series ≡ []
+    by None none rest = rest
+    by (Some moment) none rest =
+        ap (λ (found : Option BeatPoint). cons_option (option_map (λ (point : BeatPoint). record { moment = moment; word = point.word }) found) (series_points beats series)) none ∙ rest
+
+pub record_beyond : (width bucket series : ℕ) (beats : List TierBeat) → AreBeats beats → 65536 ≤ series → record_of width bucket beats series ≡ None
+record_beyond width bucket series beats are le = ap (λ (points : List Point). bucket_record width bucket (filter_map value_of points)) (points_beyond series beats are le)

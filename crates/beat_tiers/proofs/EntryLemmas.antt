@@ -1,5 +1,5 @@
 -- Records by series: what a look-up finds, and what a point more makes of them.
-use Rattle.std.proofs.Common.{◌≡◌, ℕ, zero, suc, ◌+◌, ◌<◌, ◌≤◌, ◌==◌, cond, nat_lt, List, [], ◌∷◌, inl, inr, Option, Some, None, arith, refl, sym, ap, ◌∙◌}
+use Rattle.std.proofs.Common.{◌≡◌, ℕ, zero, suc, ◌+◌, ◌<◌, ◌≤◌, ◌==◌, cond, nat_lt, ◌⊎◌, List, [], ◌∷◌, inl, inr, Option, Some, None, arith, refl, sym, ap, ◌∙◌}
 use Rattle.std.specs.BTreeMap.{insert_entry}
 use Rattle.std.specs.List.{cons_option, find}
 use Rattle.std.specs.Map.{lookup}
@@ -7,7 +7,7 @@ use Rattle.std.specs.Option.{option_map, option_map_or}
 use Rattle.std.specs.Ordering.{match_ordering, nat_cmp}
 use Rattle.std.specs.declared.cmp.Ordering.{Ordering}
 use Rattle.std.specs.declared.cmp.Ordering.TheVariants.{Less, Equal, Greater}
-use Rattle.std.proofs.lemmas.Bool.{cases_Bool, cases_eq, cond-true, cond-false, eq-eqb, eqb-true, lt-ltb, le-ltb, ne_eqb}
+use Rattle.std.proofs.lemmas.Bool.{cases_Bool, cases_eq, cases_lt, cond-true, cond-false, eq-eqb, eqb-true, lt-ltb, le-ltb, ne_eqb}
 use Rattle.fixed_num.specs.declared.units.Record.{Record}
 use Rattle.storage_number.specs.declared.point.Point.{Point as Value}
 use Rattle.storage_number.specs.Word.{point_of}
@@ -17,13 +17,13 @@ use Rattle.beat_tiers.specs.Beats.{AreAbove, is_series, series_limit}
 use Rattle.beat_tiers.specs.State.{with_point, with_points, with_value_at}
 use Rattle.beat_tiers.proofs.GivenLemmas.{entries}
 
-cmp_less : (a b : ℕ) → a < b → nat_cmp a b ≡ Less
+pub cmp_less : (a b : ℕ) → a < b → nat_cmp a b ≡ Less
 cmp_less a b lt = cond-true (nat_lt a b) Less (cond (a == b) Equal Greater) (lt-ltb a b lt)
 
-cmp_greater : (a b : ℕ) → b < a → nat_cmp a b ≡ Greater
+pub cmp_greater : (a b : ℕ) → b < a → nat_cmp a b ≡ Greater
 cmp_greater a b lt = cond-false (nat_lt a b) Less (cond (a == b) Equal Greater) (le-ltb a b (omega arith)) ∙ cond-false (a == b) Equal Greater (ne_eqb a b (λ e. omega arith))
 
-cmp_equal : (a b : ℕ) → a ≡ b → nat_cmp a b ≡ Equal
+pub cmp_equal : (a b : ℕ) → a ≡ b → nat_cmp a b ≡ Equal
 cmp_equal a b e = cond-false (nat_lt a b) Less (cond (a == b) Equal Greater) (le-ltb a b (omega arith)) ∙ cond-true (a == b) Equal Greater (eq-eqb a b e)
 
 -- the record of one series, and those of later ones
@@ -43,19 +43,28 @@ entries_none f from (suc count) none =
 
 -- ---- what a look-up finds
 
-lookup_below : (f : ℕ → Option Record) (series from count : ℕ) → series < from → lookup (λ key. series == key) (entries f from count) ≡ None
-lookup_below f series from zero lt = refl
-lookup_below f series from (suc count) lt = by (f from) (lookup_below f series (from + 1) count (omega arith))
+-- a series outside those that are looked through has none
+lookup_outside : (f : ℕ → Option Record) (series from count : ℕ) → (series < from) ⊎ (from + count ≤ series) → lookup (λ key. series == key) (entries f from count) ≡ None
+lookup_outside f series from zero out = refl
+lookup_outside f series from (suc count) out = by (f from) (is_other out) (lookup_outside f series (from + 1) count (further out))
   where
-    by : (one : Option Record) → lookup (λ key. series == key) (entries f (from + 1) count) ≡ None → lookup (λ key. series == key) (onto from one (entries f (from + 1) count)) ≡ None
-    by None rest = rest
-    by (Some one) rest = cond-false (series == from) (Some one) (lookup (λ key. series == key) (entries f (from + 1) count)) (ne_eqb series from (λ e. omega arith)) ∙ rest
+    is_other : (series < from) ⊎ (from + suc count ≤ series) → series ≡ from → ⊥
+    is_other (inl lt) e = omega arith
+    is_other (inr le) e = omega arith
+
+    further : (series < from) ⊎ (from + suc count ≤ series) → (series < from + 1) ⊎ (from + 1 + count ≤ series)
+    further (inl lt) = inl (omega arith)
+    further (inr le) = inr (omega arith)
+
+    by : (one : Option Record) → (series ≡ from → ⊥) → lookup (λ key. series == key) (entries f (from + 1) count) ≡ None → lookup (λ key. series == key) (onto from one (entries f (from + 1) count)) ≡ None
+    by None other rest = rest
+    by (Some one) other rest = cond-false (series == from) (Some one) (lookup (λ key. series == key) (entries f (from + 1) count)) (ne_eqb series from other) ∙ rest
 
 pub lookup_entries : (f : ℕ → Option Record) (series from count : ℕ) → from ≤ series → series < from + count → lookup (λ key. series == key) (entries f from count) ≡ f series
 lookup_entries f series from zero low high = absurd (omega arith)
 lookup_entries f series from (suc count) low high =
     elim (cases_eq series from) [
-      | inl same ↦ here (f from) same (lookup_below f series (from + 1) count (omega arith)) ∙ ap f (sym same)
+      | inl same ↦ here (f from) same (lookup_outside f series (from + 1) count (inl (omega arith))) ∙ ap f (sym same)
       | inr other ↦ there (f from) other (lookup_entries f series (from + 1) count (omega arith) (omega arith))
     ]
   where
@@ -184,17 +193,21 @@ all_found f series least (point ∷ points) above =
           ∙ ap (with_found (f series)) (sym (cond-false (point.series == series) (Some point) (find (is_series series) points) not))
     ]
 
-limit_is : 65536 ≤ series_limit
+limit_is : series_limit ≡ 65536
 unfolding series_limit
-limit_is = omega arith
+limit_is = refl
 
 -- The records of all series, with the points of a beat.
 pub with_points_is : (f g : ℕ → Option Record) (points : List BeatPoint) → AreAbove 0 points
     → ((series : ℕ) → g series ≡ with_found (f series) (find (is_series series) points))
     → with_points (entries f 0 series_limit) points ≡ entries g 0 series_limit
 with_points_is f g points above same =
-    with_all f series_limit 0 points limit_is above
+    with_all f series_limit 0 points (omega (arith, limit_is)) above
     ∙ entries_agree (all_more points f) g 0 series_limit (λ series low high. all_found f series 0 points above ∙ sym (same series))
 
-pub lookup_is : (f : ℕ → Option Record) (series : ℕ) → series < 65536 → lookup (λ key. series == key) (entries f 0 series_limit) ≡ f series
-lookup_is f series lt = lookup_entries f series 0 series_limit (omega arith) (omega (arith, limit_is))
+-- every series is looked up, where none past the limit has one
+pub lookup_is : (f : ℕ → Option Record) (series : ℕ) → (65536 ≤ series → f series ≡ None) → lookup (λ key. series == key) (entries f 0 series_limit) ≡ f series
+lookup_is f series beyond = elim (cases_lt series 65536) [
+  | inl lt ↦ lookup_entries f series 0 series_limit (omega arith) (omega (arith, limit_is))
+  | inr le ↦ lookup_outside f series 0 series_limit (inr (omega (arith, limit_is, le))) ∙ sym (beyond le)
+]

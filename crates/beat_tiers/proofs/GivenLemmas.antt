@@ -212,3 +212,11 @@ kept_ordered {T} tier cuts high limit groups segments falls placed are =
     subst (λ (items : List (Item T)). AreOrdered items) (sym (split_items high segments.expired segments.sealed segments.unsealed segments.beats groups falls are.split))
     (placed_ordered limit (filter (λ (group : Group T). is_after segments.expired group.moment) groups)
     (placed_filter (λ (group : Group T). is_after segments.expired group.moment) limit groups placed))
+
+-- what is kept lies below the limit of all that was given
+pub kept_below : {T : Type 0} (tier : Tier) (cuts : Cuts) (high limit : ℕ) (groups : List (Group T)) (segments : SegmentsOf T) → AreFalling high groups → ArePlaced limit groups
+    → AreSegmentsOf tier cuts groups segments → AreBelow limit (items_of segments)
+kept_below {T} tier cuts high limit groups segments falls placed are =
+    subst (λ (items : List (Item T)). AreBelow limit items) (sym (split_items high segments.expired segments.sealed segments.unsealed segments.beats groups falls are.split))
+    (placed_below limit (filter (λ (group : Group T). is_after segments.expired group.moment) groups)
+    (placed_filter (λ (group : Group T). is_after segments.expired group.moment) limit groups placed))

@@ -1,5 +1,5 @@
 -- The record of a bucket at or above the floor, from what is kept.
-use Rattle.std.proofs.Common.{◌≡◌, ℕ, ◌+◌, ◌*◌, ◌/◌, ◌<◌, ◌≤◌, ◌==◌, ◌&&◌, Bool, true, false, cond, nat_lt, List, [], ◌∷◌, ◌++◌, filter, inl, inr, Option, Some, None, arith, refl, sym, ap, subst, ◌∙◌}
+use Rattle.std.proofs.Common.{◌≡◌, ℕ, ◌+◌, ◌*◌, ◌/◌, ◌≤◌, ◌==◌, ◌&&◌, Bool, true, false, cond, nat_lt, List, [], ◌∷◌, ◌++◌, filter, inl, inr, Option, Some, None, arith, refl, sym, ap, subst, ◌∙◌}
 use Rattle.std.specs.List.{find}
 use Rattle.std.specs.Map.{lookup}
 use Rattle.std.specs.Option.{option_map}
@@ -13,7 +13,7 @@ use Rattle.beat_tiers.specs.Beats.{TierBeat, last, record_of, records_in}
 use Rattle.beat_tiers.specs.Floors.{floor_after, floor_of}
 use Rattle.beat_tiers.specs.State.{RecordTierState, closed_record, floor_in, is_item, open_record, record_in, record_items}
 use Rattle.beat_tiers.specs.Tiers.{AreBeats, Group, IsRecordTierOf, closing_items, is_after, items_in, record_above, records_given, with_group}
-use Rattle.beat_tiers.proofs.BucketLemmas.{outside, record_same}
+use Rattle.beat_tiers.proofs.BucketLemmas.{outside, record_beyond, record_same}
 use Rattle.beat_tiers.proofs.EntryLemmas.{lookup_is}
 use Rattle.beat_tiers.proofs.GivenLemmas.{AreBelow, IsLater, above_last, beat_of, bucket_rises, placed_below, records_fall, records_placed}
 use Rattle.beat_tiers.proofs.GroupLemmas.{split_items, with_items}
@@ -71,11 +71,11 @@ found_at bucket series (one ∷ records) =
     ]
 
 -- the records that were given of a bucket that is not that of the last moment
-found_all : (width bucket series : ℕ) (beats : List TierBeat) → 1 ≤ width → series < 65536 → AreBeats beats → (bucket ≡ last beats / width → ⊥)
+found_all : (width bucket series : ℕ) (beats : List TierBeat) → 1 ≤ width → AreBeats beats → (bucket ≡ last beats / width → ⊥)
     → found bucket series (items_in (records_given width beats)) ≡ record_of width bucket beats series
-found_all width bucket series [] some lt are other = refl
-found_all width bucket series (beat ∷ beats) some lt are other =
-    by beat.moment beat.points are.0.later other (λ other. found_all width bucket series beats some lt are.1 other)
+found_all width bucket series [] some are other = refl
+found_all width bucket series (beat ∷ beats) some are other =
+    by beat.moment beat.points are.0.later other (λ other. found_all width bucket series beats some are.1 other)
   where
     by : (moment : Option ℕ) (points : List BeatPoint) → IsLater moment beats → (bucket ≡ last (beat_of moment points ∷ beats) / width → ⊥)
         → ((bucket ≡ last beats / width → ⊥) → found bucket series (items_in (records_given width beats)) ≡ record_of width bucket beats series)
@@ -99,7 +99,7 @@ found_all width bucket series (beat ∷ beats) some lt are other =
                     (find_below (last beats / width) bucket series (items_in (records_given width beats)) (placed_below (last beats / width) (records_given width beats) (records_placed width beats some are.1)) (omega arith)))
                     ∙ ap (λ n. found bucket series (record_items n (records_in width n beats))) (sym here)
                     ∙ found_at bucket series (records_in width bucket beats)
-                    ∙ lookup_is (record_of width bucket beats) series lt
+                    ∙ lookup_is (record_of width bucket beats) series (record_beyond width bucket series beats are.1)
                     ∙ same
                 | inr there ↦
                     all ∙ both
@@ -162,10 +162,10 @@ records_left number tier expired bucket series (beat ∷ beats) one some floor =
 
 -- ---- what is answered
 
-closed_is : (number : ℕ) (one : RecordTierState) (beats : List TierBeat) (series bucket : ℕ) → 1 ≤ number → series < 65536 → AreBeats beats → IsRecordTierOf beats number one
+closed_is : (number : ℕ) (one : RecordTierState) (beats : List TierBeat) (series bucket : ℕ) → 1 ≤ number → AreBeats beats → IsRecordTierOf beats number one
     → floor_in number one.tier one.segments.expired ≤ bucket * one.tier.width → (bucket ≡ last beats / one.tier.width → ⊥)
     → closed_record one series bucket ≡ record_of one.tier.width bucket beats series
-closed_is number one beats series bucket some lt are is floor other =
+closed_is number one beats series bucket some are is floor other =
     let kept : List (Group Record) = filter (λ (group : Group Record). is_after one.segments.expired group.moment) (records_given one.tier.width beats) in
     let value : Option (Item Record) → Option Record = option_map (λ (item : Item Record). item.value) in
     ap (found bucket series) (split_items (last beats + 1) one.segments.expired one.segments.sealed one.segments.unsealed one.segments.beats (records_given one.tier.width beats) (records_fall one.tier.width beats are) is.segments.split)
@@ -173,12 +173,12 @@ closed_is number one beats series bucket some lt are is floor other =
     ∙ ap (find (is_item bucket series)) (left_filter (λ (group : Group Record). is_after one.segments.expired group.moment) (is_item bucket series) (records_given one.tier.width beats)
     (records_left number one.tier one.segments.expired bucket series beats some is.settings.width floor))
     ∙ sym (find_filter (is_item bucket series) (items_in (records_given one.tier.width beats))))
-    ∙ found_all one.tier.width bucket series beats is.settings.width lt are other
+    ∙ found_all one.tier.width bucket series beats is.settings.width are other
 
 -- The record of a bucket that is kept.
-pub record_kept : (number : ℕ) (one : RecordTierState) (beats : List TierBeat) (now series bucket : ℕ) → 1 ≤ number → series < 65536 → now ≡ last beats → AreBeats beats → IsRecordTierOf beats number one
+pub record_kept : (number : ℕ) (one : RecordTierState) (beats : List TierBeat) (now series bucket : ℕ) → 1 ≤ number → now ≡ last beats → AreBeats beats → IsRecordTierOf beats number one
     → record_in number one now series bucket ≡ record_above (floor_of number one.tier beats) one.tier.width bucket beats series
-record_kept number one beats now series bucket some lt is_last are is =
+record_kept number one beats now series bucket some is_last are is =
     let floors : floor_in number one.tier one.segments.expired ≡ floor_of number one.tier beats = ap (λ (o : Option ℕ). floor_in number one.tier o) is.segments.expired in
     ap (λ n. record_in number one n series bucket) is_last
     ∙ by (nat_lt (bucket * one.tier.width) (floor_in number one.tier one.segments.expired)) refl
@@ -191,11 +191,11 @@ record_kept number one beats now series bucket some lt is_last are is =
           | inl same ↦
               cond-true _ _ _ (eq-eqb bucket (last beats / one.tier.width) same)
               ∙ ap (lookup (λ key. series == key)) is.current
-              ∙ lookup_is (record_of one.tier.width (last beats / one.tier.width) beats) series lt
+              ∙ lookup_is (record_of one.tier.width (last beats / one.tier.width) beats) series (record_beyond one.tier.width (last beats / one.tier.width) series beats are)
               ∙ ap (λ n. record_of one.tier.width n beats series) (sym same)
           | inr other ↦
               cond-false _ _ _ (ne_eqb bucket (last beats / one.tier.width) other)
-              ∙ closed_is number one beats series bucket some lt are is floor other
+              ∙ closed_is number one beats series bucket some are is floor other
         ]
 
     by : (b : Bool) → nat_lt (bucket * one.tier.width) (floor_in number one.tier one.segments.expired) ≡ b

@@ -17,6 +17,11 @@ use Rattle.beat_tiers.specs.State.{is_item, point_at}
 use Rattle.beat_tiers.specs.Tiers.{AreOrdered}
 use Rattle.beat_tiers.proofs.Ordered.{Precedes, each-precedes, first-precedes, ordered-left, ordered-right, ordered-tail}
 
+-- the parts of one more element
+pub flat_map-take : {X A : Type 0} (f : X → List A) (xs : List X) (i : ℕ) (x : X) → i < length xs → x ≡ get_or xs i x → flat_map f (take (i + 1) xs) ≡ flat_map f (take i xs) ++ f x
+flat_map-take f xs i x lt is =
+    ap (flat_map f) (take_more xs i x lt) ∙ flat_map-append f (take i xs) (get_or xs i x ∷ []) ∙ ap (λ zs. flat_map f (take i xs) ++ zs) (append-nil (f (get_or xs i x)) ∙ ap f (sym is))
+
 module _ {X : Type 0} (p : X → Bool) where
   filter-in : (x : X) (xs : List X) → p x ≡ true → filter p (x ∷ xs) ≡ x ∷ filter p xs
   filter-in x xs is = cond-true (p x) (x ∷ filter p xs) (filter p xs) is
@@ -77,6 +82,23 @@ module _ {X : Type 0} (p : X → Bool) where
       cond-false (p x) (Some x) (find p xs) (none 0 x (omega arith) (omega arith))
       ∙ find-none xs (λ k d lo hi. none (suc k) d (omega arith) (omega arith))
 
+  -- a test among what passes another
+  pub find-filter : (q : X → Bool) (xs : List X) → find p (filter q xs) ≡ find (λ x. q x && p x) xs
+  find-filter q [] = refl
+  find-filter q (x ∷ xs) = by (q x) (find-filter q xs)
+    where
+      by : (b : Bool) → find p (filter q xs) ≡ find (λ x. q x && p x) xs → find p (cond b (x ∷ filter q xs) (filter q xs)) ≡ cond (b && p x) (Some x) (find (λ x. q x && p x) xs)
+      by true rest = ap (cond (p x) (Some x)) rest
+      by false rest = rest
+
+  -- the parts before a place have none, and that at the place has one
+  pub find-part : {S : Type 0} (f : S → List X) (ss : List S) (i : ℕ) (s : S) (x : X) → i < length ss → s ≡ get_or ss i s → find p (flat_map f (take i ss)) ≡ None
+      → find p (f s) ≡ Some x → find p (flat_map f ss) ≡ Some x
+  find-part f ss i s x lt is none there =
+      ap (find p) (ap (flat_map f) (sym (take-append-drop (i + 1) ss)) ∙ flat_map-append f (take (i + 1) ss) (drop (i + 1) ss))
+      ∙ find-left (flat_map f (take (i + 1) ss)) (flat_map f (drop (i + 1) ss)) x
+      (ap (find p) (flat_map-take f ss i s lt is) ∙ find-append (flat_map f (take i ss)) (f s) none ∙ there)
+
 -- ---- points between moments
 
 test-past : {Y : Type 0} (a b c d : Bool) (y : Y) → d ≡ false → cond (((a && b) && c) && d) (Some y) None ≡ None
@@ -119,11 +141,6 @@ points-between floor series from to items =
 pub filter_map-more : {X Y : Type 0} (h : X → Option Y) (old mid new : List Y) (xs ys : List X) → mid ≡ old ++ filter_map h xs → new ≡ mid ++ filter_map h ys → new ≡ old ++ filter_map h (xs ++ ys)
 filter_map-more h old mid new xs ys m n =
     n ∙ ap (λ zs. zs ++ filter_map h ys) m ∙ append_assoc old (filter_map h xs) (filter_map h ys) ∙ ap (λ zs. old ++ zs) (sym (filter_map-append h xs ys))
-
--- the parts of one more element
-pub flat_map-take : {X A : Type 0} (f : X → List A) (xs : List X) (i : ℕ) (x : X) → i < length xs → x ≡ get_or xs i x → flat_map f (take (i + 1) xs) ≡ flat_map f (take i xs) ++ f x
-flat_map-take f xs i x lt is =
-    ap (flat_map f) (take_more xs i x lt) ∙ flat_map-append f (take i xs) (get_or xs i x ∷ []) ∙ ap (λ zs. flat_map f (take i xs) ++ zs) (append-nil (f (get_or xs i x)) ∙ ap f (sym is))
 
 -- all items of segments, part by part
 pub items-split : {T : Type 0} (segments : SegmentsOf T) (a b : List (Segment T)) → a ++ b ≡ segments.sealed

@@ -1,7 +1,7 @@
 -- What `Tiers` keeps, and how a beat changes it.
-use Rattle.std.specs.Prelude.{ℕ, ◌*◌, ◌/◌, ◌==◌, ◌&&◌, Bool, nat_le, nat_lt, if◌then◌else◌, List, [], ◌∷◌, find, length, map, Option, Some, None}
+use Rattle.std.specs.Prelude.{ℕ, zero, suc, ◌+◌, ◌-◌, ◌*◌, ◌/◌, ◌^◌, ◌<◌, ◌==◌, ◌&&◌, Bool, min, nat_le, nat_lt, if◌then◌else◌, List, [], ◌∷◌, find, length, map, slice_get, Option, Some, None}
 use Rattle.std.specs.BTreeMap.{insert_entry}
-use Rattle.std.specs.List.{filter_map}
+use Rattle.std.specs.List.{AllByRecursion, filter_map}
 use Rattle.std.specs.Map.{lookup}
 use Rattle.std.specs.Option.{option_map, option_map_or}
 use Rattle.std.specs.Ordering.{nat_cmp}
@@ -89,6 +89,12 @@ after_beat (Some moment) points state = record state {
 abbrev pub floor_in : ℕ → Tier → Option ℕ → ℕ
 floor_in number tier expired = option_map_or (floor_after number tier) expired 0
 
+-- the floor of a tier, by its number: that of tier 0 is at most the last moment of 32 bits, and that of a tier that is not
+-- there is 0
+abbrev pub tier_floor : TiersState → ℕ → ℕ
+tier_floor state zero = min (floor_in 0 state.first state.points.expired) (2 ^ 32 - 1)
+tier_floor state (suc place) = option_map_or (λ (one : RecordTierState). floor_in (place + 1) one.tier one.segments.expired) (slice_get state.records place) 0
+
 -- the point that an item is, where it is of this series and between these moments
 abbrev pub point_at : ℕ → ℕ → ℕ → ℕ → Item ℕ → Option Point
 point_at floor series from to item =
@@ -114,3 +120,7 @@ record_in number state last series bucket =
     if nat_lt (bucket * state.tier.width) (floor_in number state.tier state.segments.expired) then None
     else if bucket == last / state.tier.width then open_record state series
     else closed_record state series bucket
+
+-- the closed records lie in buckets before that of the last moment
+abbrev pub AreClosed : ℕ → RecordTierState → Type 0
+AreClosed last state = AllByRecursion (λ (item : Item Record). item.place < last / state.tier.width) (items_of state.segments)

@@ -116,3 +116,21 @@ is_between floor from to point = nat_le floor point.moment && nat_le from point.
 -- the record of a bucket that starts at or above a floor
 abbrev pub record_above : ℕ → ℕ → ℕ → List TierBeat → ℕ → Option Record
 record_above floor width bucket beats series = if nat_lt (bucket * width) floor then None else record_of width bucket beats series
+
+-- The record of each bucket is given by its number.
+
+-- no bucket from one on and before another has a record
+abbrev pub HaveNoRecord : (ℕ → Option Record) → ℕ → ℕ → Type 0
+HaveNoRecord record_at from before = (bucket : ℕ) → from ≤ bucket → bucket < before → record_at bucket ≡ None
+
+-- the bucket lies from one on and up to another, both included, has this record, and none before it has one
+pub record IsFirstWithRecord (record_at : ℕ → Option Record) (from to bucket : ℕ) (found : Record) : Type 0 where
+  pub low : from ≤ bucket
+  pub high : bucket ≤ to
+  pub here : record_at bucket ≡ Some found
+  pub none_before : HaveNoRecord record_at from bucket
+
+-- the first bucket from one on and up to another, both included, that has a record, and that record, if one has
+abbrev pub IsFirstRecord : (ℕ → Option Record) → ℕ → ℕ → Option (ℕ × Record) → Type 0
+IsFirstRecord record_at from to None = HaveNoRecord record_at from (to + 1)
+IsFirstRecord record_at from to (Some found) = IsFirstWithRecord record_at from to found.0 found.1

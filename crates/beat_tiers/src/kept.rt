@@ -3,7 +3,8 @@ ghost use Rattle.beat_tiers.specs.declared.segments.Segment.{Segment as ASegment
 ghost use Rattle.beat_tiers.specs.Kept.{beat_of_item, behind_all, behind_beats, kept_in, point_of_item};
 
 use crate::item::Item;
-use crate::segments::{Segment, Segments};
+use crate::sealed::Sealed;
+use crate::segments::Segments;
 use fixed_num::ListOf;
 use std::alloc::{AllocError, Global};
 
@@ -119,20 +120,20 @@ fn add_items(
 fn add_segments(
     alloc: Global,
     beats: &mut Vec<KeptBeat>,
-    segments: &[Segment<u32>],
+    segments: &[Sealed<u32>],
 ) -> Result<(), AllocError>
     ensures { OnOk result (beats.new.items ≡ behind_all beats.old.items
         (flat_map (λ (segment : ASegment ℕ). segment.items) segments.now)) }
 {
     for segment in segments {
-        add_items(alloc, beats, segment.items.as_slice())?;
+        add_items(alloc, beats, segment.items())?;
     }
     Ok(())
 }
 
 /// The beats of all items.
 fn beats_of(alloc: Global, segments: &Segments<u32>) -> Result<KeptBeatList, AllocError>
-    ensures { IfOk result (λ beats. beats ≡ (kept_in segments.now).beats) }
+    ensures { IfOk result (λ beats. beats ≡ (kept_in segments.now.kept).beats) }
 {
     let mut beats = Vec::new(alloc);
     let (earlier, later) = segments.sealed();
@@ -144,7 +145,7 @@ fn beats_of(alloc: Global, segments: &Segments<u32>) -> Result<KeptBeatList, All
 
 /// The beats that gave the items of segments.
 pub(crate) fn kept_of(alloc: Global, segments: &Segments<u32>) -> Result<Kept, AllocError>
-    ensures { IfOk result (λ kept. kept ≡ kept_in segments.now) }
+    ensures { IfOk result (λ kept. kept ≡ kept_in segments.now.kept) }
 {
     let beats = beats_of(alloc, segments)?;
     Ok(Kept {

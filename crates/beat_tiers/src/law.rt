@@ -1,10 +1,10 @@
-ghost use Rattle.std.specs.Prelude.{◌≡◌, ℕ, ◌+◌, ◌<◌, List, [], ◌∷◌, filter, reverse, slice_get, Some};
+ghost use Rattle.std.specs.Prelude.{◌≡◌, ℕ, ◌+◌, List, [], ◌∷◌, filter, reverse, slice_get, Some};
 ghost use Rattle.std.specs.List.{AllByRecursion};
 ghost use Rattle.beat_tiers.specs.declared.tier.Tier.{Tier as ATier};
 ghost use Rattle.beat_tiers.specs.Beats.{TierBeat, Follows, series_points};
 ghost use Rattle.beat_tiers.specs.Floors.{floor_of};
 ghost use Rattle.beat_tiers.specs.Segments.{items_of};
-ghost use Rattle.beat_tiers.specs.State.{RecordTierState, TiersState, after_beat, floor_in, no_beats, points_in, record_in};
+ghost use Rattle.beat_tiers.specs.State.{AreClosed, RecordTierState, TiersState, after_beat, floor_in, no_beats, points_in, record_in};
 ghost use Rattle.beat_tiers.specs.Tiers.{AreOrdered, AreTiersOf, IsTier, is_between, record_above};
 
 /// The laws of tiers of beats: the empty ones are those of no beat, and with one more beat they are those of that
@@ -29,6 +29,10 @@ pub fn any_beats()
         → AreTiersOf set beats state
         → (place : ℕ) (one : RecordTierState) → slice_get state.records place ≡ Some one
         → AreOrdered (items_of one.segments) }
+    ensures each_closed { (set : List ATier) (beats : List TierBeat) (state : TiersState)
+        → AreTiersOf set beats state
+        → (place : ℕ) (one : RecordTierState) → slice_get state.records place ≡ Some one
+        → AreClosed state.last one }
     ensures points { (set : List ATier) (beats : List TierBeat) (state : TiersState)
         → AreTiersOf set beats state → (series from to : ℕ)
         → points_in state series from to
@@ -37,7 +41,7 @@ pub fn any_beats()
     ensures records { (set : List ATier) (beats : List TierBeat) (state : TiersState)
         → AreTiersOf set beats state
         → (place : ℕ) (one : RecordTierState) → slice_get state.records place ≡ Some one
-        → (series bucket : ℕ) → series < 65536
+        → (series bucket : ℕ)
         → record_in (place + 1) one state.last series bucket
         ≡ record_above (floor_of (place + 1) one.tier beats) one.tier.width bucket beats series }
 {}

@@ -1,8 +1,11 @@
-ghost use Rattle.std.specs.Prelude.{◌≡◌, ◌==◌, ℕ, ◌+◌, ◌*◌, ◌/◌, ◌≤◌, OnOk};
-ghost use Rattle.std.specs.Map.{lookup};
+ghost use Rattle.std.specs.Prelude.{◌≡◌, ◌==◌, ◌&&◌, ◌-◌, ℕ, ◌+◌, ◌*◌, ◌/◌, ◌≤◌, true, length, nat_le, if◌then◌else◌, [], ◌∷◌, None, OnOk};
+ghost use Rattle.std.specs.Map.{keys_of, lookup};
+ghost use Rattle.std.specs.Option.{option_map, option_map_or};
+ghost use Rattle.fixed_num.specs.declared.units.Record.{Record as ARecord};
+ghost use Rattle.beat_tiers.specs.Room.{closes, filled, has_slot, records_held, HasRoom, HasRoomAfter, HaveSlots};
 ghost use Rattle.beat_tiers.specs.Segments.{items_of, with_items};
-ghost use Rattle.beat_tiers.specs.State.{closed_before, floor_in, no_records, open_record, record_in, record_items, record_tier_after, with_point, with_points, with_value_at};
-ghost use Rattle.beat_tiers.specs.Tiers.{AreOrdered};
+ghost use Rattle.beat_tiers.specs.State.{AreClosed, closed_before, floor_in, no_records, open_record, record_in, record_items, record_tier_after, with_point, with_points, with_value_at};
+ghost use Rattle.beat_tiers.specs.Tiers.{AreOrdered, IsFirstRecord, IsTier};
 
 use crate::item::{BeatPoint, Item};
 use crate::searching;
@@ -15,89 +18,137 @@ use std::marker::Model;
 use storage_number::{Point as Value, unpack};
 use tier_rollup::with_value;
 
+/// The slots of a bucket by series: a slot has the record of its series, or is the memory for one.
+type Slots = BTreeMap<u32, Option<Record>>;
+
 /// A tier of records.
 #[derive(Debug, Drop)]
 pub(crate) struct RecordTier {
     tier: Tier,
-    /// The records of the bucket of the last moment, by series.
-    current: BTreeMap<u32, Record>,
-    /// Those of buckets that are over.
+    /// The slots of the bucket of the last moment.
+    current: Slots,
+    /// Those of the bucket that follows it, which has no record yet.
+    next: Slots,
+    /// The records of buckets that are over.
     segments: Segments<Record>,
 }
 
 impl Model for RecordTier {
-    ghost use Rattle.std.specs.Prelude.{◌≤◌};
-    ghost use Rattle.beat_tiers.specs.State.{RecordTierState};
+    ghost use Rattle.std.specs.Prelude.{◌≡◌, ◌≤◌, []};
+    ghost use Rattle.beat_tiers.specs.Room.{RecordTierHeld, filled};
 
-    ghost Value = { RecordTierState };
+    ghost Value = { RecordTierHeld };
 
     ghost view = { λ tier. record {
       tier = tier.tier;
-      current = tier.current.entries;
+      slots = tier.current.entries;
+      next = tier.next.entries;
       segments = tier.segments;
     } };
 
-    ghost invariant = { λ tier. 1 ≤ tier.tier.width };
+    ghost invariant = { λ tier. (1 ≤ tier.tier.width) × (filled tier.next.entries ≡ [])
+        × (1 ≤ tier.tier.items) };
 }
 
-/// Adds the records of a bucket as items.
-fn push_records(
-    segments: &mut Segments<Record>,
-    bucket: u32,
-    records: &BTreeMap<u32, Record>,
-) -> Result<(), AllocError>
-    ensures { OnOk result (segments.new
-        ≡ with_items segments.old (record_items bucket records.now.entries)) }
+/// Adds the record of a slot as an item, if it has one.
+fn push_slot(segments: &mut Segments<Record>, bucket: u32, series: u32, slot: Option<Record>)
+    requires { length (filled ((series, slot) ∷ [])) ≤ segments.old.items }
+    ensures { segments.new ≡ record segments.old {
+      kept = with_items segments.old.kept (record_items bucket (filled ((series, slot) ∷ [])));
+      items = segments.old.items - length (filled ((series, slot) ∷ []));
+    } }
 {
-    for (series, record) in records.iter() {
+    if let Some(value) = slot {
         segments.push(Item {
             place: bucket,
-            series: *series,
-            value: *record,
-        })?;
+            series,
+            value,
+        });
     }
-    Ok(())
+}
+
+/// Adds the records of a bucket as items, for which there is memory.
+fn push_records(segments: &mut Segments<Record>, bucket: u32, slots: &Slots)
+    requires { length (filled slots.now.entries) ≤ segments.old.items }
+    ensures { segments.new ≡ record segments.old {
+      kept = with_items segments.old.kept (record_items bucket (filled slots.now.entries));
+      items = segments.old.items - length (filled slots.now.entries);
+    } }
+{
+    for (series, slot) in slots.iter() {
+        push_slot(segments, bucket, *series, *slot);
+    }
 }
 
 /// The record of a series.
-fn record_in(current: &BTreeMap<u32, Record>, series: u32) -> Option<Record>
-    ensures { result ≡ lookup (λ key. series == key) current.now.entries }
+fn record_in(slots: &Slots, series: u32) -> Option<Record>
+    ensures { result ≡ lookup (λ key. series == key) (filled slots.now.entries) }
 {
-    current.get(&series).copied()
-}
-
-/// Adds a value to the record of its series.
-fn add_value(
-    current: &mut BTreeMap<u32, Record>,
-    series: u32,
-    value: Value,
-) -> Result<(), AllocError>
-    ensures { OnOk result (current.new.entries ≡ with_value_at current.old.entries series value) }
-{
-    let before = record_in(current, series);
-    let after = with_value(before, value.units, value.anomalous);
-    current.insert(series, after)?;
-    Ok(())
-}
-
-/// Adds a point to the record of its series.
-fn add_point(current: &mut BTreeMap<u32, Record>, point: &BeatPoint) -> Result<(), AllocError>
-    ensures { OnOk result (current.new.entries ≡ with_point current.old.entries point.now) }
-{
-    match unpack(point.word) {
-        Some(value) => add_value(current, point.series, value),
-        None => Ok(()),
+    if slots.len() == 0 {
+        return None;
+    }
+    match slots.get(&series) {
+        Some(slot) => *slot,
+        None => None,
     }
 }
 
-/// Adds each point to the record of its series.
-fn add_points(current: &mut BTreeMap<u32, Record>, points: &[BeatPoint]) -> Result<(), AllocError>
-    ensures { OnOk result (current.new.entries ≡ with_points current.old.entries points.now) }
+/// Makes a slot for a series, if it has none.
+fn reserve_slot(slots: &mut Slots, series: u32) -> Result<(), AllocError>
+    ensures kept { filled slots.new.entries ≡ filled slots.old.entries }
+    ensures others { (other : ℕ) → has_slot slots.old.entries other ≡ true
+        → has_slot slots.new.entries other ≡ true }
+    ensures room { OnOk result (has_slot slots.new.entries series ≡ true) }
+{
+    if slots.contains_key(&series) {
+        return Ok(());
+    }
+    slots.insert(series, None)?;
+    Ok(())
+}
+
+/// Makes a slot for the series of each point.
+fn reserve_slots(slots: &mut Slots, points: &[BeatPoint]) -> Result<(), AllocError>
+    ensures kept { filled slots.new.entries ≡ filled slots.old.entries }
+    ensures room { OnOk result (HaveSlots slots.new.entries points.now) }
 {
     for point in points {
-        add_point(current, point)?;
+        reserve_slot(slots, point.series)?;
     }
     Ok(())
+}
+
+/// Adds a value to the record of its series, which has a slot.
+fn add_value(slots: &mut Slots, series: u32, value: Value)
+    requires { has_slot slots.old.entries series ≡ true }
+    ensures added { filled slots.new.entries
+        ≡ with_value_at (filled slots.old.entries) series value }
+    ensures room { keys_of slots.new.entries ≡ keys_of slots.old.entries }
+{
+    let before = record_in(slots, series);
+    let after = with_value(before, value.units, value.anomalous);
+    let _before = slots.insert(series, Some(after));
+}
+
+/// Adds a point to the record of its series, which has a slot.
+fn add_point(slots: &mut Slots, point: &BeatPoint)
+    requires { has_slot slots.old.entries point.now.series ≡ true }
+    ensures added { filled slots.new.entries ≡ with_point (filled slots.old.entries) point.now }
+    ensures room { keys_of slots.new.entries ≡ keys_of slots.old.entries }
+{
+    if let Some(value) = unpack(point.word) {
+        add_value(slots, point.series, value);
+    }
+}
+
+/// Adds each point to the record of its series. Each has a slot.
+fn add_points(slots: &mut Slots, points: &[BeatPoint])
+    requires { HaveSlots slots.old.entries points.now }
+    ensures { filled slots.new.entries ≡ with_points (filled slots.old.entries) points.now }
+{
+    for point in points {
+        add_point(slots, point);
+    }
 }
 
 /// The first moment that is kept where a segment that a beat of this moment sealed has expired.
@@ -110,12 +161,13 @@ fn floor_after(tier: Tier, moment: u32) -> u32
 
 impl RecordTier {
     pub(crate) fn new(alloc: Global, tier: Tier) -> RecordTier
-        requires { 1 ≤ tier.width }
-        ensures { result ≡ no_records tier }
+        requires { IsTier tier }
+        ensures { records_held result ≡ no_records tier }
     {
         RecordTier {
             tier,
             current: BTreeMap::new(alloc),
+            next: BTreeMap::new(alloc),
             segments: Segments::new(alloc),
         }
     }
@@ -126,36 +178,62 @@ impl RecordTier {
         self.tier
     }
 
-    /// Takes a beat of this moment, behind one of the last moment.
-    pub(crate) fn take(
+    /// Whether a beat of this moment lies behind the bucket of the last moment.
+    fn closes(&self, last: u32, moment: u32) -> bool
+        ensures { result ≡ closes last moment self.now }
+    {
+        last / self.tier.width < moment / self.tier.width
+    }
+
+    /// Takes the memory for a beat of this moment, behind one of the last moment.
+    pub(crate) fn reserve(
         &mut self,
         last: u32,
         moment: u32,
         points: &[BeatPoint],
     ) -> Result<(), AllocError>
-        ensures { OnOk result (self.new ≡ record_tier_after last moment points.now self.old) }
+        ensures kept { records_held self.new ≡ records_held self.old }
+        ensures room { OnOk result (HasRoomAfter last moment points.now self.new) }
     {
-        self.close_before(last, moment)?;
-        add_points(&mut self.current, points)
+        if !self.closes(last, moment) {
+            return reserve_slots(&mut self.current, points);
+        }
+        self.segments.reserve(self.current.len())?;
+        reserve_slots(&mut self.next, points)
     }
 
-    /// The records of the bucket of the last moment become items where the moment lies behind it.
-    fn close_before(&mut self, last: u32, moment: u32) -> Result<(), AllocError>
-        ensures { OnOk result (self.new ≡ closed_before last moment self.old) }
+    /// Takes a beat of this moment, behind one of the last moment. There is memory for it.
+    pub(crate) fn take(&mut self, last: u32, moment: u32, points: &[BeatPoint])
+        requires { HasRoomAfter last moment points.now self.old }
+        ensures { records_held self.new
+            ≡ record_tier_after last moment points.now (records_held self.old) }
     {
-        let bucket = last / self.tier.width;
-        if moment / self.tier.width <= bucket || self.current.is_empty() {
-            return Ok(());
+        if self.closes(last, moment) {
+            self.close(last, moment);
         }
-        push_records(&mut self.segments, bucket, &self.current)?;
-        self.current.clear();
-        self.segments.end_beat(self.tier, moment)
+        add_points(&mut self.current, points);
+    }
+
+    /// The records of the bucket of the last moment become items at a beat that lies behind it.
+    fn close(&mut self, last: u32, moment: u32)
+        requires closes { closes last moment self.old ≡ true }
+        requires room { HasRoom (length (filled self.old.slots)) self.old.segments }
+        ensures slots { self.new.slots ≡ self.old.next }
+        ensures closed { records_held self.new ≡ closed_before last moment (records_held self.old) }
+    {
+        let before = self.segments.unsealed().len();
+        push_records(&mut self.segments, last / self.tier.width, &self.current);
+        if before < self.segments.unsealed().len() {
+            self.segments.end_beat(self.tier, moment);
+        }
+        std::mem::swap(&mut self.current, &mut self.next);
+        self.next.clear();
     }
 
     /// The first moment that is kept, or 0 where nothing has expired.
     pub(crate) fn floor(&self) -> u32
         ensures { (place : ℕ) → result
-            ≡ floor_in (place + 1) self.now.tier self.now.segments.expired }
+            ≡ floor_in (place + 1) self.now.tier self.now.segments.kept.expired }
     {
         match self.segments.expired() {
             Some(moment) => floor_after(self.tier, moment),
@@ -165,15 +243,15 @@ impl RecordTier {
 
     /// The record of a series in the bucket of the last moment.
     fn open_record(&self, series: u32) -> Option<Record>
-        ensures { result ≡ open_record self.now series }
+        ensures { result ≡ open_record (records_held self.now) series }
     {
         record_in(&self.current, series)
     }
 
     /// The record of a series in a bucket at or above the floor, where `last` is the last moment.
     pub(crate) fn record_of(&self, last: u32, series: u32, bucket: u32) -> Option<Record>
-        ensures { AreOrdered (items_of self.now.segments)
-            → (place : ℕ) → result ≡ record_in (place + 1) self.now last series bucket }
+        ensures { AreOrdered (items_of self.now.segments.kept) → (place : ℕ)
+            → result ≡ record_in (place + 1) (records_held self.now) last series bucket }
     {
         if u64::from(bucket) * u64::from(self.tier.width) < u64::from(self.floor()) {
             return None;
@@ -182,5 +260,51 @@ impl RecordTier {
             return self.open_record(series);
         }
         searching::record_of(&self.segments, bucket, series)
+    }
+
+    /// The first bucket that is kept.
+    fn first_bucket(&self) -> u32
+        ensures { result ≡ option_map_or (λ (moment : ℕ). moment / self.now.tier.width)
+            self.now.segments.kept.expired 0 }
+    {
+        match self.segments.expired() {
+            Some(moment) => moment / self.tier.width,
+            None => 0,
+        }
+    }
+
+    /// The bucket of the last moment and the record of a series in it, where the bucket is from one to another, these
+    /// included.
+    fn next_open(&self, bucket: u32, series: u32, from: u32, to: u32) -> Option<(u32, Record)>
+        ensures { result ≡ if nat_le from bucket && nat_le bucket to
+            then option_map (λ (found : ARecord). (bucket, found)) (open_record (records_held self.now) series)
+            else None }
+    {
+        if from <= bucket && bucket <= to {
+            let found = self.open_record(series)?;
+            return Some((bucket, found));
+        }
+        None
+    }
+
+    /// The first bucket from one to another, these included, that has a record of a series at or above the floor, and
+    /// that record, where `last` is the last moment.
+    pub(crate) fn next_record(
+        &self,
+        last: u32,
+        series: u32,
+        from: u32,
+        to: u32,
+    ) -> Option<(u32, Record)>
+        ensures { AreOrdered (items_of self.now.segments.kept)
+            → AreClosed last (records_held self.now) → (place : ℕ)
+            → IsFirstRecord (λ bucket. record_in (place + 1) (records_held self.now) last series
+            bucket) from to result }
+    {
+        let low = from.max(self.first_bucket());
+        match searching::next_item(&self.segments, series, low, to) {
+            Some(item) => Some((item.place, item.value)),
+            None => self.next_open(last / self.tier.width, series, low, to),
+        }
     }
 }

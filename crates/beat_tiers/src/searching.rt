@@ -1,16 +1,17 @@
-ghost use Rattle.std.specs.Prelude.{◌≡◌, ℕ, [], ◌∷◌, ◌++◌, nat_le, filter, find, flat_map, take, IfOk, OnOk};
-ghost use Rattle.std.specs.List.{filter_map};
+ghost use Rattle.std.specs.Prelude.{◌≡◌, ◌==◌, ℕ, [], ◌∷◌, ◌++◌, nat_le, filter, find, flat_map, take, IfOk, OnOk};
+ghost use Rattle.std.specs.List.{filter_map, AllByRecursion};
 ghost use Rattle.std.specs.Option.{option_map};
 ghost use Rattle.fixed_num.specs.declared.units.Record.{Record as ARecord};
 ghost use Rattle.beat_tiers.specs.declared.item.Item.{Item as AnItem};
 ghost use Rattle.beat_tiers.specs.declared.segments.Segment.{Segment as ASegment};
-ghost use Rattle.beat_tiers.specs.Searching.{is_before};
+ghost use Rattle.beat_tiers.specs.Searching.{first_place, is_before, is_next, items_in, last_place, HasItems};
 ghost use Rattle.beat_tiers.specs.Segments.{items_of};
 ghost use Rattle.beat_tiers.specs.State.{is_item, point_at};
 ghost use Rattle.beat_tiers.specs.Tiers.{AreOrdered};
 
 use crate::item::Item;
-use crate::segments::{Segment, Segments};
+use crate::sealed::Sealed;
+use crate::segments::Segments;
 use fixed_num::Record;
 use std::alloc::{AllocError, Global};
 use tier_rollup::{Point, PointList};
@@ -32,6 +33,51 @@ fn to_place<T>(items: &[Item<T>], high: u32) -> &[Item<T>]
 {
     let end = items.partition_point(|item| item.place <= high);
     items.split_at(end).0
+}
+
+/// The place of the first item, or 0.
+fn first_place<T>(segment: &Sealed<T>) -> u32
+    ensures { result ≡ first_place segment.now }
+{
+    match segment.items().first() {
+        Some(item) => item.place,
+        None => 0,
+    }
+}
+
+/// The place of the last item, or 0.
+fn last_place<T>(segment: &Sealed<T>) -> u32
+    ensures { result ≡ last_place segment.now }
+{
+    match segment.items().last() {
+        Some(item) => item.place,
+        None => 0,
+    }
+}
+
+/// The segments that have items from a place on, by halves.
+fn from_segment<T>(segments: &[Sealed<T>], low: u64) -> &[Sealed<T>]
+    requires { AllByRecursion HasItems segments.now }
+    ensures ordered { AreOrdered (items_in segments.now) → AreOrdered (items_in result.now) }
+    ensures full { AllByRecursion HasItems result.now }
+    ensures from { AreOrdered (items_in segments.now)
+        → filter (λ (item : AnItem T). nat_le low item.place) (items_in result.now)
+        ≡ filter (λ (item : AnItem T). nat_le low item.place) (items_in segments.now) }
+{
+    let start = segments.partition_point(|segment| u64::from(last_place(segment)) < low);
+    segments.split_at(start).1
+}
+
+/// The segments that have items up to a place, by halves.
+fn to_segment<T>(segments: &[Sealed<T>], high: u32) -> &[Sealed<T>]
+    requires { AllByRecursion HasItems segments.now }
+    ensures ordered { AreOrdered (items_in segments.now) → AreOrdered (items_in result.now) }
+    ensures to { AreOrdered (items_in segments.now)
+        → filter (λ (item : AnItem T). nat_le item.place high) (items_in result.now)
+        ≡ filter (λ (item : AnItem T). nat_le item.place high) (items_in segments.now) }
+{
+    let end = segments.partition_point(|segment| first_place(segment) <= high);
+    segments.split_at(end).0
 }
 
 /// The point that an item is, where it is of this series and between these moments.
@@ -108,23 +154,56 @@ fn add_ordered(
     add_items(points, between, floor, series, from, to)
 }
 
-/// Adds the points that the items of segments are.
-fn add_segments(
+/// Adds the points that the items of a segment are.
+fn add_segment(
     points: &mut PointList,
-    segments: &[Segment<u32>],
+    segment: &Sealed<u32>,
     floor: u64,
     series: u32,
     from: u32,
     to: u32,
 ) -> Result<(), AllocError>
-    ensures { AreOrdered (flat_map (λ (segment : ASegment ℕ). segment.items) segments.now)
+    ensures { AreOrdered segment.now.items → OnOk result (points.new
+        ≡ points.old ++ filter_map (point_at floor series from to) segment.now.items) }
+{
+    add_ordered(points, segment.of_series(series), floor, series, from, to)
+}
+
+/// Adds the points that the items of segments are.
+fn add_segments(
+    points: &mut PointList,
+    segments: &[Sealed<u32>],
+    floor: u64,
+    series: u32,
+    from: u32,
+    to: u32,
+) -> Result<(), AllocError>
+    ensures { AreOrdered (items_in segments.now)
         → OnOk result (points.new ≡ points.old ++ filter_map (point_at floor series from to)
-        (flat_map (λ (segment : ASegment ℕ). segment.items) segments.now)) }
+        (items_in segments.now)) }
 {
     for segment in segments {
-        add_ordered(points, segment.items.as_slice(), floor, series, from, to)?;
+        add_segment(points, segment, floor, series, from, to)?;
     }
     Ok(())
+}
+
+/// Adds the points that the items of segments are, and reads those segments alone that have some between the moments.
+fn add_between(
+    points: &mut PointList,
+    segments: &[Sealed<u32>],
+    floor: u64,
+    series: u32,
+    from: u32,
+    to: u32,
+) -> Result<(), AllocError>
+    requires { AllByRecursion HasItems segments.now }
+    ensures { AreOrdered (items_in segments.now) → OnOk result (points.new
+        ≡ points.old ++ filter_map (point_at floor series from to) (items_in segments.now)) }
+{
+    let low = floor.max(u64::from(from));
+    let between = to_segment(from_segment(segments, low), to);
+    add_segments(points, between, floor, series, from, to)
 }
 
 /// The points of a series at or above a floor and between two moments, these included.
@@ -136,13 +215,13 @@ pub(crate) fn points_of(
     from: u32,
     to: u32,
 ) -> Result<PointList, AllocError>
-    ensures { AreOrdered (items_of segments.now) → IfOk result (λ points. points
-        ≡ filter_map (point_at floor series from to) (items_of segments.now)) }
+    ensures { AreOrdered (items_of segments.now.kept) → IfOk result (λ points. points
+        ≡ filter_map (point_at floor series from to) (items_of segments.now.kept)) }
 {
     let mut points = PointList::new(alloc);
     let (earlier, later) = segments.sealed();
-    add_segments(&mut points, earlier, floor, series, from, to)?;
-    add_segments(&mut points, later, floor, series, from, to)?;
+    add_between(&mut points, earlier, floor, series, from, to)?;
+    add_between(&mut points, later, floor, series, from, to)?;
     add_ordered(&mut points, segments.unsealed(), floor, series, from, to)?;
     Ok(points)
 }
@@ -175,14 +254,14 @@ fn find_item(items: &[Item<Record>], bucket: u32, series: u32) -> Option<Record>
 }
 
 /// The record of a bucket's series among the items of segments.
-fn find_in_segments(segments: &[Segment<Record>], bucket: u32, series: u32) -> Option<Record>
-    ensures { AreOrdered (flat_map (λ (segment : ASegment ARecord). segment.items) segments.now)
+fn find_in_segments(segments: &[Sealed<Record>], bucket: u32, series: u32) -> Option<Record>
+    ensures { AreOrdered (items_in segments.now)
         → result ≡ option_map (λ (item : AnItem ARecord). item.value)
         (find (is_item bucket series)
-        (flat_map (λ (segment : ASegment ARecord). segment.items) segments.now)) }
+        (items_in segments.now)) }
 {
     for segment in segments {
-        match find_item(segment.items.as_slice(), bucket, series) {
+        match find_item(segment.items(), bucket, series) {
             Some(record) => return Some(record),
             None => {}
         }
@@ -190,18 +269,108 @@ fn find_in_segments(segments: &[Segment<Record>], bucket: u32, series: u32) -> O
     None
 }
 
+/// The record of a bucket's series among the items of segments. The segments of the bucket are found by halves.
+fn find_between(segments: &[Sealed<Record>], bucket: u32, series: u32) -> Option<Record>
+    requires { AllByRecursion HasItems segments.now }
+    ensures { AreOrdered (items_in segments.now)
+        → result ≡ option_map (λ (item : AnItem ARecord). item.value)
+        (find (is_item bucket series) (items_in segments.now)) }
+{
+    let between = to_segment(from_segment(segments, u64::from(bucket)), bucket);
+    find_in_segments(between, bucket, series)
+}
+
 /// The record of a bucket's series.
 pub(crate) fn record_of(segments: &Segments<Record>, bucket: u32, series: u32) -> Option<Record>
-    ensures { AreOrdered (items_of segments.now)
+    ensures { AreOrdered (items_of segments.now.kept)
         → result ≡ option_map (λ (item : AnItem ARecord). item.value)
-        (find (is_item bucket series) (items_of segments.now)) }
+        (find (is_item bucket series) (items_of segments.now.kept)) }
 {
     let (earlier, later) = segments.sealed();
-    match find_in_segments(earlier, bucket, series) {
+    match find_between(earlier, bucket, series) {
         Some(record) => Some(record),
-        None => match find_in_segments(later, bucket, series) {
+        None => match find_between(later, bucket, series) {
             Some(record) => Some(record),
             None => find_item(segments.unsealed(), bucket, series),
+        },
+    }
+}
+
+/// The first item of a series.
+fn first_of(items: &[Item<Record>], series: u32) -> Option<Item<Record>>
+    ensures { result ≡ find (λ (item : AnItem ARecord). item.series == series) items.now }
+{
+    items.iter().find(|item| item.series == series).copied()
+}
+
+/// The first item of a series among ordered items, from one place to another, these included. The places are found by
+/// halves.
+fn find_next(items: &[Item<Record>], series: u32, from: u32, to: u32) -> Option<Item<Record>>
+    ensures { AreOrdered items.now → result ≡ find (is_next series from to) items.now }
+{
+    first_of(to_place(from_place(items, u64::from(from)), to), series)
+}
+
+/// The first item of a series in a segment, from one place to another, these included.
+fn next_in(segment: &Sealed<Record>, series: u32, from: u32, to: u32) -> Option<Item<Record>>
+    ensures { AreOrdered segment.now.items
+        → result ≡ find (is_next series from to) segment.now.items }
+{
+    find_next(segment.of_series(series), series, from, to)
+}
+
+/// The first item of a series among the items of segments, from one place to another, these included.
+fn next_in_segments(
+    segments: &[Sealed<Record>],
+    series: u32,
+    from: u32,
+    to: u32,
+) -> Option<Item<Record>>
+    ensures { AreOrdered (items_in segments.now)
+        → result ≡ find (is_next series from to)
+        (items_in segments.now) }
+{
+    for segment in segments {
+        match next_in(segment, series, from, to) {
+            Some(item) => return Some(item),
+            None => {}
+        }
+    }
+    None
+}
+
+/// The first item of a series among the items of segments, from one place to another, these included. The segments
+/// between the places are found by halves.
+fn next_between(
+    segments: &[Sealed<Record>],
+    series: u32,
+    from: u32,
+    to: u32,
+) -> Option<Item<Record>>
+    requires { AllByRecursion HasItems segments.now }
+    ensures { AreOrdered (items_in segments.now)
+        → result ≡ find (is_next series from to) (items_in segments.now) }
+{
+    let between = to_segment(from_segment(segments, u64::from(from)), to);
+    next_in_segments(between, series, from, to)
+}
+
+/// The first item of a series from one place to another, these included.
+pub(crate) fn next_item(
+    segments: &Segments<Record>,
+    series: u32,
+    from: u32,
+    to: u32,
+) -> Option<Item<Record>>
+    ensures { AreOrdered (items_of segments.now.kept)
+        → result ≡ find (is_next series from to) (items_of segments.now.kept) }
+{
+    let (earlier, later) = segments.sealed();
+    match next_between(earlier, series, from, to) {
+        Some(item) => Some(item),
+        None => match next_between(later, series, from, to) {
+            Some(item) => Some(item),
+            None => find_next(segments.unsealed(), series, from, to),
         },
     }
 }

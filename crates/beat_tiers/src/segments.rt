@@ -1,7 +1,12 @@
-ghost use Rattle.std.specs.Prelude.{◌≡◌, [], ◌∷◌, ◌++◌, OnOk};
-ghost use Rattle.beat_tiers.specs.Segments.{SegmentsOf, no_segments, with_item, ended, expire_after};
+ghost use Rattle.std.specs.Prelude.{◌≡◌, ◌-◌, ◌≤◌, length, [], ◌∷◌, ◌++◌, vec_len, vec_capacity, OnOk};
+ghost use Rattle.std.specs.VecDeque.{deque_len, deque_capacity};
+ghost use Rattle.beat_tiers.specs.Room.{SegmentsHeld, HasRoom};
+ghost use Rattle.std.specs.List.{AllByRecursion};
+ghost use Rattle.beat_tiers.specs.Searching.{HasItems};
+ghost use Rattle.beat_tiers.specs.Segments.{no_segments, with_item, ended, expire_after, sealed_at};
 
 use crate::item::Item;
+use crate::sealed::Sealed;
 use crate::tier::Tier;
 use fixed_num::ListOf;
 use std::alloc::{AllocError, Global};
@@ -26,27 +31,33 @@ pub(crate) struct Segments<T> {
     expired: Option<u32>,
     /// How many beats gave items that have expired. The count stands still at 2^64 - 1.
     before: u64,
-    sealed: VecDeque<Segment<T>>,
+    sealed: VecDeque<Sealed<T>>,
     /// How many beats gave the items since.
     beats: u64,
-    unsealed: ListOf<Item<T>>,
+    unsealed: Vec<Item<T>>,
 }
 
 impl<T> Model for Segments<T> {
-    ghost Value = { SegmentsOf T };
+    ghost Value = { SegmentsHeld T };
 
     ghost view = { λ segments. record {
-      expired = segments.expired;
-      before = segments.before;
-      sealed = segments.sealed.items;
-      beats = segments.beats;
-      unsealed = segments.unsealed;
+      kept = record {
+        expired = segments.expired;
+        before = segments.before;
+        sealed = segments.sealed.items;
+        beats = segments.beats;
+        unsealed = segments.unsealed.items;
+      };
+      items = vec_capacity segments.unsealed - vec_len segments.unsealed;
+      segments = deque_capacity segments.sealed - deque_len segments.sealed;
     } };
+
+    ghost invariant = { λ segments. AllByRecursion HasItems segments.sealed.items };
 }
 
-impl<T: Drop> Segments<T> {
+impl<T: Copy + Drop> Segments<T> {
     pub(crate) fn new(alloc: Global) -> Segments<T>
-        ensures { result ≡ no_segments }
+        ensures { result.kept ≡ no_segments }
     {
         Segments {
             alloc,
@@ -54,87 +65,100 @@ impl<T: Drop> Segments<T> {
             before: 0,
             sealed: VecDeque::new(alloc),
             beats: 0,
-            unsealed: ListOf::new(alloc),
+            unsealed: Vec::new(alloc),
         }
     }
 
     /// The moment of the beat that sealed the last segment that has expired.
     pub(crate) fn expired(&self) -> Option<u32>
-        ensures { result ≡ self.now.expired }
+        ensures { result ≡ self.now.kept.expired }
     {
         self.expired
     }
 
     /// How many beats gave items that have expired.
     pub(crate) fn before(&self) -> u64
-        ensures { result ≡ self.now.before }
+        ensures { result ≡ self.now.kept.before }
     {
         self.before
     }
 
     /// The segments that are sealed and kept, the earliest first: some, and those behind them.
-    pub(crate) fn sealed(&self) -> (&[Segment<T>], &[Segment<T>])
-        ensures { result.0.now ++ result.1.now ≡ self.now.sealed }
+    pub(crate) fn sealed(&self) -> (&[Sealed<T>], &[Sealed<T>])
+        ensures all { result.0.now ++ result.1.now ≡ self.now.kept.sealed }
+        ensures earlier { AllByRecursion HasItems result.0.now }
+        ensures later { AllByRecursion HasItems result.1.now }
     {
         self.sealed.as_slices()
     }
 
     /// The items since the last cut.
     pub(crate) fn unsealed(&self) -> &[Item<T>]
-        ensures { result.now ≡ self.now.unsealed }
+        ensures { result.now ≡ self.now.kept.unsealed }
     {
         self.unsealed.as_slice()
     }
 
-    /// Adds an item.
-    pub(crate) fn push(&mut self, item: Item<T>) -> Result<(), AllocError>
-        ensures { OnOk result (self.new ≡ with_item self.old item) }
+    /// Takes memory for so many more items, and for a segment.
+    pub(crate) fn reserve(&mut self, more: usize) -> Result<(), AllocError>
+        ensures kept { self.new.kept ≡ self.old.kept }
+        ensures room { OnOk result (HasRoom more self.new) }
     {
-        self.unsealed.push(item)?;
-        Ok(())
+        self.unsealed.reserve(more)?;
+        self.sealed.reserve(1)
+    }
+
+    /// Adds an item, for which there is memory.
+    pub(crate) fn push(&mut self, item: Item<T>)
+        requires { 1 ≤ self.old.items }
+        ensures { self.new ≡ record self.old {
+          kept = with_item self.old.kept item;
+          items = self.old.items - 1;
+        } }
+    {
+        self.unsealed.push_reserved(item);
     }
 
     /// Ends a beat that gave items: those since the last cut are cut off where they are enough.
-    pub(crate) fn end_beat(&mut self, tier: Tier, moment: u32) -> Result<(), AllocError>
-        ensures { OnOk result (self.new ≡ ended tier moment self.old) }
+    pub(crate) fn end_beat(&mut self, tier: Tier, moment: u32)
+        requires room { 1 ≤ self.old.segments }
+        requires tier { 1 ≤ tier.items }
+        ensures { self.new.kept ≡ ended tier moment self.old.kept }
     {
         self.beats = self.beats.saturating_add(1);
         if self.unsealed.len() < tier.items as usize {
-            return Ok(());
+            return;
         }
-        self.seal(moment)?;
+        self.seal(moment);
         self.expire_after(tier.extents);
-        Ok(())
     }
 
-    fn seal(&mut self, moment: u32) -> Result<(), AllocError>
-        ensures { OnOk result (self.new ≡ record self.old {
-          sealed = self.old.sealed ++ record { sealed_at = moment; beats = self.old.beats; items = self.old.unsealed } ∷ [];
-          beats = 0;
-          unsealed = [];
-        }) }
+    fn seal(&mut self, moment: u32)
+        requires room { 1 ≤ self.old.segments }
+        requires some { 1 ≤ length self.old.kept.unsealed }
+        ensures { self.new.kept ≡ sealed_at moment self.old.kept }
     {
-        let items = std::mem::replace(&mut self.unsealed, ListOf::new(self.alloc));
+        let items = std::mem::replace(&mut self.unsealed, Vec::new(self.alloc));
         let segment = Segment {
             sealed_at: moment,
             beats: self.beats,
-            items,
+            items: ListOf::from_vec(items),
         };
-        self.sealed.push_back(segment)?;
+        self.sealed
+            .push_back_reserved(Sealed::new(self.alloc, segment));
         self.beats = 0;
-        Ok(())
     }
 
     /// Drops the earliest segment where more are sealed than are kept.
     fn expire_after(&mut self, extents: u32)
-        ensures { self.new ≡ expire_after extents self.old }
+        ensures { self.new.kept ≡ expire_after extents self.old.kept }
     {
         if self.sealed.len() <= extents as usize {
             return;
         }
         if let Some(first) = self.sealed.pop_front() {
-            self.expired = Some(first.sealed_at);
-            self.before = self.before.saturating_add(first.beats);
+            self.expired = Some(first.sealed_at());
+            self.before = self.before.saturating_add(first.beats());
         }
     }
 }

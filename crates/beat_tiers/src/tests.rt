@@ -62,10 +62,17 @@ fn record(min: i32, max: i32, sum: i32, count: u32) -> Record {
     }
 }
 
+/// Takes the memory for a beat, and then the beat.
+fn add(tiers: &mut Tiers, moment: Option<u32>, points: &[BeatPoint]) -> Result<(), AllocError> {
+    tiers.reserve(moment, points)?;
+    tiers.take(moment, points);
+    Ok(())
+}
+
 /// Takes a beat of one point at each of these moments.
 fn take_each(tiers: &mut Tiers, moments: &[u32]) -> Result<(), AllocError> {
     for moment in moments {
-        tiers.take(Some(*moment), [point(0, 1)].as_slice())?;
+        add(tiers, Some(*moment), [point(0, 1)].as_slice())?;
     }
     Ok(())
 }

@@ -1,9 +1,10 @@
-ghost use Rattle.std.specs.Prelude.{◌≡◌, ℕ, ◌+◌, ◌-◌, ◌^◌, ◌<◌, min, ◌∷◌, ◌++◌, length, map, slice_get, Some, None, IfOk, IsNone, IsOk, OnOk};
+ghost use Rattle.std.specs.Prelude.{◌≡◌, ℕ, ◌+◌, ◌-◌, ◌^◌, ◌<◌, ◌≤◌, min, ◌∷◌, ◌++◌, length, map, slice_get, Some, None, IfOk, IsNone, IsOk, OnOk};
 ghost use Rattle.std.specs.List.{AllByRecursion};
 ghost use Rattle.beat_tiers.specs.Kept.{kept_in};
+ghost use Rattle.beat_tiers.specs.Room.{records_held, tiers_held, HasRoom, HasRoomAfter, HasRoomFor};
 ghost use Rattle.beat_tiers.specs.Segments.{items_of, with_items};
-ghost use Rattle.beat_tiers.specs.State.{RecordTierState, after_beat, floor_in, no_beats, no_records, point_items, points_after, points_in, record_in, record_tier_after};
-ghost use Rattle.beat_tiers.specs.Tiers.{AreOrdered, IsTier};
+ghost use Rattle.beat_tiers.specs.State.{AreClosed, RecordTierState, after_beat, floor_in, no_beats, no_records, point_items, points_after, points_in, record_in, record_tier_after, tier_floor};
+ghost use Rattle.beat_tiers.specs.Tiers.{AreOrdered, IsFirstRecord, IsTier};
 
 use crate::item::{BeatPoint, Item};
 use crate::kept::{self, Kept};
@@ -28,9 +29,10 @@ pub struct Tiers {
 }
 
 impl Model for Tiers {
-    ghost use Rattle.beat_tiers.specs.State.{TiersState};
+    ghost use Rattle.std.specs.Prelude.{◌≤◌};
+    ghost use Rattle.beat_tiers.specs.Room.{TiersHeld};
 
-    ghost Value = { TiersState };
+    ghost Value = { TiersHeld };
 
     ghost view = { λ tiers. record {
       last = tiers.last;
@@ -38,12 +40,14 @@ impl Model for Tiers {
       points = tiers.points;
       records = tiers.records.items;
     } };
+
+    ghost invariant = { λ tiers. 1 ≤ tiers.first.items };
 }
 
 /// Tiers of records with these settings.
 fn record_tiers(alloc: Global, settings: &[Tier]) -> Result<Vec<RecordTier>, AllocError>
     requires { AllByRecursion IsTier settings.now }
-    ensures { IfOk result (λ tiers. tiers.items ≡ map no_records settings.now) }
+    ensures { IfOk result (λ tiers. map records_held tiers.items ≡ map no_records settings.now) }
 {
     let mut tiers = Vec::new(alloc);
     for tier in settings {
@@ -52,54 +56,62 @@ fn record_tiers(alloc: Global, settings: &[Tier]) -> Result<Vec<RecordTier>, All
     Ok(tiers)
 }
 
-/// Adds points as items.
-fn push_points(
-    segments: &mut Segments<u32>,
-    moment: u32,
-    points: &[BeatPoint],
-) -> Result<(), AllocError>
-    ensures { OnOk result (segments.new
-        ≡ with_items segments.old (point_items moment points.now)) }
+/// Adds points as items, for which there is memory.
+fn push_points(segments: &mut Segments<u32>, moment: u32, points: &[BeatPoint])
+    requires { length points.now ≤ segments.old.items }
+    ensures { segments.new ≡ record segments.old {
+      kept = with_items segments.old.kept (point_items moment points.now);
+      items = segments.old.items - length points.now;
+    } }
 {
     for point in points {
         segments.push(Item {
             place: moment,
             series: point.series,
             value: point.word,
-        })?;
+        });
     }
-    Ok(())
 }
 
-/// Adds the points of a beat, and ends it.
-fn take_points(
-    segments: &mut Segments<u32>,
-    tier: Tier,
-    moment: u32,
-    points: &[BeatPoint],
-) -> Result<(), AllocError>
-    ensures { OnOk result (segments.new ≡ points_after tier moment points.now segments.old) }
+/// Adds the points of a beat, for which there is memory, and ends it.
+fn take_points(segments: &mut Segments<u32>, tier: Tier, moment: u32, points: &[BeatPoint])
+    requires room { HasRoom (length points.now) segments.old }
+    requires tier { 1 ≤ tier.items }
+    ensures { segments.new.kept ≡ points_after tier moment points.now segments.old.kept }
 {
     if points.is_empty() {
-        return Ok(());
+        return;
     }
-    push_points(segments, moment, points)?;
-    segments.end_beat(tier, moment)
+    push_points(segments, moment, points);
+    segments.end_beat(tier, moment);
 }
 
-/// Each tier of records takes a beat.
-fn take_each(
+/// Each tier of records takes the memory for a beat.
+fn reserve_each(
     tiers: &mut [RecordTier],
     last: u32,
     moment: u32,
     points: &[BeatPoint],
 ) -> Result<(), AllocError>
-    ensures { OnOk result (tiers.new ≡ map (record_tier_after last moment points.now) tiers.old) }
+    ensures kept { map records_held tiers.new ≡ map records_held tiers.old }
+    ensures room { OnOk result
+        (AllByRecursion (HasRoomAfter last moment points.now) tiers.new) }
 {
     for tier in tiers.iter_mut() {
-        tier.take(last, moment, points)?;
+        tier.reserve(last, moment, points)?;
     }
     Ok(())
+}
+
+/// Each tier of records takes a beat, for which there is memory.
+fn take_each(tiers: &mut [RecordTier], last: u32, moment: u32, points: &[BeatPoint])
+    requires { AllByRecursion (HasRoomAfter last moment points.now) tiers.old }
+    ensures { map records_held tiers.new
+        ≡ map (record_tier_after last moment points.now) (map records_held tiers.old) }
+{
+    for tier in tiers.iter_mut() {
+        tier.take(last, moment, points);
+    }
 }
 
 /// The first moment that is kept of points, or 0 where nothing has expired.
@@ -117,7 +129,7 @@ impl Tiers {
     pub fn new(alloc: Global, first: Tier, others: &[Tier]) -> Result<Tiers, AllocError>
         requires first { IsTier first }
         requires others { AllByRecursion IsTier others.now }
-        ensures { IfOk result (λ tiers. tiers ≡ no_beats first others.now) }
+        ensures { IfOk result (λ tiers. tiers_held tiers ≡ no_beats first others.now) }
     {
         Ok(Tiers {
             alloc,
@@ -128,24 +140,29 @@ impl Tiers {
         })
     }
 
-    /// Takes a beat. One without a moment changes nothing. After an `Err` nothing is promised of the tiers.
-    pub fn take(&mut self, moment: Option<u32>, points: &[BeatPoint]) -> Result<(), AllocError>
-        ensures taken { OnOk result (self.new ≡ after_beat moment points.now self.old) }
+    /// Takes the memory for a beat. What is kept is as before, also after an `Err`.
+    pub fn reserve(&mut self, moment: Option<u32>, points: &[BeatPoint]) -> Result<(), AllocError>
+        ensures kept { tiers_held self.new ≡ tiers_held self.old }
+        ensures room { OnOk result (HasRoomFor moment points.now self.new) }
         ensures untimed { IsNone moment → IsOk result }
     {
-        match moment {
-            Some(moment) => self.take_at(moment, points),
-            None => Ok(()),
-        }
+        let Some(moment) = moment else {
+            return Ok(());
+        };
+        self.points.reserve(points.len())?;
+        reserve_each(&mut self.records, self.last, moment, points)
     }
 
-    fn take_at(&mut self, moment: u32, points: &[BeatPoint]) -> Result<(), AllocError>
-        ensures { OnOk result (self.new ≡ after_beat (Some moment) points.now self.old) }
+    /// Takes a beat, for which there is memory. One without a moment changes nothing.
+    pub fn take(&mut self, moment: Option<u32>, points: &[BeatPoint])
+        requires { HasRoomFor moment points.now self.old }
+        ensures { tiers_held self.new ≡ after_beat moment points.now (tiers_held self.old) }
     {
-        take_points(&mut self.points, self.first, moment, points)?;
-        take_each(&mut self.records, self.last, moment, points)?;
-        self.last = moment;
-        Ok(())
+        if let Some(moment) = moment {
+            take_points(&mut self.points, self.first, moment, points);
+            take_each(&mut self.records, self.last, moment, points);
+            self.last = moment;
+        }
     }
 
     /// The last moment of a beat in seconds, or 0.
@@ -165,7 +182,8 @@ impl Tiers {
     /// The settings of a tier, if there is one of this number.
     pub fn tier(&self, number: usize) -> Option<Tier>
         ensures { result ≡ slice_get
-            (self.now.first ∷ map (λ (one : RecordTierState). one.tier) self.now.records) number }
+            (self.now.first ∷ map (λ (one : RecordTierState). one.tier)
+            (tiers_held self.now).records) number }
     {
         if number == 0 {
             return Some(self.first);
@@ -176,19 +194,20 @@ impl Tiers {
         }
     }
 
+    fn points_floor(&self) -> u32
+        ensures { result ≡ tier_floor (tiers_held self.now) 0 }
+    {
+        let floor = first_floor(self.points.expired(), self.first);
+        u32::try_from(floor).unwrap_or(u32::MAX)
+    }
+
     /// The first moment of which a tier has what it was given, in seconds, or 0 where nothing has expired. It is
     /// the last moment of the type where points of that moment have expired, and 0 for a tier that is not there.
     pub fn floor(&self, tier: u8) -> u32
-        ensures first { tier ≡ 0 → result
-            ≡ min (floor_in 0 self.now.first self.now.points.expired) (2 ^ 32 - 1) }
-        ensures others { (place : ℕ) (one : RecordTierState)
-            → slice_get self.now.records place ≡ Some one → tier ≡ place + 1
-            → result ≡ floor_in (place + 1) one.tier one.segments.expired }
-        ensures beyond { length self.now.records < tier → result ≡ 0 }
+        ensures { result ≡ tier_floor (tiers_held self.now) tier }
     {
         if tier == 0 {
-            let floor = first_floor(self.points.expired(), self.first);
-            return u32::try_from(floor).unwrap_or(u32::MAX);
+            return self.points_floor();
         }
         match self.records.get(usize::from(tier) - 1) {
             Some(tier) => tier.floor(),
@@ -199,8 +218,8 @@ impl Tiers {
     /// The points of a series at or above tier 0's floor and from one moment to another, these included, the
     /// earliest first.
     pub fn points(&self, series: u32, from: u32, to: u32) -> Result<PointList, AllocError>
-        ensures { AreOrdered (items_of self.now.points)
-            → IfOk result (λ points. points ≡ points_in self.now series from to) }
+        ensures { AreOrdered (items_of self.now.points.kept)
+            → IfOk result (λ points. points ≡ points_in (tiers_held self.now) series from to) }
     {
         let floor = first_floor(self.points.expired(), self.first);
         searching::points_of(self.alloc, &self.points, floor, series, from, to)
@@ -210,7 +229,7 @@ impl Tiers {
     /// the bucket is over. `None` in tier 0 and in a tier that is not there.
     pub fn record_of(&self, tier: u8, series: u32, bucket: u32) -> Option<Record>
         ensures kept { (place : ℕ) (one : RecordTierState)
-            → slice_get self.now.records place ≡ Some one → tier ≡ place + 1
+            → slice_get (tiers_held self.now).records place ≡ Some one → tier ≡ place + 1
             → AreOrdered (items_of one.segments)
             → result ≡ record_in (place + 1) one self.now.last series bucket }
         ensures first { tier ≡ 0 → result ≡ None }
@@ -225,9 +244,30 @@ impl Tiers {
         }
     }
 
+    /// The first bucket of a tier of records, from one to another, these included, that has a record of a series at or
+    /// above the tier's floor, and that record, whether or not the bucket is over. `None` in tier 0 and in a tier that is
+    /// not there. It costs by what is kept between the two, and not by the buckets or by what is kept before and behind them.
+    pub fn next_record(&self, tier: u8, series: u32, from: u32, to: u32) -> Option<(u32, Record)>
+        ensures kept { (place : ℕ) (one : RecordTierState)
+            → slice_get (tiers_held self.now).records place ≡ Some one → tier ≡ place + 1
+            → AreOrdered (items_of one.segments) → AreClosed self.now.last one
+            → IsFirstRecord (λ bucket. record_in (place + 1) one self.now.last series bucket)
+            from to result }
+        ensures first { tier ≡ 0 → result ≡ None }
+        ensures beyond { length self.now.records < tier → result ≡ None }
+    {
+        if tier == 0 {
+            return None;
+        }
+        match self.records.get(usize::from(tier) - 1) {
+            Some(tier) => tier.next_record(self.last, series, from, to),
+            None => None,
+        }
+    }
+
     /// How many beats gave points that have expired, and the beats that gave those that are kept, the earliest first.
     pub fn kept(&self) -> Result<Kept, AllocError>
-        ensures { IfOk result (λ kept. kept ≡ kept_in self.now.points) }
+        ensures { IfOk result (λ kept. kept ≡ kept_in self.now.points.kept) }
     {
         kept::kept_of(self.alloc, &self.points)
     }

@@ -7,6 +7,7 @@ pub mod DefiningLemmas
 pub mod DimensionsLemmas
 pub mod FewLemmas
 pub mod Finding
+pub mod FirstLemmas
 pub mod Growing
 pub mod OpenLemmas
 pub mod Places

@@ -1,11 +1,10 @@
 -- Why a definition of a beat is refused, after those before it.
-use Rattle.std.proofs.Common.{◌≡◌, ℕ, ◌+◌, ◌<◌, ◌≤◌, Bool, true, false, cond, not, ◌&&◌, ◌||◌, nat_eq, nat_le, ◌⊎◌, inl, inr, List, [], ◌∷◌, ◌++◌, length, take, drop, get_or, position, Option, Some, None, is_some, Result, Ok, Err, refl, sym, ap, subst, ◌∙◌, arith, true≢false, if◌then◌else◌}
+use Rattle.std.proofs.Common.{◌≡◌, ℕ, ◌+◌, ◌<◌, ◌≤◌, Bool, true, false, cond, not, ◌&&◌, ◌||◌, nat_eq, nat_le, ◌⊎◌, inl, inr, List, [], ◌∷◌, ◌++◌, length, take, drop, get_or, position, Option, Some, None, is_some, refl, sym, ap, subst, ◌∙◌, arith, true≢false, if◌then◌else◌}
 use Rattle.std.specs.List.{find, list_any, count_by}
-use Rattle.std.specs.Result.{OnErr}
 use Rattle.std.specs.Option.{option_map_or}
 use Rattle.std.specs.Str.{bytes_eq}
 use Rattle.std.proofs.lemmas.Bool.{and_parts, leb-true}
-use Rattle.std.proofs.lemmas.List.{length_push, take-append-drop, take_all}
+use Rattle.std.proofs.lemmas.List.{length_push, take-append-drop}
 use Rattle.std.proofs.lemmas.List.Folds.{list_any-append, list_any_at}
 use Rattle.std.proofs.lemmas.List.Sums.{sum_by-cons}
 use Rattle.std.proofs.lemmas.Option.{none-some, same_Some}
@@ -19,7 +18,7 @@ use Rattle.history.specs.Refusal.{chart_refusal, charts_full, dimension_refusal,
 use Rattle.history.specs.Registry.{Registry, is_chart, is_of, is_dimension, same_chart, same_dimension, chart_of, series_of, with_definitions}
 use Rattle.chart_registry.specs.declared.fault.RegistryFault.{RegistryFault}
 use Rattle.chart_registry.specs.declared.fault.RegistryFault.TheVariants.{GridChanged, TooManyCharts, TooManyDimensions, Memory}
-use Rattle.chart_registry.specs.Defining.{nothing_open, other_grid, changes_grids, defines, IsReasonOf, RefusedBy, TakesFront}
+use Rattle.chart_registry.specs.Defining.{nothing_open, other_grid, changes_grids, IsReasonOf, RefusedBy}
 use Rattle.chart_registry.proofs.Applying.{charts-more, dimensions-more, same_chart-alike}
 use Rattle.chart_registry.proofs.Finding.{found-passes, one_if}
 use Rattle.chart_registry.proofs.Growing.{length-put_all}
@@ -111,6 +110,10 @@ position-found p xs k e none = true≢false (sym (ap is_some e) ∙ list_any-pos
         by : (b : Bool) → cond b (Some x) (find p xs) ≡ None → (find p xs ≡ None → list_any p xs ≡ false) → (b || list_any p xs) ≡ false
         by true e rest = absurd (none-some x (sym e))
         by false e rest = rest e
+
+-- a beat of these definitions alone
+abbrev pub defines : List ChartDef → List OpenDim → OpenBeat
+defines charts dimensions = record { charts = charts; dimensions = dimensions; rows = [] }
 
 -- ---- charts
 module _ (registry : Registry) (charts : List ChartDef) (n : ℕ) (def : ChartDef) (made : Registry) (within : n < length charts) (here : get_or charts n def ≡ def) (made_is : made ≡ with_definitions registry (take n charts) []) where
@@ -254,37 +257,15 @@ owner-is registry def id chart same fault refused = subst (λ (text : List ℕ).
 
 -- ---- the whole beat
 module _ (registry : Registry) (beat : OpenBeat) where
-  wider : (fault : RegistryFault) → IsReasonOf registry (defines beat.charts []) fault → IsReasonOf registry beat fault
-  wider GridChanged reason = reason
-  wider TooManyCharts reason = reason
-  wider TooManyDimensions (inl many) = inl (omega (arith, many, length-put_all same_dimension (is_of []) (of-alike []) registry.dimensions beat.dimensions))
-  wider TooManyDimensions (inr (chart, many)) = inr (chart, omega (arith, many, count-put_all same_dimension (is_of chart) (of-alike chart) registry.dimensions beat.dimensions))
-  wider Memory reason = tt
+  pub charts-wider : (fault : RegistryFault) → IsReasonOf registry (defines beat.charts []) fault → IsReasonOf registry beat fault
+  charts-wider GridChanged reason = reason
+  charts-wider TooManyCharts reason = reason
+  charts-wider TooManyDimensions (inl many) = inl (omega (arith, many, length-put_all same_dimension (is_of []) (of-alike []) registry.dimensions beat.dimensions))
+  charts-wider TooManyDimensions (inr (chart, many)) = inr (chart, omega (arith, many, count-put_all same_dimension (is_of chart) (of-alike chart) registry.dimensions beat.dimensions))
+  charts-wider Memory reason = tt
 
-  pub charts-wider : (charts : List ChartDef) → charts ≡ beat.charts → (fault : RegistryFault) → IsReasonOf registry (defines charts []) fault → IsReasonOf registry beat fault
-  charts-wider charts same fault reason = wider fault (subst (λ (charts : List ChartDef). IsReasonOf registry (defines charts []) fault) same reason)
-
-  module _ (made : Registry) (made_is : made ≡ with_definitions registry beat.charts []) where
-    with_charts : (fault : RegistryFault) → IsReasonOf (with_definitions registry beat.charts []) (defines [] beat.dimensions) fault → IsReasonOf registry beat fault
-    with_charts GridChanged reason = absurd (true≢false (sym reason))
-    with_charts TooManyCharts reason = reason
-    with_charts TooManyDimensions reason = reason
-    with_charts Memory reason = tt
-
-    pub dimensions-wider : (fault : RegistryFault) → IsReasonOf made (defines [] beat.dimensions) fault → IsReasonOf registry beat fault
-    dimensions-wider fault reason = with_charts fault (subst (λ (r : Registry). IsReasonOf r (defines [] beat.dimensions) fault) made_is reason)
-
--- ---- what a refusal leaves
-pub front-taken : {T E : Type 0} (before mid after : Registry) (beat : OpenBeat) (dimensions : List OpenDim) (result : Result T E)
-    → mid ≡ with_definitions before beat.charts [] → dimensions ≡ beat.dimensions
-    → OnErr result ((n : ℕ) × (after ≡ with_definitions mid [] (take n dimensions))) → OnErr result (TakesFront before after beat)
-front-taken before mid after beat dimensions (Ok value) made same left = tt
-front-taken before mid after beat dimensions (Err fault) made same left = record {
-  charts = length beat.charts;
-  dimensions = left.0;
-  after_is =
-      left.1
-      ∙ ap (λ (all : List OpenDim). with_definitions mid [] (take left.0 all)) same
-      ∙ ap (λ (registry : Registry). with_definitions registry [] (take left.0 beat.dimensions)) made
-      ∙ ap (λ (charts : List ChartDef). with_definitions before charts (take left.0 beat.dimensions)) (sym (take_all (length beat.charts) beat.charts (omega arith)));
-}
+  pub dimensions-wider : (fault : RegistryFault) → IsReasonOf (with_definitions registry beat.charts []) (defines [] beat.dimensions) fault → IsReasonOf registry beat fault
+  dimensions-wider GridChanged reason = absurd (true≢false (sym reason))
+  dimensions-wider TooManyCharts reason = reason
+  dimensions-wider TooManyDimensions reason = reason
+  dimensions-wider Memory reason = tt

@@ -1,11 +1,12 @@
 use Rattle.std.specs.Prelude.{◌≡◌, ℕ, ◌==◌, ◌<◌, Bool, true, not, ◌&&◌, ◌||◌, ◌⊎◌, List, [], length, take, count_by, Option, Some, None, slice_get}
 use Rattle.std.specs.List.{list_any}
-use Rattle.std.specs.Option.{option_map_or}
+use Rattle.std.specs.Option.{option_and_then, option_map_or}
 use Rattle.history.specs.declared.beat.OpenBeat.{OpenBeat}
 use Rattle.history.specs.declared.beat.OpenDim.{OpenDim}
 use Rattle.history.specs.declared.chart.ChartDef.{ChartDef}
 use Rattle.history.specs.declared.fault.BlockFault.{BlockFault}
 use Rattle.history.specs.declared.fault.BlockFault.TheVariants as block
+use Rattle.history.specs.Refusal.{chart_refusal, dimension_refusal}
 use Rattle.history.specs.Registry.{Registry, is_of, same_chart, with_definitions}
 use Rattle.chart_registry.specs.declared.fault.RegistryFault.{RegistryFault}
 use Rattle.chart_registry.specs.declared.fault.RegistryFault.TheVariants.{GridChanged, TooManyCharts, TooManyDimensions, Memory}
@@ -46,12 +47,40 @@ IsReasonOf registry beat TooManyDimensions =
     ⊎ ((chart : List ℕ) × (1024 < count_by (is_of chart) (with_definitions registry beat.charts beat.dimensions).dimensions))
 IsReasonOf registry beat Memory = Unit {0}
 
--- a beat of these definitions alone
-abbrev pub defines : List ChartDef → List OpenDim → OpenBeat
-defines charts dimensions = record { charts = charts; dimensions = dimensions; rows = [] }
+-- why the chart at this place may not be defined behind those before it; nothing past the last
+abbrev pub chart_reason : Registry → List ChartDef → ℕ → Option BlockFault
+chart_reason registry charts place =
+    option_and_then (chart_refusal (with_definitions registry (take place charts) []) nothing_open) (slice_get charts place)
 
--- of the definitions of a beat these were taken: a front of its charts, and of its dimensions
-pub record TakesFront (before after : Registry) (beat : OpenBeat) : Type 0 where
-  pub charts : ℕ
-  pub dimensions : ℕ
-  pub after_is : after ≡ with_definitions before (take charts beat.charts) (take dimensions beat.dimensions)
+-- why the dimension at this place may not be defined behind those before it; nothing past the last
+abbrev pub dimension_reason : Registry → List OpenDim → ℕ → Option BlockFault
+dimension_reason registry dimensions place =
+    option_and_then (λ (dimension : OpenDim). dimension_refusal (with_definitions registry [] (take place dimensions)) nothing_open dimension.chart dimension.def) (slice_get dimensions place)
+
+-- each chart of a beat may be defined behind those before it, and each dimension behind the charts and those before it
+pub record MayDefine (registry : Registry) (beat : OpenBeat) : Type 0 where
+  pub charts : (place : ℕ) → chart_reason registry beat.charts place ≡ None
+  pub dimensions : (place : ℕ) → dimension_reason (with_definitions registry beat.charts []) beat.dimensions place ≡ None
+
+-- The chart at this place is refused with this fault, none before it is, and those before it were taken.
+pub record RefusesChart (before : Registry) (charts : List ChartDef) (after : Registry) (fault : RegistryFault) : Type 0 where
+  pub place : ℕ
+  pub within : place < length charts
+  pub free : (earlier : ℕ) → earlier < place → chart_reason before charts earlier ≡ None
+  pub refused : RefusedBy (chart_reason before charts place) fault
+  pub taken : after ≡ with_definitions before (take place charts) []
+
+-- the same of a dimension
+pub record RefusesDimension (before : Registry) (dimensions : List OpenDim) (after : Registry) (fault : RegistryFault) : Type 0 where
+  pub place : ℕ
+  pub within : place < length dimensions
+  pub free : (earlier : ℕ) → earlier < place → dimension_reason before dimensions earlier ≡ None
+  pub refused : RefusedBy (dimension_reason before dimensions place) fault
+  pub taken : after ≡ with_definitions before [] (take place dimensions)
+
+-- The first definition of a beat that is refused, the charts first, is refused with this fault, and this is the
+-- registry with those before it.
+abbrev pub IsFirstRefused : Registry → OpenBeat → Registry → RegistryFault → Type 0
+IsFirstRefused before beat after fault =
+    RefusesChart before beat.charts after fault
+    ⊎ ((place : ℕ) → chart_reason before beat.charts place ≡ None) × RefusesDimension (with_definitions before beat.charts []) beat.dimensions after fault

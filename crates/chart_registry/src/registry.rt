@@ -4,7 +4,7 @@ ghost use Rattle.std.specs.Option.{option_and_then, option_map};
 ghost use Rattle.history.specs.Registry.{empty, is_chart, is_of, is_dimension, chart_of, series_of, with_definitions};
 ghost use Rattle.history.specs.Refusal.{has_chart, chart_refusal, dimension_refusal, dimensions_full};
 ghost use Rattle.chart_registry.specs.Accepted.{IsWithin};
-ghost use Rattle.chart_registry.specs.Defining.{nothing_open, chart_id, defines, IsReasonOf, RefusedBy, TakesFront};
+ghost use Rattle.chart_registry.specs.Defining.{nothing_open, chart_id, chart_reason, dimension_reason, MayDefine, IsFirstRefused, RefusesChart, RefusesDimension, IsReasonOf, RefusedBy};
 
 use crate::charts::{self, Chart};
 use crate::dimensions::{self, Dimension};
@@ -193,17 +193,21 @@ impl Registry {
         }
     }
 
-    /// Takes the definitions of a beat, the charts first, each list in its order. Each error but Memory is the
-    /// reason of one of the definitions. After an `Err` it has taken those of a front of the charts, and of the
-    /// dimensions. Whatever it answers, the registry had no more charts and dimensions than there may be.
+    /// Takes the definitions of a beat, the charts first, each list in its order, up to the first that is
+    /// refused: the error is why that one is, or Memory where nothing else stands against it. After an `Err` it
+    /// has taken those before that one. Whatever it answers, the registry had no more charts and dimensions than
+    /// there may be.
     pub fn apply(&mut self, beat: &OpenBeat) -> Result<(), RegistryFault>
         requires grids { All (λ def. 0 < def.update_every) beat.now.charts }
         requires owned { All
             (λ dimension. has_chart self.old beat.now dimension.chart ≡ true) beat.now.dimensions }
         ensures ok { OnOk result
             (self.new ≡ with_definitions self.old beat.now.charts beat.now.dimensions) }
+        ensures free { OnOk result (MayDefine self.old beat.now) }
+        ensures first { IfErr result (IsFirstRefused self.old beat.now self.new) }
+
+        // What the error says of the beat as a whole, in whatever order its definitions stand.
         ensures refused { IfErr result (IsReasonOf self.old beat.now) }
-        ensures err { OnErr result (TakesFront self.old self.new beat.now) }
         ensures few { IsWithin self.old }
     {
         // To have read the fields tells the prover how much they hold at most.
@@ -215,9 +219,9 @@ impl Registry {
     fn define_charts(&mut self, charts: &[ChartDef]) -> Result<(), RegistryFault>
         requires { All (λ def. 0 < def.update_every) charts.now }
         ensures ok { OnOk result (self.new ≡ with_definitions self.old charts.now []) }
-        ensures refused { IfErr result (IsReasonOf self.old (defines charts.now [])) }
-        ensures err { OnErr result ((n : ℕ)
-            × (self.new ≡ with_definitions self.old (take n charts.now) [])) }
+        ensures free { OnOk result
+            ((place : ℕ) → chart_reason self.old charts.now place ≡ None) }
+        ensures first { IfErr result (RefusesChart self.old charts.now self.new) }
     {
         for def in charts {
             self.define_chart(def)?;
@@ -229,9 +233,9 @@ impl Registry {
         requires { All (λ dimension. list_any (is_chart dimension.chart) self.old.charts
             ≡ true) dimensions.now }
         ensures ok { OnOk result (self.new ≡ with_definitions self.old [] dimensions.now) }
-        ensures refused { IfErr result (IsReasonOf self.old (defines [] dimensions.now)) }
-        ensures err { OnErr result ((n : ℕ)
-            × (self.new ≡ with_definitions self.old [] (take n dimensions.now))) }
+        ensures free { OnOk result
+            ((place : ℕ) → dimension_reason self.old dimensions.now place ≡ None) }
+        ensures first { IfErr result (RefusesDimension self.old dimensions.now self.new) }
     {
         for dimension in dimensions {
             self.define_owned(dimension)?;
@@ -243,9 +247,10 @@ impl Registry {
     fn define_owned(&mut self, dimension: &OpenDim) -> Result<(), RegistryFault>
         requires { list_any (is_chart dimension.now.chart) self.old.charts ≡ true }
         ensures ok { OnOk result (self.new ≡ with_definitions self.old [] (dimension.now ∷ [])) }
-        ensures refused { IfErr result (RefusedBy
-            (dimension_refusal self.old nothing_open dimension.now.chart dimension.now.def)) }
         ensures err { OnErr result (self.new ≡ self.old) }
+        ensures refused { let reason = dimension_refusal self.old nothing_open
+            dimension.now.chart dimension.now.def in
+            MatchResult result (λ _. reason ≡ None) (RefusedBy reason) }
     {
         if let Some(chart) = self.chart_of(dimension.chart.as_str()) {
             self.define_dimension(chart, &dimension.def)?;

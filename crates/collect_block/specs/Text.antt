@@ -1,10 +1,15 @@
-use Rattle.std.specs.Prelude.{◌≡◌, ℕ, ◌<◌, ◌≤◌, Bool, List, [], ◌∷◌, length, map, reverse, take, Option, Some, None, is_some}
+use Rattle.std.specs.Prelude.{◌≡◌, ℕ, ◌⊎◌, Bool, false, List, [], ◌∷◌, length, map, reverse, slice_get, take, Option, Some, None, is_some}
+use Rattle.std.specs.List.{list_any}
 use Rattle.history.specs.declared.line.Line.{Line}
+use Rattle.history.specs.declared.line.Line.TheVariants.{Moment}
 use Rattle.history.specs.History.{Beat, child, last, registry_of}
-use Rattle.history.specs.Read.{Item as TextItem, End as TextEnd, accepted, ending, history_at, items, refusal_at}
+use Rattle.history.specs.Looking.{beat}
+use Rattle.history.specs.Read.{Item as TextItem, End as TextEnd, accepted, ending, history_at, is_disable, items, refusal_at}
 use Rattle.history.specs.Read as text
 use Rattle.history.specs.Registry.{Registry}
+use Rattle.chart_registry.specs.declared.fault.RegistryFault.TheVariants.{Memory}
 use Rattle.chart_registry.specs.Accepted.{AreAccepted}
+use Rattle.chart_registry.specs.Defining.{IsFirstRefused}
 use Rattle.collect_block.specs.declared.text.End.{End}
 use Rattle.collect_block.specs.declared.text.End.TheVariants.{Open, Ended, Disabled, Refused}
 use Rattle.collect_block.specs.declared.text.Item.{Item}
@@ -32,7 +37,7 @@ end_of (Refused line fault) = text.Refused line fault
 -- what a reader holds, with this registry, of these lines of a text that follows a history
 pub record Holds (reader : Reader) (registry : Registry) (every : ℕ) (h : List Beat) (past : List Line) : Type 0 where
   pub at : IsAt (history_at every h past) registry reader.last reader.copies
-  pub gives : map item_of reader.items ≡ items every past
+  pub gives : map item_of reader.items.items ≡ items every past
 
 -- a reader, with this registry, has taken these lines of a text that follows a history
 pub record IsReaderOf (reader : Reader) (registry : Registry) (every : ℕ) (h : List Beat) (past : List Line) : Type 0 where
@@ -65,12 +70,25 @@ abbrev pub Took : ℕ → List Beat → List Line → Line → Option End → Re
 Took every h past line None reader registry = GoesOn every h past line × IsReaderOf reader registry every h (line ∷ past)
 Took every h past line (Some end) reader registry = EndsAt every h past line end × Holds reader registry every h past
 
--- memory was short at the last of so many first lines of a text, of which none is refused
-pub record WasShort (every : ℕ) (h : List Beat) (lines : List Line) : Type 0 where
+-- Memory is short at a line that may stand behind these. The registry is that of the history so far, or, at a
+-- MOMENT, has taken of the beat that it closes the definitions before one for which there was no memory.
+abbrev pub Leaves : ℕ → List Beat → List Line → Line → Registry → Type 0
+Leaves every h past (Moment moment) after =
+    (after ≡ registry_of (history_at every h past)) ⊎ IsFirstRefused (registry_of (history_at every h past)) (beat every past) after Memory
+Leaves every h past line after = after ≡ registry_of (history_at every h past)
+
+pub record IsShortAt (every : ℕ) (h : List Beat) (past : List Line) (line : Line) (after : Registry) : Type 0 where
+  pub accepted : refusal_at every h past line ≡ None
+  pub leaves : Leaves every h past line after
+
+-- memory was short at the line behind so many first lines of a text, of which none is refused or says DISABLE
+pub record WasShort (every : ℕ) (h : List Beat) (lines : List Line) (after : Registry) : Type 0 where
   pub count : ℕ
-  pub some : 0 < count
-  pub within : count ≤ length lines
+  pub line : Line
+  pub at : slice_get lines count ≡ Some line
   pub accepted : AreAccepted every h (reverse (take count lines))
+  pub going : list_any is_disable (take count lines) ≡ false
+  pub short : IsShortAt every h (reverse (take count lines)) line after
 
 -- a reader took these lines, and none ended the text
 pub record TookEach (every : ℕ) (h : List Beat) (lines : List Line) (reader : Reader) (registry : Registry) : Type 0 where

@@ -1,9 +1,9 @@
 ghost use Rattle.std.specs.Prelude.{◌≡◌, ◌<◌, ◌≤◌, ◌+◌, ℕ, Bool, [], ◌∷◌, List, map, length, false, None, IfOk, OnOk, OnErr};
 ghost use Rattle.history.specs.History.{Beat, registry_of};
-ghost use Rattle.history.specs.Read.{history_at, accepted, ending, read, refusal_at};
+ghost use Rattle.history.specs.Read.{history_at, accepted, ending, read};
 ghost use Rattle.history.specs.declared.line.Line.{Line as ALine};
 ghost use Rattle.chart_registry.specs.declared.fault.RegistryFault.TheVariants as registry_fault;
-ghost use Rattle.collect_block.specs.Text.{IsAt, IsReaderOf, HasRead, Stepped, Took, TookAll, WasShort, item_of, end_of};
+ghost use Rattle.collect_block.specs.Text.{IsAt, IsReaderOf, HasRead, Stepped, Took, TookAll, IsShortAt, WasShort, item_of, end_of};
 ghost use Rattle.collect_block.specs.Feed.{IsFeedOf};
 ghost use Rattle.collect_block.specs.declared.step.Step.TheVariants as step;
 ghost use Rattle.history.specs.declared.line.Line.TheVariants as line;
@@ -65,14 +65,15 @@ pub(crate) struct Reader {
     pub(crate) feed: Feed,
     pub(crate) last: u32,
     pub(crate) copies: bool,
-    pub(crate) items: ItemList,
+    pub(crate) items: Vec<Item>,
 }
 
 /// Reads the lines of a text one by one, up to the first that is refused or says DISABLE, and applies each
 /// beat to the registry. `registry`, `last` and `copies` are of the history before the text, `every` is the
 /// update_every of the charts whose line leaves it open, and `rest` are the bytes behind the last line feed
-/// of a text that has `ended`. Without memory, and for nothing else, it answers an error, and the registry has
-/// taken some beats: memory was short at a line that is not refused, behind lines of which none is.
+/// of a text that has `ended`. Without memory, and for nothing else, it answers an error: memory was short at
+/// a line that is not refused, behind lines of which none ends the text. The registry has then taken the beats
+/// of those lines, and, where the line is a MOMENT, maybe the first definitions of the beat that it closes.
 pub fn read_text(
     alloc: Global,
     every: u32,
@@ -94,17 +95,17 @@ pub fn read_text(
         ((h : List Beat) → IsAt h registry.old last copies
         → registry.new ≡ registry_of (history_at every h (accepted every h [] lines.now))) }
     ensures memory { OnErr result ((h : List Beat) → IsAt h registry.old last copies
-        → WasShort every h lines.now) }
+        → WasShort every h lines.now registry.new) }
 {
     let mut reader = Reader {
         feed: Feed::new(alloc, every),
         last,
         copies,
-        items: ListOf::new(alloc),
+        items: Vec::new(alloc),
     };
     let end = reader.read(registry, lines, ended, rest)?;
     Ok(ReadText {
-        items: reader.items,
+        items: ListOf::from_vec(reader.items),
         end,
     })
 }
@@ -123,7 +124,8 @@ impl Reader {
             → IsReaderOf self.old registry.old every h []
             → HasRead every h lines.now ended rest.now end self.new registry.new) }
         ensures memory { OnErr result ((every : ℕ) (h : List Beat)
-            → IsReaderOf self.old registry.old every h [] → WasShort every h lines.now) }
+            → IsReaderOf self.old registry.old every h []
+            → WasShort every h lines.now registry.new) }
     {
         match self.take_lines(registry, lines)? {
             Some(end) => Ok(end),
@@ -142,7 +144,8 @@ impl Reader {
             → IsReaderOf self.old registry.old every h []
             → TookAll every h lines.now found self.new registry.new) }
         ensures memory { OnErr result ((every : ℕ) (h : List Beat)
-            → IsReaderOf self.old registry.old every h [] → WasShort every h lines.now) }
+            → IsReaderOf self.old registry.old every h []
+            → WasShort every h lines.now registry.new) }
     {
         let mut number = 0;
         for line in lines {
@@ -168,7 +171,7 @@ impl Reader {
             → Took every h past line.now found self.new registry.new) }
         ensures memory { OnErr result ((every : ℕ) (h : List Beat) (past : List ALine)
             → IsReaderOf self.old registry.old every h past
-            → refusal_at every h past line.now ≡ None) }
+            → IsShortAt every h past line.now registry.new) }
     {
         match self.feed.line(registry, self.last, self.copies, line) {
             Ok(step) => self.take_step(registry, step),
@@ -181,9 +184,12 @@ impl Reader {
     fn take_step(&mut self, registry: &mut Registry, step: Step) -> Result<Option<End>, AllocError>
         requires { (every : ℕ) × (h : List Beat) × (past : List ALine) × (line : ALine)
             × Stepped self.old registry.old every h past line step }
-        ensures { IfOk result (λ found. (every : ℕ) (h : List Beat) (past : List ALine)
+        ensures takes { IfOk result (λ found. (every : ℕ) (h : List Beat) (past : List ALine)
             (line : ALine) → Stepped self.old registry.old every h past line step
             → Took every h past line found self.new registry.new) }
+        ensures memory { OnErr result ((every : ℕ) (h : List Beat) (past : List ALine)
+            (line : ALine) → Stepped self.old registry.old every h past line step
+            → IsShortAt every h past line registry.new) }
     {
         match step {
             Step::Nothing => Ok(None),
@@ -208,15 +214,20 @@ impl Reader {
         requires { (every : ℕ) × (h : List Beat) × (past : List ALine)
             × Stepped self.old registry.old every h past (line.Moment moment)
             (step.Beat beat moment) }
-        ensures { OnOk result ((every : ℕ) (h : List Beat) (past : List ALine)
+        ensures takes { OnOk result ((every : ℕ) (h : List Beat) (past : List ALine)
             → Stepped self.old registry.old every h past (line.Moment moment)
             (step.Beat beat moment)
             → IsReaderOf self.new registry.new every h (line.Moment moment ∷ past)) }
+        ensures memory { OnErr result ((every : ℕ) (h : List Beat) (past : List ALine)
+            → Stepped self.old registry.old every h past (line.Moment moment)
+            (step.Beat beat moment)
+            → IsShortAt every h past (line.Moment moment) registry.new) }
     {
+        self.items.reserve(1)?;
         if let Err(fault) = registry.apply(&beat) {
             return Err(untaken(fault));
         }
-        self.items.push(Item::Closed(beat, moment))?;
+        self.items.push(Item::Closed(beat, moment)).unwrap();
         self.last = moment;
         Ok(())
     }

@@ -10,7 +10,7 @@ use Rattle.field_codec.specs.declared.fault.FieldFault.TheVariants.{Range}
 use Rattle.field_codec.specs.Field.{IsBytes, IsField}
 use Rattle.field_codec.specs.Reading.{ReadOf, read_as, read_passing, read_u8, read_u32, read_text}
 use Rattle.field_codec.specs.Spelling.{u8_bytes, u32_bytes, text_bytes, list_bytes}
-use Rattle.field_codec.proofs.Combined.{done, done_is, field_from, same_values, as_field, passing_field}
+use Rattle.field_codec.proofs.Combined.{done, done_is, field_from, same_values, as_field, passing_field, read_as-ok}
 use Rattle.field_codec.proofs.Fields.{u8_field, u32_field, u64_field, i32_field, i64_field, flag_field, text_field}
 use Rattle.history.specs.declared.chart.ChartKind.{ChartKind}
 use Rattle.history.specs.declared.chart.ChartKind.TheVariants.{Line, Area, Stacked}
@@ -29,15 +29,6 @@ IsBytes-rest : (front rest bytes : List ℕ) → bytes ≡ front ++ rest → IsB
 IsBytes-rest front rest bytes e fits =
     let at : drop (length front) bytes ≡ rest = ap (drop (length front)) e ∙ drop_at front rest (length front) refl in
     subst IsBytes at (λ place. rw get_or-drop (fits (length front + place)))
-
--- what was read before the value was made of it
-pub read_as-ok : {X Y : Type 0} (f : X → Y) (read : ReadOf X) (y : Y) (rest : List ℕ) → read_as f read ≡ Ok (y, rest)
-    → (x : X) × (read ≡ Ok (x, rest)) × (f x ≡ y)
-read_as-ok {X} {Y} f (Ok found) y rest e =
-    let same = done_is (f found.0, found.1) (y, rest) e in
-    let end : found.1 ≡ rest = ap (λ (p : Y × List ℕ). p.1) same in
-    (found.0, ap (λ (r : List ℕ). done (found.0, r)) end, ap (λ (p : Y × List ℕ). p.0) same)
-read_as-ok f (Err fault) y rest e = absurd cc
 
 -- what was read first, and what was read then
 then-ok : {X Y : Type 0} (first : ReadOf X) (second : List ℕ → ReadOf Y) (both : X × Y) (rest : List ℕ) → first >> second ≡ Ok (both, rest)

@@ -1,11 +1,12 @@
 -- How many bytes the entry of a numbered beat has.
-use Rattle.std.proofs.Common.{◌≡◌, ℕ, ◌+◌, ◌*◌, ◌≤◌, ◌<◌, ◌^◌, Bool, true, false, ◌&&◌, nat_le, nat_lt, List, [], ◌∷◌, length, ℤ, refl, ap, arith, length-append}
+use Rattle.std.proofs.Common.{◌≡◌, ℕ, ◌+◌, ◌*◌, ◌≤◌, ◌<◌, ◌^◌, Bool, true, ◌&&◌, nat_le, nat_lt, List, [], ◌∷◌, length, ap, arith, length-append}
 use Rattle.std.specs.List.{flat_map, sum_by, AllByRecursion}
 use Rattle.std.proofs.lemmas.Bool.{and_parts, leb-true}
 use Rattle.std.proofs.lemmas.List.Concat.{flat_map-cons}
 use Rattle.std.proofs.lemmas.List.Elements.{recursion_from_All}
 use Rattle.std.proofs.lemmas.List.Sums.{sum_by-cons}
-use Rattle.field_codec.specs.Spelling.{u8_bytes, u16_bytes, u32_bytes, i32_bytes, i64_bytes, flag_bytes, text_bytes, list_bytes}
+use Rattle.field_codec.specs.Spelling.{u32_bytes, list_bytes}
+use Rattle.field_codec.proofs.Lengths.{length-u8_bytes, length-u32_bytes, length-i32_bytes, length-i64_bytes, length-flag_bytes, length-text_bytes}
 use Rattle.history.specs.declared.chart.ChartDef.{ChartDef}
 use Rattle.history.specs.declared.dimension.DimDef.{DimDef}
 use Rattle.history.specs.declared.limits.TheConstants.{ID_LIMIT, UPDATE_EVERY_LIMIT}
@@ -20,37 +21,6 @@ use Rattle.entry_codec.specs.Charts.{chart_bytes, kind_bytes, IsShortChart}
 use Rattle.entry_codec.specs.Dimensions.{algorithm_bytes, dimension_bytes, marks_bytes, IsShortDimension}
 use Rattle.entry_codec.specs.Entries.{collected_bytes, entry_bytes, IsShortCollected, IsWithinLimits}
 use Rattle.entry_codec.specs.Rows.{row_bytes, value_bytes, IsShortRow, IsShortValue}
-
--- ---- numbers and texts
-
-pub length-u32_bytes : (n : ℕ) → length (u32_bytes n) ≡ 4
-unfolding u32_bytes
-length-u32_bytes n = refl
-
-length-i32_bytes : (z : ℤ) → length (i32_bytes z) ≡ 4
-unfolding i32_bytes
-length-i32_bytes z = refl
-
-length-i64_bytes : (z : ℤ) → length (i64_bytes z) ≡ 8
-unfolding i64_bytes
-length-i64_bytes z = refl
-
-length-u8_bytes : (n : ℕ) → length (u8_bytes n) ≡ 1
-unfolding u8_bytes
-length-u8_bytes n = refl
-
-length-flag_bytes : (flag : Bool) → length (flag_bytes flag) ≡ 1
-unfolding flag_bytes
-length-flag_bytes true = refl
-length-flag_bytes false = refl
-
-length-u16_bytes : (n : ℕ) → length (u16_bytes n) ≡ 2
-unfolding u16_bytes
-length-u16_bytes n = refl
-
-length-text_bytes : (text : List ℕ) → length (text_bytes text) ≡ 2 + length text
-unfolding text_bytes
-length-text_bytes text = omega (arith, length-append (u16_bytes (length text)) text, length-u16_bytes (length text))
 
 -- ---- lists
 

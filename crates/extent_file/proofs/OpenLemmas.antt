@@ -3,7 +3,7 @@ use Rattle.std.proofs.Common.{◌≡◌, ℕ, ◌+◌, ◌*◌, ◌-◌, ◌<◌
 use Rattle.std.proofs.lemmas.List.{length-drop, drop_all}
 use Rattle.extent_file.specs.declared.entry.Entry.{Entry}
 use Rattle.extent_file.specs.Form.{Form, Rest, Next, Says, StopsAt, Leads}
-use Rattle.extent_file.specs.Directory.{extent_form, IsBadAt}
+use Rattle.extent_file.specs.Directory.{extent_form, HasHead, IsBadAt}
 
 -- a form does not go on within the bytes, or at their end
 pub stops_within : (form : Form) (bytes : List ℕ) (place : ℕ) → StopsAt form bytes place → place ≤ length bytes
@@ -35,6 +35,12 @@ module _ (tier same_tier slot same_slot start same_start size : ℕ) (bytes : Li
       subst (λ (n : ℕ). Says (extent_form tier slot size) (drop n bytes) entries) start_is
       (subst (λ (n : ℕ). Says (extent_form tier n size) (drop same_start bytes) entries) slot_is
       (subst (λ (n : ℕ). Says (extent_form n same_slot size) (drop same_start bytes) entries) tier_is said))
+
+  pub moved_head : HasHead same_tier same_slot size (drop same_start bytes) → HasHead tier slot size (drop start bytes)
+  moved_head head =
+      subst (λ (n : ℕ). HasHead tier slot size (drop n bytes)) start_is
+      (subst (λ (n : ℕ). HasHead tier n size (drop same_start bytes)) slot_is
+      (subst (λ (n : ℕ). HasHead n same_slot size (drop same_start bytes)) tier_is head))
 
   pub bad_late : (place len : ℕ) → len ≡ length bytes → len < same_start → len ≡ place → IsBadAt (extent_form tier slot size) start bytes place
   bad_late place len long short is =

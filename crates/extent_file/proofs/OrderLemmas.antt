@@ -1,7 +1,5 @@
 -- A directory in order with one entry more.
-use Rattle.std.proofs.Common.{◌≡◌, ℕ, zero, suc, ◌+◌, ◌*◌, ◌-◌, ◌<◌, ◌≤◌, ◌^◌, get_or, false, List, [], ◌∷◌, ◌++◌, length, Result, Ok, Err, refl, subst, arith}
-use Rattle.std.specs.Result.{OnOk, is_err}
-use Rattle.std.proofs.lemmas.Bool.{true≢false}
+use Rattle.std.proofs.Common.{◌≡◌, ℕ, zero, suc, ◌+◌, ◌*◌, ◌-◌, ◌<◌, ◌≤◌, ◌^◌, get_or, List, [], ◌∷◌, ◌++◌, length, refl, subst, arith}
 use Rattle.host_model.specs.declared.file.File.{File}
 use Rattle.extent_file.specs.declared.entry.Entry.{Entry}
 use Rattle.extent_file.specs.declared.entry.Before.{Before}

@@ -1,20 +1,20 @@
 -- What stays of a file in which bytes are written, at each moment.
-use Rattle.std.proofs.Common.{◌≡◌, ◌⊎◌, ℕ, ◌+◌, ◌*◌, ◌-◌, ◌<◌, ◌≤◌, List, [], ◌∷◌, ◌++◌, length, take, drop, Result, refl, sym, ap, ◌∙◌, inl, inr, arith}
+use Rattle.std.proofs.Common.{◌≡◌, ◌⊎◌, ℕ, ◌+◌, ◌*◌, ◌-◌, ◌<◌, ◌≤◌, List, [], ◌∷◌, ◌++◌, length, take, drop, replicate, Result, refl, sym, ap, ◌∙◌, inl, inr, arith}
 use Rattle.std.specs.Result.{OnOk, OnErr}
-use Rattle.std.proofs.lemmas.List.{length-take, length-drop, take_all, drop-drop, drop-take, take-take, append_assoc, drop_at}
+use Rattle.std.proofs.lemmas.List.{length-take, length-drop, take_all, drop-drop, drop-take, take-take, append_assoc, append-nil, length-append, length-replicate, replicate-append-replicate, drop_at}
 use Rattle.std.proofs.lemmas.Bool.{cases_lt, cases_order}
 use Rattle.std.proofs.Math.Nat.{add-mul}
 use Rattle.std.proofs.lemmas.Nat.{mul-le}
 use Rattle.host_model.specs.declared.file.File.{File}
 use Rattle.host_model.specs.Images.{Wrote, contents, written, greatest}
 use Rattle.host_model.specs.Past.{Event, On, of, MayAdd}
-use Rattle.host_model.proofs.FileLemmas.{length-written}
+use Rattle.host_model.proofs.FileLemmas.{length-written, written-end}
 use Rattle.host_model.proofs.CallLemmas.{reads_after}
 use Rattle.host_model.specs.Moments.{Throughout, EveryImage}
 use Rattle.host_model.proofs.MomentLemmas.{weakened}
 use Rattle.host_model.proofs.RunLemmas.{RunsFrom, RunsFrom-images, RunsWithin, RunsWithin-images}
 use Rattle.host_model.proofs.SizeLemmas.{within_write}
-use Rattle.extent_file.specs.Writing.{LiesAt, KeepsAll, KeepsBeside}
+use Rattle.extent_file.specs.Writing.{LiesAt, KeepsAll, KeepsBeside, filled_to}
 
 pub all_moments : (file : File) (old new : List Event) → Throughout (RunsFrom file (length (contents (of file old))) old) old new
     → Throughout (EveryImage file (KeepsAll (contents (of file old)))) old new
@@ -79,6 +79,31 @@ longer file past new at size bytes done end long =
     let now : contents (of file new) ≡ written was at bytes = reads_after file (Wrote at (length bytes) (written was at bytes)) past new done in
     let grown = ap length now in let all = length-written was at bytes (omega (arith, end)) in
     omega (arith, grown, all, end, long)
+
+-- a file that has so many bytes is filled already
+pub filled_here : (end : ℕ) (bytes : List ℕ) → end ≤ length bytes → bytes ≡ filled_to end bytes
+filled_here end bytes within =
+    let none : end - length bytes ≡ 0 = omega (arith, within) in
+    sym (ap (λ (n : ℕ). bytes ++ replicate n 0) none ∙ append-nil bytes)
+
+pub filled_reaches : (end : ℕ) (bytes : List ℕ) → end ≤ length (filled_to end bytes)
+filled_reaches end bytes =
+    omega (arith, length-append bytes (replicate (end - length bytes) 0), length-replicate {A = ℕ} (end - length bytes) 0)
+
+-- zeros written at the end of a file that is filled so far
+pub filled_more : (file : File) (past new : List Event) (at size : ℕ) (bytes old : List ℕ)
+    → new ≡ On file (Wrote at (length bytes) (written (contents (of file past)) at bytes)) ∷ past
+    → at ≡ length (contents (of file past)) → bytes ≡ replicate size 0 → length old ≤ at
+    → contents (of file past) ≡ filled_to at old → contents (of file new) ≡ filled_to (at + size) old
+filled_more file past new at size bytes old done end zeros within so_far =
+    let was = contents (of file past) in
+    let more : (at - length old) + size ≡ (at + size) - length old = omega (arith, within) in
+    reads_after file (Wrote at (length bytes) (written was at bytes)) past new done
+    ∙ ap (λ (n : ℕ). written was n bytes) end ∙ written-end was bytes
+    ∙ ap (λ (l : List ℕ). l ++ bytes) so_far ∙ ap (λ (l : List ℕ). filled_to at old ++ l) zeros
+    ∙ append_assoc old (replicate (at - length old) 0) (replicate size 0)
+    ∙ ap (λ (l : List ℕ). old ++ l) (replicate-append-replicate {A = ℕ} (at - length old) size 0)
+    ∙ ap (λ (n : ℕ). old ++ replicate n 0) more
 
 -- what was written stands there
 pub drop_there : (old : List ℕ) (at : ℕ) (bytes : List ℕ) → at ≤ length old → drop at (written old at bytes) ≡ bytes ++ drop (at + length bytes) old

@@ -4,7 +4,7 @@ use Rattle.host_model.specs.declared.file.File.{File}
 use Rattle.extent_file.specs.declared.field.Field.{Field}
 use Rattle.extent_file.specs.declared.entry.Entry.{Entry}
 use Rattle.extent_file.specs.declared.entry.Before.{Before}
-use Rattle.extent_file.specs.Form.{Form, Rest, Next, StopsAt}
+use Rattle.extent_file.specs.Form.{Form, Rest, Next, StopsAt, Leads}
 use Rattle.extent_file.specs.Slot.{IsTierFile, tier_of, item_size, most_items}
 
 abbrev pub between : ℕ → ℕ → ℕ → Field
@@ -78,6 +78,11 @@ extent_form tier slot size =
     Next (pages_field tier slot size) (λ pages.
     Next (between 8 (max size 24) (min size slot)) (λ _.
     directory_form tier size pages (at_first pages) []))))
+
+-- the bytes begin with the head of an extent of this size, which says how many pages its directory has
+abbrev pub HasHead : ℕ → ℕ → ℕ → List ℕ → Type 0
+HasHead tier slot size bytes =
+    (pages : ℕ) × Leads (extent_form tier slot size) bytes 24 (directory_form tier size pages (at_first pages) [])
 
 -- the first byte of a file at which the form does not go on in it, from this start on, or the file's end
 abbrev pub IsBadAt : Form → ℕ → List ℕ → ℕ → Type 0

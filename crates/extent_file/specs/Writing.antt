@@ -1,5 +1,5 @@
 -- What stands at a place of a file, and what a write leaves of it.
-use Rattle.std.specs.Prelude.{◌≡◌, ◌≤◌, ◌<◌, ◌^◌, ℕ, List, [], ◌∷◌, ◌++◌, length, take, drop}
+use Rattle.std.specs.Prelude.{◌≡◌, ◌≤◌, ◌<◌, ◌^◌, ◌-◌, ℕ, List, [], ◌∷◌, ◌++◌, length, take, drop, replicate}
 use Rattle.byteorder.specs.Endian.{little_bytes}
 use Rattle.extent_file.specs.declared.entry.Entry.{Entry}
 use Rattle.extent_file.specs.declared.page.Page.{Page}
@@ -8,6 +8,10 @@ use Rattle.extent_file.specs.Pages.{entry_of, IsItemsOf}
 -- these bytes stand at a place
 abbrev pub LiesAt : ℕ → List ℕ → List ℕ → Type 0
 LiesAt place lies bytes = take (length lies) (drop place bytes) ≡ lies
+
+-- these bytes, and zeros behind them until there are so many
+abbrev pub filled_to : ℕ → List ℕ → List ℕ
+filled_to end bytes = bytes ++ replicate (end - length bytes) 0
 
 -- all that the file had is still there
 pub record KeepsAll (old bytes : List ℕ) : Type 0 where

@@ -5,6 +5,7 @@ ghost use Rattle.extent_file.specs.Directory.{at_first, directory_form, AreInOrd
 
 use crate::entry::{Before, Entry, read_entry};
 use crate::fault::ExtentFault;
+use crate::sizes::{ENTRY_SIZE, HEAD_SIZE};
 use fixed_num::ListOf;
 use std::alloc::Global;
 
@@ -38,10 +39,10 @@ pub(crate) fn read_directory(
     let mut before = Before {
         series: 0,
         free: 0,
-        place: 24 + 24 * u64::from(pages),
+        place: HEAD_SIZE as u64 + ENTRY_SIZE as u64 * u64::from(pages),
     };
     for index in 0..pages {
-        let at = 24 + 24 * index as usize;
+        let at = HEAD_SIZE + ENTRY_SIZE * index as usize;
         let entry = match read_entry(seen, at, tier, size, pages - 1 - index, before) {
             Ok(entry) => entry,
             Err(place) => return Err(ExtentFault::BadExtent(start + place as u64)),

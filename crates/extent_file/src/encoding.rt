@@ -6,8 +6,9 @@ ghost use Rattle.extent_file.specs.Writing.{entry_bytes, directory_bytes, head_b
 
 use crate::entry::Entry;
 use crate::fault::ExtentFault;
-use crate::head::{HEAD, MARK};
+use crate::head::MARK;
 use crate::page::Page;
+use crate::sizes::{ENTRY_SIZE, HEAD_SIZE};
 use fixed_num::ByteList;
 use page_buffer::PageFault;
 use std::alloc::{AllocError, Global};
@@ -109,7 +110,7 @@ pub(crate) fn encode(
     if append_items(&mut items, pages).is_err() {
         return Err(ExtentFault::Memory);
     }
-    let first = HEAD as u64 + 24 * pages.len() as u64;
+    let first = HEAD_SIZE as u64 + ENTRY_SIZE as u64 * pages.len() as u64;
     let size = first + items.len() as u64;
     let mut out = ByteList::new(alloc);
     if append_all(&mut out, tier, first, size, pages, items.as_slice()).is_err() {

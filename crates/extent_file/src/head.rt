@@ -6,10 +6,7 @@ ghost use Rattle.extent_file.specs.Directory.{between, pages_field, at_first, di
 
 use crate::entry::exactly;
 use crate::field::{Field, read_at};
-use crate::sizes::item_size;
-
-/// How many bytes stand before the directory.
-pub(crate) const HEAD: usize = 24;
+use crate::sizes::{ENTRY_SIZE, HEAD_SIZE, item_size};
 
 /// The number that the first 8 bytes of an extent, `NDAEXT01`, are.
 pub(crate) const MARK: u64 = 0x3130_5458_4541_444E;
@@ -20,11 +17,11 @@ fn pages_field(tier: u32, slot: u64, size: u64) -> Field
     ensures value { result ≡ pages_field tier slot size }
     ensures form { IsField result }
 {
-    let room = size.min(slot).saturating_sub(24);
+    let room = size.min(slot).saturating_sub(HEAD_SIZE as u64);
     Field {
         width: 4,
-        low: u64::from(size > 24),
-        high: room / (24 + item_size(tier)),
+        low: u64::from(size > HEAD_SIZE as u64),
+        high: room / (ENTRY_SIZE as u64 + item_size(tier)),
     }
 }
 
@@ -34,7 +31,7 @@ fn size_field(slot: u64, size: u64) -> Field
 {
     Field {
         width: 8,
-        low: size.max(24),
+        low: size.max(HEAD_SIZE as u64),
         high: size.min(slot),
     }
 }

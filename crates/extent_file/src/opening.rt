@@ -4,14 +4,14 @@ ghost use Rattle.host_model.specs.Past.{of};
 ghost use Rattle.host_model.specs.Cause.{HasCause};
 ghost use Rattle.extent_file.specs.Form.{Form, Rest, Says, StopsAt, Leads};
 ghost use Rattle.extent_file.specs.Slot.{IsTierFile, tier_of, item_size, slot_size, slot_start};
-ghost use Rattle.extent_file.specs.Directory.{at_first, directory_form, extent_form, IsBadAt, AreInOrder};
+ghost use Rattle.extent_file.specs.Directory.{at_first, directory_form, extent_form, HasHead, IsBadAt, AreInOrder};
 
 use crate::directory::read_directory;
 use crate::entry::Entry;
 use crate::extent::Extent;
 use crate::fault::ExtentFault;
-use crate::head::{HEAD, read_head};
-use crate::sizes::{MOST_ITEMS, MOST_SLOTS, slot_size, slot_start, tier_of};
+use crate::head::read_head;
+use crate::sizes::{ENTRY_SIZE, HEAD_SIZE, MOST_ITEMS, MOST_SLOTS, slot_size, slot_start, tier_of};
 use fixed_num::{ByteList, ListOf};
 use host_model::{Failed, File, Host};
 use std::alloc::Global;
@@ -79,12 +79,13 @@ fn open_head<H: Host>(
     ensures bad { (place : ℕ) → IsErrOf result (ExtentFault.BadExtent place) → H.honest
         → (at : ℕ) × (place ≡ start + at) × StopsAt (extent_form tier slot size)
         (drop start (contents (of file (H.seen host.old).past))) at }
+    ensures no_memory { IsErrOf result ExtentFault.Memory → ⊥ }
     ensures past { H.honest → (H.seen host.new).past ≡ (H.seen host.old).past }
     ensures cause { HasCause (H.seen host.old).disk_faults (H.seen host.new).disk_faults
         (IsErrOf result ExtentFault.DiskFault) }
     ensures output { (H.seen host.new).tell_faults ≡ (H.seen host.old).tell_faults }
 {
-    let mut seen = [0_u8; HEAD];
+    let mut seen = [0_u8; HEAD_SIZE];
     let Ok(read) = read_front(host, file, start, &mut seen) else {
         return Err(ExtentFault::DiskFault);
     };
@@ -125,8 +126,14 @@ fn open_directory<H: Host>(
         (IsErrOf result ExtentFault.DiskFault) }
     ensures output { (H.seen host.new).tell_faults ≡ (H.seen host.old).tell_faults }
 {
-    let seen = read_bytes(alloc, host, file, start, HEAD + 24 * pages as usize)?;
-    if seen.len() < HEAD {
+    let seen = read_bytes(
+        alloc,
+        host,
+        file,
+        start,
+        HEAD_SIZE + ENTRY_SIZE * pages as usize,
+    )?;
+    if seen.len() < HEAD_SIZE {
         return Err(ExtentFault::BadExtent(start));
     }
     read_directory(alloc, seen.as_slice(), start, tier, size, pages)
@@ -137,6 +144,7 @@ impl Extent {
     /// they have `items` items, or more. It reads the head and the directory, and only reads. `BadExtent`
     /// exactly where the file has no extent of that length there. It has the first byte of the file at
     /// which the form, read field by field, does not go on, or the file's length where it ends before.
+    /// `Memory` comes only behind the head: a head that is not in the form is always told.
     pub fn open<H: Host>(
         alloc: Global,
         host: &mut H,
@@ -158,6 +166,12 @@ impl Extent {
             → IsBadAt (extent_form (tier_of file) (slot_size (tier_of file) items) bytes)
             (slot_start (tier_of file) items slot)
             (contents (of file (H.seen host.old).past)) place }
+
+        // Memory is lacking only for a directory whose head stands there.
+        ensures memory { IsErrOf result ExtentFault.Memory → H.honest
+            → HasHead (tier_of file) (slot_size (tier_of file) items) bytes
+            (drop (slot_start (tier_of file) items slot)
+            (contents (of file (H.seen host.old).past))) }
         ensures past { H.honest → (H.seen host.new).past ≡ (H.seen host.old).past }
         ensures cause { HasCause (H.seen host.old).disk_faults (H.seen host.new).disk_faults
             (IsErrOf result ExtentFault.DiskFault) }

@@ -6,14 +6,11 @@ ghost use Rattle.host_model.specs.Cause.{HasCause};
 use crate::fault::ExtentFault;
 use crate::opening::read_front;
 use host_model::{File, Host};
-use page_pool::RawPage;
-
-/// The most bytes of a page.
-const PAGE: usize = 4_096;
+use page_pool::{PAGE_SIZE, RawPage};
 
 /// Puts bytes that a page has room for in place of what it holds.
 fn fill(page: &mut RawPage, bytes: &[u8])
-    requires { length bytes.now ≤ PAGE }
+    requires { length bytes.now ≤ PAGE_SIZE }
     ensures { page.new ≡ bytes.now }
 {
     page.clear();
@@ -32,7 +29,7 @@ pub(crate) fn read_into<H: Host>(
     page: RawPage,
 ) -> Result<RawPage, ExtentFault>
     requires some { 0 < size }
-    requires most { size ≤ PAGE }
+    requires most { size ≤ PAGE_SIZE }
     ensures read { IfOk result (λ read. H.honest
         → (read ≡ take size (drop at (contents (of file (H.seen host.old).past))))
         × (at + size ≤ length (contents (of file (H.seen host.old).past)))) }
@@ -51,7 +48,7 @@ pub(crate) fn read_into<H: Host>(
     if len.saturating_sub(at) < size as u64 {
         return Err(ExtentFault::BadExtent(len));
     }
-    let mut bytes = [0_u8; PAGE];
+    let mut bytes = [0_u8; PAGE_SIZE];
     let Ok(read) = read_front(host, file, at, &mut bytes[..size]) else {
         return Err(ExtentFault::DiskFault);
     };

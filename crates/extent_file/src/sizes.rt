@@ -2,12 +2,26 @@ ghost use Rattle.std.specs.Prelude.{◌≡◌, ◌<◌, ◌≤◌, ◌^◌};
 ghost use Rattle.extent_file.specs.Slot.{IsTierFile, tier_of, item_size, most_items, slot_size, slot_start};
 
 use host_model::File;
+use page_buffer::RECORD_SIZE;
+use page_pool::PAGE_SIZE;
 
 /// The most items at which a segment may be sealed. It has up to 65,535 more.
 pub const MOST_ITEMS: u32 = 262_144;
 
 /// The most extents that a tier keeps. Its file has one slot more: they are numbered from 0 to this.
 pub const MOST_SLOTS: u32 = 1_024;
+
+/// How many bytes stand before the directory.
+pub(crate) const HEAD_SIZE: usize = 24;
+
+/// How many bytes an entry of the directory has.
+pub(crate) const ENTRY_SIZE: usize = 24;
+
+/// How many bytes a word of a slot page has.
+const WORD_SIZE: usize = 4;
+
+/// The most items that a segment has above those at which it is sealed.
+const MORE_ITEMS: u64 = 65_536;
 
 /// The tier whose extents lie in a file.
 pub(crate) fn tier_of(file: File) -> u32
@@ -22,14 +36,15 @@ pub(crate) fn tier_of(file: File) -> u32
 pub(crate) fn item_size(tier: u32) -> u64
     ensures { result ≡ item_size tier }
 {
-    if tier == 0 { 4 } else { 56 }
+    let size = if tier == 0 { WORD_SIZE } else { RECORD_SIZE };
+    size as u64
 }
 
 /// The most items of a page.
 pub(crate) fn most_items(tier: u32) -> u64
     ensures { result ≡ most_items tier }
 {
-    if tier == 0 { 1_024 } else { 73 }
+    PAGE_SIZE as u64 / item_size(tier)
 }
 
 /// How many bytes a slot has.
@@ -38,7 +53,7 @@ pub(crate) fn slot_size(tier: u32, items: u32) -> u64
     ensures value { result ≡ slot_size tier items }
     ensures most { result ≤ 2 ^ 26 }
 {
-    24 + (u64::from(items) + 65_536) * (24 + item_size(tier))
+    HEAD_SIZE as u64 + (u64::from(items) + MORE_ITEMS) * (ENTRY_SIZE as u64 + item_size(tier))
 }
 
 /// Where a slot begins.

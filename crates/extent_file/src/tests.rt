@@ -1,4 +1,4 @@
-ghost use Rattle.std.specs.Prelude.{◌≡◌, ◌≤◌, [], ◌∷◌, length, IfOk};
+ghost use Rattle.std.specs.Prelude.{◌≡◌, ◌≤◌, ◌<◌, [], ◌∷◌, length, IfOk};
 ghost use Rattle.page_buffer.specs.Page.{page_of};
 ghost use Rattle.extent_file.specs.Directory.{at_first};
 ghost use Rattle.extent_file.specs.Pages.{ArePages, extent_size};
@@ -251,5 +251,200 @@ fn another_length_is_no_extent(rt: HostRuntime) -> Result<(), Fail> {
     }
     let late = Extent::open(rt.alloc(), &mut host, File::Tier0, 1, 1, 80);
     assert_eq!(rt; late.err(), Some(ExtentFault::BadExtent(80)));
+    Ok(())
+}
+
+#[test]
+fn the_gap_before_a_slot_reads_as_zeros(rt: HostRuntime) -> Result<(), Fail> {
+    let mut host = host_of(rt.alloc())?;
+    let pages = one_page(rt.alloc())?;
+    write_extent(rt.alloc(), &mut host, File::Tier0, 1, 0, &pages)?;
+    write_extent(rt.alloc(), &mut host, File::Tier0, 1, 1, &pages)?;
+    assert_eq!(rt; host.len(File::Tier0)?, 1_835_112);
+    let mut bytes = [b'-'; 4_096];
+    for piece in 0..448 {
+        let read = host.read(File::Tier0, 52 + 4_096 * piece, &mut bytes)?;
+        assert_eq!(rt; read, 4_096);
+        assert!(rt; bytes.iter().all(|byte| *byte == 0), "piece {piece}");
+    }
+    let mut mark = [0; 8];
+    host.read(File::Tier0, 1_835_060, &mut mark)?;
+    assert_eq!(rt; mark.as_slice(), b"NDAEXT01".as_slice());
+    Ok(())
+}
+
+/// What a slot holds in which the extent of one page stood and that of two pages was written.
+#[derive(Clone, Copy, Debug, PartialEq, Eq)]
+enum Found {
+    Old,
+    New,
+    Neither,
+}
+
+/// What slot 0 holds.
+fn find_extent(alloc: Global, host: &mut MemoryHost) -> Found {
+    if Extent::open(alloc, host, File::Tier0, 1, 0, 52).is_ok() {
+        return Found::Old;
+    }
+    if Extent::open(alloc, host, File::Tier0, 1, 0, 80).is_ok() {
+        Found::New
+    } else {
+        Found::Neither
+    }
+}
+
+/// Writes an extent over the one in slot 0, beside one in slot 1, where one call is refused, and stops.
+/// What slot 0 holds then.
+fn rewrite(rt: &impl Abort, alloc: Global, call: u64, keep: Keep) -> Result<Found, Fail> {
+    let refused = CallList::from_vec(vec![in alloc; call]?);
+    let mut host = MemoryHost::new(alloc, refused)?;
+    let first = one_page(alloc)?;
+    write_extent(alloc, &mut host, File::Tier0, 1, 0, &first)?;
+    write_extent(alloc, &mut host, File::Tier0, 1, 1, &first)?;
+    let second = two_pages(alloc)?;
+    let written = write_extent(alloc, &mut host, File::Tier0, 1, 0, &second);
+    assert_eq!(rt; written.is_err(), call < 463, "call {call}");
+    let mut host = host.stop(keep)?;
+    let beside = Extent::open(alloc, &mut host, File::Tier0, 1, 1, 52)?;
+    let entries = beside.entries();
+    assert!(rt; entries == 1);
+    assert_eq!(rt; beside.head(0), (3, 60, 1, 1), "call {call}, {keep:?}");
+    Ok(find_extent(alloc, &mut host))
+}
+
+/// A refused call, and what the slot holds where a stop keeps all, nothing, or a byte.
+#[derive(Clone, Copy)]
+struct Refusal {
+    call: u64,
+    all: Found,
+    none: Found,
+    filled: Found,
+}
+
+fn refused_at(call: u64, all: Found, none: Found, filled: Found) -> Refusal {
+    Refusal {
+        call,
+        all,
+        none,
+        filled,
+    }
+}
+
+#[test]
+fn each_call_of_a_write_is_refused(rt: HostRuntime) -> Result<(), Fail> {
+    let rows = [
+        refused_at(458, Found::Old, Found::Old, Found::Old),
+        refused_at(459, Found::Old, Found::Old, Found::Old),
+        refused_at(460, Found::Old, Found::Old, Found::Old),
+        refused_at(461, Found::Old, Found::Old, Found::Neither),
+        refused_at(462, Found::New, Found::Old, Found::Neither),
+        refused_at(463, Found::New, Found::New, Found::New),
+    ];
+    for row in &rows {
+        let all = rewrite(&rt, rt.alloc(), row.call, Keep::All)?;
+        let none = rewrite(&rt, rt.alloc(), row.call, Keep::None)?;
+        let filled = rewrite(&rt, rt.alloc(), row.call, Keep::Fill(255))?;
+        assert_eq!(rt; all, row.all, "call {}", row.call);
+        assert_eq!(rt; none, row.none, "call {}", row.call);
+        assert_eq!(rt; filled, row.filled, "call {}", row.call);
+    }
+    Ok(())
+}
+
+/// Numbers that look random.
+#[derive(Drop)]
+struct Dice {
+    state: u64,
+}
+
+impl Dice {
+    fn below(&mut self, limit: u32) -> u32
+        requires { 0 < limit }
+        ensures { result < limit }
+    {
+        self.state = self
+            .state
+            .wrapping_mul(6_364_136_223_846_793_005)
+            .wrapping_add(1_442_695_040_888_963_407);
+        (self.state >> 33) as u32 % limit
+    }
+}
+
+/// Where a page of a random directory ends.
+#[derive(Clone, Copy)]
+struct End {
+    series: u32,
+    free: u32,
+    place: u64,
+}
+
+/// Adds a random page behind another.
+fn add_page(out: &mut Vec<u8>, dice: &mut Dice, before: End) -> Result<End, Fail> {
+    let later = dice.below(3) / 2;
+    let free = if later == 0 { before.free } else { 0 };
+    let first = free.wrapping_add(dice.below(4));
+    let step = 1 + dice.below(3);
+    let count = 1 + dice.below(4);
+    let series = before.series.wrapping_add(later);
+    for number in [series, first, step, count] {
+        out.extend_from_slice(&number.to_le_bytes())?;
+    }
+    out.extend_from_slice(&before.place.to_le_bytes())?;
+    Ok(End {
+        series,
+        free: first.wrapping_add((count - 1) * step).wrapping_add(1),
+        place: before.place.wrapping_add(4 * u64::from(count)),
+    })
+}
+
+/// The bytes of an extent of random pages, up to 12.
+fn random_extent(alloc: Global, dice: &mut Dice) -> Result<Vec<u8>, Fail> {
+    let pages = dice.below(13);
+    let mut entries = Vec::new(alloc);
+    let mut end = End {
+        series: 0,
+        free: 0,
+        place: 24 + 24 * u64::from(pages),
+    };
+    for _ in 0..pages {
+        end = add_page(&mut entries, dice, end)?;
+    }
+    let mut out = Vec::from_slice(alloc, b"NDAEXT01")?;
+    out.extend_from_slice(&0_u32.to_le_bytes())?;
+    out.extend_from_slice(&pages.to_le_bytes())?;
+    out.extend_from_slice(&end.place.to_le_bytes())?;
+    out.extend_from_slice(entries.as_slice())?;
+    out.resize(end.place as usize, 7)?;
+    Ok(out)
+}
+
+/// The page that `find` is to give, by the plain search.
+fn plain_find(extent: &Extent, series: u32, moment: u32) -> Option<u32> {
+    for index in 0..extent.entries() {
+        let (other, first, step, count) = extent.head(index);
+        let last = first.wrapping_add(count.wrapping_sub(1).wrapping_mul(step));
+        if other == series && moment <= last {
+            return Some(index);
+        }
+    }
+    None
+}
+
+#[test]
+fn a_page_is_found_as_by_the_plain_search(rt: HostRuntime) -> Result<(), Fail> {
+    let mut dice = Dice { state: 1 };
+    for round in 0..500 {
+        let bytes = random_extent(rt.alloc(), &mut dice)?;
+        let mut host = host_of(rt.alloc())?;
+        host.write_at(File::Tier0, 0, bytes.as_slice())?;
+        let size = bytes.len() as u64;
+        let extent = Extent::open(rt.alloc(), &mut host, File::Tier0, 1, 0, size)?;
+        for query in 0..1_000 {
+            let (series, moment) = (query / 100, query % 100);
+            let found = extent.find(series, moment);
+            let plain = plain_find(&extent, series, moment);
+            assert_eq!(rt; found, plain, "round {round}, query {query}");
+        }
+    }
     Ok(())
 }

@@ -1,4 +1,4 @@
-ghost use Rattle.std.specs.Prelude.{◌≡◌, ◌≢◌, ◌⊎◌, ℕ, ◌+◌, ◌≤◌, ◌<◌, ◌^◌, List, ◌++◌, length, drop, IsErr, IfOk, IsErrOf, OnOk};
+ghost use Rattle.std.specs.Prelude.{◌≡◌, ◌≢◌, ◌⊎◌, ℕ, ◌+◌, ◌≤◌, ◌<◌, ◌^◌, List, ◌++◌, length, take, drop, IsErr, IfOk, IsErrOf, OnOk};
 ghost use Rattle.host_model.specs.Images.{contents, written, greatest, IsSynced};
 ghost use Rattle.host_model.specs.Past.{of};
 ghost use Rattle.host_model.specs.Cause.{HasCause};
@@ -6,7 +6,7 @@ ghost use Rattle.host_model.specs.Moments.{Throughout, EveryImage, OnlyOn};
 ghost use Rattle.extent_file.specs.Slot.{IsTierFile, tier_of, slot_size, slot_start};
 ghost use Rattle.extent_file.specs.Directory.{at_first};
 ghost use Rattle.extent_file.specs.Pages.{ArePages, IsExtentOf, extent_size};
-ghost use Rattle.extent_file.specs.Writing.{LiesAt, KeepsAll, KeepsBeside};
+ghost use Rattle.extent_file.specs.Writing.{LiesAt, KeepsAll, KeepsBeside, filled_to};
 
 use crate::encoding::encode;
 use crate::fault::ExtentFault;
@@ -22,8 +22,8 @@ const CHUNK: usize = 4_096;
 fn write_zeros<H: Host>(host: &mut H, file: File, len: u64, end: u64) -> Result<(), Failed>
     requires stable { H.honest → IsSynced (of file (H.seen host.old).past) }
     requires len { H.honest → len ≡ length (contents (of file (H.seen host.old).past)) }
-    ensures reaches { OnOk result
-        (H.honest → end ≤ length (contents (of file (H.seen host.new).past))) }
+    ensures zeros { OnOk result (H.honest → contents (of file (H.seen host.new).past)
+        ≡ filled_to end (contents (of file (H.seen host.old).past))) }
     ensures any_moment { H.honest
         → Throughout (EveryImage file (KeepsAll (contents (of file (H.seen host.old).past))))
         (H.seen host.old).past (H.seen host.new).past }
@@ -49,8 +49,8 @@ fn write_zeros<H: Host>(host: &mut H, file: File, len: u64, end: u64) -> Result<
 /// Sees that a file has so many bytes, by zeros at its end, and syncs it. At every moment all that stood in
 /// the file stays.
 fn fill_to<H: Host>(host: &mut H, file: File, end: u64) -> Result<(), Failed>
-    ensures reaches { OnOk result
-        (H.honest → end ≤ length (contents (of file (H.seen host.new).past))) }
+    ensures zeros { OnOk result (H.honest → contents (of file (H.seen host.new).past)
+        ≡ filled_to end (contents (of file (H.seen host.old).past))) }
     ensures synced { OnOk result (H.honest → IsSynced (of file (H.seen host.new).past)) }
     ensures any_moment { (place : ℕ) (lies : List ℕ) → H.honest
         → EveryImage file (LiesAt place lies) (H.seen host.old).past
@@ -100,6 +100,8 @@ fn write_over<H: Host>(host: &mut H, file: File, at: u64, bytes: &[u8]) -> Resul
 fn put<H: Host>(host: &mut H, file: File, at: u64, bytes: &[u8]) -> Result<(), Failed>
     ensures whole { OnOk result (H.honest → (rest : List ℕ)
         × (drop at (contents (of file (H.seen host.new).past)) ≡ bytes.now ++ rest)) }
+    ensures zeros { OnOk result (H.honest → take at (contents (of file (H.seen host.new).past))
+        ≡ take at (filled_to at (contents (of file (H.seen host.old).past)))) }
     ensures synced { OnOk result (H.honest → IsSynced (of file (H.seen host.new).past)) }
     ensures any_moment { (place : ℕ) (lies : List ℕ)
         → ((place + length lies ≤ at) ⊎ (at + length bytes.now ≤ place)) → H.honest
@@ -143,6 +145,13 @@ pub fn write_extent<H: Host>(
         (λ bytes. IsExtentOf (tier_of file) (slot_size (tier_of file) items) pages.now
         (drop (slot_start (tier_of file) items slot) bytes)) (H.seen host.new).past) }
     ensures synced { OnOk result (H.honest → IsSynced (of file (H.seen host.new).past)) }
+
+    // Up to the slot the file reads as it did, with zeros where it ended before.
+    ensures zeros { OnOk result (H.honest
+        → take (slot_start (tier_of file) items slot) (contents (of file (H.seen host.new).past))
+        ≡ take (slot_start (tier_of file) items slot)
+        (filled_to (slot_start (tier_of file) items slot)
+        (contents (of file (H.seen host.old).past)))) }
 
     // At every moment each stop leaves what stood in another slot.
     ensures others { (other : ℕ) (lies : List ℕ) → other ≢ slot

@@ -67,7 +67,7 @@ same_values V W spelling read to from field =
     (λ bytes value rest fits e. (to value (field.has_spelling bytes value rest fits e), field.is_spelt bytes value rest fits e))
 
 -- what was read before the value was made of it
-read_as-ok : {X Y : Type 0} (f : X → Y) (read : ReadOf X) (y : Y) (rest : List ℕ) → read_as f read ≡ Ok (y, rest)
+pub read_as-ok : {X Y : Type 0} (f : X → Y) (read : ReadOf X) (y : Y) (rest : List ℕ) → read_as f read ≡ Ok (y, rest)
     → (x : X) × (read ≡ Ok (x, rest)) × (f x ≡ y)
 read_as-ok {X} {Y} f (Ok found) y rest e =
     let same = done_is (f found.0, found.1) (y, rest) e in

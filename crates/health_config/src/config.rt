@@ -2,7 +2,7 @@ ghost use Rattle.std.specs.Prelude.{◌≡◌, ◌≤◌, length, map, Ok, IfOk,
 ghost use Rattle.health_config.specs.Entity.{alarm_of};
 ghost use Rattle.health_config.specs.Fault.{IsRefusalFor};
 ghost use Rattle.health_config.specs.Config.{config_read, of_sections, tally_of};
-ghost use Rattle.health_config.specs.ConfigOf.{configuration_of, entities_of};
+ghost use Rattle.health_config.specs.ConfigOf.{configuration_of, entities_of, text_of};
 ghost use Rattle.health_config.specs.Lines.{lines};
 ghost use Rattle.health_config.specs.Sections.{sections};
 
@@ -10,16 +10,18 @@ use crate::entity::AlarmList;
 use crate::fault::ConfigFault;
 use crate::lines::cut_lines;
 use crate::tally::{Tally, read_tally};
+use fixed_num::ByteList;
 use std::alloc::Global;
 
 /// The most bytes of a health text.
 pub const TEXT_LIMIT: usize = 1_048_576;
 
-/// The alarms of a health text, and how many of its keys were skipped.
+/// A health text, its alarms, and how many of its keys were skipped.
 ///
-/// Contracts see it by `configuration_of`, with its expressions as trees.
+/// Contracts see it by `configuration_of`, with its expressions as trees, and by `text_of`.
 #[derive(Debug, Drop)]
 pub struct Config {
+    text: ByteList,
     tally: Tally,
 }
 
@@ -44,13 +46,22 @@ impl Config {
     pub fn read(alloc: Global, text: &[u8]) -> Result<Config, ConfigFault>
         ensures config { IfOk result
             (λ config. config_read text.now ≡ Ok (configuration_of config)) }
+        ensures text { IfOk result (λ config. text_of config ≡ text.now) }
         ensures refused { IfErr result (IsRefusalFor (config_read text.now)) }
     {
         if text.len() > TEXT_LIMIT {
             return Err(ConfigFault::TextTooLong);
         }
         let tally = read_text(alloc, text)?;
-        Ok(Config { tally })
+        let kept = ByteList::from_slice(alloc, text).map_err(|_| ConfigFault::Memory)?;
+        Ok(Config { text: kept, tally })
+    }
+
+    /// The text that was read: at most 1,048,576 bytes.
+    pub fn text(&self) -> &[u8]
+        ensures { result.now ≡ text_of self.now }
+    {
+        self.text.as_slice()
     }
 
     /// The alarms in the order of the text. An entity that says neither `every` nor a lookup gives none.
@@ -61,14 +72,15 @@ impl Config {
         &self.tally.alarms
     }
 
-    /// The alarms in the order of the text, without a copy.
-    pub fn into_alarms(self) -> AlarmList
-        ensures kept { result ≡ entities_of self }
-        ensures alarms { map alarm_of result ≡ (configuration_of self).alarms }
+    /// The text that was read, and the alarms in the order of the text, without a copy.
+    pub fn into_parts(self) -> (ByteList, AlarmList)
+        ensures text { result.0 ≡ text_of self }
+        ensures kept { result.1 ≡ entities_of self }
+        ensures alarms { map alarm_of result.1 ≡ (configuration_of self).alarms }
     {
-        let Config { tally } = self;
+        let Config { text, tally } = self;
         let Tally { alarms, .. } = tally;
-        alarms
+        (text, alarms)
     }
 
     /// How many lines have a key that is not read, or stand before the first entity.

@@ -1,4 +1,4 @@
-ghost use Rattle.std.specs.Prelude.{◌≡◌, ◌^◌, ◌-◌, ◌<◌, ◌≤◌, ◌↔◌, is_some, nat_lt, IsSome};
+ghost use Rattle.std.specs.Prelude.{◌≡◌, ◌^◌, ◌-◌, ◌<◌, ◌≤◌, ◌↔◌, is_some, nat_lt, Some, IsSome, IsNone};
 ghost use Rattle.host_model.specs.Calls.{raised};
 
 /// How many calls failed, and why the first of them did. The count stands still at 2^64 - 1.
@@ -21,8 +21,10 @@ impl<E: Copy> Faults<E> {
         }
     }
 
-    /// A call failed for this reason.
+    /// A call failed for this reason, which is kept where it is the first.
     pub(crate) fn add(&mut self, reason: E)
+        ensures first { IsNone self.old.first → self.new.first ≡ Some reason }
+        ensures kept { IsSome self.old.first → self.new.first ≡ self.old.first }
         ensures count { self.new.count ≡ raised self.old.count }
         ensures range { self.old.count ≤ 2 ^ 64 - 1 }
     {
@@ -33,7 +35,8 @@ impl<E: Copy> Faults<E> {
     }
 
     pub(crate) fn first(&self) -> Option<E>
-        ensures { IsSome result ↔ (0 < self.now.count) }
+        ensures first { result ≡ self.now.first }
+        ensures there { IsSome result ↔ (0 < self.now.count) }
     {
         self.first
     }

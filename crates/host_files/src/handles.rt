@@ -1,5 +1,5 @@
 //! The files of a database, each opened where it is first used.
-ghost use Rattle.std.specs.Prelude.{◌≡◌, ◌≤◌, length, vec_len, IfOk};
+ghost use Rattle.std.specs.Prelude.{◌≡◌, ◌≤◌, ◌↔◌, length, vec_len, All, IsTrue, IfOk};
 
 use crate::regular::{Use, make_regular, open_regular};
 use host_model::File;
@@ -146,10 +146,11 @@ impl<R: Files<File = fs::File> + Drop> Handles<R> {
         }
     }
 
+    /// Writes bytes from the place `at` on. Zeros that begin at the file's end are not written: the file
+    /// is made longer, and has a hole there, which reads as zeros and takes no room.
     pub(crate) fn write_at(&mut self, file: File, at: u64, bytes: &[u8]) -> io::Result<()> {
         let opened = self.find_or_make(file)?;
         if is_zeros(bytes) && opened.metadata()?.len() == at {
-            // What is behind a file's end reads as zeros once the file is longer.
             return opened.set_len(at.saturating_add(bytes.len() as u64));
         }
         opened.write_all_at(bytes, at)
@@ -199,7 +200,10 @@ fn sync_folder<R: Files<File = fs::File>>(system: &R, folder: &str) -> io::Resul
     fs::File::open(system, folder)?.sync_all()
 }
 
-fn is_zeros(bytes: &[u8]) -> bool {
+/// Whether no byte is other than 0.
+fn is_zeros(bytes: &[u8]) -> bool
+    ensures { IsTrue result ↔ All (λ byte. byte ≡ 0) bytes.now }
+{
     bytes.iter().all(|byte| *byte == 0)
 }
 

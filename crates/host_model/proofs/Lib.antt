@@ -8,3 +8,4 @@ mod Rows
 pub mod RunLemmas
 pub mod SizeLemmas
 mod StopLemmas
+mod TakenLemmas

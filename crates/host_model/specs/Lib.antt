@@ -1,5 +1,6 @@
 pub mod Calls
 pub mod Cause
+pub mod Clock
 pub mod DiskLaw
 pub mod Disks
 pub mod Entry
@@ -10,9 +11,11 @@ pub mod Link
 pub mod MemoryHost
 pub mod MemoryLink
 pub mod MemorySource
+pub mod MemorySpawner
 pub mod Moments
 pub mod Past
 pub mod Replay
 pub mod Seen
 pub mod Source
+pub mod Spawner
 pub mod Status

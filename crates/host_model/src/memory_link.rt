@@ -113,7 +113,8 @@ impl Link for MemoryLink {
         ensures done { OnOk result (self.new ≡ after_send self.old bytes.now) }
         ensures failed { OnErr result
             ((Contains self.old.fails self.old.calls × (self.new ≡ after_link_fault self.old))
-            ⊎ (self.new ≡ after_link_refusal self.old)) }
+            ⊎ ((Contains self.old.fails self.old.calls → ⊥)
+            × (self.new ≡ after_link_refusal self.old))) }
     {
         if self.begin() {
             return Err(self.fail());

@@ -1,6 +1,6 @@
 -- What a child answers is a frame, where its names and beats keep the rules.
-use Rattle.std.proofs.Common.{◌≡◌, ℕ, zero, suc, ◌==◌, ◌+◌, ◌-◌, ◌*◌, ◌^◌, ◌<◌, ◌≤◌, Bool, true, false, ◌&&◌, ltb, leb, max, List, [], ◌∷◌, ◌++◌, length, map, take, cond, ◌⊎◌, inl, inr, refl, sym, ap, subst, ◌∙◌, arith, Option, Some, None, slice_get, bytes_eq}
-use Rattle.std.specs.List.{list_all, list_any, AllByRecursion}
+use Rattle.std.proofs.Common.{◌≡◌, ℕ, zero, suc, ◌==◌, ◌+◌, ◌-◌, ◌^◌, ◌<◌, ◌≤◌, Bool, true, false, ◌&&◌, ltb, max, List, [], ◌∷◌, ◌++◌, length, map, take, ◌⊎◌, inl, inr, refl, sym, ap, subst, ◌∙◌, arith, Option, Some, None, slice_get, bytes_eq}
+use Rattle.std.specs.List.{AllByRecursion}
 use Rattle.std.specs.Option.{option_map, option_map_or}
 use Rattle.std.proofs.lemmas.Bool.{cases_Bool, cond-true, cond-false, and_parts, and_from, leb-true, lt-ltb, ltb-true, eqb-true, eq-eqb}
 use Rattle.std.proofs.lemmas.List.{length-map, length-take, map-append}
@@ -15,7 +15,7 @@ use Rattle.replication.specs.declared.message.Data.{Data}
 use Rattle.replication.specs.declared.names.ChartName.{ChartName}
 use Rattle.replication.specs.declared.names.DimName.{DimName}
 use Rattle.replication.specs.declared.names.Names.{Names}
-use Rattle.replication.specs.Answer.{AreNames, AreBeatsOf, HaveWords, from_of, data_with, longest, with_front, data_of, IsWhole}
+use Rattle.replication.specs.Answer.{from_of, data_with, longest, with_front, data_of, IsWhole}
 use Rattle.replication.specs.Bytes.{data_bytes}
 use Rattle.replication.specs.Copies.{RisesFrom, above, latest}
 use Rattle.replication.specs.Names.{beat_moment, words_of, uses, is_of_chart, uses_chart, used_names, placed_dimension, placed_word, placed_beat}
@@ -28,7 +28,7 @@ use Rattle.replication.proofs.Places.{select-place}
 use Rattle.replication.proofs.Wholes.{all-of-map, all-select, chart-used, answer-whole}
 use Rattle.link_frames.specs.declared.frame.Frame.TheVariants as frame
 use Rattle.link_frames.specs.Children.{KeepsRules}
-use Rattle.link_frames.specs.DataForm.{has_id, has_rising_places, has_storage_numbers, is_chart, is_storage_number, place_of, same_chart, same_dimension, AreApart, AreChartsUsed, AreDimensionsUsed, HasMoments, IsData}
+use Rattle.link_frames.specs.DataForm.{has_id, has_rising_places, has_storage_numbers, is_chart, is_storage_number, place_of, same_chart, same_dimension, AreApart, AreChartsUsed, AreDimensionsUsed, IsData}
 use Rattle.link_frames.specs.Fields.{FitsChart, FitsDimension, FitsWord, FitsBeat, FitNames, FitsMessage}
 use Rattle.link_frames.specs.Frames.{body_bytes, body_limit, HasSpelling}
 use Rattle.link_frames.proofs.Lengths.{one-beat-fits}

@@ -4,9 +4,10 @@ use Rattle.std.specs.List.{concat, flat_map, AllByRecursion}
 use Rattle.std.proofs.lemmas.Grind.{flat_map-append}
 use Rattle.std.proofs.lemmas.List.{append-nil, drop-append-le, drop_at, length-append, length-drop, take-append-drop, take-append-le, take_all, take_at}
 use Rattle.std.proofs.lemmas.List.Concat.{flat_map-cons}
-use Rattle.byteorder.specs.Numbers.{length-bytes_low_first, little_from-take, little_number-reads_back}
+use Rattle.byteorder.specs.Numbers.{little_from-take, little_number-reads_back}
 use Rattle.field_codec.specs.Field.{IsBytes}
 use Rattle.field_codec.specs.Spelling.{u32_bytes, sized_bytes}
+use Rattle.field_codec.proofs.Lengths.{length-u32_bytes}
 use Rattle.field_codec.proofs.Numbers.{little_bytes-little_number}
 use Rattle.replication.proofs.Copies.{all-append}
 use Rattle.link_frames.specs.declared.frame.Frame.{Frame}
@@ -26,10 +27,6 @@ body-append bytes more there whole =
     ap (λ (n : ℕ). take n (drop 4 (bytes ++ more))) (said-append bytes more there)
     ∙ ap (take (said bytes)) (drop-append-le 4 bytes more there)
     ∙ take-append-le (said bytes) (drop 4 bytes) more (omega (arith, length-drop 4 bytes))
-
-length-u32_bytes : (n : ℕ) → length (u32_bytes n) ≡ 4
-unfolding u32_bytes
-length-u32_bytes n = length-bytes_low_first 0 4 n
 
 -- what the front of bytes is that begin with a frame
 record Begins (f : Frame) (bytes : List ℕ) : Type 0 where

@@ -34,6 +34,8 @@ pub fn lock_of(words: &WordsList) -> LockKind
 {
     match words.as_slice() {
         [command, ..] if command.as_str() == "convert" => LockKind::None,
+        [command, ..] if command.as_str() == "log" => LockKind::Shared,
+        [command, ..] if command.as_str() == "query" => LockKind::Shared,
         _ => LockKind::Alone,
     }
 }

@@ -22,7 +22,6 @@ pub fn reason_of(number: u32) -> &'static str {
         31 => "the chart has another update_every",
         32 => "too many charts",
         33 => "too many dimensions",
-        90 => "nothing answers questions yet",
         _ => "as the table of refusals says",
     }
 }

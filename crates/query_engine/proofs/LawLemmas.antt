@@ -1,4 +1,4 @@
-use Rattle.std.proofs.Common.{◌≡◌, ◌≢◌, ℕ, zero, suc, ◌+◌, ◌*◌, ◌/◌, ◌%◌, ◌≤◌, Bool, true, false, cond, eqb, ltb, List, get_or, Option, None, arith, refl, sym, ap, subst, ◌∙◌}
+use Rattle.std.proofs.Common.{◌≡◌, ◌≢◌, ℕ, ◌+◌, ◌*◌, ◌/◌, ◌%◌, ◌≤◌, Bool, true, false, cond, eqb, ltb, List, get_or, Option, None, arith, refl, sym, ap, subst, ◌∙◌}
 use Rattle.std.proofs.Math.Nat.{add-mul-mod_self_right}
 use Rattle.std.proofs.lemmas.Bool.{eqb-true, eqb-false, ltb-false, le-ltb, cond-true, cond-false}
 use Rattle.std.specs.Option.{option_map}
@@ -7,11 +7,10 @@ use Rattle.tier_rollup.specs.declared.point.Point.{Point}
 use Rattle.query_engine.specs.declared.request.Group.{Group}
 use Rattle.query_engine.specs.declared.request.Request.{Request}
 use Rattle.query_engine.specs.Points.{are_rising_from}
-use Rattle.query_engine.specs.Joining.{joined}
-use Rattle.query_engine.specs.Tiers.{record_of_buckets, record_in_tier, cell_in_tier}
+use Rattle.query_engine.specs.Tiers.{record_in_tier, cell_in_tier}
 use Rattle.query_engine.specs.Windows.{cell, group_of, may_read, record_between, start_of}
 use Rattle.query_engine.proofs.TierLemmas.{may_parts}
-use Rattle.query_engine.proofs.WindowLemmas.{empty_span, points_asked, record_at_is, record_between-split, whole}
+use Rattle.query_engine.proofs.WindowLemmas.{buckets_are, points_asked, whole}
 
 -- ---- whole buckets
 
@@ -21,19 +20,6 @@ start_whole request i width after window =
     let is : request.window / width * width ≡ request.window = whole request.window width window in
     let start : start_of request i ≡ request.after + i * (request.window / width) * width = omega (arith, ap (λ n. i * n) is) in
     ap (λ n. n % width) start ∙ add-mul-mod_self_right request.after (i * (request.window / width)) width ∙ after
-
--- records of buckets in a row, joined, have all points of their span
-buckets_are : (width floor bucket count : ℕ) (points : List Point) → are_rising_from 0 points ≡ true → floor ≤ bucket * width
-    → record_of_buckets width floor bucket count points ≡ record_between (bucket * width) ((bucket + count) * width) points
-buckets_are width floor bucket zero points rising high =
-    let same : bucket ≡ bucket + zero = omega arith in
-    empty_span (bucket * width) points ∙ ap (λ n. record_between (bucket * width) (n * width) points) same
-buckets_are width floor bucket (suc count) points rising high =
-    let same : bucket + 1 + count ≡ bucket + suc count = omega arith in
-    ap (λ (r : Option Record). joined r (record_of_buckets width floor (bucket + 1) count points)) (record_at_is width floor bucket points high)
-    ∙ ap (λ (r : Option Record). joined (record_between (bucket * width) ((bucket + 1) * width) points) r) (buckets_are width floor (bucket + 1) count points rising (omega (arith, high)))
-    ∙ sym (record_between-split (bucket * width) ((bucket + 1) * width) ((bucket + 1 + count) * width) points rising (omega arith) (omega arith))
-    ∙ ap (λ n. record_between (bucket * width) (n * width) points) same
 
 -- ---- a window in a tier
 

@@ -6,7 +6,7 @@ use Rattle.std.specs.List.{filter_map, cons_option}
 use Rattle.std.specs.Option.{option_map}
 use Rattle.storage_number.specs.declared.point.Point.{Point as Value}
 use Rattle.storage_number.specs.Word.{point_of}
-use Rattle.tier_rollup.specs.Buckets.{Added, IsWithinLimit}
+use Rattle.tier_rollup.specs.Buckets.{Added}
 use Rattle.tier_rollup.specs.Rolling.{AreWithin}
 use Rattle.tier_rollup.specs.declared.point.Point.{Point}
 use Rattle.query_engine.specs.Points.{are_rising_from, value_of, values}

@@ -1,4 +1,4 @@
-use Rattle.std.proofs.Common.{◌≡◌, ℕ, zero, ◌+◌, ◌-◌, ◌*◌, ◌/◌, ◌%◌, ◌^◌, ◌<◌, ◌≤◌, min, Bool, true, false, cond, ltb, leb, ◌&&◌, List, [], ◌∷◌, ◌++◌, length, get_or, take, Option, Some, None, arith, refl, sym, ap, subst, ◌∙◌}
+use Rattle.std.proofs.Common.{◌≡◌, ℕ, zero, suc, ◌+◌, ◌-◌, ◌*◌, ◌/◌, ◌%◌, ◌^◌, ◌<◌, ◌≤◌, min, Bool, true, false, cond, ltb, leb, ◌&&◌, List, [], ◌∷◌, ◌++◌, length, get_or, take, Option, Some, None, arith, refl, sym, ap, subst, ◌∙◌}
 use Rattle.std.proofs.Math.Nat.{mod-add-div', add-mul-mod_self_right, lt_of_mul-lt-mul_right, mul-le-mul_right}
 use Rattle.std.proofs.lemmas.Bool.{and_from, le-leb, le-ltb, cond-false}
 use Rattle.std.proofs.lemmas.List.{take_more}
@@ -14,6 +14,7 @@ use Rattle.tier_rollup.proofs.RecordLemmas.{single_is}
 use Rattle.tier_rollup.specs.declared.point.Point.{Point}
 use Rattle.query_engine.specs.Points.{are_rising_from, values, is_asked, points_between, record_at}
 use Rattle.query_engine.specs.Joining.{joined, record_of_one, HaveRoom}
+use Rattle.query_engine.specs.Tiers.{record_of_buckets}
 use Rattle.query_engine.specs.Windows.{is_between, members_between, record_between}
 use Rattle.query_engine.proofs.MemberLemmas.{one, members-append, members-split, members_few, members_within, members_none, members_none_high, members_asked, rising_take, rising_filter, between_low, between_high}
 use Rattle.query_engine.proofs.JoinLemmas.{joined-none, record_of-append, room}
@@ -154,15 +155,15 @@ next_whole from end width positive first second less =
     let more : (from / width + 1) * width ≤ end / width * width = mul-le-mul_right width (omega arith) in
     omega (arith, one, other, more)
 
--- the record of a bucket is that of the piece that it is
-pub bucket_piece : (width step floor lowest from to : ℕ) (points : List Point) (found : Option Record)
-    → found ≡ record_at width floor (from / step) points → step ≡ width → lowest ≡ floor → from % step ≡ 0 → to ≡ from + step → lowest ≤ from
-    → found ≡ record_between from to points
-bucket_piece width step floor lowest from to points found is same low grid end high =
-    let first : from / step * step ≡ from = whole from step grid in
-    let second : (from / step + 1) * step ≡ to = omega (arith, first, end) in
-    is
-    ∙ ap (λ (w : ℕ). record_at w floor (from / step) points) (sym same)
-    ∙ record_at_is step floor (from / step) points (omega (arith, first, low, high))
-    ∙ ap (λ n. record_between n ((from / step + 1) * step) points) first
-    ∙ ap (λ n. record_between from n points) second
+-- records of buckets in a row, joined, have all points of their span
+pub buckets_are : (width floor bucket count : ℕ) (points : List Point) → are_rising_from 0 points ≡ true → floor ≤ bucket * width
+    → record_of_buckets width floor bucket count points ≡ record_between (bucket * width) ((bucket + count) * width) points
+buckets_are width floor bucket zero points rising high =
+    let same : bucket ≡ bucket + zero = omega arith in
+    empty_span (bucket * width) points ∙ ap (λ n. record_between (bucket * width) (n * width) points) same
+buckets_are width floor bucket (suc count) points rising high =
+    let same : bucket + 1 + count ≡ bucket + suc count = omega arith in
+    ap (λ (r : Option Record). joined r (record_of_buckets width floor (bucket + 1) count points)) (record_at_is width floor bucket points high)
+    ∙ ap (λ (r : Option Record). joined (record_between (bucket * width) ((bucket + 1) * width) points) r) (buckets_are width floor (bucket + 1) count points rising (omega (arith, high)))
+    ∙ sym (record_between-split (bucket * width) ((bucket + 1) * width) ((bucket + 1 + count) * width) points rising (omega arith) (omega arith))
+    ∙ ap (λ n. record_between (bucket * width) (n * width) points) same

@@ -1,4 +1,4 @@
-use Rattle.std.specs.Prelude.{◌≡◌, ◌≢◌, ℕ, ◌<◌, ◌≤◌, Bool, true, length, slice_index}
+use Rattle.std.specs.Prelude.{◌≡◌, ◌≢◌, ℕ, ◌%◌, ◌<◌, ◌≤◌, Bool, true, length, slice_index}
 use Rattle.query_engine.specs.declared.plan.Plan.{Plan}
 use Rattle.query_engine.specs.Points.{Tiers}
 
@@ -10,9 +10,15 @@ pub record IsLowestTier (floor : ℕ → ℕ) (may : ℕ → Bool) (count tier :
   pub lowest : (other : ℕ) → other < count → may other ≡ true → floor tier ≤ floor other
   pub highest : (other : ℕ) → other < count → may other ≡ true → tier < other → floor tier < floor other
 
--- the plan names a tier that is there, its floor, and by how much to read on: for a tier of records its width
+-- the plan names a tier that is there, its width and its floor
 pub record IsPlan (tiers : Tiers) (plan : Plan) : Type 0 where
   pub inside : plan.tier < length tiers.widths
+  pub width : plan.width ≡ slice_index tiers.widths plan.tier
+  pub positive : 0 < plan.width
   pub floor : plan.floor ≡ tiers.floor plan.tier
-  pub positive : 0 < plan.step
-  pub step : plan.tier ≢ 0 → plan.step ≡ slice_index tiers.widths plan.tier
+
+-- a part of a window from one moment on ends at a later one, by the window's end, and with a bucket of the plan's tier
+pub record IsPartEnd (plan : Plan) (from end to : ℕ) : Type 0 where
+  pub later : from < to
+  pub inside : to ≤ end
+  pub whole : plan.tier ≢ 0 → to % plan.width ≡ 0

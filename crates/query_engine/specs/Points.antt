@@ -1,4 +1,4 @@
-use Rattle.std.specs.Prelude.{ℕ, ◌+◌, ◌*◌, ◌^◌, Bool, true, false, ◌&&◌, ◌==◌, nat_le, nat_lt, if◌then◌else◌, List, [], ◌∷◌, length, filter, Option, None}
+use Rattle.std.specs.Prelude.{◌≡◌, ℕ, ◌+◌, ◌*◌, ◌^◌, ◌<◌, ◌≤◌, Bool, true, false, ◌&&◌, ◌==◌, nat_le, nat_lt, if◌then◌else◌, List, [], ◌∷◌, length, filter, Option, Some, None}
 use Rattle.std.specs.List.{filter_map}
 use Rattle.std.specs.Option.{option_map}
 use Rattle.fixed_num.specs.declared.units.Record.{Record}
@@ -58,3 +58,20 @@ points_between floor from to points = filter (is_asked floor from to) points
 abbrev pub record_at : ℕ → ℕ → ℕ → List Point → Option Record
 record_at width floor bucket points =
     if nat_lt (bucket * width) floor then None else bucket_record width bucket (values points)
+
+-- no bucket from one on and before another has a record
+abbrev pub HaveNoRecord : ℕ → ℕ → ℕ → ℕ → List Point → Type 0
+HaveNoRecord width floor from before points =
+    (bucket : ℕ) → from ≤ bucket → bucket < before → record_at width floor bucket points ≡ None
+
+-- the bucket lies from one on and up to another, both included, has this record, and none before it has one
+pub record IsFirstWithRecord (width floor from to : ℕ) (points : List Point) (bucket : ℕ) (found : Record) : Type 0 where
+  pub low : from ≤ bucket
+  pub high : bucket ≤ to
+  pub here : record_at width floor bucket points ≡ Some found
+  pub none_before : HaveNoRecord width floor from bucket points
+
+-- the first bucket from one on and up to another, both included, that has a record, and that record, if one has
+abbrev pub IsFirstRecord : ℕ → ℕ → ℕ → ℕ → List Point → Option (ℕ × Record) → Type 0
+IsFirstRecord width floor from to points None = HaveNoRecord width floor from (to + 1) points
+IsFirstRecord width floor from to points (Some found) = IsFirstWithRecord width floor from to points found.0 found.1

@@ -34,11 +34,12 @@ fn read_cells<P: Points>(
 ) -> Result<CellList, PointFault>
     requires plan { IsPlan (P.tiers points.old) plan }
     requires room { start + window < 2 ^ 64 }
-    requires buckets { plan.tier ≢ 0 → (start % plan.step ≡ 0) × (window % plan.step ≡ 0) }
+    requires buckets { plan.tier ≢ 0 → (start % plan.width ≡ 0) × (window % plan.width ≡ 0) }
     ensures cells { IfOk result (λ cells. (told : ℕ → List APoint) → P.tells points.old told
         → cells ≡ map (λ one. cell group plan.floor start window (told one)) series.now) }
     ensures tiers { P.tiers points.new ≡ P.tiers points.old }
     ensures told { (told : ℕ → List APoint) → P.tells points.old told → P.tells points.new told }
+    ensures held { P.held points.new ≡ P.held points.old }
     ensures cause { HasCause (P.faults points.old) (P.faults points.new)
         (IsErrOf result PointFault.Disk) }
 {
@@ -68,11 +69,12 @@ fn read_row<P: Points>(
 ) -> Result<TableRow, PointFault>
     requires plan { IsPlan (P.tiers points.old) plan }
     requires buckets { plan.tier ≢ 0
-        → (request.now.after % plan.step ≡ 0) × (request.now.window % plan.step ≡ 0) }
+        → (request.now.after % plan.width ≡ 0) × (request.now.window % plan.width ≡ 0) }
     ensures row { IfOk result (λ row. (told : ℕ → List APoint) → P.tells points.old told
         → row ≡ row_of plan.floor told request.now i) }
     ensures tiers { P.tiers points.new ≡ P.tiers points.old }
     ensures told { (told : ℕ → List APoint) → P.tells points.old told → P.tells points.new told }
+    ensures held { P.held points.new ≡ P.held points.old }
     ensures cause { HasCause (P.faults points.old) (P.faults points.new)
         (IsErrOf result PointFault.Disk) }
 {
@@ -100,6 +102,7 @@ pub fn answer<P: Points>(
         (P.tiers points.old).floor told request.now) }
     ensures tiers { P.tiers points.new ≡ P.tiers points.old }
     ensures told { (told : ℕ → List APoint) → P.tells points.old told → P.tells points.new told }
+    ensures held { P.held points.new ≡ P.held points.old }
     ensures cause { HasCause (P.faults points.old) (P.faults points.new)
         (IsErrOf result PointFault.Disk) }
 {

@@ -62,11 +62,12 @@ pub(crate) fn read_cell<P: Points>(
 ) -> Result<Option<Units>, PointFault>
     requires plan { IsPlan (P.tiers points.old) plan }
     requires room { start + window < 2 ^ 64 }
-    requires buckets { plan.tier ≢ 0 → (start % plan.step ≡ 0) × (window % plan.step ≡ 0) }
+    requires buckets { plan.tier ≢ 0 → (start % plan.width ≡ 0) × (window % plan.width ≡ 0) }
     ensures cell { IfOk result (λ found. (told : ℕ → List APoint) → P.tells points.old told
         → found ≡ cell group plan.floor start window (told series)) }
     ensures tiers { P.tiers points.new ≡ P.tiers points.old }
     ensures told { (told : ℕ → List APoint) → P.tells points.old told → P.tells points.new told }
+    ensures held { P.held points.new ≡ P.held points.old }
     ensures cause { HasCause (P.faults points.old) (P.faults points.new)
         (IsErrOf result PointFault.Disk) }
 {

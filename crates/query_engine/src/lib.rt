@@ -13,9 +13,13 @@
 //! rounded once.
 //!
 //! The points come from any object that is `Points`: it says what it stands for, or keeps silent, and
-//! counts its failures. `ListPoints` is the plain one in memory. No sum and no count comes near its limit
-//! where the points are told; where they are not, they stop at the limit. Held at a time is the table, and
-//! the points of one series in at most 65,536 seconds.
+//! counts its failures. What else it keeps, as a store its state and its host, an answer leaves as it was.
+//! `ListPoints` is the plain one in memory. No sum and no count comes near its limit where the points are
+//! told; where they are not, they stop at the limit.
+//!
+//! A window is read from record to record in a tier of records. In tier 0 it is read in spans of 65,536
+//! seconds, and after empty ones in one of twice the last. So a wide window costs by the points and
+//! records that are there. Held at a time is the table, and the points of one series in one such span.
 //!
 //! The crate stands on the words of `storage_number`, the records of `tier_rollup` and the rounding of
 //! `fixed_num`.

@@ -1,6 +1,6 @@
 ghost use Rattle.std.specs.Prelude.{◌≡◌, ◌≢◌, ℕ, ◌<◌, ◌≤◌, ◌*◌, List, [], filter, length, slice_index, slice_index_or, IsTrue, Some, IfOk, IsErrOf};
 ghost use Rattle.std.specs.List.{list_all};
-ghost use Rattle.query_engine.specs.Points.{are_series, are_widths, is_asked, record_at};
+ghost use Rattle.query_engine.specs.Points.{are_series, are_widths, is_asked, record_at, IsFirstRecord};
 ghost use Rattle.query_engine.specs.InMemory.{series_in};
 
 use crate::fault::PointFault;
@@ -82,6 +82,29 @@ fn record_at(points: &[Point], width: u32, floor: u32, bucket: u32) -> Option<Re
     span::record_between(points, start, start + u64::from(width))
 }
 
+/// The first bucket from one on and up to another, both included, that has a record, and that record.
+fn first_record(
+    points: &[Point],
+    width: u32,
+    floor: u32,
+    from: u32,
+    to: u32,
+) -> Option<(u32, Record)>
+    requires { 0 < width }
+    ensures { IsTrue (are_series points.now)
+        → IsFirstRecord width floor from to points.now result }
+{
+    for point in points {
+        let bucket = point.moment / width;
+        if from <= bucket && bucket <= to {
+            if let Some(record) = record_at(points, width, floor, bucket) {
+                return Some((bucket, record));
+            }
+        }
+    }
+    None
+}
+
 impl Points for ListPoints {
     ghost use Rattle.query_engine.specs.ListPoints.{points_of, tiers_of};
     ghost use Rattle.query_engine.specs.InMemory.{told_series};
@@ -91,6 +114,8 @@ impl Points for ListPoints {
     ghost tells = { λ source told. told ≡ points_of source };
 
     ghost faults = { λ _. 0 };
+
+    ghost held = { λ _. tt };
 
     fn widths(&self) -> &[u32] {
         self.widths.as_slice()
@@ -131,6 +156,25 @@ impl Points for ListPoints {
             width,
             floor,
             bucket,
+        ))
+    }
+
+    fn next_record(
+        &mut self,
+        _alloc: Global,
+        tier: u8,
+        series: u32,
+        from: u32,
+        to: u32,
+    ) -> Result<Option<(u32, Record)>, PointFault> {
+        let width = self.widths.as_slice()[tier as usize];
+        let floor = self.floor(tier);
+        Ok(first_record(
+            series_in(self.points.as_slice(), series),
+            width,
+            floor,
+            from,
+            to,
         ))
     }
 

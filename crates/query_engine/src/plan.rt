@@ -4,16 +4,13 @@ ghost use Rattle.query_engine.specs.Windows.{may_read, tier_for};
 
 use crate::points::Points;
 
-/// How many seconds of points are held at a time.
-const PIECE: u32 = 65_536;
-
 /// The tier that is read for a request, and how.
 #[derive(Clone, Copy, Debug)]
 pub(crate) struct Plan {
     pub(crate) tier: u8,
+    /// In seconds.
+    pub(crate) width: u32,
     pub(crate) floor: u32,
-    /// How many seconds are read at a time: of a tier of records those of a bucket.
-    pub(crate) step: u32,
 }
 
 /// Whether a width divides where the windows start and how long they are.
@@ -58,17 +55,12 @@ pub(crate) fn plan_for<P: Points>(points: &P, after: u32, window: u32) -> Plan
     ensures plan { IsPlan (P.tiers points.now) result }
     ensures tier { let tiers = P.tiers points.now in result.tier
         ≡ tier_for tiers.widths tiers.floor after window }
-    ensures buckets { result.tier ≢ 0 → (after % result.step ≡ 0) × (window % result.step ≡ 0) }
+    ensures buckets { result.tier ≢ 0 → (after % result.width ≡ 0) × (window % result.width ≡ 0) }
 {
     let tier = lowest_tier(points, after, window);
-    let step = if tier == 0 {
-        PIECE
-    } else {
-        points.widths()[tier as usize]
-    };
     Plan {
         tier,
+        width: points.widths()[tier as usize],
         floor: points.floor(tier),
-        step,
     }
 }

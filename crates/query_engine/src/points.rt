@@ -1,7 +1,7 @@
 ghost use Rattle.std.specs.Prelude.{◌≡◌, ◌≢◌, ℕ, ◌<◌, List, length, slice_index, IsErrOf, IsTrue, IfOk};
 ghost use Rattle.host_model.specs.Cause.{HasCause};
 ghost use Rattle.tier_rollup.specs.declared.point.Point.{Point as APoint};
-ghost use Rattle.query_engine.specs.Points.{Tiers, are_series, are_widths, points_between, record_at};
+ghost use Rattle.query_engine.specs.Points.{Tiers, are_series, are_widths, points_between, record_at, IsFirstRecord};
 
 use crate::fault::PointFault;
 use crate::point::PointList;
@@ -19,6 +19,12 @@ pub trait Points {
 
     /// How many calls have failed. The count stands still at 2^64 - 1.
     ghost faults: { Self → ℕ };
+
+    /// What the object keeps beside its points, as a store its state and the past of its host.
+    ghost Held: { Type 0 } = { Unit {0} };
+
+    /// No call changes it.
+    ghost held: { Self → Held };
 
     /// The width of each tier in seconds, that of tier 0 first. The first is 1 and they rise.
     fn widths(&self) -> &[u32]
@@ -42,6 +48,7 @@ pub trait Points {
             → found ≡ points_between ((tiers self.old).floor 0) from to (told series)) }
         ensures tiers { tiers self.new ≡ tiers self.old }
         ensures told { (told : ℕ → List APoint) → tells self.old told → tells self.new told }
+        ensures held { held self.new ≡ held self.old }
         ensures cause { HasCause (faults self.old) (faults self.new)
             (IsErrOf result PointFault.Disk) };
 
@@ -61,6 +68,29 @@ pub trait Points {
             ((tiers self.old).floor tier) bucket (told series)) }
         ensures tiers { tiers self.new ≡ tiers self.old }
         ensures told { (told : ℕ → List APoint) → tells self.old told → tells self.new told }
+        ensures held { held self.new ≡ held self.old }
+        ensures cause { HasCause (faults self.old) (faults self.new)
+            (IsErrOf result PointFault.Disk) };
+
+    /// The first bucket of a tier that is there and not tier 0, from one on and up to another, both
+    /// included, that has a record, and that record. `None` where none has one. A bucket that starts
+    /// below the tier's floor has none.
+    fn next_record(
+        &mut self,
+        alloc: Global,
+        tier: u8,
+        series: u32,
+        from: u32,
+        to: u32,
+    ) -> Result<Option<(u32, Record)>, PointFault>
+        requires tier { tier < length (tiers self.old).widths }
+        requires records { tier ≢ 0 }
+        ensures found { IfOk result (λ found. (told : ℕ → List APoint) → tells self.old told
+            → IsFirstRecord (slice_index (tiers self.old).widths tier)
+            ((tiers self.old).floor tier) from to (told series) found) }
+        ensures tiers { tiers self.new ≡ tiers self.old }
+        ensures told { (told : ℕ → List APoint) → tells self.old told → tells self.new told }
+        ensures held { held self.new ≡ held self.old }
         ensures cause { HasCause (faults self.old) (faults self.new)
             (IsErrOf result PointFault.Disk) };
 

@@ -3,8 +3,6 @@ use fixed_num::{Record, Units};
 use std::alloc::Global;
 use std::test::Fail;
 
-mod random;
-
 /// A point of each series has its word from the layout of storage numbers, as 10 is `0x3198_9680`.
 macro_rules! points {
     ($rt:expr; $(($moment:expr, $word:expr)),*) => {
@@ -17,6 +15,9 @@ macro_rules! moments {
         MomentList::from_vec(vec![in $rt.alloc(); $($moment),*]?)
     };
 }
+
+mod random;
+mod wide;
 
 #[test]
 fn two_minutes(rt: HostRuntime) -> Result<(), Fail> {
@@ -298,6 +299,8 @@ impl Points for Broken {
 
     ghost faults = { λ source. source.faults };
 
+    ghost held = { λ _. tt };
+
     fn widths(&self) -> &[u32] {
         &[1, 7]
     }
@@ -328,6 +331,17 @@ impl Points for Broken {
         _series: u32,
         _bucket: u32,
     ) -> Result<Option<Record>, PointFault> {
+        Ok(None)
+    }
+
+    fn next_record(
+        &mut self,
+        _alloc: Global,
+        _tier: u8,
+        _series: u32,
+        _from: u32,
+        _to: u32,
+    ) -> Result<Option<(u32, Record)>, PointFault> {
         Ok(None)
     }
 

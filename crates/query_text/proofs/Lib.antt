@@ -1,4 +1,5 @@
 pub mod ColumnLemmas
 pub mod NumberLemmas
+pub mod ReplyLemmas
 mod Rows
 pub mod SpanLemmas

@@ -1,6 +1,7 @@
 -- what the definitions say of small queries, worked out by hand
-use Rattle.std.proofs.Common.{◌≡◌, ◌^◌, ◌-◌, [], ◌∷◌, codes, Ok, Err, refl}
+use Rattle.std.proofs.Common.{◌≡◌, ◌^◌, ◌-◌, true, false, [], ◌∷◌, codes, Ok, Err, refl}
 use Rattle.query_text.specs.declared.fault.QueryFault.TheVariants.{BadWord, BadNumber}
+use Rattle.query_text.specs.Replies.{is_reply_line}
 use Rattle.query_text.specs.Asked.{windows, number_read, pattern_text, words_read}
 
 whole_windows : windows 0 120 60 ≡ 2
@@ -41,3 +42,18 @@ joined = refl
 
 open_quote : words_read (codes "a 'b") ≡ Err BadWord
 open_quote = refl
+
+head_begun : is_reply_line (codes "ROWS 1 a") ≡ true
+head_begun = refl
+
+row_begun : is_reply_line (codes "0 null") ≡ true
+row_begun = refl
+
+refusal_begun : is_reply_line (codes "ERROR 5") ≡ true
+refusal_begun = refl
+
+acknowledgement_not : is_reply_line (codes "STORED 7") ≡ false
+acknowledgement_not = refl
+
+nothing_not : is_reply_line [] ≡ false
+nothing_not = refl

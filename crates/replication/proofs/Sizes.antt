@@ -1,23 +1,16 @@
 -- How long the parts of a frame's body are.
-use Rattle.std.proofs.Common.{◌≡◌, ℕ, Bool, true, false, ◌+◌, ◌*◌, List, [], ◌∷◌, ◌++◌, length, arith, refl, length-append}
+use Rattle.std.proofs.Common.{◌≡◌, ℕ, ◌+◌, ◌*◌, List, [], ◌∷◌, ◌++◌, length, arith, refl, length-append}
 use Rattle.std.specs.List.{flat_map, sum_by}
 use Rattle.std.proofs.lemmas.List.Concat.{length-flat_map}
 use Rattle.std.proofs.lemmas.List.Sums.{sum_by-cons}
-use Rattle.field_codec.specs.Spelling.{u8_bytes, u16_bytes, u32_bytes, u64_bytes, flag_bytes, text_bytes, list_bytes}
+use Rattle.field_codec.specs.Spelling.{u8_bytes, u32_bytes, u64_bytes, flag_bytes, text_bytes, list_bytes}
+use Rattle.field_codec.proofs.Lengths.{length-u8_bytes, length-u32_bytes, length-u64_bytes, length-flag_bytes, length-text_bytes}
 use Rattle.replication.specs.declared.beats.Beat.{Beat}
 use Rattle.replication.specs.declared.beats.SeriesWord.{SeriesWord}
 use Rattle.replication.specs.declared.message.Data.{Data}
 use Rattle.replication.specs.declared.names.ChartName.{ChartName}
 use Rattle.replication.specs.declared.names.DimName.{DimName}
 use Rattle.replication.specs.Bytes.{chart_bytes, dimension_bytes, word_bytes, beat_bytes, names_bytes, data_fields, data_bytes, chart_size, dimension_size, beat_size, data_size}
-
-length-u32_bytes : (n : ℕ) → length (u32_bytes n) ≡ 4
-unfolding u32_bytes
-length-u32_bytes n = refl
-
-length-text_bytes : (text : List ℕ) → length (text_bytes text) ≡ 2 + length text
-unfolding text_bytes u16_bytes
-length-text_bytes text = length-append (u16_bytes (length text)) text
 
 -- lists of items of equal measures have one measure
 sum_by-same : {X : Type 0} (f g : X → ℕ) (xs : List X) → ((x : X) → f x ≡ g x) → sum_by f xs ≡ sum_by g xs
@@ -41,11 +34,6 @@ length-chart_bytes chart =
       length-u32_bytes chart.update_every,
     )
 
-length-flag : (flag : Bool) → length (flag_bytes flag) ≡ 1
-unfolding flag_bytes
-length-flag true = refl
-length-flag false = refl
-
 length-dimension_bytes : (dimension : DimName) → length (dimension_bytes dimension) ≡ dimension_size dimension
 unfolding dimension_bytes
 length-dimension_bytes dimension =
@@ -55,7 +43,7 @@ length-dimension_bytes dimension =
       length-append (text_bytes dimension.id) (flag_bytes dimension.hidden),
       length-u32_bytes dimension.chart,
       length-text_bytes dimension.id,
-      length-flag dimension.hidden,
+      length-flag_bytes dimension.hidden,
     )
 
 length-word_bytes : (word : SeriesWord) → length (word_bytes word) ≡ 8
@@ -76,14 +64,6 @@ length-beat_bytes beat =
       length-list_bytes word_bytes (λ _. 8) beat.words length-word_bytes,
       sum_by-const 8 beat.words,
     )
-
-length-u64_bytes : (n : ℕ) → length (u64_bytes n) ≡ 8
-unfolding u64_bytes
-length-u64_bytes n = refl
-
-length-u8_bytes : (n : ℕ) → length (u8_bytes n) ≡ 1
-unfolding u8_bytes
-length-u8_bytes n = refl
 
 length-names_bytes : (charts : List ChartName) (dimensions : List DimName) → length (names_bytes (record { charts = charts; dimensions = dimensions })) ≡ 8 + sum_by chart_size charts + sum_by dimension_size dimensions
 unfolding names_bytes

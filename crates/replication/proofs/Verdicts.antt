@@ -1,7 +1,6 @@
 -- What a verdict says of where a message begins.
-use Rattle.std.proofs.Common.{◌≡◌, ℕ, ◌==◌, ◌≤◌, true, false, cond, inl, inr, sym, ap, ◌∙◌, arith, ltb, Option, Some, None}
+use Rattle.std.proofs.Common.{◌≡◌, ℕ, ◌==◌, true, false, cond, inl, inr, sym, ap, ◌∙◌, arith, ltb, Option, Some, None}
 use Rattle.std.proofs.lemmas.Bool.{cases_lt, cases_Bool, cond-true, cond-false, lt-ltb, le-ltb}
-use Rattle.replication.specs.declared.verdict.Verdict.{Verdict}
 use Rattle.replication.specs.declared.verdict.Verdict.TheVariants.{Stored, Old, Ahead, WrongChild}
 use Rattle.replication.specs.Verdict.{is_stored, verdict_at, verdict_by}
 

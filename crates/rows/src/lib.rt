@@ -2,9 +2,17 @@
 #![tactic(auto)]
 
 #[cfg(test)]
+mod alarms;
+#[cfg(test)]
+mod asked;
+#[cfg(test)]
 mod convert;
 #[cfg(test)]
 mod faults;
+#[cfg(test)]
+mod logs;
+#[cfg(test)]
+mod random;
 #[cfg(test)]
 mod run;
 #[cfg(test)]

@@ -8,7 +8,7 @@ use Rattle.field_codec.specs.Reading.{ReadOf}
 use Rattle.field_codec.specs.Spelling.{sized_bytes, u32_bytes, list_bytes}
 use Rattle.field_codec.proofs.Fields.{bytes_field, u32_field}
 use Rattle.entry_codec.proofs.Fields.{◌⊗◌, list_field, made_of}
-use Rattle.entry_codec.proofs.Lengths.{length-u32_bytes}
+use Rattle.field_codec.proofs.Lengths.{length-u32_bytes}
 use Rattle.store_core.specs.declared.beat.Beat.{Beat}
 use Rattle.beat_tiers.specs.declared.item.BeatPoint.{BeatPoint}
 use Rattle.store_core.specs.Beats.{beat_bytes, beat_in, beat_of, has_form, moment_bytes, moment_number, moment_of, point_bytes, point_of, read_fields, read_moment, read_point, whole_beat, InForm, IsMoment, IsPoint, IsShort}

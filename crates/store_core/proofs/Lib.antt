@@ -1,3 +1,4 @@
+pub mod AnswerLemmas
 pub mod BeatLaw
 pub mod DiskCases
 pub mod FileLemmas
@@ -8,3 +9,4 @@ pub mod RecordLaw
 pub mod StandLemmas
 pub mod StoreLemmas
 pub mod TierLemmas
+pub mod ViewLemmas

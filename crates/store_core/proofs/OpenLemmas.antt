@@ -61,6 +61,7 @@ opens old new store bodies found read count last tiers going set beats stands =
         last = last;
         tiers = subst (λ (s : Settings). HasTiers s [] store.tiers) (ap (λ (p : Settings × List Beat). p.0) same)
             (subst (λ (state : TiersState). HasTiers store.settings [] state) (sym tiers) (tiers_begin store.settings (subst (λ (s : Settings). are_tiers s ≡ true) (sym (ap (λ (p : Settings × List Beat). p.0) same)) stands.limits.tiers)));
+        before = ap (λ (state : TiersState). state.points.before) tiers;
         going = going;
       };
     }

@@ -1,12 +1,12 @@
 -- What a store is, from call to call.
-use Rattle.std.proofs.Common.{◌≡◌, ℕ, suc, inl, inr, true, false, List, [], ◌∷◌, ◌++◌, length, Some, None, refl, sym, ap, ◌∙◌, subst, arith}
+use Rattle.std.proofs.Common.{◌≡◌, ◌⊎◌, ℕ, suc, inl, inr, true, List, [], ◌∷◌, ◌++◌, length, map, Some, None, refl, sym, ap, ◌∙◌, subst, arith}
 use Rattle.host_model.specs.declared.file.File.{File}
 use Rattle.host_model.specs.declared.file.File.TheVariants.{JournalA}
-use Rattle.host_model.specs.Images.{Change, contents}
-use Rattle.host_model.specs.Past.{Event, Told, of}
+use Rattle.host_model.specs.Images.{Change, contents, IsImage}
+use Rattle.host_model.specs.Past.{Event, Told, of, IsDisk, IsOther}
 use Rattle.host_model.specs.Disks.{EveryDisk, reads_as}
-use Rattle.host_model.specs.Moments.{Throughout, EveryImage}
-use Rattle.host_model.proofs.DiskLemmas.{every_disk}
+use Rattle.host_model.specs.Moments.{Throughout, EveryImage, OnlyOn}
+use Rattle.host_model.proofs.DiskLemmas.{every_disk, every_disk_around}
 use Rattle.host_model.proofs.FileLemmas.{image_when_synced}
 use Rattle.host_model.proofs.MomentLemmas.{weakened}
 use Rattle.journal_core.specs.Form.{StandsFor}
@@ -16,11 +16,20 @@ use Rattle.store_core.specs.declared.beat.Beat.{Beat}
 use Rattle.store_core.specs.Beats.{beat_bytes, InForm}
 use Rattle.store_core.specs.FirstRecord.{settings_body, InLimits}
 use Rattle.store_core.specs.Records.{is_later, last_after, last_moment, records, with_all, AreBeats}
-use Rattle.store_core.specs.Stands.{is_begun, HoldsIfBegun, Stands, StandsAround, StandsIfMade}
+use Rattle.store_core.specs.Stands.{HoldsIfBegun, Stands, StandsAround, StandsIfMade}
 use Rattle.store_core.specs.Store.{counted, raised, IsPlaced, IsReady, IsReplayed, IsStoreAt, IsStoreOf, Replays, StoreState}
 use Rattle.beat_tiers.specs.State.{TiersState, after_beat}
+use Rattle.store_core.proofs.DiskCases.{by_file}
+use Rattle.store_core.proofs.FileLemmas.{WasOrUnbegun}
 use Rattle.store_core.proofs.StandLemmas.{empty_not_begun}
-use Rattle.store_core.proofs.TierLemmas.{tiers_more}
+use Rattle.store_core.proofs.TierLemmas.{before_more, first_is, tiers_more}
+use Rattle.beat_tiers.specs.declared.kept.Kept.{Kept}
+use Rattle.beat_tiers.specs.declared.kept.KeptBeat.{KeptBeat}
+use Rattle.beat_tiers.specs.declared.tier.Tier.{Tier}
+use Rattle.beat_tiers.specs.Floors.{beats_before, kept_beats}
+use Rattle.beat_tiers.specs.Kept.{kept_beat_of, kept_in}
+use Rattle.beat_tiers.proofs.KeptLaws.{beats_are_kept}
+use Rattle.store_core.specs.Tiers.{first_tier, kept_of, other_tiers, seen}
 
 -- what an open journal reads as
 pub open_reads : (changes : List Change) (journal : JournalState) (bodies : List (List ℕ)) → IsPlaced journal → IsOpen changes journal bodies → StandsFor 0 (contents changes) bodies
@@ -72,6 +81,13 @@ fault_of past store set beats rest is_at = is_at.going
 pub is_replayed : (past : List Event) (store : StoreState) (set : Settings) (beats : List Beat) → IsStoreOf past store set beats → IsReplayed store
 is_replayed past store set beats is_of = is_of.waiting
 
+pub kept_by : (past : List Event) (store : StoreState) (set : Settings) (beats rest : List Beat) → IsStoreAt past store set beats rest → kept_in store.tiers.points ≡ kept_of set beats
+kept_by past store set beats rest is_at =
+    let kept : (before : ℕ) (kept_beats : List KeptBeat) → Kept = λ before kept_beats. record { before = before; beats = kept_beats } in
+    ap (λ (n : ℕ). kept n (kept_in store.tiers.points).beats) is_at.before
+    ∙ ap (kept (beats_before (first_tier set) (map seen beats))) (beats_are_kept (first_tier set ∷ other_tiers set) (map seen beats) store.tiers is_at.tiers
+    ∙ ap (λ (tier : Tier). map kept_beat_of (kept_beats tier (map seen beats))) (first_is set beats store.tiers is_at.tiers))
+
 -- a store that has replayed all is that of all its beats
 pub all_replayed : (past : List Event) (store : StoreState) (set : Settings) (beats rest : List Beat) → IsStoreAt past store set beats rest → IsReplayed store
     → IsStoreOf past store set beats
@@ -92,6 +108,7 @@ store_elsewhere old new store set beats rest same is_at = record {
   count = is_at.count;
   last = is_at.last;
   tiers = is_at.tiers;
+  before = is_at.before;
   going = is_at.going;
 }
 
@@ -167,6 +184,7 @@ one_more old new store journal set beats beat is_of form later place is_open = r
   count = ap raised is_of.count ∙ counted-more (length beats);
   last = ap (λ (l : ℕ). last_after l beat.moment) is_of.last;
   tiers = tiers_more set beats beat store.tiers is_of.tiers (with_beat set beats beat store.last is_of.beats_are form is_of.last later);
+  before = before_more set beats beat store.tiers is_of.tiers (with_beat set beats beat store.last is_of.beats_are form is_of.last later) is_of.before;
   going = is_of.going;
 }
 
@@ -193,31 +211,45 @@ placed_moments old new journal bodies body place moments =
     subst (λ (f : File). Throughout (EveryImage f (StandsForEither 0 bodies body)) old new) place.file
     (subst (λ (g : ℕ). Throughout (EveryImage journal.file (StandsForEither g bodies body)) old new) place.generation moments)
 
+-- a stop left these bytes before, or they begin no database, or hold this one record
+abbrev pub WasOrHolds : List Event → List ℕ → List ℕ → Type 0
+WasOrHolds old body bytes = IsImage (of JournalA old) bytes ⊎ HoldsIfBegun body bytes
+
 -- the journal without records begins no database
-pub first_moments : (old new : List Event) (body : List ℕ) → Throughout (EveryImage JournalA (StandsForEither 0 [] body)) old new
-    → Throughout (EveryImage JournalA (HoldsIfBegun body)) old new
-first_moments old new body moments = weakened (λ past held bytes image. holds body bytes (held bytes image)) moments
+pub first_moments : (first old new : List Event) (body : List ℕ) → Throughout (EveryImage JournalA (StandsForEither 0 [] body)) old new
+    → Throughout (EveryImage JournalA (WasOrHolds first body)) old new
+first_moments first old new body moments = weakened (λ past held bytes image. inr (holds body bytes (held bytes image))) moments
   where
     holds : (body bytes : List ℕ) → StandsForEither 0 [] body bytes → HoldsIfBegun body bytes
     holds body bytes (inl none) = inl (empty_not_begun bytes none)
     holds body bytes (inr one) = inr one
 
-pub begun_moments : (old new : List Event) (body : List ℕ) → Throughout (EveryImage JournalA (λ bytes. is_begun bytes ≡ false)) old new
-    → Throughout (EveryImage JournalA (HoldsIfBegun body)) old new
-begun_moments old new body moments = weakened (λ past held bytes image. inl (held bytes image)) moments
-
-pub made_moments : (old new : List Event) (set : Settings) (body : List ℕ) → body ≡ settings_body set → InLimits set → Throughout (EveryImage JournalA (HoldsIfBegun body)) old new
-    → Throughout (EveryDisk (StandsIfMade set)) old new
-made_moments old new set body spelt limits moments =
-    every_disk JournalA (λ disk held. stands set body spelt limits disk held) moments
+pub begun_moments : (first old new : List Event) (body : List ℕ) → Throughout (EveryImage JournalA (WasOrUnbegun first)) old new
+    → Throughout (EveryImage JournalA (WasOrHolds first body)) old new
+begun_moments first old new body moments = weakened (λ past held bytes image. holds first body bytes (held bytes image)) moments
   where
-    stands : (set : Settings) (body : List ℕ) → body ≡ settings_body set → InLimits set → (disk : File → List ℕ) → HoldsIfBegun body (disk JournalA) → StandsIfMade set disk
-    stands set body spelt limits disk (inl none) = inl none
-    stands set body spelt limits disk (inr one) = inr (record {
+    holds : (first : List Event) (body bytes : List ℕ) → WasOrUnbegun first bytes → WasOrHolds first body bytes
+    holds first body bytes (inl was) = inl was
+    holds first body bytes (inr none) = inr (inl none)
+
+-- a stop left this disk before, or it holds no database, or the one with these settings and no beats
+abbrev pub WasOrIsNew : List Event → Settings → (File → List ℕ) → Type 0
+WasOrIsNew old set disk = IsDisk old disk ⊎ StandsIfMade set disk
+
+pub made_moments : (old new : List Event) (set : Settings) (body : List ℕ) → body ≡ settings_body set → InLimits set → OnlyOn JournalA old new
+    → Throughout (EveryImage JournalA (WasOrHolds old body)) old new → Throughout (EveryDisk (WasOrIsNew old set)) old new
+made_moments old new set body spelt limits only moments =
+    every_disk_around JournalA only (λ disk here others. stands old set body spelt limits disk others here) moments
+  where
+    stands : (old : List Event) (set : Settings) (body : List ℕ) → body ≡ settings_body set → InLimits set → (disk : File → List ℕ)
+        → ((other : File) → IsOther other JournalA → IsImage (of other old) (disk other)) → WasOrHolds old body (disk JournalA) → WasOrIsNew old set disk
+    stands old set body spelt limits disk others (inl was) = inl (by_file (λ file. IsImage (of file old) (disk file)) was others)
+    stands old set body spelt limits disk others (inr (inl none)) = inr (inl none)
+    stands old set body spelt limits disk others (inr (inr one)) = inr (inr (record {
       journal = subst (λ (b : List ℕ). StandsFor 0 (disk JournalA) (b ∷ [])) spelt one;
       limits = limits;
       beats_are = record { forms = tt; rises = tt };
-    })
+    }))
 
 -- the store after a beat, with these tiers
 abbrev pub counted_with : StoreState → TiersState → JournalState → Beat → StoreState
@@ -245,6 +277,7 @@ next_applied past store after set beats rest next is_at made = subst (λ (s : St
   count = ap raised is_at.count ∙ counted-more (length beats);
   last = ap (λ (l : ℕ). last_after l next.moment) is_at.last;
   tiers = tiers_more set beats next store.tiers is_at.tiers (front_are (next ∷ beats) rest is_at.beats_are);
+  before = before_more set beats next store.tiers is_at.tiers (front_are (next ∷ beats) rest is_at.beats_are) is_at.before;
   going = is_at.going;
 })
 

@@ -9,10 +9,11 @@ use Rattle.entry_codec.specs.declared.entry.TierSettings.{TierSettings}
 use Rattle.entry_codec.specs.Lists.{is_ascending}
 use Rattle.beat_tiers.specs.declared.item.BeatPoint.{BeatPoint}
 use Rattle.beat_tiers.specs.declared.tier.Tier.{Tier}
-use Rattle.beat_tiers.specs.Floors.{cut_after, cuts_of, floor_after, floor_of, items_added}
+use Rattle.beat_tiers.specs.Floors.{beats_before, cut_after, cuts_of, floor_after, floor_of, items_added}
 use Rattle.beat_tiers.specs.Beats.{AreAbove, Follows, TierBeat, last}
-use Rattle.beat_tiers.specs.State.{RecordTierState, TiersState, after_beat, floor_in, no_beats}
+use Rattle.beat_tiers.specs.State.{RecordTierState, TiersState, after_beat, floor_in, no_beats, tier_floor}
 use Rattle.beat_tiers.specs.Tiers.{AreBeats as AreTierBeats, IsTier}
+use Rattle.beat_tiers.proofs.KeptLaws.{before_with}
 use Rattle.beat_tiers.proofs.TierLemmas.{tier_at, tiers_none, tiers_with}
 use Rattle.store_core.specs.declared.beat.Beat.{Beat}
 use Rattle.store_core.specs.Beats.{IsMoment, is_point, is_timed, series_of}
@@ -141,51 +142,95 @@ same_floor : (number : ℕ) (tier other : Tier) (beats : List TierBeat) (expired
 same_floor number tier other beats expired is same =
     ap (λ (o : Option ℕ). option_map_or (floor_after number tier) o 0) is ∙ ap (λ (t : Tier). floor_of number t beats) same
 
-module _ (set : Settings) (beats : List Beat) (tiers : TiersState) (has : HasTiers set beats tiers) (result : ℕ) where
+module _ (set : Settings) (beats : List Beat) (tiers : TiersState) (has : HasTiers set beats tiers) where
   heads : {A : Type 0} (x y : A) (xs ys : List A) → x ∷ xs ≡ y ∷ ys → x ≡ y
   heads x y xs ys e = cc
 
   tails : {A : Type 0} (x y : A) (xs ys : List A) → x ∷ xs ≡ y ∷ ys → xs ≡ ys
   tails x y xs ys e = cc
 
-  first_floor : result ≡ min (floor_in 0 tiers.first tiers.points.expired) (2 ^ 32 - 1) → result ≡ floor_at set beats 0
-  first_floor is =
-      let same : tiers.first ≡ first_tier set = sym (heads (first_tier set) tiers.first (other_tiers set) (map (λ (one : RecordTierState). one.tier) tiers.records) has.set_is) in
+  pub first_is : tiers.first ≡ first_tier set
+  first_is = sym (heads (first_tier set) tiers.first (other_tiers set) (map (λ (one : RecordTierState). one.tier) tiers.records) has.set_is)
+
+  others_are : map (λ (one : RecordTierState). one.tier) tiers.records ≡ other_tiers set
+  others_are = sym (tails (first_tier set) tiers.first (other_tiers set) (map (λ (one : RecordTierState). one.tier) tiers.records) has.set_is)
+
+  first_floor : tier_floor tiers 0 ≡ floor_at set beats 0
+  first_floor =
       let floor : floor_in 0 tiers.first tiers.points.expired ≡ floor_of 0 (first_tier set) (map seen beats) =
-      same_floor 0 tiers.first (first_tier set) (map seen beats) tiers.points.expired has.points.expired same in
-      let some : 1 ≤ (first_tier set).extents = subst (λ (tier : Tier). 1 ≤ tier.extents) same has.settings.extents in
+      same_floor 0 tiers.first (first_tier set) (map seen beats) tiers.points.expired has.points.expired first_is in
+      let some : 1 ≤ (first_tier set).extents = subst (λ (tier : Tier). 1 ≤ tier.extents) first_is has.settings.extents in
       let low = first_low (first_tier set) (map seen beats) some has.beats_are in
-      is ∙ ap (λ (n : ℕ). min n (2 ^ 32 - 1)) floor ∙ min_low (floor_of 0 (first_tier set) (map seen beats)) low
+      ap (λ (n : ℕ). min n (2 ^ 32 - 1)) floor ∙ min_low (floor_of 0 (first_tier set) (map seen beats)) low
     where
       min_low : (n : ℕ) → n < 2 ^ 32 → min n (2 ^ 32 - 1) ≡ n
       min_low n low = omega (arith, low)
 
-  module _ (number : ℕ) (others : (place : ℕ) (one : RecordTierState) → slice_get tiers.records place ≡ Some one → number ≡ place + 1 → result ≡ floor_in (place + 1) one.tier one.segments.expired) where
-    record_floor : (place : ℕ) (one : RecordTierState) (tier : Tier) → slice_get tiers.records place ≡ Some one → number ≡ place + 1 → one.tier ≡ tier → result ≡ floor_of (place + 1) tier (map seen beats)
-    record_floor place one tier there is same =
-        let here = tier_at (map seen beats) 1 place tiers.records one has.records there in
-        others place one there is ∙ same_floor (place + 1) one.tier tier (map seen beats) one.segments.expired here.segments.expired same
+  -- the tier of records with a number
+  pub record TierAt (number : ℕ) : Type 0 where
+    pub place : ℕ
+    pub one : RecordTierState
+    pub there : slice_get tiers.records place ≡ Some one
+    pub number_is : number ≡ place + 1
+    pub tier_is : one.tier ≡ tier_with set number
 
-    other_floor : (records : List RecordTierState) → tiers.records ≡ records → map (λ (one : RecordTierState). one.tier) records ≡ other_tiers set → (n : ℕ) → number ≡ n → 0 < n → n < 3 → result ≡ floor_at set beats n
-    other_floor [] is tiers_are n same some few = absurd cc
-    other_floor (one ∷ []) is tiers_are n same some few = absurd (short (tails one.tier (tier_of 60 set.tier1) [] (tier_of 3600 set.tier2 ∷ []) tiers_are))
-      where
-        short : [] ≡ tier_of 3600 set.tier2 ∷ [] → ⊥
-        short e = cc
-    other_floor (one ∷ two ∷ rest) is tiers_are zero same some few = absurd (omega (arith, some))
-    other_floor (one ∷ two ∷ rest) is tiers_are (suc zero) same some few =
-        record_floor 0 one (tier_of 60 set.tier1) (ap (λ (all : List RecordTierState). slice_get all 0) is) same
-        (heads one.tier (tier_of 60 set.tier1) (two.tier ∷ map (λ (one : RecordTierState). one.tier) rest) (tier_of 3600 set.tier2 ∷ []) tiers_are)
-    other_floor (one ∷ two ∷ rest) is tiers_are (suc (suc zero)) same some few =
-        record_floor 1 two (tier_of 3600 set.tier2) (ap (λ (all : List RecordTierState). slice_get all 1) is) same
-        (heads two.tier (tier_of 3600 set.tier2) (map (λ (one : RecordTierState). one.tier) rest) []
-        (tails one.tier (tier_of 60 set.tier1) (two.tier ∷ map (λ (one : RecordTierState). one.tier) rest) (tier_of 3600 set.tier2 ∷ []) tiers_are))
-    other_floor (one ∷ two ∷ rest) is tiers_are (suc (suc (suc n))) same some few = absurd (omega (arith, few))
+  tier_in_records : (records : List RecordTierState) → tiers.records ≡ records → map (λ (one : RecordTierState). one.tier) records ≡ other_tiers set → (number : ℕ) → (number ≡ 0 → ⊥) → number < 3 → TierAt number
+  tier_in_records [] is tiers_are number some few = absurd cc
+  tier_in_records (one ∷ []) is tiers_are number some few = absurd (short (tails one.tier (tier_of 60 set.tier1) [] (tier_of 3600 set.tier2 ∷ []) tiers_are))
+    where
+      short : [] ≡ tier_of 3600 set.tier2 ∷ [] → ⊥
+      short e = cc
+  tier_in_records (one ∷ two ∷ rest) is tiers_are zero some few = absurd (some refl)
+  tier_in_records (one ∷ two ∷ rest) is tiers_are (suc zero) some few = record {
+    place = 0;
+    one = one;
+    there = ap (λ (all : List RecordTierState). slice_get all 0) is;
+    number_is = refl;
+    tier_is = heads one.tier (tier_of 60 set.tier1) (two.tier ∷ map (λ (one : RecordTierState). one.tier) rest) (tier_of 3600 set.tier2 ∷ []) tiers_are;
+  }
+  tier_in_records (one ∷ two ∷ rest) is tiers_are (suc (suc zero)) some few = record {
+    place = 1;
+    one = two;
+    there = ap (λ (all : List RecordTierState). slice_get all 1) is;
+    number_is = refl;
+    tier_is = heads two.tier (tier_of 3600 set.tier2) (map (λ (one : RecordTierState). one.tier) rest) []
+        (tails one.tier (tier_of 60 set.tier1) (two.tier ∷ map (λ (one : RecordTierState). one.tier) rest) (tier_of 3600 set.tier2 ∷ []) tiers_are);
+  }
+  tier_in_records (one ∷ two ∷ rest) is tiers_are (suc (suc (suc n))) some few = absurd (omega (arith, few))
 
-    pub floor_is : (number ≡ 0 → result ≡ min (floor_in 0 tiers.first tiers.points.expired) (2 ^ 32 - 1)) → number < 3 → result ≡ floor_at set beats number
-    floor_is first few = elim (cases_eq number 0) [
-      | inl none ↦ subst (λ (n : ℕ). result ≡ floor_at set beats n) (sym none) (first_floor (first none))
-      | inr some ↦
-          other_floor tiers.records refl
-          (sym (tails (first_tier set) tiers.first (other_tiers set) (map (λ (one : RecordTierState). one.tier) tiers.records) has.set_is)) number refl (omega (arith, some)) few
-    ]
+  pub tier_there : (number : ℕ) → (number ≡ 0 → ⊥) → number < 3 → TierAt number
+  tier_there number some few = tier_in_records tiers.records refl others_are number some few
+
+  record_floor : (number : ℕ) (at : TierAt number) → tier_floor tiers number ≡ floor_at set beats number
+  record_floor number at =
+      let here = tier_at (map seen beats) 1 at.place tiers.records at.one has.records at.there in
+      ap (tier_floor tiers) at.number_is
+      ∙ by (at.place + 1) at.place refl (slice_get tiers.records at.place) refl
+      ∙ ap (λ (found : Option RecordTierState). option_map_or (λ (one : RecordTierState). floor_in (at.place + 1) one.tier one.segments.expired) found 0) at.there
+      ∙ same_floor (at.place + 1) at.one.tier (tier_with set number) (map seen beats) at.one.segments.expired here.segments.expired at.tier_is
+      ∙ ap (λ (n : ℕ). floor_of n (tier_with set number) (map seen beats)) (sym at.number_is)
+    where
+      by : (n place : ℕ) → n ≡ place + 1 → (found : Option RecordTierState) → slice_get tiers.records place ≡ found
+          → tier_floor tiers n ≡ option_map_or (λ (one : RecordTierState). floor_in (place + 1) one.tier one.segments.expired) found 0
+      by zero place is found e = absurd (omega (arith, is))
+      by (suc n) place is found e =
+          let same : n ≡ place = omega (arith, is) in
+          ap (λ k. option_map_or (λ (one : RecordTierState). floor_in (k + 1) one.tier one.segments.expired) (slice_get tiers.records k) 0) same
+          ∙ ap (λ (found : Option RecordTierState). option_map_or (λ (one : RecordTierState). floor_in (place + 1) one.tier one.segments.expired) found 0) e
+
+  -- the floor of each tier that is there
+  pub floor_is : (number : ℕ) → number < 3 → tier_floor tiers number ≡ floor_at set beats number
+  floor_is number few = elim (cases_eq number 0) [
+    | inl none ↦ ap (tier_floor tiers) none ∙ first_floor ∙ ap (floor_at set beats) (sym none)
+    | inr some ↦ record_floor number (tier_there number some few)
+  ]
+
+-- how many beats with points have expired, with a beat more
+pub before_more : (set : Settings) (beats : List Beat) (beat : Beat) (tiers : TiersState) → HasTiers set beats tiers → AreBeats (beat ∷ beats)
+    → tiers.points.before ≡ beats_before (first_tier set) (map seen beats)
+    → (after_beat beat.moment beat.points tiers).points.before ≡ beats_before (first_tier set) (map seen (beat ∷ beats))
+before_more set beats beat tiers has are is =
+    let first = first_is set beats tiers has in
+    before_with (first_tier set ∷ other_tiers set) (map seen beats) beat.moment beat.points tiers has (follows beats beat are) (tiers_more set beats beat tiers has are)
+    (is ∙ ap (λ (tier : Tier). beats_before tier (map seen beats)) (sym first))
+    ∙ ap (λ (tier : Tier). beats_before tier (map seen (beat ∷ beats))) first

@@ -5,3 +5,5 @@ pub mod Records
 pub mod Stands
 pub mod Store
 pub mod Tiers
+pub mod Told
+pub mod View

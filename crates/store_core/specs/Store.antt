@@ -1,15 +1,16 @@
 -- What contracts see of a store, and of what a store is.
-use Rattle.std.specs.Prelude.{◌≡◌, ℕ, ◌+◌, ◌-◌, ◌^◌, min, List, [], ◌∷◌, length, Option, Some, None}
+use Rattle.std.specs.Prelude.{◌≡◌, ℕ, ◌+◌, ◌-◌, ◌^◌, min, List, [], ◌∷◌, length, map, Option, Some, None}
 use Rattle.host_model.specs.declared.file.File.TheVariants.{JournalA}
 use Rattle.host_model.specs.Past.{Event, of}
 use Rattle.journal_core.specs.Journal.{JournalState, IsOpen}
-use Rattle.beat_tiers.specs.State.{TiersState, no_beats}
+use Rattle.beat_tiers.specs.Floors.{beats_before}
+use Rattle.beat_tiers.specs.State.{TiersState, after_beat, no_beats}
 use Rattle.entry_codec.specs.declared.entry.Settings.{Settings}
 use Rattle.store_core.specs.declared.beat.Beat.{Beat}
 use Rattle.store_core.specs.declared.fault.Why.{Why}
 use Rattle.store_core.specs.FirstRecord.{InLimits}
 use Rattle.store_core.specs.Records.{last_moment, records, with_all, AreBeats}
-use Rattle.store_core.specs.Tiers.{first_tier, other_tiers, HasTiers}
+use Rattle.store_core.specs.Tiers.{first_tier, other_tiers, seen, HasTiers}
 
 pub record StoreState : Type 0 where
   pub settings : Settings
@@ -54,6 +55,8 @@ pub record IsStoreAt (past : List Event) (store : StoreState) (set : Settings) (
   pub count : store.count ≡ counted (length beats)
   pub last : store.last ≡ last_moment beats
   pub tiers : HasTiers set beats store.tiers
+  -- how many beats with points have expired
+  pub before : store.tiers.points.before ≡ beats_before (first_tier set) (map seen beats)
   pub going : store.fault ≡ None
 
 -- the store is that of these settings and beats, and all are applied
@@ -85,6 +88,11 @@ Replays past store set beats (next ∷ rest) (Some beat) = (beat ≡ next) × Is
 abbrev pub TakesFirst : List Beat → Option Beat → List Beat → Type 0
 TakesFirst old None new = (old ≡ []) × (new ≡ [])
 TakesFirst old (Some beat) new = old ≡ beat ∷ new
+
+-- the tiers after a replay that gave this beat, or none
+abbrev pub tiers_after : Option Beat → TiersState → TiersState
+tiers_after None tiers = tiers
+tiers_after (Some beat) tiers = after_beat beat.moment beat.points tiers
 
 -- a store that was just made
 pub record IsNew (set : Settings) (store : StoreState) : Type 0 where

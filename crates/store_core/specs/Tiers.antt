@@ -1,24 +1,30 @@
 -- The tiers of a database: their settings, and what they see of its beats. A list of beats has the newest first.
-use Rattle.std.specs.Prelude.{ℕ, zero, suc, List, [], ◌∷◌, map}
+use Rattle.std.specs.Prelude.{ℕ, zero, suc, List, [], ◌∷◌, map, slice_index}
 use Rattle.beat_tiers.specs.declared.tier.Tier.{Tier}
 use Rattle.beat_tiers.specs.Beats.{TierBeat}
-use Rattle.beat_tiers.specs.Floors.{floor_of}
+use Rattle.beat_tiers.specs.Floors.{beats_before, floor_of, kept_beats}
+use Rattle.beat_tiers.specs.Kept.{kept_beat_of}
+use Rattle.beat_tiers.specs.declared.kept.Kept.{Kept}
 use Rattle.beat_tiers.specs.State.{TiersState}
 use Rattle.beat_tiers.specs.Tiers.{AreTiersOf}
 use Rattle.entry_codec.specs.declared.entry.Settings.{Settings}
 use Rattle.entry_codec.specs.declared.entry.TierSettings.{TierSettings}
 use Rattle.store_core.specs.declared.beat.Beat.{Beat}
 
+-- the widths of the tiers, in seconds
+abbrev pub widths : List ℕ
+widths = 1 ∷ 60 ∷ 3600 ∷ []
+
 abbrev pub tier_of : ℕ → TierSettings → Tier
 tier_of width tier = record { width = width; items = tier.items; extents = tier.extents }
 
 -- tier 0 has the points, each a second wide
 abbrev pub first_tier : Settings → Tier
-first_tier set = tier_of 1 set.tier0
+first_tier set = tier_of (slice_index widths 0) set.tier0
 
 -- the others have the records of minutes and of hours
 abbrev pub other_tiers : Settings → List Tier
-other_tiers set = tier_of 60 set.tier1 ∷ tier_of 3600 set.tier2 ∷ []
+other_tiers set = tier_of (slice_index widths 1) set.tier1 ∷ tier_of (slice_index widths 2) set.tier2 ∷ []
 
 -- the moment and the points of a beat
 abbrev pub seen : Beat → TierBeat
@@ -30,9 +36,16 @@ HasTiers set beats tiers = AreTiersOf (first_tier set ∷ other_tiers set) (map 
 
 abbrev pub tier_with : Settings → ℕ → Tier
 tier_with set zero = first_tier set
-tier_with set (suc zero) = tier_of 60 set.tier1
-tier_with set (suc (suc number)) = tier_of 3600 set.tier2
+tier_with set (suc zero) = tier_of (slice_index widths 1) set.tier1
+tier_with set (suc (suc number)) = tier_of (slice_index widths 2) set.tier2
 
 -- the floor of a tier of these beats
 abbrev pub floor_at : Settings → List Beat → ℕ → ℕ
 floor_at set beats number = floor_of number (tier_with set number) (map seen beats)
+
+-- the beats with points that are kept of these, the earliest first, and how many came before them
+abbrev pub kept_of : Settings → List Beat → Kept
+kept_of set beats = record {
+  before = beats_before (first_tier set) (map seen beats);
+  beats = map kept_beat_of (kept_beats (first_tier set) (map seen beats));
+}

@@ -1,6 +1,6 @@
 //! The file of the database: whether there is one, and the journal in it.
 
-ghost use Rattle.std.specs.Prelude.{◌≡◌, ℕ, ◌≤◌, ◌^◌, List, [], ◌∷◌, ◌++◌, false, length, IfOk, IfErr, IsErr, IsErrOf, OnOk, OnErr};
+ghost use Rattle.std.specs.Prelude.{◌≡◌, ◌⊎◌, ℕ, ◌≤◌, ◌^◌, List, [], ◌∷◌, ◌++◌, false, length, IfOk, IfErr, IsErr, IsErrOf, OnOk, OnErr};
 ghost use Rattle.host_model.specs.Images.{contents, IsImage, IsSynced};
 ghost use Rattle.host_model.specs.Past.{of};
 ghost use Rattle.host_model.specs.Disks.{reads_as};
@@ -79,11 +79,14 @@ fn shorten<H: Host>(host: &mut H) -> Result<(), Failed>
     host.sync(File::JournalA)
 }
 
-/// Makes an empty journal, whatever the file held. No stop leaves a database.
+/// Makes an empty journal, where the file reads as no database. A stop leaves what it might have left
+/// before the call, or no database: what the file reads as is made to hold before it is cut.
 pub(crate) fn start<H: Host>(host: &mut H) -> Result<Journal, StoreFault>
     ensures any_moment { H.honest
-        → EveryImage File.JournalA (λ bytes. is_begun bytes ≡ false) (H.seen host.old).past
-        → Throughout (EveryImage File.JournalA (λ bytes. is_begun bytes ≡ false))
+        → is_begun (contents (of File.JournalA (H.seen host.old).past)) ≡ false
+        → Throughout (EveryImage File.JournalA
+        (λ bytes. IsImage (of File.JournalA (H.seen host.old).past) bytes
+        ⊎ (is_begun bytes ≡ false)))
         (H.seen host.old).past (H.seen host.new).past }
     ensures started { IfOk result
         (λ journal. H.honest → IsOpen (of File.JournalA (H.seen host.new).past) journal []) }
@@ -96,6 +99,9 @@ pub(crate) fn start<H: Host>(host: &mut H) -> Result<Journal, StoreFault>
         (IsErrOf result StoreFault.DiskFault) }
     ensures output { (H.seen host.new).tell_faults ≡ (H.seen host.old).tell_faults }
 {
+    if host.sync(File::JournalA).is_err() {
+        return Err(StoreFault::DiskFault);
+    }
     if shorten(host).is_err() {
         return Err(StoreFault::DiskFault);
     }
@@ -144,14 +150,16 @@ pub(crate) fn append<H: Host>(
     Ok(())
 }
 
-/// Makes a journal with one record, whatever the file held. At every moment a stop leaves no database, or
-/// the journal with the record.
+/// Makes a journal with one record, where the file reads as no database. At every moment a stop leaves what
+/// it might have left before the call, no database, or the journal with the record.
 pub(crate) fn make<H: Host>(host: &mut H, body: &[u8]) -> Result<Journal, StoreFault>
     requires { length body.now ≤ 2 ^ 26 }
     ensures any_moment { H.honest
-        → EveryImage File.JournalA (λ bytes. is_begun bytes ≡ false) (H.seen host.old).past
-        → Throughout (EveryImage File.JournalA (HoldsIfBegun body.now)) (H.seen host.old).past
-        (H.seen host.new).past }
+        → is_begun (contents (of File.JournalA (H.seen host.old).past)) ≡ false
+        → Throughout (EveryImage File.JournalA
+        (λ bytes. IsImage (of File.JournalA (H.seen host.old).past) bytes
+        ⊎ HoldsIfBegun body.now bytes))
+        (H.seen host.old).past (H.seen host.new).past }
     ensures made { IfOk result
         (λ journal. H.honest → IsOpen (of File.JournalA (H.seen host.new).past) journal
         (body.now ∷ [])) }

@@ -1,4 +1,8 @@
-ghost use Rattle.std.specs.Prelude.{◌≡◌, ℕ, List, [], ◌∷◌, true, Some};
+ghost use Rattle.std.specs.Prelude.{◌≡◌, ℕ, ◌<◌, ◌≤◌, List, [], ◌∷◌, true, Some};
+ghost use Rattle.beat_tiers.specs.State.{tier_floor};
+ghost use Rattle.query_engine.specs.declared.request.Request.{Request as ARequest};
+ghost use Rattle.query_engine.specs.Tiers.{cell_in_tier};
+ghost use Rattle.query_engine.specs.Windows.{may_read, start_of};
 ghost use Rattle.host_model.specs.declared.file.File.{File as AFile};
 ghost use Rattle.host_model.specs.Past.{Event, Told};
 ghost use Rattle.host_model.specs.Disks.{EveryDisk};
@@ -10,10 +14,14 @@ ghost use Rattle.store_core.specs.Records.{history_in, records, with_all, AreBea
 ghost use Rattle.store_core.specs.FirstRecord.{InLimits};
 ghost use Rattle.store_core.specs.Stands.{is_made, Stands};
 ghost use Rattle.store_core.specs.Store.{IsStoreAt, IsStoreOf, StoreState};
+ghost use Rattle.store_core.specs.Tiers.{floor_at};
+ghost use Rattle.store_core.specs.View.{points_of, widths};
 
 /// Laws of databases, for any disk and any store; the call does nothing. A disk holds one database at most,
 /// what a store is of is what each stop leaves, and telling changes nothing of it. The bytes of a beat in
-/// form read as it, what bytes read as has them, and the records of a database read as it.
+/// form read as it, what bytes read as has them, and the records of a database read as it. The floors by which a
+/// view answers are those of the beats that were applied, and two tiers whose floors are at most where a window
+/// starts give it equal cells.
 pub fn any_database()
     ensures once { (set other : ASettings) (beats others : List ABeat) (disk : AFile → List ℕ)
         → Stands set beats disk → Stands other others disk → (set ≡ other) × (beats ≡ others) }
@@ -32,4 +40,20 @@ pub fn any_database()
     ensures records_again { (set : ASettings) (rest : List ABeat) → InLimits set
         → AreBeats (with_all [] rest)
         → history_in (records set (with_all [] rest)) ≡ Some (set, rest) }
+    ensures floors { (past : List Event) (store : StoreState) (set : ASettings)
+        (beats rest : List ABeat) (tier : ℕ)
+        → IsStoreAt past store set beats rest → tier < 3
+        → tier_floor store.tiers tier ≡ floor_at set beats tier }
+    ensures two_tiers { (past : List Event) (store : StoreState) (set : ASettings)
+        (beats rest : List ABeat) (request : ARequest) (i series one other : ℕ)
+        → IsStoreAt past store set beats rest
+        → may_read widths request.after request.window one ≡ true
+        → may_read widths request.after request.window other ≡ true
+        → floor_at set beats one ≤ start_of request i → floor_at set beats other ≤ start_of request i
+        → cell_in_tier widths (floor_at set beats) one request.group
+        (start_of request i) request.window
+        (points_of beats series)
+        ≡ cell_in_tier widths (floor_at set beats) other request.group
+        (start_of request i) request.window
+        (points_of beats series) }
 {}

@@ -5,17 +5,21 @@
 //! one database at most, and which one is a function of the records.
 //!
 //! At every moment of `commit` a stop leaves the beats that were there, with the new one or without it,
-//! and a beat whose commit answered `Ok` is never lost again. At every moment of `create` a stop leaves no
-//! database, or the one without beats. `open` gives just what is on the disk, or says that there is no
-//! database or that it is damaged; `replay` then gives the beats one by one. Once the disk has failed or
-//! memory was refused, each call on the store answers so, with the first cause.
+//! and a beat whose commit answered `Ok` is never lost again. At every moment of `create` a stop leaves what
+//! it might have left before the call, no database, or the one without beats. `open` gives just what is on
+//! the disk, or says that there is no database or that it is damaged; `replay` then gives the beats one by
+//! one. Once the disk has failed or memory was refused, each call on the store answers so, with the first
+//! cause.
 //!
 //! A store keeps in memory what the tiers of its settings keep of its beats: points, records of minutes and
-//! of hours, and their floors. `floor` is that of the definition over all beats. Points and records are not
-//! handed out yet.
+//! of hours, and their floors. `floor` and `kept` answer by the definition over all beats. A `StoreView` is
+//! `Points`: what it tells are the points of the store's beats, so that an answer over it is that of the
+//! definition. No answer changes the store or touches its host. A commit costs by its record, by the points of
+//! its beat and by the records that close at it, and not by what is kept. All memory that it needs is taken
+//! before anything is written, and after a refusal the store is as it was, but for the cause.
 //!
-//! It stands on `journal_core` for the records, on `beat_tiers` for the tiers, on `host_model` for what a
-//! stop may leave, and on `entry_codec` for the entry of the settings. Over a host that tells nothing of its
+//! It stands on `journal_core` for the records, on `beat_tiers` for the tiers, on `query_engine` for the trait
+//! of a view, on `host_model` for what a stop may leave, and on `entry_codec` for the entry of the settings. Over a host that tells nothing of its
 //! past each call is still safe and returns. While it is opened its records, and then the beats that wait for
 //! their replay, are in memory.
 #![tactic(auto)]
@@ -29,16 +33,19 @@ mod reading;
 mod records;
 mod settings;
 mod store;
+mod view;
 mod waiting;
 mod writing;
 
 pub use beat::{Beat, BeatPoint, BeatPointList};
+pub use beat_tiers::{Kept, KeptBeat, KeptBeatList, KeptPoint, KeptPointList};
 pub use entry_codec::{Settings, TierSettings};
 pub use fault::{StoreFault, Why};
 pub use fixed_num::ByteList;
 pub use law::any_database;
 pub use settings::is_in_limits;
 pub use store::Store;
+pub use view::{StoreView, answer_by};
 
 #[cfg(test)]
 mod tests;

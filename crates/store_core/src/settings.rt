@@ -1,6 +1,7 @@
 //! The first record of a journal.
 
 ghost use Rattle.std.specs.Prelude.{◌≡◌, ◌↔◌, true, Ok, Err, IsTrue, IfOk};
+ghost use Rattle.beat_tiers.specs.Room.{tiers_held};
 ghost use Rattle.beat_tiers.specs.State.{no_beats};
 ghost use Rattle.field_codec.specs.Field.{IsBytes};
 ghost use Rattle.entry_codec.specs.Entries.{entry_bytes, read_entry};
@@ -37,8 +38,14 @@ pub fn is_in_limits(settings: &Settings) -> bool
     are_tiers(settings)
 }
 
-/// The seconds of a bucket of tier 1 and of tier 2.
-const WIDTHS: (u32, u32) = (60, 3_600);
+const SECOND: u32 = 1;
+
+const MINUTE: u32 = 60;
+
+const HOUR: u32 = 3_600;
+
+/// The seconds of a bucket of each tier.
+pub(crate) const WIDTHS: [u32; 3] = [SECOND, MINUTE, HOUR];
 
 fn tier_of(width: u32, tier: &TierSettings) -> Tier
     ensures { result ≡ tier_of width tier.now }
@@ -54,14 +61,14 @@ fn tier_of(width: u32, tier: &TierSettings) -> Tier
 #[tactic(auto, using(crate::proofs::TierLemmas::is_first, crate::proofs::TierLemmas::are_others))]
 pub(crate) fn new_tiers(alloc: Global, settings: &Settings) -> Result<Tiers, AllocError>
     requires { are_tiers settings.now ≡ true }
-    ensures { IfOk result (λ tiers. tiers
+    ensures { IfOk result (λ tiers. tiers_held tiers
         ≡ no_beats (first_tier settings.now) (other_tiers settings.now)) }
 {
     let others = [
-        tier_of(WIDTHS.0, &settings.tier1),
-        tier_of(WIDTHS.1, &settings.tier2),
+        tier_of(MINUTE, &settings.tier1),
+        tier_of(HOUR, &settings.tier2),
     ];
-    Tiers::new(alloc, tier_of(1, &settings.tier0), &others)
+    Tiers::new(alloc, tier_of(SECOND, &settings.tier0), &others)
 }
 
 /// The entry that the note of the first record is.

@@ -5,6 +5,7 @@ ghost use Rattle.host_model.specs.Past.{Event, of, IsDisk};
 ghost use Rattle.host_model.specs.Disks.{EveryDisk, reads_as};
 ghost use Rattle.host_model.specs.Cause.{HasCause};
 ghost use Rattle.host_model.specs.Moments.{Throughout, EveryImage, OnlyOn};
+ghost use Rattle.beat_tiers.specs.Room.{tiers_held, HasRoomFor};
 ghost use Rattle.beat_tiers.specs.State.{after_beat};
 ghost use Rattle.entry_codec.specs.declared.entry.Settings.{Settings as ASettings};
 ghost use Rattle.store_core.specs.declared.beat.Beat.{Beat as ABeat};
@@ -12,7 +13,7 @@ ghost use Rattle.store_core.specs.Beats.{beat_bytes, InForm};
 ghost use Rattle.store_core.specs.Faults.{fault_after, IsCommitFault, IsCreateFault, IsOpenFault, IsReplayFault, IsStepFault, LeavesAll, Reopens};
 ghost use Rattle.store_core.specs.FirstRecord.{InLimits};
 ghost use Rattle.store_core.specs.Records.{is_later, last_after};
-ghost use Rattle.store_core.specs.Tiers.{floor_at};
+ghost use Rattle.store_core.specs.Tiers.{floor_at, kept_of};
 ghost use Rattle.store_core.specs.Stands.{is_made, IsDamaged, Stands, StandsAround, StandsIfMade};
 
 use crate::beat::Beat;
@@ -22,7 +23,7 @@ use crate::records::{is_later, last_after, read_records};
 use crate::settings::{new_tiers, write_settings};
 use crate::waiting::Waiting;
 use crate::writing::write_beat;
-use beat_tiers::Tiers;
+use beat_tiers::{Kept, Tiers};
 use entry_codec::Settings;
 use host_model::{File, Host};
 use journal_core::{Journal, JournalFault};
@@ -48,6 +49,7 @@ pub struct Store {
 }
 
 impl Model for Store {
+    ghost use Rattle.beat_tiers.specs.Room.{tiers_held};
     ghost use Rattle.store_core.specs.Store.{StoreState};
 
     ghost Value = { StoreState };
@@ -58,18 +60,30 @@ impl Model for Store {
       last = store.last;
       fault = store.fault;
       waiting = store.waiting;
-      tiers = store.tiers;
+      tiers = tiers_held store.tiers;
       journal = store.journal;
     } };
 }
 
+/// Takes the memory for the first of the beats that wait, if there is one.
+fn reserve_first(tiers: &mut Tiers, waiting: &Waiting) -> Result<(), AllocError>
+    ensures kept { tiers_held tiers.new ≡ tiers_held tiers.old }
+    ensures room { OnOk result ((beat : ABeat) (rest : List ABeat) → waiting.now ≡ beat ∷ rest
+        → HasRoomFor beat.moment beat.points tiers.new) }
+{
+    match waiting.first() {
+        Some(beat) => tiers.reserve(beat.moment, beat.points.as_slice()),
+        None => Ok(()),
+    }
+}
+
 impl Store {
-    ghost use Rattle.store_core.specs.Store.{raised, IsNew, IsPlaced, IsReady, IsReplayed, IsStoreAt, IsStoreOf, OpensAt, Replays, TakesFirst};
+    ghost use Rattle.store_core.specs.Store.{raised, IsNew, IsPlaced, IsReady, IsReplayed, IsStoreAt, IsStoreOf, OpensAt, Replays, TakesFirst, tiers_after};
 
     /// Makes a database with these settings, where there is none: whatever else the file held is gone.
     ///
-    /// `Exists` exactly where there is one, and then nothing has happened. Where there was none whatever a
-    /// stop left, then at every moment a stop leaves none, or the new one without beats; at `Ok` the latter.
+    /// `Exists` exactly where there is one, and then nothing has happened. At every moment a stop leaves what
+    /// it might have left before the call, no database, or the new one without beats; at `Ok` the last.
     pub fn create<H: Host>(
         alloc: Global,
         host: &mut H,
@@ -81,10 +95,9 @@ impl Store {
         ensures ready { IfOk result (IsReady H.honest (H.seen host.new).past) }
         ensures new { IfOk result (IsNew settings.now) }
 
-        ensures any_moment { H.honest
-            → EveryDisk (λ disk. is_made disk ≡ false) (H.seen host.old).past
-            → Throughout (EveryDisk (StandsIfMade settings.now)) (H.seen host.old).past
-            (H.seen host.new).past }
+        ensures any_moment { H.honest → Throughout (EveryDisk
+            (λ disk. IsDisk (H.seen host.old).past disk ⊎ StandsIfMade settings.now disk))
+            (H.seen host.old).past (H.seen host.new).past }
         ensures only_here { H.honest
             → OnlyOn File.JournalA (H.seen host.old).past (H.seen host.new).past }
 
@@ -220,6 +233,33 @@ impl Store {
         self.tiers.floor(tier)
     }
 
+    /// The beats with points that are kept of those that were applied, the earliest first, and how many came before
+    /// them. Store and host are as before, whatever the answer.
+    pub fn kept<H: Host>(&mut self, _host: &mut H) -> Result<Kept, StoreFault>
+        ensures kept { (past : List Event) (set : ASettings) (beats rest : List ABeat)
+            → IsStoreAt past self.old set beats rest
+            → IfOk result (λ kept. kept ≡ kept_of set beats) }
+        ensures reopens { Reopens self.old.fault result }
+        ensures faults { IfErr result IsReplayFault }
+        ensures same { self.new ≡ self.old }
+        ensures same_host { _host.new ≡ _host.old }
+    {
+        if let Some(cause) = self.fault {
+            return Err(StoreFault::Reopen(cause));
+        }
+        let Ok(kept) = self.tiers.kept() else {
+            return Err(StoreFault::Memory);
+        };
+        Ok(kept)
+    }
+
+    /// What the tiers keep of the beats that were applied.
+    pub(crate) fn tiers(&self) -> &Tiers
+        ensures { tiers_held result.now ≡ self.now.tiers }
+    {
+        &self.tiers
+    }
+
     /// Whether all beats that were there at the opening have been applied.
     pub fn is_replayed(&self) -> bool
         ensures { IsTrue result ↔ IsReplayed self.now }
@@ -238,7 +278,7 @@ impl Store {
 
     /// Gives the next beat that was there at the opening, and applies it: `None` where all are applied.
     ///
-    /// After `Memory` the database must be opened again.
+    /// `Memory` comes before anything is applied. After it the database must be opened again.
     pub fn replay(&mut self) -> Result<Option<Beat>, StoreFault>
         ensures next { (past : List Event) (set : ASettings) (beats rest : List ABeat)
             → IsStoreAt past self.old set beats rest
@@ -246,12 +286,14 @@ impl Store {
 
         // The same, of a store that is of no beats.
         ensures takes { IfOk result (λ next. TakesFirst self.old.waiting next self.new.waiting) }
+        ensures tiers { IfOk result (λ next. self.new.tiers ≡ tiers_after next self.old.tiers) }
         ensures stays { OnErr result
             ((self.new.count ≡ self.old.count) × (self.new.last ≡ self.old.last)) }
         ensures settings { self.new.settings ≡ self.old.settings }
         ensures journal { self.new.journal ≡ self.old.journal }
 
-        // After a refusal each call answers Reopen with its cause.
+        // After a refusal all but the fault is as before, and each call answers Reopen with its cause.
+        ensures leaves { OnErr result (self.new ≡ record self.old { fault = self.new.fault }) }
         ensures fault { self.new.fault ≡ fault_after self.old.fault result }
         ensures reopens { Reopens self.old.fault result }
         ensures faults { IfErr result IsReplayFault }
@@ -275,16 +317,17 @@ impl Store {
             → IfOk result (Replays past self.new set beats rest) }
         ensures takes { IfOk result
             (λ next. TakesFirst self.old.waiting next self.new.waiting) }
-        ensures stays { OnErr result
-            ((self.new.count ≡ self.old.count) × (self.new.last ≡ self.old.last)) }
+        ensures tiers { IfOk result (λ next. self.new.tiers ≡ tiers_after next self.old.tiers) }
+        ensures leaves { OnErr result (self.new ≡ self.old) }
         ensures settings { self.new.settings ≡ self.old.settings }
         ensures journal { self.new.journal ≡ self.old.journal }
         ensures fault { self.new.fault ≡ self.old.fault }
     {
+        reserve_first(&mut self.tiers, &self.waiting)?;
         match self.waiting.take_first() {
             None => Ok(None),
             Some(beat) => {
-                self.tiers.take(beat.moment, beat.points.as_slice())?;
+                self.tiers.take(beat.moment, beat.points.as_slice());
                 self.apply(beat.moment);
                 Ok(Some(beat))
             }
@@ -295,8 +338,8 @@ impl Store {
     /// stop leaves the beats with the new one or without it.
     ///
     /// `MomentOrder` exactly where the moment is at most the last one, and then nothing has changed. After
-    /// `DiskFault` or `Memory` the database must be opened again. Past 2^60 bytes of the journal the answer
-    /// is `Memory`.
+    /// `DiskFault` or `Memory` the database must be opened again. `Memory` comes before anything is written.
+    /// Past 2^60 bytes of the journal the answer is `Memory`.
     pub fn commit<H: Host>(&mut self, host: &mut H, beat: &Beat) -> Result<(), StoreFault>
         requires ready { IsReady H.honest (H.seen host.old).past self.old }
         requires replayed { IsReplayed self.old }
@@ -319,7 +362,8 @@ impl Store {
             (λ fault. LeavesAll fault → (self.new ≡ self.old) × (host.new ≡ host.old)) }
         ensures same_host { IsErrOf result StoreFault.Memory → host.new ≡ host.old }
 
-        // After a refusal each call answers Reopen with its cause.
+        // After a refusal all but the fault is as before, and each call answers Reopen with its cause.
+        ensures leaves { OnErr result (self.new ≡ record self.old { fault = self.new.fault }) }
         ensures fault { self.new.fault ≡ fault_after self.old.fault result }
         ensures reopens { Reopens self.old.fault result }
         ensures faults { IfErr result IsCommitFault }
@@ -327,6 +371,8 @@ impl Store {
         // What a later call requires and answers.
         ensures ready { IsReady H.honest (H.seen host.new).past self.new }
         ensures replayed { IsReplayed self.new }
+        ensures tiers { OnOk result (self.new.tiers
+            ≡ after_beat beat.now.moment beat.now.points self.old.tiers) }
         ensures count { OnOk result (self.new.count ≡ raised self.old.count) }
         ensures last { OnOk result (self.new.last ≡ last_after self.old.last beat.now.moment) }
         ensures stays { OnErr result
@@ -378,7 +424,7 @@ impl Store {
           tiers = after_beat beat.now.moment beat.now.points self.old.tiers;
           journal = self.new.journal;
         }) }
-        ensures stays { OnErr result (self.new ≡ record self.old { tiers = self.new.tiers }) }
+        ensures stays { OnErr result (self.new ≡ self.old) }
         ensures only_here { H.honest
             → OnlyOn File.JournalA (H.seen host.old).past (H.seen host.new).past }
         ensures faults { IfErr result IsStepFault }
@@ -392,14 +438,12 @@ impl Store {
             Ok(body) => body,
             Err(_) => return Err(StoreFault::Memory),
         };
-        if self
-            .tiers
-            .take(beat.moment, beat.points.as_slice())
-            .is_err()
-        {
+        let points = beat.points.as_slice();
+        if self.tiers.reserve(beat.moment, points).is_err() {
             return Err(StoreFault::Memory);
         }
         file::append(&mut self.journal, host, body.as_slice())?;
+        self.tiers.take(beat.moment, points);
         self.apply(beat.moment);
         Ok(())
     }

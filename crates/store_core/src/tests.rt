@@ -6,6 +6,8 @@ use host_model::{CallList, File, Host, Keep, MemoryHost};
 use std::alloc::Global;
 use std::test::Fail;
 
+mod view;
+
 const TIER: TierSettings = TierSettings {
     items: 262_144,
     extents: 1024,
@@ -13,6 +15,14 @@ const TIER: TierSettings = TierSettings {
 
 const SETTINGS: Settings = Settings {
     id: 7,
+    tier0: TIER,
+    tier1: TIER,
+    tier2: TIER,
+};
+
+/// The settings of a second try.
+const OTHERS: Settings = Settings {
+    id: 8,
     tier0: TIER,
     tier1: TIER,
     tier2: TIER,
@@ -79,6 +89,74 @@ fn replay(alloc: Global, host: &mut MemoryHost) -> Result<Option<Beat>, StoreFau
     store.replay()
 }
 
+/// Makes a database twice. It gives what each call answered.
+fn make_twice(alloc: Global, host: &mut MemoryHost) -> Result<[Option<StoreFault>; 2], StoreFault> {
+    if !is_in_limits(&SETTINGS) || !is_in_limits(&OTHERS) {
+        return Err(StoreFault::Damaged(0));
+    }
+    let first = Store::create(alloc, host, &SETTINGS).err();
+    let second = Store::create(alloc, host, &OTHERS).err();
+    Ok([first, second])
+}
+
+/// The id of the database that is there, if there is one. It has no beats.
+fn found(alloc: Global, host: &mut MemoryHost) -> Result<Option<u64>, StoreFault> {
+    match Store::open(alloc, host) {
+        Ok(mut store) => match store.replay()? {
+            None => Ok(Some(store.settings().id)),
+            Some(_) => Err(StoreFault::Damaged(0)),
+        },
+        Err(StoreFault::NotADatabase) => Ok(None),
+        Err(fault) => Err(fault),
+    }
+}
+
+/// Makes a database behind one whose last write failed, and stops. This call fails too: the calls of the second
+/// begin with 13, and it syncs the file with call 15. It gives what was answered, and the id that is there then.
+fn made_again(
+    alloc: Global,
+    call: u64,
+    keep: Keep,
+) -> Result<([Option<StoreFault>; 2], Option<u64>), Fail> {
+    let mut host = host_of(alloc, &[12, call])?;
+    let answers = make_twice(alloc, &mut host)?;
+    let mut host = host.stop(keep)?;
+    Ok((answers, found(alloc, &mut host)?))
+}
+
+/// Whether a stop leaves no database or a whole one, whatever it keeps: up to the sync the one of the first call,
+/// and then that of the second.
+fn are_whole(alloc: Global, call: u64) -> Result<bool, Fail> {
+    let id = if call <= 15 { 7 } else { 8 };
+    let failed = Some(StoreFault::DiskFault);
+    for keep in [Keep::All, Keep::None, Keep::Fill(1), Keep::Fill(255)] {
+        let (answers, found) = made_again(alloc, call, keep)?;
+        if answers != [failed, failed] || found.is_some_and(|found| found != id) {
+            return Ok(false);
+        }
+    }
+    Ok(true)
+}
+
+#[test]
+fn each_call_of_a_second_new_refused_in_turn(rt: HostRuntime) -> Result<(), Fail> {
+    let alloc = rt.alloc();
+    for call in 13..29 {
+        assert!(rt; are_whole(alloc, call)?, "{call}");
+    }
+    Ok(())
+}
+
+#[test]
+fn a_second_new_behind_one_whose_last_write_failed(rt: HostRuntime) -> Result<(), Fail> {
+    for keep in [Keep::All, Keep::None, Keep::Fill(1), Keep::Fill(255)] {
+        let (answers, found) = made_again(rt.alloc(), 29, keep)?;
+        assert_eq!(rt; answers, [Some(StoreFault::DiskFault), None]);
+        assert_eq!(rt; found, Some(8));
+    }
+    Ok(())
+}
+
 #[test]
 fn a_new_database_has_68_bytes(rt: HostRuntime) -> Result<(), Fail> {
     let mut host = host_of(rt.alloc(), &[])?;
@@ -130,7 +208,7 @@ fn a_commit_whose_second_sync_failed(rt: HostRuntime) -> Result<(), Fail> {
         (Keep::None, false),
         (Keep::Fill(255), false),
     ] {
-        let mut host = host_of(rt.alloc(), &[18])?;
+        let mut host = host_of(rt.alloc(), &[19])?;
         let answers = make(rt.alloc(), &mut host, &beat_of(rt.alloc())?)?;
         let reopen = StoreFault::Reopen(Why::Disk);
         assert_eq!(rt; answers, [Some(StoreFault::DiskFault), Some(reopen)]);

@@ -1,4 +1,4 @@
-ghost use Rattle.std.specs.Prelude.{◌≡◌, ◌↔◌, [], ◌∷◌, ◌++◌, IsTrue, OnOk};
+ghost use Rattle.std.specs.Prelude.{◌≡◌, ◌↔◌, [], ◌∷◌, ◌++◌, slice_get, option_copied, IsTrue, OnOk};
 ghost use Rattle.store_core.specs.Store.{TakesFirst};
 
 use crate::beat::Beat;
@@ -44,6 +44,13 @@ impl Waiting {
             Ok(()) => Ok(()),
             Err(_) => Err(AllocError),
         }
+    }
+
+    /// The first beat.
+    pub(crate) fn first(&self) -> Option<&Beat>
+        ensures { option_copied result ≡ slice_get self.now 0 }
+    {
+        self.beats.front()
     }
 
     /// Takes the first beat.

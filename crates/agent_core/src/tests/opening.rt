@@ -107,7 +107,10 @@ fn a_chart_whose_id_has_no_dot_is_damage(rt: HostRuntime) -> Result<(), Fail> {
 const GAP: &[u8; 17] = b"\x04\x07\0\0\0\0\0\0\0\0\0\0\0\x3c\0\0\0";
 
 /// A configuration of one byte.
-const HEALTH: &[u8; 6] = b"\x03\x01\0\0\0x";
+const HEALTH: &[u8; 7] = b"\x03\x02\0\0\0x:";
+
+/// A configuration whose text is refused: its line has no colon.
+const REFUSED: &[u8; 6] = b"\x03\x01\0\0\0x";
 
 /// A beat that was copied of the child 7 at 61: the chart a.b with a dimension d, and the word of 42.
 const COPY: &[u8; 61] =
@@ -187,6 +190,11 @@ fn a_configuration_has_no_moment(rt: HostRuntime) -> Result<(), Fail> {
     let beat = kept(alloc, Some(60), EMPTY.as_slice(), &[])?;
     assert_eq!(rt; opened_two(alloc, &health, &beat)?, None);
     assert_eq!(rt; opened_two(alloc, &beat, &health)?, None);
+    let refused = kept(alloc, None, REFUSED.as_slice(), &[])?;
+    assert_eq!(rt;
+        opened_two(alloc, &beat, &refused)?,
+        Some(AgentFault::Damaged(5))
+    );
     assert_eq!(rt;
         noted(alloc, HEALTH.as_slice(), &[])?,
         Some(AgentFault::Damaged(5))

@@ -1,4 +1,5 @@
 use super::*;
+use std::process::Abort;
 use std::test::Fail;
 
 /// The words of `delay`, the delay before, a moment, the statuses before and after, and the delay that
@@ -23,7 +24,7 @@ const OPEN: &str = "delay: up 10s down 1s multiplier 2";
 const LONG: &str = "delay: up 2592000s multiplier 1000";
 
 // Worked by hand.
-const CASES: [Case; 30] = [
+static CASES: [Case; 30] = [
     (
         USUAL,
         None,
@@ -257,15 +258,21 @@ fn delay_of(parts: Option<(u32, u32, u32)>) -> Option<Delay> {
     Some(Delay { up, down, due })
 }
 
+/// Compares a delay that comes.
+fn compare(rt: &impl Abort, alloc: Global, case: &Case) -> Result<(), Fail> {
+    let (words, before, moment, old, new, want) = *case;
+    let text = format!(in alloc; "alarm: a\non: b.c\nevery: 1s\n{words}\n")?;
+    let config = Config::read(alloc, text.as_bytes())?;
+    let alarm = first_alarm(&config)?;
+    let found = new_delay(alarm, delay_of(before), moment, old, new);
+    assert_eq!(rt; found, delay_of(want), "{words} {moment}");
+    Ok(())
+}
+
 #[test]
 fn thirty_delays(rt: HostRuntime) -> Result<(), Fail> {
-    let alloc = rt.alloc();
-    for (words, before, moment, old, new, want) in &CASES {
-        let text = format!(in alloc; "alarm: a\non: b.c\nevery: 1s\n{words}\n")?;
-        let config = Config::read(alloc, text.as_bytes())?;
-        let alarm = first_alarm(&config)?;
-        let found = new_delay(alarm, delay_of(*before), *moment, *old, *new);
-        assert_eq!(rt; found, delay_of(*want), "{words} {moment}");
+    for case in &CASES {
+        compare(&rt, rt.alloc(), case)?;
     }
     Ok(())
 }

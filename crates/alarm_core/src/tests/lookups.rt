@@ -1,5 +1,10 @@
+ghost use Rattle.std.specs.Prelude.{IfOk, IsTrue};
+ghost use Rattle.std.specs.List.{list_all};
+ghost use Rattle.query_engine.specs.Points.{are_series};
+
 use super::*;
 use query_engine::{ListPoints, PointList, SeriesPointsList};
+use std::process::Abort;
 use std::test::Fail;
 
 /// Points by their moments and words.
@@ -9,30 +14,67 @@ macro_rules! points {
     };
 }
 
-/// Four dimensions of one chart, a, b, c and d, and after them one of another. a has 10 at 1, -20 at 2, 30
-/// at 3, an anomalous 4 at 5, 6 at 7 and 1 at 12. b has 5 at 2, 7 at 4, -6 at 7, and from 10 to 15 the
-/// least value that a point can have. c, which is hidden, has 100 at 1, an anomalous 200 at 5, and from 10
-/// to 15 the greatest value that a point can have. d has no point. The other chart's has 1,000 at 3.
-fn source(alloc: Global, floor: u32) -> Result<ListPoints, Fail> {
-    let a =
-        points![alloc; (1, 0x3198_9680), (2, 0xa91e_8480), (3, 0x292d_c6c0), (5, 0x303d_0900), (7, 0x315b_8d80), (12, 0x3998_9680)];
-    let b =
-        points![alloc; (2, 0x314c_4b40), (4, 0x316a_cfc0), (7, 0xb15b_8d80), (10, 0xfdff_ffff), (11, 0xfdff_ffff), (12, 0xfdff_ffff), (13, 0xfdff_ffff), (14, 0xfdff_ffff), (15, 0xfdff_ffff)];
-    let c =
-        points![alloc; (1, 0x2998_9680), (5, 0x201e_8480), (10, 0x7dff_ffff), (11, 0x7dff_ffff), (12, 0x7dff_ffff), (13, 0x7dff_ffff), (14, 0x7dff_ffff), (15, 0x7dff_ffff)];
+/// a has 10 at 1, -20 at 2, 30 at 3, an anomalous 4 at 5, 6 at 7 and 1 at 12.
+fn points_of_a(alloc: Global) -> Result<PointList, Fail>
+    ensures { IfOk result (λ points. IsTrue (are_series points)) }
+{
+    Ok(
+        points![alloc; (1, 0x3198_9680), (2, 0xa91e_8480), (3, 0x292d_c6c0), (5, 0x303d_0900), (7, 0x315b_8d80), (12, 0x3998_9680)],
+    )
+}
+
+/// b has 5 at 2, 7 at 4, -6 at 7, and from 10 to 15 the least value that a point can have.
+fn points_of_b(alloc: Global) -> Result<PointList, Fail>
+    ensures { IfOk result (λ points. IsTrue (are_series points)) }
+{
+    Ok(
+        points![alloc; (2, 0x314c_4b40), (4, 0x316a_cfc0), (7, 0xb15b_8d80), (10, 0xfdff_ffff), (11, 0xfdff_ffff), (12, 0xfdff_ffff), (13, 0xfdff_ffff), (14, 0xfdff_ffff), (15, 0xfdff_ffff)],
+    )
+}
+
+/// c, which is hidden, has 100 at 1, an anomalous 200 at 5, and from 10 to 15 the greatest value that a point
+/// can have.
+fn points_of_c(alloc: Global) -> Result<PointList, Fail>
+    ensures { IfOk result (λ points. IsTrue (are_series points)) }
+{
+    Ok(
+        points![alloc; (1, 0x2998_9680), (5, 0x201e_8480), (10, 0x7dff_ffff), (11, 0x7dff_ffff), (12, 0x7dff_ffff), (13, 0x7dff_ffff), (14, 0x7dff_ffff), (15, 0x7dff_ffff)],
+    )
+}
+
+/// The dimension of the other chart has 1,000 at 3.
+fn points_of_x(alloc: Global) -> Result<PointList, Fail>
+    ensures { IfOk result (λ points. IsTrue (are_series points)) }
+{
+    Ok(points![alloc; (3, 0x2198_9680)])
+}
+
+/// The points of a, b, c and d of one chart, and after them those of another chart's dimension. d has none.
+fn all_points(alloc: Global) -> Result<SeriesPointsList, Fail>
+    ensures { IfOk result (λ all. IsTrue (list_all are_series all)) }
+{
+    let a = points_of_a(alloc)?;
+    let b = points_of_b(alloc)?;
+    let c = points_of_c(alloc)?;
     let d = PointList::new(alloc);
-    let x = points![alloc; (3, 0x2198_9680)];
+    let x = points_of_x(alloc)?;
+    Ok(SeriesPointsList::from_vec(vec![in alloc; a, b, c, d, x]?))
+}
+
+/// The points of all, where those before a floor are gone.
+fn source(alloc: Global, floor: u32) -> Result<ListPoints, Fail> {
+    let points = all_points(alloc)?;
     Ok(ListPoints::new(
         MomentList::from_vec(vec![in alloc; 1]?),
         MomentList::from_vec(vec![in alloc; floor]?),
-        SeriesPointsList::from_vec(vec![in alloc; a, b, c, d, x]?),
+        points,
     ))
 }
 
 /// The floor, the moment, a lookup, and what it finds.
 type Case = (u32, u32, &'static str, Value);
 
-const CASES: [Case; 48] = [
+static CASES: [Case; 48] = [
     (0, 5, "average 5s of a", Value::Fixed(60_000_000)),
     (0, 5, "min 5s of a", Value::Fixed(-200_000_000)),
     (0, 5, "max 5s of a", Value::Fixed(300_000_000)),
@@ -118,31 +160,48 @@ fn found(
     Ok(scene.step(alloc, points, Value::Nan, None)?.value)
 }
 
+/// Compares what a lookup finds.
+fn compare(
+    rt: &impl Abort,
+    alloc: Global,
+    registry: &Registry,
+    latest: &Latest,
+    case: &Case,
+) -> Result<(), Fail> {
+    let (floor, moment, lookup, want) = *case;
+    let text = format!(in alloc; "alarm: l\non: test.one\nlookup: {lookup}\n")?;
+    let config = Config::read(alloc, text.as_bytes())?;
+    let alarm = first_alarm(&config)?;
+    let mut points = source(alloc, floor)?;
+    let found = found(alloc, registry, latest, alarm, moment, &mut points)?;
+    assert_eq!(rt; found, want, "{lookup} {moment}");
+    Ok(())
+}
+
+static DIMENSIONS: [(&str, &str, bool); 4] = [
+    ("a", "used", false),
+    ("b", "free", false),
+    ("c", "all", true),
+    ("d", "none", false),
+];
+
+static OTHERS: [(&str, &str, bool); 1] = [("x", "x", false)];
+
+/// A chart with four dimensions, and another with one.
+fn two_charts(alloc: Global) -> Result<Registry, Fail> {
+    let mut registry = Registry::new(alloc);
+    define(alloc, &mut registry, "test.one", DIMENSIONS.as_slice())?;
+    define(alloc, &mut registry, "test.two", OTHERS.as_slice())?;
+    Ok(registry)
+}
+
 #[test]
 fn lookups_by_hand(rt: HostRuntime) -> Result<(), Fail> {
     let alloc = rt.alloc();
-    let mut registry = Registry::new(alloc);
-    let dimensions = [
-        ("a", "used", false),
-        ("b", "free", false),
-        ("c", "all", true),
-        ("d", "none", false),
-    ];
-    define(alloc, &mut registry, "test.one", dimensions.as_slice())?;
-    define(
-        alloc,
-        &mut registry,
-        "test.two",
-        [("x", "x", false)].as_slice(),
-    )?;
+    let registry = two_charts(alloc)?;
     let latest = latest(alloc, 0, [].as_slice())?;
-    for (floor, moment, lookup, want) in &CASES {
-        let text = format!(in alloc; "alarm: l\non: test.one\nlookup: {lookup}\n")?;
-        let config = Config::read(alloc, text.as_bytes())?;
-        let alarm = first_alarm(&config)?;
-        let mut points = source(alloc, *floor)?;
-        let found = found(alloc, &registry, &latest, alarm, *moment, &mut points)?;
-        assert_eq!(rt; found, *want, "{lookup} {moment}");
+    for case in &CASES {
+        compare(&rt, alloc, &registry, &latest, case)?;
     }
     Ok(())
 }

@@ -3,10 +3,24 @@ use std::process::Abort;
 use std::test::Fail;
 
 /// A moment, the values of a and b then, and what comes: a value, a status and a due moment.
-type Beat = (u32, [Option<i32>; 2], Value, Status, Option<u32>);
+type Beat = (u32, Option<i32>, Option<i32>, Value, Status, Option<u32>);
 
-fn whole(number: i32) -> Value {
-    Value::Fixed(Units::from(number) * 10_000_000)
+/// Steps an alarm on a beat.
+fn take(
+    rt: &impl Abort,
+    alloc: Global,
+    registry: &Registry,
+    alarm: &Entity,
+    before: &Step,
+    beat: &Beat,
+) -> Result<Step, Fail> {
+    let (moment, a, b, value, status, due) = *beat;
+    let latest = latest(alloc, moment, [a, b].as_slice())?;
+    let step = step_after(alloc, registry, &latest, alarm, moment, before)?;
+    assert_eq!(rt; step.value, value, "{moment}");
+    assert_eq!(rt; step.status, status, "{moment}");
+    assert_eq!(rt; step.due, due, "{moment}");
+    Ok(step)
 }
 
 /// Steps an alarm through beats.
@@ -27,115 +41,210 @@ fn run(
     let config = Config::read(alloc, text.as_bytes())?;
     let alarm = first_alarm(&config)?;
     let mut step = first;
-    for (moment, values, value, status, due) in beats {
-        let latest = latest(alloc, *moment, values)?;
-        step = step_after(alloc, &registry, &latest, alarm, *moment, &step)?;
-        assert_eq!(rt; step.value, *value, "{moment}");
-        assert_eq!(rt; step.status, *status, "{moment}");
-        assert_eq!(rt; step.due, *due, "{moment}");
+    for beat in beats {
+        step = take(rt, alloc, &registry, alarm, &step, beat)?;
     }
     Ok(())
 }
 
+const HIGH: &str =
+    "alarm: high\non: test.one\ncalc: $a\nevery: 1s\nwarn: $this > (($status >= $WARNING) ? (75) : (85))\n";
+
+static HIGH_BEATS: [Beat; 4] = [
+    (
+        1,
+        Some(80),
+        None,
+        Value::Fixed(800_000_000),
+        Status::Clear,
+        None,
+    ),
+    (
+        2,
+        Some(86),
+        None,
+        Value::Fixed(860_000_000),
+        Status::Warning,
+        Some(2),
+    ),
+    (
+        3,
+        Some(80),
+        None,
+        Value::Fixed(800_000_000),
+        Status::Warning,
+        None,
+    ),
+    (
+        4,
+        Some(74),
+        None,
+        Value::Fixed(740_000_000),
+        Status::Clear,
+        Some(4),
+    ),
+];
+
 #[test]
 fn raised_and_cleared(rt: HostRuntime) -> Result<(), Fail> {
-    let text =
-        "alarm: high\non: test.one\ncalc: $a\nevery: 1s\nwarn: $this > (($status >= $WARNING) ? (75) : (85))\n";
-    let beats = [
-        (1, [Some(80), None], whole(80), Status::Clear, None),
-        (2, [Some(86), None], whole(86), Status::Warning, Some(2)),
-        (3, [Some(80), None], whole(80), Status::Warning, None),
-        (4, [Some(74), None], whole(74), Status::Clear, Some(4)),
-    ];
-    run(&rt, rt.alloc(), text, FRESH, beats.as_slice())
+    run(&rt, rt.alloc(), HIGH, FRESH, HIGH_BEATS.as_slice())
 }
+
+const DELAYED: &str =
+    "alarm: d\non: test.one\ncalc: $a\nevery: 1s\nwarn: $this > 0\ndelay: up 10s down 60s multiplier 1.5 max 5m\n";
+
+static DELAYED_BEATS: [Beat; 3] = [
+    (
+        100,
+        Some(1),
+        None,
+        Value::Fixed(10_000_000),
+        Status::Warning,
+        Some(110),
+    ),
+    (
+        105,
+        Some(0),
+        None,
+        Value::Fixed(0),
+        Status::Clear,
+        Some(195),
+    ),
+    (
+        110,
+        Some(1),
+        None,
+        Value::Fixed(10_000_000),
+        Status::Warning,
+        Some(132),
+    ),
+];
+
+const CLEAR: Step = Step {
+    status: Status::Clear,
+    ..FRESH
+};
 
 #[test]
 fn delays_grow(rt: HostRuntime) -> Result<(), Fail> {
-    let text =
-        "alarm: d\non: test.one\ncalc: $a\nevery: 1s\nwarn: $this > 0\ndelay: up 10s down 60s multiplier 1.5 max 5m\n";
-    let clear = Step {
-        status: Status::Clear,
-        ..FRESH
-    };
-    let beats = [
-        (100, [Some(1), None], whole(1), Status::Warning, Some(110)),
-        (105, [Some(0), None], whole(0), Status::Clear, Some(195)),
-        (110, [Some(1), None], whole(1), Status::Warning, Some(132)),
-    ];
-    run(&rt, rt.alloc(), text, clear, beats.as_slice())
+    run(&rt, rt.alloc(), DELAYED, CLEAR, DELAYED_BEATS.as_slice())
 }
+
+const QUOTIENT: &str = "alarm: q\non: test.one\ncalc: $a / $b\nevery: 1s\nwarn: $this > 1\n";
+
+static QUOTIENT_BEATS: [Beat; 4] = [
+    (
+        1,
+        Some(5),
+        Some(0),
+        Value::Inf(false),
+        Status::Undefined,
+        None,
+    ),
+    (
+        2,
+        Some(5),
+        Some(0),
+        Value::Inf(false),
+        Status::Undefined,
+        None,
+    ),
+    (3, None, Some(0), Value::Nan, Status::Undefined, None),
+    (
+        4,
+        Some(6),
+        Some(2),
+        Value::Fixed(30_000_000),
+        Status::Warning,
+        Some(4),
+    ),
+];
 
 #[test]
 fn an_infinite_value_is_undefined(rt: HostRuntime) -> Result<(), Fail> {
-    let text = "alarm: q\non: test.one\ncalc: $a / $b\nevery: 1s\nwarn: $this > 1\n";
-    let beats = [
-        (
-            1,
-            [Some(5), Some(0)],
-            Value::Inf(false),
-            Status::Undefined,
-            None,
-        ),
-        (
-            2,
-            [Some(5), Some(0)],
-            Value::Inf(false),
-            Status::Undefined,
-            None,
-        ),
-        (3, [None, Some(0)], Value::Nan, Status::Undefined, None),
-        (4, [Some(6), Some(2)], whole(3), Status::Warning, Some(4)),
-    ];
-    run(&rt, rt.alloc(), text, FRESH, beats.as_slice())
+    run(&rt, rt.alloc(), QUOTIENT, FRESH, QUOTIENT_BEATS.as_slice())
 }
+
+const DISK: &str =
+    "alarm: disk\non: test.one\ncalc: $used * 100 / ($avail + $used)\nevery: 1m\nwarn: $this > (($status >= $WARNING ) ? (80) : (90))\ncrit: ($this > (($status == $CRITICAL) ? (90) : (98))) && $avail < 5\ndelay: up 1m down 15m multiplier 1.5 max 1h\n";
+
+static DISK_BEATS: [Beat; 3] = [
+    (
+        60,
+        Some(95),
+        Some(5),
+        Value::Fixed(950_000_000),
+        Status::Warning,
+        Some(120),
+    ),
+    (
+        120,
+        Some(99),
+        Some(1),
+        Value::Fixed(990_000_000),
+        Status::Critical,
+        Some(210),
+    ),
+    (
+        180,
+        Some(85),
+        Some(15),
+        Value::Fixed(850_000_000),
+        Status::Warning,
+        Some(2_205),
+    ),
+];
 
 #[test]
 fn a_disk_fills_up(rt: HostRuntime) -> Result<(), Fail> {
-    let text =
-        "alarm: disk\non: test.one\ncalc: $used * 100 / ($avail + $used)\nevery: 1m\nwarn: $this > (($status >= $WARNING ) ? (80) : (90))\ncrit: ($this > (($status == $CRITICAL) ? (90) : (98))) && $avail < 5\ndelay: up 1m down 15m multiplier 1.5 max 1h\n";
-    let beats = [
-        (
-            60,
-            [Some(95), Some(5)],
-            whole(95),
-            Status::Warning,
-            Some(120),
-        ),
-        (
-            120,
-            [Some(99), Some(1)],
-            whole(99),
-            Status::Critical,
-            Some(210),
-        ),
-        (
-            180,
-            [Some(85), Some(15)],
-            whole(85),
-            Status::Warning,
-            Some(2_205),
-        ),
-    ];
-    run(&rt, rt.alloc(), text, FRESH, beats.as_slice())
+    run(&rt, rt.alloc(), DISK, FRESH, DISK_BEATS.as_slice())
 }
+
+const CONDITIONS: &str = "alarm: n\non: test.one\ncalc: $a\nevery: 1s\nwarn: $b\ncrit: $b - 5\n";
+
+static CONDITIONS_BEATS: [Beat; 4] = [
+    (
+        1,
+        Some(1),
+        None,
+        Value::Fixed(10_000_000),
+        Status::Undefined,
+        None,
+    ),
+    (
+        2,
+        Some(1),
+        Some(0),
+        Value::Fixed(10_000_000),
+        Status::Critical,
+        Some(2),
+    ),
+    (
+        3,
+        Some(1),
+        Some(5),
+        Value::Fixed(10_000_000),
+        Status::Warning,
+        Some(3),
+    ),
+    (4, None, Some(5), Value::Nan, Status::Undefined, None),
+];
 
 #[test]
 fn conditions_that_are_nan_tell_nothing(rt: HostRuntime) -> Result<(), Fail> {
-    let text = "alarm: n\non: test.one\ncalc: $a\nevery: 1s\nwarn: $b\ncrit: $b - 5\n";
-    let beats = [
-        (1, [Some(1), None], whole(1), Status::Undefined, None),
-        (2, [Some(1), Some(0)], whole(1), Status::Critical, Some(2)),
-        (3, [Some(1), Some(5)], whole(1), Status::Warning, Some(3)),
-        (4, [None, Some(5)], Value::Nan, Status::Undefined, None),
-    ];
-    run(&rt, rt.alloc(), text, FRESH, beats.as_slice())
+    run(
+        &rt,
+        rt.alloc(),
+        CONDITIONS,
+        FRESH,
+        CONDITIONS_BEATS.as_slice(),
+    )
 }
 
 /// A name, and what it is worth.
 type Name = (&'static str, Value);
 
-const NAMES: [Name; 22] = [
+static NAMES: [Name; 22] = [
     ("$this", Value::Fixed(70_000_000)),
     ("$status", Value::Fixed(0)),
     ("$REMOVED", Value::Fixed(-20_000_000)),
@@ -160,6 +269,24 @@ const NAMES: [Name; 22] = [
     ("$_raw", Value::Nan),
 ];
 
+/// Compares what a name is worth.
+fn compare(
+    rt: &impl Abort,
+    alloc: Global,
+    registry: &Registry,
+    latest: &Latest,
+    before: &Step,
+    name: &Name,
+) -> Result<(), Fail> {
+    let (name, want) = *name;
+    let text = format!(in alloc; "alarm: v\non: test.one\nevery: 1s\ngreen: 1.5\ncalc: {name}\n")?;
+    let config = Config::read(alloc, text.as_bytes())?;
+    let alarm = first_alarm(&config)?;
+    let step = step_after(alloc, registry, latest, alarm, 60, before)?;
+    assert_eq!(rt; step.value, want, "{name}");
+    Ok(())
+}
+
 // Dimension b_raw has its own last value, which goes before the collected one of b.
 #[test]
 fn names_are_worth_what_they_say(rt: HostRuntime) -> Result<(), Fail> {
@@ -178,14 +305,8 @@ fn names_are_worth_what_they_say(rt: HostRuntime) -> Result<(), Fail> {
         value: Value::Fixed(70_000_000),
         ..FRESH
     };
-    for (name, want) in &NAMES {
-        let text = format!(in alloc;
-            "alarm: v\non: test.one\nevery: 1s\ngreen: 1.5\ncalc: {name}\n"
-        )?;
-        let config = Config::read(alloc, text.as_bytes())?;
-        let alarm = first_alarm(&config)?;
-        let step = step_after(alloc, &registry, &latest, alarm, 60, &before)?;
-        assert_eq!(rt; step.value, *want, "{name}");
+    for name in &NAMES {
+        compare(&rt, alloc, &registry, &latest, &before, name)?;
     }
     Ok(())
 }

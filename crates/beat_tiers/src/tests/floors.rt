@@ -27,7 +27,7 @@ fn floors_of_points(rt: HostRuntime) -> Result<(), Fail> {
             [].as_slice(),
         )?;
         for moment in 1..=beats {
-            tiers.take(Some(moment), [point(0, 1)].as_slice())?;
+            add(&mut tiers, Some(moment), [point(0, 1)].as_slice())?;
         }
         assert_eq!(rt; tiers.floor(0), floor, "{items} {extents} {beats}");
     }
@@ -35,12 +35,44 @@ fn floors_of_points(rt: HostRuntime) -> Result<(), Fail> {
 }
 
 #[test]
+fn floors_of_four_points_a_segment(rt: HostRuntime) -> Result<(), Fail> {
+    let others = [tier(60, 100, 1), tier(3600, 100, 1)];
+    let mut tiers = Tiers::new(rt.alloc(), tier(1, 4, 1), others.as_slice())?;
+    for moment in 1..=12 {
+        add(&mut tiers, Some(moment), [point(0, 1)].as_slice())?;
+        let floor = match moment {
+            1..=7 => 0,
+            8..=11 => 5,
+            _ => 9,
+        };
+        assert_eq!(rt; tiers.floor(0), floor, "{moment}");
+        assert_eq!(rt; tiers.floor(1), 0);
+    }
+    Ok(())
+}
+
+#[test]
+fn points_of_each_series(rt: HostRuntime) -> Result<(), Fail> {
+    let mut tiers = Tiers::new(rt.alloc(), tier(1, 4, 9), [].as_slice())?;
+    let points = [point(0, 1), point(7, 2), point(9, 3)];
+    for moment in 1..=15 {
+        add(&mut tiers, Some(moment), points.as_slice())?;
+    }
+    check_moments(&rt, &tiers, 6, 9, [6, 7, 8, 9].as_slice())?;
+    check_moments(&rt, &tiers, 14, 40, [14, 15].as_slice())?;
+    assert_eq!(rt; tiers.points(7, 4, 15)?.len(), 12);
+    assert_eq!(rt; tiers.points(9, 0, 3)?.len(), 3);
+    assert_eq!(rt; tiers.points(8, 0, 40)?.len(), 0);
+    Ok(())
+}
+
+#[test]
 fn a_segment_is_not_cut_within_a_beat(rt: HostRuntime) -> Result<(), Fail> {
     let mut tiers = Tiers::new(rt.alloc(), tier(1, 2, 1), [].as_slice())?;
     let three = [point(0, 1), point(1, 1), point(2, 1)];
-    tiers.take(Some(5), three.as_slice())?;
+    add(&mut tiers, Some(5), three.as_slice())?;
     assert_eq!(rt; tiers.floor(0), 0);
-    tiers.take(Some(6), three.as_slice())?;
+    add(&mut tiers, Some(6), three.as_slice())?;
     assert_eq!(rt; tiers.floor(0), 6);
     check_moments(&rt, &tiers, 0, 9, [6].as_slice())
 }
@@ -84,15 +116,15 @@ fn a_beat_without_points_closes_records(rt: HostRuntime) -> Result<(), Fail> {
     let minute = tier(60, 1, 1);
     let mut tiers = Tiers::new(rt.alloc(), tier(1, 100, 1), [minute].as_slice())?;
     take_each(&mut tiers, [30].as_slice())?;
-    tiers.take(Some(61), [].as_slice())?;
+    add(&mut tiers, Some(61), [].as_slice())?;
     take_each(&mut tiers, [62].as_slice())?;
     assert_eq!(rt; tiers.floor(1), 0);
-    tiers.take(Some(125), [].as_slice())?;
+    add(&mut tiers, Some(125), [].as_slice())?;
     assert_eq!(rt; tiers.floor(1), 60);
     assert_eq!(rt; tiers.record_of(1, 0, 0), None);
     assert_eq!(rt; tiers.record_of(1, 0, 1), Some(record(1, 1, 1, 1)));
     // a beat without a moment changes nothing
-    tiers.take(None, [].as_slice())?;
+    add(&mut tiers, None, [].as_slice())?;
     assert_eq!(rt; tiers.last(), 125);
     assert_eq!(rt; tiers.floor(1), 60);
     Ok(())
@@ -109,10 +141,10 @@ fn a_floor_past_all_moments(rt: HostRuntime) -> Result<(), Fail> {
 #[test]
 fn kept_beats(rt: HostRuntime) -> Result<(), Fail> {
     let mut tiers = Tiers::new(rt.alloc(), tier(1, 2, 1), [].as_slice())?;
-    tiers.take(Some(10), [point(0, 1), point(1, 2)].as_slice())?;
-    tiers.take(Some(11), [].as_slice())?;
+    add(&mut tiers, Some(10), [point(0, 1), point(1, 2)].as_slice())?;
+    add(&mut tiers, Some(11), [].as_slice())?;
     take_each(&mut tiers, [12, 13].as_slice())?;
-    tiers.take(Some(14), [point(2, 3), point(5, 4)].as_slice())?;
+    add(&mut tiers, Some(14), [point(2, 3), point(5, 4)].as_slice())?;
     // the two segments behind the first were sealed at 13 and 14
     let kept = tiers.kept()?;
     assert_eq!(rt; kept.before, 3);

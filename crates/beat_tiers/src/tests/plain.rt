@@ -82,6 +82,26 @@ pub(super) fn plain_record(
     record
 }
 
+/// The first bucket from one to another that starts at or above a floor and has a record, and that record.
+pub(super) fn plain_next(
+    beats: &[Plain],
+    width: u32,
+    floor: u32,
+    series: u32,
+    from: u32,
+    to: u32,
+) -> Option<(u32, Record)> {
+    for beat in beats {
+        let bucket = beat.moment.checked_div(width).unwrap_or(0);
+        if from <= bucket && bucket <= to && bucket.saturating_mul(width) >= floor {
+            if let Some(record) = plain_record(beats, width, bucket, series) {
+                return Some((bucket, record));
+            }
+        }
+    }
+    None
+}
+
 /// How many points a beat has.
 pub(super) fn points_in(beat: &Plain) -> u32 {
     let mut count: u32 = 0;

@@ -1,6 +1,8 @@
 ghost use Rattle.std.specs.Prelude.{◌≤◌};
 
-use super::plain::{Plain, SERIES, plain_floor, plain_points, plain_record, points_in, word_in};
+use super::plain::{
+    Plain, SERIES, plain_floor, plain_next, plain_points, plain_record, points_in, word_in,
+};
 use super::*;
 
 /// The next number of a linear congruential generator.
@@ -49,7 +51,7 @@ fn take(alloc: Global, tiers: &mut Tiers, beat: &Plain) -> Result<(), AllocError
             })?;
         }
     }
-    tiers.take(Some(beat.moment), points.as_slice())
+    add(tiers, Some(beat.moment), points.as_slice())
 }
 
 /// Checks the points at or above the floor.
@@ -115,6 +117,19 @@ fn check_bucket(
     }
 }
 
+/// Checks the first records of a tier from a bucket on, and of the few buckets there.
+fn check_next(rt: &impl Abort, tiers: &Tiers, beats: &[Plain], number: u8, width: u32, from: u32) {
+    let floor = tiers.floor(number);
+    for series in SERIES {
+        for to in [from, from.saturating_add(2), u32::MAX] {
+            assert_eq!(rt;
+                tiers.next_record(number, series, from, to),
+                plain_next(beats, width, floor, series, from, to)
+            );
+        }
+    }
+}
+
 /// Checks a tier's floor and the records of its last buckets.
 fn check_tier(
     rt: &impl Abort,
@@ -141,19 +156,35 @@ fn check_tier(
             tier.width,
             last.saturating_sub(back),
         );
+        check_next(
+            rt,
+            tiers,
+            beats,
+            number,
+            tier.width,
+            last.saturating_sub(back),
+        );
     }
+    check_next(rt, tiers, beats, number, tier.width, 0);
     Ok(())
 }
 
-/// Takes fifty beats, and compares what is kept after each with what all beats say.
-fn run(rt: &impl Abort, alloc: Global, seed: u32, first: Tier, minute: Tier) -> Result<(), Fail>
+/// Takes some beats, and compares what is kept after each with what all beats say.
+fn run(
+    rt: &impl Abort,
+    alloc: Global,
+    seed: u32,
+    count: u32,
+    first: Tier,
+    minute: Tier,
+) -> Result<(), Fail>
     requires first { 1 ≤ first.width × 1 ≤ first.items × 1 ≤ first.extents }
     requires minute { 1 ≤ minute.width × 1 ≤ minute.items × 1 ≤ minute.extents }
 {
     let mut state = seed;
     let mut beats = Vec::new(alloc);
     let mut tiers = Tiers::new(alloc, first, [minute].as_slice())?;
-    for _ in 0..50 {
+    for _ in 0..count {
         let beat = random_beat(&mut state, tiers.last());
         take(alloc, &mut tiers, &beat)?;
         beats.push(beat)?;
@@ -167,15 +198,25 @@ fn run(rt: &impl Abort, alloc: Global, seed: u32, first: Tier, minute: Tier) -> 
 
 #[test]
 fn fifty_beats(rt: HostRuntime) -> Result<(), Fail> {
-    run(&rt, rt.alloc(), 7, tier(1, 3, 2), tier(60, 2, 1))
+    run(&rt, rt.alloc(), 7, 50, tier(1, 3, 2), tier(60, 2, 1))
 }
 
 #[test]
 fn fifty_beats_with_small_quotas(rt: HostRuntime) -> Result<(), Fail> {
-    run(&rt, rt.alloc(), 4_711, tier(1, 1, 1), tier(5, 1, 3))
+    run(&rt, rt.alloc(), 4_711, 50, tier(1, 1, 1), tier(5, 1, 3))
 }
 
 #[test]
 fn fifty_beats_with_large_quotas(rt: HostRuntime) -> Result<(), Fail> {
-    run(&rt, rt.alloc(), 99, tier(1, 7, 5), tier(3_600, 5, 5))
+    run(&rt, rt.alloc(), 99, 50, tier(1, 7, 5), tier(3_600, 5, 5))
+}
+
+#[test]
+fn three_hundred_short_histories(rt: HostRuntime) -> Result<(), Fail> {
+    for seed in 0..300 {
+        let first = tier(1, 1 + seed % 5, 1 + seed / 5 % 5);
+        let minute = tier(60, 1 + seed / 25 % 4, 1 + seed % 3);
+        run(&rt, rt.alloc(), seed * 7_919, 14, first, minute)?;
+    }
+    Ok(())
 }

@@ -15,12 +15,12 @@ const MINUTE: Tier = Tier {
 #[test]
 fn a_minute(rt: HostRuntime) -> Result<(), Fail> {
     let mut tiers = Tiers::new(rt.alloc(), WIDE, [MINUTE].as_slice())?;
-    tiers.take(Some(60), [point(3, 2), point(4, 3)].as_slice())?;
-    tiers.take(Some(70), [point(4, -5)].as_slice())?;
-    tiers.take(Some(119), [point(4, 7)].as_slice())?;
+    add(&mut tiers, Some(60), [point(3, 2), point(4, 3)].as_slice())?;
+    add(&mut tiers, Some(70), [point(4, -5)].as_slice())?;
+    add(&mut tiers, Some(119), [point(4, 7)].as_slice())?;
     // while the bucket is the last moment's
     assert_eq!(rt; tiers.record_of(1, 4, 1), Some(record(-5, 7, 5, 3)));
-    tiers.take(Some(120), [point(4, 1)].as_slice())?;
+    add(&mut tiers, Some(120), [point(4, 1)].as_slice())?;
     // and when it is over
     assert_eq!(rt; tiers.record_of(1, 4, 1), Some(record(-5, 7, 5, 3)));
     assert_eq!(rt; tiers.record_of(1, 3, 1), Some(record(2, 2, 2, 1)));
@@ -39,7 +39,7 @@ fn a_word_that_is_none_is_no_value(rt: HostRuntime) -> Result<(), Fail> {
         step: 1,
         word: 0,
     };
-    tiers.take(Some(5), [none].as_slice())?;
+    add(&mut tiers, Some(5), [none].as_slice())?;
     assert_eq!(rt; tiers.record_of(1, 0, 0), None);
     // it is a point
     let points = tiers.points(0, 5, 5)?;
@@ -53,8 +53,8 @@ fn a_word_that_is_none_is_no_value(rt: HostRuntime) -> Result<(), Fail> {
 #[test]
 fn a_gap_of_hours(rt: HostRuntime) -> Result<(), Fail> {
     let mut tiers = Tiers::new(rt.alloc(), WIDE, [MINUTE, tier(3_600, 9, 9)].as_slice())?;
-    tiers.take(Some(30), [point(0, 1)].as_slice())?;
-    tiers.take(Some(20_000), [point(0, 2)].as_slice())?;
+    add(&mut tiers, Some(30), [point(0, 1)].as_slice())?;
+    add(&mut tiers, Some(20_000), [point(0, 2)].as_slice())?;
     assert_eq!(rt; tiers.record_of(1, 0, 0), Some(record(1, 1, 1, 1)));
     assert_eq!(rt; tiers.record_of(1, 0, 1), None);
     assert_eq!(rt; tiers.record_of(1, 0, 332), None);
@@ -68,7 +68,7 @@ fn a_gap_of_hours(rt: HostRuntime) -> Result<(), Fail> {
 #[test]
 fn tiers_that_are_not_there(rt: HostRuntime) -> Result<(), Fail> {
     let mut tiers = Tiers::new(rt.alloc(), WIDE, [MINUTE].as_slice())?;
-    tiers.take(Some(30), [point(0, 1)].as_slice())?;
+    add(&mut tiers, Some(30), [point(0, 1)].as_slice())?;
     assert_eq!(rt; tiers.tiers(), 2);
     assert_eq!(rt; tiers.tier(0), Some(WIDE));
     assert_eq!(rt; tiers.tier(1), Some(MINUTE));

@@ -1,7 +1,7 @@
-ghost use Rattle.std.specs.Prelude.{◌≡◌, IfOk};
+ghost use Rattle.std.specs.Prelude.{◌≡◌, ◌<◌, IfOk};
 
 use super::*;
-use fixed_num::Text;
+use fixed_num::{ListOf, Text};
 use history::{Algorithm, ChartKind};
 use std::alloc::AllocError;
 use std::test::Fail;
@@ -206,5 +206,41 @@ fn stops_at_the_limits_of_dimensions(rt: HostRuntime) -> Result<(), Fail> {
         assert_eq!(rt; got, want, "{id} of {chart}");
     }
     assert_eq!(rt; registry.dimensions(), MOST_DIMENSIONS);
+    Ok(())
+}
+
+/// What comes of a beat that defines two charts, the first with the update_every 1.
+fn apply_two(
+    alloc: Global,
+    registry: &mut Registry,
+    first: &str,
+    second: &str,
+    update_every: u32,
+) -> Result<Result<(), RegistryFault>, Fail>
+    requires { 0 < update_every }
+{
+    let mut charts = ListOf::new(alloc);
+    charts.push(chart_def(alloc, first, 1)?)?;
+    charts.push(chart_def(alloc, second, update_every)?)?;
+    let beat = OpenBeat {
+        charts,
+        dimensions: ListOf::new(alloc),
+        rows: ListOf::new(alloc),
+    };
+    Ok(registry.apply(&beat))
+}
+
+#[test]
+fn takes_a_beat_up_to_what_it_refuses(rt: HostRuntime) -> Result<(), Fail> {
+    let mut registry = Registry::new(rt.alloc());
+    let got = apply_two(rt.alloc(), &mut registry, "system.cpu", "system.load", 10)?;
+    assert_eq!(rt; got, Ok(()));
+    assert_eq!(rt; registry.charts(), 2);
+    let got = apply_two(rt.alloc(), &mut registry, "system.ram", "system.load", 5)?;
+    assert_eq!(rt; got, Err(RegistryFault::GridChanged));
+    assert_eq!(rt; registry.charts(), 3);
+    let got = apply_two(rt.alloc(), &mut registry, "system.load", "system.io", 1)?;
+    assert_eq!(rt; got, Err(RegistryFault::GridChanged));
+    assert_eq!(rt; registry.charts(), 3);
     Ok(())
 }

@@ -3,7 +3,7 @@ use crate::standard::StandIns;
 use crate::stdin_source::StdinSource;
 use host_model::Source;
 use std::os::fd::AsRawFd;
-use std::os::unix::fs::symlink;
+use std::os::unix::fs::{MetadataExt, symlink};
 use std::test::Fail;
 use std::{env, fs};
 
@@ -49,6 +49,30 @@ fn a_file_keeps_what_was_written(rt: HostRuntime) -> Result<(), Fail> {
     assert_eq!(rt; bytes.as_slice(), b"abcdEF\0\0\0".as_slice());
     assert!(rt; again.write_at(File::JournalA, 0, b"a").is_err());
     assert!(rt; again.cut(File::JournalB, 0).is_err());
+    fs::remove_dir_all(&rt, folder.as_str())?;
+    Ok(())
+}
+
+#[test]
+fn zeros_at_the_end_take_no_room(rt: HostRuntime) -> Result<(), Fail> {
+    let folder = own_folder(&rt, "host_files_hole")?;
+    let mut host = host_in(&rt, folder.as_str(), LockKind::Alone)?;
+    host.write_at(File::Tier0, 0, b"abcdef")?;
+    host.write_at(File::Tier0, 1, &[0; 2])?;
+    host.write_at(File::Tier0, 4, &[0; 4])?;
+    for piece in 0..64 {
+        host.write_at(File::Tier0, 8 + 4_096 * piece, &[0; 4_096])?;
+    }
+    host.write_at(File::Tier0, 262_152, b"g")?;
+    host.sync(File::Tier0)?;
+    let mut bytes = [b'-'; 10];
+    assert_eq!(rt; host.read(File::Tier0, 0, &mut bytes)?, 10);
+    assert_eq!(rt; bytes.as_slice(), b"a\0\0d\0\0\0\0\0\0".as_slice());
+    assert_eq!(rt; host.read(File::Tier0, 262_144, &mut bytes)?, 9);
+    assert_eq!(rt; bytes.as_slice(), b"\0\0\0\0\0\0\0\0g\0".as_slice());
+    let name = format!(in rt.alloc(); "{folder}/nda.4")?;
+    // Of 513 blocks of 512 bytes, those that were written, and what a file system adds to them.
+    assert!(rt; fs::metadata(&rt, name.as_str())?.blocks() <= 64);
     fs::remove_dir_all(&rt, folder.as_str())?;
     Ok(())
 }

@@ -171,17 +171,6 @@ fn draw_floor(draws: &mut Draws, scale: u32) -> u32 {
     }
 }
 
-/// A floor of a tier of narrow buckets. Where points lie far apart such a tier has the highest floor, since
-/// a window would have thousands of its buckets.
-fn draw_near_floor(draws: &mut Draws, scale: u32) -> u32 {
-    let floor = draw_floor(draws, scale);
-    if scale < 1_000 {
-        floor
-    } else {
-        scale.saturating_mul(100).saturating_add(floor)
-    }
-}
-
 fn draw_world(
     alloc: Global,
     draws: &mut Draws,
@@ -192,8 +181,8 @@ fn draw_world(
         scale,
         floors: [
             draw_first_floor(draws, scale),
-            draw_near_floor(draws, scale),
-            draw_near_floor(draws, scale),
+            draw_floor(draws, scale),
+            draw_floor(draws, scale),
             draw_floor(draws, scale),
             draw_floor(draws, scale),
         ],

@@ -1,12 +1,23 @@
-use Rattle.agent_app.proofs.CourseLemmas.{course-kept, course-moments}
+use Rattle.agent_app.proofs.CourseLemmas.{course-asked, course-kept, course-moments, course-new}
 use Rattle.agent_app.proofs.law.any_course.Goals as goal
 
 pub returns-clause-kept : goal.returns-clause-kept
-returns-clause-kept g c h set runs host course =
-    course-kept g.H.Host.honest g.H.Host.seen set (λ at h file. g.met.H.Host.reads_an_image at file h) h runs host course
+returns-clause-kept g c h starts tried runs host course =
+    course-kept g.H.Host.honest g.H.Host.seen starts tried (λ at h file. g.met.H.Host.reads_an_image at file h) h runs host course
 
 pub returns-clause-moments : goal.returns-clause-moments
-returns-clause-moments g c h set runs host host' status left left' sf sf' course run =
-    course-moments set runs (g.H.Host.seen host).past (g.H.Host.seen host').past
-    (course-kept g.H.Host.honest g.H.Host.seen set (λ at h file. g.met.H.Host.reads_an_image at file h) h runs host course)
-    (λ file. g.met.H.Host.reads_an_image host file h) status left left' _ _ _ (run.resumes h set)
+returns-clause-moments g c h starts tried runs host host' status left left' sf sf' course run =
+    course-moments starts tried runs g.H.Host.honest h (g.H.Host.seen host) (g.H.Host.seen host')
+    (course-kept g.H.Host.honest g.H.Host.seen starts tried (λ at h file. g.met.H.Host.reads_an_image at file h) h runs host course)
+    (λ file. g.met.H.Host.reads_an_image host file h) status left left' sf sf' run
+
+pub returns-clause-asks_moments : goal.returns-clause-asks_moments
+returns-clause-asks_moments g c h starts tried runs host host' answer status course asks =
+    course-asked starts tried runs g.H.Host.honest h (g.H.Host.seen host) (g.H.Host.seen host')
+    (course-kept g.H.Host.honest g.H.Host.seen starts tried (λ at h file. g.met.H.Host.reads_an_image at file h) h runs host course) answer status asks
+
+pub returns-clause-makes_moments : goal.returns-clause-makes_moments
+returns-clause-makes_moments g c h starts tried runs host host' set status course known makes =
+    course-new starts tried runs g.H.Host.honest h (g.H.Host.seen host) (g.H.Host.seen host')
+    (course-kept g.H.Host.honest g.H.Host.seen starts tried (λ at h file. g.met.H.Host.reads_an_image at file h) h runs host course)
+    (λ file. g.met.H.Host.reads_an_image host file h) set status known makes

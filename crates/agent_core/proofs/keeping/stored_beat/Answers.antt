@@ -1,6 +1,8 @@
 use Rattle.std.proofs.Common.{Some, map, ap, ◌∙◌, rules}
 use Rattle.agent_core.specs.Kept.{point_of}
+use Rattle.agent_core.specs.Notes.{names_series}
 use Rattle.agent_core.proofs.FormLemmas.{kept-form, kept-size}
+use Rattle.agent_core.proofs.PointLemmas.{words-named}
 use Rattle.agent_core.proofs.keeping.stored_beat.Goals as goal
 
 pub returns-clause-form : goal.returns-clause-form
@@ -20,3 +22,8 @@ returns-clause-size c =
     kept-size registry c.requires.grids c.requires.few numbered c.requires.limits c.in-Ok.words c.in-Ok.ensures.words rises
     c.in_ok-points.points (c.in_ok-points.ensures.points ∙ ap (map (point_of registry)) c.as_slice.ensures) c.in_ok-note.note c.in_ok-note.ensures.spelling
     (Some numbered.moment)
+
+pub returns-clause-named : goal.returns-clause-named
+returns-clause-named c =
+    let registry = c.args.registry.now in
+    ap (names_series registry) (c.in_ok-points.ensures.points ∙ ap (map (point_of registry)) c.as_slice.ensures) ∙ words-named registry c.in-Ok.words c.in-Ok.ensures.words

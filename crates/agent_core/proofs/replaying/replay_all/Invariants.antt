@@ -3,6 +3,7 @@ use Rattle.host_model.specs.Past.{Event}
 use Rattle.history.specs.History.{Beat}
 use Rattle.history.specs.Registry.{same_chart, same_dimension}
 use Rattle.history.specs.Regular.{AreApart}
+use Rattle.alarm_core.specs.Course.{held}
 use Rattle.entry_codec.specs.declared.entry.Settings.{Settings}
 use Rattle.store_core.specs.declared.beat.Beat.{Beat as StoreBeat}
 use Rattle.agent_core.specs.Replay.{HasTaken, IsReplaying}
@@ -10,12 +11,13 @@ use Rattle.agent_core.specs.Rules.{HasGrids}
 use Rattle.agent_core.proofs.replaying.replay_all.Given as goal
 
 abbrev pub decreases-loop : goal.decreases-loop
-decreases-loop l = length l.store.waiting
+decreases-loop g l = length l.store.waiting
 
 abbrev pub invariant-loop : goal.invariant-loop
-invariant-loop l = record {
-  replaying : (past : List Event) (set : Settings) (h : List Beat) → IsReplaying past l.initial.store l.initial.left l.initial.last_rows set h
-      → IsReplaying past l.store l.left l.last_rows set h;
+invariant-loop g l = record {
+  host : g.H.Host.seen l.host ≡ g.H.Host.seen l.initial.host;
+  replaying : (past : List Event) (set : Settings) (h : List Beat) → IsReplaying past l.initial.store l.initial.left l.initial.last_rows l.initial.latest (held l.initial.alarms) set h
+      → IsReplaying past l.store l.left l.last_rows l.latest (held l.alarms) set h;
   notes : (past : List Event) (set : Settings) (beats : List StoreBeat) → HasTaken past l.initial.store l.initial.left set beats → HasTaken past l.store l.left set beats;
   going : l.store.fault ≡ None;
   journal : l.store.journal ≡ l.initial.store.journal;

@@ -7,6 +7,7 @@ pub loop-series-init : goal.loop-series-init
 loop-series-init g c = record {
   same = refl;
   still = λ told tells. tells;
+  holds = refl;
   unfailed = refl;
   so_far = λ told tells low. gathered_none c.args.scene.now.registry.now c.args.lookup.now c.args.window.start c.args.window.stop told c.args.scene.now.series.now;
 }
@@ -15,6 +16,7 @@ pub loop-series-preserved : goal.loop-series-preserved
 loop-series-preserved g c = record {
   same = c.gather_one.ensures.tiers ∙ c.loop-series.invariant.same;
   still = λ told tells. c.gather_one.ensures.told told (c.loop-series.invariant.still told tells);
+  holds = c.gather_one.ensures.held ∙ c.loop-series.invariant.holds;
   unfailed = c.in_ok-gathered.ensures.cause.stays (λ e. absurd cc) ∙ c.loop-series.invariant.unfailed;
   so_far = λ told tells low.
       gathered_more c.args.scene.now.registry.now c.args.lookup.now c.args.window.start c.args.window.stop told c.args.scene.now.series.now c.loop-series.series-index 0

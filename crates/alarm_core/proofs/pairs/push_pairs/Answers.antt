@@ -1,4 +1,5 @@
 use Rattle.std.proofs.Common.{◌≡◌, ℕ, ◌≤◌, ◌++◌, false, length, List, Option, filter, map, arith, sym, ap, subst, append-nil, ◌∙◌}
+use Rattle.health_config.specs.Entity.{alarm_of}
 use Rattle.std.specs.List.{range_with_len}
 use Rattle.std.specs.Option.{option_map_or}
 use Rattle.history.specs.declared.chart.ChartDef.{ChartDef}
@@ -15,7 +16,7 @@ keep-requires c = subst (λ (pairs : List Pair). length pairs ≤ most_pairs) (s
 
 pub loop-chart-preserved : goal.loop-chart-preserved
 loop-chart-preserved c =
-    let entities = c.args.entities.now in
+    let entities = map alarm_of c.args.entities.now in
     let charts = c.args.registry.now.charts in
     let wanted : c.is_computed-wanted.result ≡ is_pair entities charts c.args.alarm c.loop-chart.chart =
     c.is_computed-wanted.ensures ∙ sym (ap (λ (found : Option ChartDef). option_map_or (λ def. is_computed entities def c.args.alarm) found false) c.chart.ensures.value) in
@@ -26,4 +27,4 @@ pub returns : goal.returns
 returns c =
     let end : c.loop-chart.chart ≡ length c.args.registry.now.charts = omega (arith, c.loop-chart-test.false, c.loop-chart.auto.chart-end, c.charts-chart-end.ensures.value) in
     c.loop-chart.invariant
-    ∙ ap (λ (n : ℕ). first_pairs (c.args.pairs.now ++ map (λ chart. record { alarm = c.args.alarm; chart = chart }) (filter (is_pair c.args.entities.now c.args.registry.now.charts c.args.alarm) (range_with_len 0 n)))) end
+    ∙ ap (λ (n : ℕ). first_pairs (c.args.pairs.now ++ map (λ chart. record { alarm = c.args.alarm; chart = chart }) (filter (is_pair (map alarm_of c.args.entities.now) c.args.registry.now.charts c.args.alarm) (range_with_len 0 n)))) end

@@ -1,4 +1,4 @@
-use Rattle.std.proofs.Common.{◌<◌, length, List, ℕ, ap, sym, ◌∙◌, arith, slice_get, refl}
+use Rattle.std.proofs.Common.{length, List, ℕ, ap, ◌∙◌, arith, slice_get, refl}
 use Rattle.alarm_core.proofs.TableLemmas.{series_before, length_range, table_none, table_step, table_done}
 use Rattle.alarm_core.proofs.series.all_series.Goals as goal
 

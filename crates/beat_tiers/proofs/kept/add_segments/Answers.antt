@@ -12,7 +12,7 @@ loop-segment-preserved c =
     let before = c.loop-segment.beats.items in
     let one = c.segment-item.result in
     let rest = flat_map (λ (segment : Segment ℕ). segment.items) (drop (place + 1) segments) in
-    ap (λ beats. behind_all beats rest) (c.in_ok-add_items.ensures ∙ ap (behind_all before) (c.as_slice.ensures ∙ ap (λ (segment : Segment ℕ). segment.items) c.segment-item.is))
+    ap (λ beats. behind_all beats rest) (c.in_ok-add_items.ensures ∙ ap (behind_all before) (c.items.ensures ∙ ap (λ (segment : Segment ℕ). segment.items) c.segment-item.is))
     ∙ sym (behind-all-append before (get_or segments place one).items rest)
     ∙ sym (ap (λ xs. behind_all before (flat_map (λ (segment : Segment ℕ). segment.items) xs)) (drop_more segments place one (omega arith)))
     ∙ c.loop-segment.invariant

@@ -7,7 +7,7 @@ use Rattle.beat_tiers.proofs.kept.beats_of.Goals as goal
 
 pub returns : goal.returns
 returns c =
-    let segments = c.args.segments.now in
+    let segments = c.args.segments.now.kept in
     let early = flat_map (λ (segment : Segment ℕ). segment.items) c.sealed.result.0.now in
     let late = flat_map (λ (segment : Segment ℕ). segment.items) c.sealed.result.1.now in
     let first : c.add_segments.new.beats.items ≡ beats_in early =
@@ -17,4 +17,4 @@ returns c =
     c.from_vec.ensures ∙ c.in_ok-add_items.ensures
     ∙ ap (λ beats. behind_all beats c.unsealed.result.now) second ∙ behind-all-in (early ++ late) c.unsealed.result.now
     ∙ ap beats_in (append_assoc early late c.unsealed.result.now ∙ ap (λ zs. early ++ (late ++ zs)) c.unsealed.ensures
-    ∙ sym (items-split segments c.sealed.result.0.now c.sealed.result.1.now c.sealed.ensures))
+    ∙ sym (items-split segments c.sealed.result.0.now c.sealed.result.1.now c.sealed.ensures.all))

@@ -10,12 +10,13 @@ use Rattle.beat_tiers.proofs.searching.add_segments.Goals as goal
 
 pub loop-segment-preserved : goal.loop-segment-preserved
 loop-segment-preserved c = λ o.
-    let ordered : AreOrdered c.as_slice.result.now =
-    subst (λ (zs : List (Item ℕ)). AreOrdered zs) (sym (c.as_slice.ensures ∙ ap (λ (one : Segment ℕ). one.items) c.segment-item.is))
-    (ordered-part (λ (one : Segment ℕ). one.items) c.args.segments.now c.loop-segment.segment-index c.segment-item.result (omega arith) o) in
+    let items : Segment ℕ → List (Item ℕ) = λ one. one.items in
+    let ordered : AreOrdered c.segment-item.result.items =
+    subst (λ (zs : List (Item ℕ)). AreOrdered zs) (sym (ap items c.segment-item.is))
+    (ordered-part items c.args.segments.now c.loop-segment.segment-index c.segment-item.result (omega arith) o) in
     let a = c.args in
     let points = filter_map (point_at a.floor a.series a.from a.to) in
-    let taken = flat_map (λ (one : Segment ℕ). one.items) (take c.loop-segment.segment-index a.segments.now) in
-    filter_map-more (point_at a.floor a.series a.from a.to) a.points.now c.loop-segment.points c.add_ordered.new.points taken c.as_slice.result.now (c.loop-segment.invariant o) (c.in_ok-add_ordered.ensures ordered)
-    ∙ ap (λ zs. a.points.now ++ points zs) (ap (λ zs. taken ++ zs) c.as_slice.ensures
-    ∙ sym (flat_map-take (λ (one : Segment ℕ). one.items) a.segments.now c.loop-segment.segment-index c.segment-item.result (omega arith) c.segment-item.is))
+    let taken = flat_map items (take c.loop-segment.segment-index a.segments.now) in
+    filter_map-more (point_at a.floor a.series a.from a.to) a.points.now c.loop-segment.points c.add_segment.new.points taken c.segment-item.result.items (c.loop-segment.invariant o) (c.in_ok-add_segment.ensures ordered)
+    ∙ ap (λ zs. a.points.now ++ points zs)
+    (sym (flat_map-take items a.segments.now c.loop-segment.segment-index c.segment-item.result (omega arith) c.segment-item.is))

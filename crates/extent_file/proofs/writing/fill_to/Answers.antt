@@ -1,11 +1,13 @@
-use Rattle.std.proofs.Common.{◌≤◌, List, sym, subst}
-use Rattle.host_model.specs.Images.{contents, greatest}
+use Rattle.std.proofs.Common.{◌≡◌, ◌≤◌, List, sym, ap, ◌∙◌, subst}
+use Rattle.std.proofs.lemmas.Result.{on_ok_weaker}
+use Rattle.host_model.specs.Images.{Synced, contents, greatest}
 use Rattle.host_model.specs.Past.{Event, of}
 use Rattle.host_model.specs.Moments.{Throughout, EveryImage, begins}
 use Rattle.host_model.proofs.MomentLemmas.{at_end, joined, weakened}
+use Rattle.host_model.proofs.CallLemmas.{reads_after}
 use Rattle.host_model.proofs.RunLemmas.{images_in_sync, then_sync}
 use Rattle.host_model.proofs.SizeLemmas.{within_sync}
-use Rattle.extent_file.specs.Writing.{LiesAt}
+use Rattle.extent_file.specs.Writing.{LiesAt, filled_to}
 use Rattle.extent_file.proofs.WriteLemmas.{lies_still}
 use Rattle.extent_file.proofs.writing.fill_to.Goals as goal
 
@@ -72,3 +74,13 @@ returns-clause-bound g c size fits h short =
     let three = joined two (c.write_zeros.ensures.bound size fits h (at_end two)) in
     within_sync g.H.Host.honest c.sync-2.result size file old (g.H.Host.seen c.write_zeros.new.host).past (g.H.Host.seen c.sync-2.new.self).past h c.sync-2.ensures.done c.sync-2.ensures.torn
     (g.met.H.Host.reads_an_image c.write_zeros.new.host file h) three
+
+pub returns-clause-zeros : goal.returns-clause-zeros
+returns-clause-zeros g c =
+    let file = c.args.file in let old = (g.H.Host.seen c.args.host.now).past in let first = (g.H.Host.seen c.sync.new.self).past in
+    let second = (g.H.Host.seen c.len.new.self).past in let third = (g.H.Host.seen c.write_zeros.new.host).past in
+    let before : g.H.Host.honest → contents (of file second) ≡ contents (of file old) =
+    λ h. ap (λ (past : List Event). contents (of file past)) (c.len.ensures.past h) ∙ reads_after file Synced old first (c.in_ok-sync.ensures.done h) in
+    on_ok_weaker c.sync-2.result
+    (λ done h. reads_after file Synced third (g.H.Host.seen c.sync-2.new.self).past (done h) ∙ c.in_ok-write_zeros.ensures.zeros h ∙ ap (filled_to c.args.end) (before h))
+    c.sync-2.ensures.done

@@ -1,9 +1,11 @@
-use Rattle.std.proofs.Common.{◌≡◌, ◌⊎◌, ℕ, ◌+◌, ◌≤◌, List, ◌++◌, length, drop, sym, ap, ◌∙◌, subst}
+use Rattle.std.proofs.Common.{◌≡◌, ◌⊎◌, ℕ, ◌+◌, ◌≤◌, List, ◌++◌, length, take, drop, sym, ap, ◌∙◌, subst}
+use Rattle.host_model.specs.Images.{contents}
 use Rattle.host_model.specs.Past.{of}
 use Rattle.host_model.specs.Moments.{begins}
 use Rattle.host_model.proofs.FileLemmas.{image_when_synced}
 use Rattle.extent_file.specs.Slot.{tier_of, slot_size, slot_start}
 use Rattle.extent_file.specs.Pages.{extent_size}
+use Rattle.extent_file.specs.Writing.{filled_to}
 use Rattle.host_model.proofs.CallLemmas.{ok_part}
 use Rattle.extent_file.proofs.SaysLemmas.{extent_moved}
 use Rattle.extent_file.proofs.WriteLemmas.{slots_apart, room_left}
@@ -68,3 +70,10 @@ returns-clause-bound g c size fits h short =
     ap length c.as_slice-2.ensures ∙ c.in_ok-bytes.ensures.size ∙ ap (λ (t : ℕ). extent_size t c.as_slice.result.now) c.tier_of-tier.ensures.value ∙ ap (extent_size tier) c.as_slice.ensures in
     let small : length bytes ≤ slot_size tier items = subst (λ (n : ℕ). n ≤ slot_size tier items) (sym size_is) c.requires.fits in
     c.put.ensures.bound size (subst (λ (n : ℕ). n + length bytes ≤ size) (sym start_is) (room_left (slot_start tier items c.args.slot) (slot_size tier items) (length bytes) size fits small)) h short
+
+pub returns-clause-zeros : goal.returns-clause-zeros
+returns-clause-zeros g c h =
+    let tier = tier_of c.args.file in let items = c.args.items in let start = c.slot_start-start.result in
+    let old = contents (of c.args.file (g.H.Host.seen c.args.host.now).past) in let new = contents (of c.args.file (g.H.Host.seen c.put.new.host).past) in
+    let start_is : start ≡ slot_start tier items c.args.slot = c.slot_start-start.ensures.value ∙ ap (λ (t : ℕ). slot_start t items c.args.slot) c.tier_of-tier.ensures.value in
+    subst (λ (n : ℕ). take n new ≡ take n (filled_to n old)) start_is (ok_part c.put.result (sym c.if-is_err.ensures.value) c.put.ensures.zeros h)

@@ -1,4 +1,4 @@
-use Rattle.std.proofs.Common.{◌≡◌, true, false, rules, arith, refl}
+use Rattle.std.proofs.Common.{◌≡◌, true, false, rules, arith}
 use Rattle.std.proofs.lemmas.Grind.{common_steps}
 use Rattle.link_frames.specs.DataForm.{same_chart}
 use Rattle.link_frames.proofs.ApartLaw.{none-apart, ids-none, ids-next, ids-new, ids-twice}

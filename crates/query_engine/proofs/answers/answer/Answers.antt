@@ -7,6 +7,7 @@ pub loop-i-preserved : goal.loop-i-preserved
 loop-i-preserved g c = record {
   same = c.read_row.ensures.tiers ∙ c.loop-i.invariant.same;
   still = λ told tells. c.read_row.ensures.told told (c.loop-i.invariant.still told tells);
+  holds = c.read_row.ensures.held ∙ c.loop-i.invariant.holds;
   unfailed = c.in_ok-row.ensures.cause.stays (λ e. absurd cc) ∙ c.loop-i.invariant.unfailed;
   so_far = λ told tells.
       rows_more (row_of c.plan_for-plan.result.floor told c.args.request.now) c.loop-i.i c.loop-i.rows c.push.new.self c.in_ok-row.row

@@ -7,6 +7,7 @@ pub loop-one-preserved : goal.loop-one-preserved
 loop-one-preserved g c = record {
   same = c.read_cell.ensures.tiers ∙ c.loop-one.invariant.same;
   still = λ told tells. c.read_cell.ensures.told told (c.loop-one.invariant.still told tells);
+  holds = c.read_cell.ensures.held ∙ c.loop-one.invariant.holds;
   unfailed = c.in_ok-found.ensures.cause.stays (λ e. absurd cc) ∙ c.loop-one.invariant.unfailed;
   so_far = λ told tells.
       cells_more (λ one. cell c.args.group c.args.plan.floor c.args.start c.args.window (told one)) c.args.series.now c.loop-one.one-index c.loop-one.cells _ c.in_ok-found.found

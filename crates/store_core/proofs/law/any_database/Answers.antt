@@ -1,9 +1,14 @@
 use Rattle.std.proofs.Common.{[], refl}
+use Rattle.query_engine.proofs.LawLemmas.{same_cell}
 use Rattle.store_core.specs.Records.{with_all}
 use Rattle.store_core.proofs.BeatLaw.{beat_again, beat_found}
 use Rattle.store_core.proofs.RecordLaw.{history_again}
 use Rattle.store_core.proofs.StandLemmas.{stands_made, stands_once}
 use Rattle.store_core.proofs.StoreLemmas.{every_image_of, store_told}
+use Rattle.store_core.specs.Told.{told_series}
+use Rattle.store_core.specs.Tiers.{floor_at}
+use Rattle.store_core.specs.View.{points_of, widths}
+use Rattle.store_core.proofs.TierLemmas.{floor_is}
 use Rattle.store_core.proofs.law.any_database.Goals as goal
 
 pub returns : goal.returns
@@ -17,4 +22,9 @@ returns c = record {
   beat_form = λ bytes beat fits is. (beat_found bytes beat fits is).0;
   beat_spelt = λ bytes beat fits is. (beat_found bytes beat fits is).1;
   records_again = λ set rest limits are. history_again set (with_all [] rest) rest refl limits are;
+  floors = λ past store set beats rest tier is_at few. floor_is set beats store.tiers is_at.tiers tier few;
+  two_tiers = λ past store set beats rest request i series one other is_at may_one may_other low high.
+      same_cell widths (floor_at set beats) request i one other (points_of beats series)
+      (told_series store (points_of beats) (record { past = past; set = set; beats = beats; rest = rest; is_at = is_at; told_is = refl }) series)
+      may_one may_other low high;
 }

@@ -1,12 +1,13 @@
-use Rattle.std.proofs.Common.{◌≡◌, ap, refl, sym, Result, Ok, Err, IsErrOf, ◌∙◌, arith}
+use Rattle.std.proofs.Common.{◌≡◌, ap, refl, subst, sym, Result, Ok, Err, IsErrOf, ◌∙◌, arith}
 use Rattle.std.proofs.lemmas.Result.{IfErr-at_err}
 use Rattle.host_model.specs.declared.status.Status.TheVariants.{DiskFault, Memory}
 use Rattle.agent_core.specs.declared.fault.AgentFault.{AgentFault}
 use Rattle.agent_core.specs.declared.fault.AgentFault.TheVariants as agent_fault
 use Rattle.agent_core.specs.declared.reply.Said.{Said}
 use Rattle.agent_core.specs.declared.reply.Said.TheVariants.{Disabled, Nothing}
+use Rattle.agent_core.specs.Said.{IsSaid}
 use Rattle.host_model.specs.Seen.{Seen}
-use Rattle.agent_app.proofs.TakeLemmas.{block-line, disabled-said, last-line, nothing-said, quiet-line, stored-line, stored-said, torn-line}
+use Rattle.agent_app.proofs.TakeLemmas.{answer-line, block-line, disabled-said, last-line, nothing-said, quiet-line, stored-line, stored-said, table-said, torn-line}
 use Rattle.agent_app.proofs.running.Running.take.Goals as goal
 
 abbrev answered : Said → Result Said AgentFault
@@ -19,31 +20,40 @@ pub returns-in-Ok-Nothing-clause-takes : goal.returns-in-Ok-Nothing-clause-takes
 returns-in-Ok-Nothing-clause-takes g c bytes is short =
     let host : Seen = g.H.Host.seen c.args.host.now in
     let middle : Seen = g.H.Host.seen c.take_line.new.host in
-    quiet-line g.H.Host.honest c.args.self.now host c.args.number bytes short c.args.said is c.requires.answer c.take_line.result middle c.take_line.new.self c.take_line.new.feed c.take_line.ensures Nothing (c.in-Ok-Nothing.is ∙ as_ok c.in-Ok-Nothing.field-0-is)
-    (nothing-said c.take_line.new.self.count c.args.said (sym c.in-Ok-Nothing.field-0-is ∙ c.in-Ok-Nothing.ensures.said))
+    quiet-line g.H.Host.honest c.args.self.now host c.args.number bytes short c.args.said is c.take_line.result middle c.take_line.new.self c.take_line.new.feed c.take_line.ensures Nothing (c.in-Ok-Nothing.is ∙ as_ok c.in-Ok-Nothing.field-0-is)
+    (nothing-said c.take_line.new.self.count c.args.said (subst (λ (s : Said). IsSaid c.take_line.new.self.count c.args.said s) c.in-Ok-Nothing.field-0-is c.in-Ok-Nothing.ensures.said))
 
 pub returns-in-Ok-Stored-clause-takes : goal.returns-in-Ok-Stored-clause-takes
 returns-in-Ok-Stored-clause-takes g c bytes is short =
     let host : Seen = g.H.Host.seen c.args.host.now in
     let middle : Seen = g.H.Host.seen c.take_line.new.host in
     let host' : Seen = g.H.Host.seen c.tell_stored.new.host in
-    let said = stored-said c.take_line.new.self.count c.args.said c.in-Ok-Stored.reply (sym c.in-Ok-Stored.field-0-is ∙ c.in-Ok-Stored.ensures.said) in
-    stored-line g.H.Host.honest c.args.self.now host c.args.number bytes short c.args.said is c.requires.answer c.take_line.result middle c.take_line.new.self c.take_line.new.feed c.take_line.ensures said.moment said.is c.in-Ok-Stored.reply (c.in-Ok-Stored.is ∙ as_ok c.in-Ok-Stored.field-0-is) said.reply_is
+    let said = stored-said c.take_line.new.self.count c.args.said c.in-Ok-Stored.reply (subst (λ (s : Said). IsSaid c.take_line.new.self.count c.args.said s) c.in-Ok-Stored.field-0-is c.in-Ok-Stored.ensures.said) in
+    stored-line g.H.Host.honest c.args.self.now host c.args.number bytes short c.args.said is c.take_line.result middle c.take_line.new.self c.take_line.new.feed c.take_line.ensures said.moment said.is c.in-Ok-Stored.reply (c.in-Ok-Stored.is ∙ as_ok c.in-Ok-Stored.field-0-is) said.reply_count
     c.tell_stored.result host' c.tell_stored.ensures.done c.tell_stored.ensures.torn c.tell_stored.ensures.cause c.tell_stored.ensures.disk
+
+pub returns-in-Ok-Table-clause-takes : goal.returns-in-Ok-Table-clause-takes
+returns-in-Ok-Table-clause-takes g c bytes is short =
+    let host : Seen = g.H.Host.seen c.args.host.now in
+    let middle : Seen = g.H.Host.seen c.take_line.new.host in
+    let host' : Seen = g.H.Host.seen c.tell_whole.new.host in
+    let said = table-said c.take_line.new.self.count c.args.said c.in-Ok-Table.reply (subst (λ (s : Said). IsSaid c.take_line.new.self.count c.args.said s) c.in-Ok-Table.field-0-is c.in-Ok-Table.ensures.said) in
+    answer-line g.H.Host.honest c.args.self.now host c.args.number bytes short c.args.said is c.take_line.result middle c.take_line.new.self c.take_line.new.feed c.take_line.ensures said.asked said.is c.in-Ok-Table.reply (c.in-Ok-Table.is ∙ as_ok c.in-Ok-Table.field-0-is)
+    c.as_str.result.now c.as_str.ensures c.tell_whole.result host' c.tell_whole.ensures.done c.tell_whole.ensures.torn c.tell_whole.ensures.cause c.tell_whole.ensures.disk
 
 pub returns-in-Ok-Disabled-clause-takes : goal.returns-in-Ok-Disabled-clause-takes
 returns-in-Ok-Disabled-clause-takes g c bytes is short =
     let host : Seen = g.H.Host.seen c.args.host.now in
     let middle : Seen = g.H.Host.seen c.take_line.new.host in
-    last-line g.H.Host.honest c.args.self.now host c.args.number bytes short c.args.said is c.requires.answer c.take_line.result middle c.take_line.new.self c.take_line.new.feed c.take_line.ensures Disabled (c.in-Ok-Disabled.is ∙ as_ok c.in-Ok-Disabled.field-0-is)
-    (disabled-said c.take_line.new.self.count c.args.said (sym c.in-Ok-Disabled.field-0-is ∙ c.in-Ok-Disabled.ensures.said))
+    last-line g.H.Host.honest c.args.self.now host c.args.number bytes short c.args.said is c.take_line.result middle c.take_line.new.self c.take_line.new.feed c.take_line.ensures Disabled (c.in-Ok-Disabled.is ∙ as_ok c.in-Ok-Disabled.field-0-is)
+    (disabled-said c.take_line.new.self.count c.args.said (subst (λ (s : Said). IsSaid c.take_line.new.self.count c.args.said s) c.in-Ok-Disabled.field-0-is c.in-Ok-Disabled.ensures.said))
 
 pub returns-in-Err-Refused-clause-takes : goal.returns-in-Err-Refused-clause-takes
 returns-in-Err-Refused-clause-takes g c bytes is short =
     let host : Seen = g.H.Host.seen c.args.host.now in
     let middle : Seen = g.H.Host.seen c.take_line.new.host in
     let host' : Seen = g.H.Host.seen c.tell_refusal.new.host in
-    block-line g.H.Host.honest c.args.self.now host c.args.number bytes short c.args.said is c.requires.answer c.take_line.result middle c.take_line.new.self c.take_line.new.feed c.take_line.ensures c.in-Err-Refused.fault (c.in-Err-Refused.is ∙ ap (λ (f : AgentFault). Err f) c.in-Err-Refused.field-0-is)
+    block-line g.H.Host.honest c.args.self.now host c.args.number bytes short c.args.said is c.take_line.result middle c.take_line.new.self c.take_line.new.feed c.take_line.ensures c.in-Err-Refused.fault (c.in-Err-Refused.is ∙ ap (λ (f : AgentFault). Err f) c.in-Err-Refused.field-0-is)
     c.tell_refusal.result host' c.tell_refusal.ensures.tells c.tell_refusal.ensures.cause c.tell_refusal.ensures.disk
 
 pub returns-in-Err-DiskFault-clause-takes : goal.returns-in-Err-DiskFault-clause-takes
@@ -51,16 +61,16 @@ returns-in-Err-DiskFault-clause-takes g c bytes is short =
     let host : Seen = g.H.Host.seen c.args.host.now in
     let middle : Seen = g.H.Host.seen c.take_line.new.host in
     let failed = c.in-Err-DiskFault.is ∙ ap (λ (f : AgentFault). Err f) c.in-Err-DiskFault.field-0-is in
-    torn-line g.H.Host.honest c.args.self.now host c.args.number bytes short c.args.said is c.requires.answer c.take_line.result middle c.take_line.new.self c.take_line.new.feed c.take_line.ensures DiskFault refl tt (λ e. cc) (λ _. failed) (λ _. refl) (λ ended ending text. c.take_line.ensures.cause.failed failed)
+    torn-line g.H.Host.honest c.args.self.now host c.args.number bytes short c.args.said is c.take_line.result middle c.take_line.new.self c.take_line.new.feed c.take_line.ensures DiskFault refl tt (λ e. cc) (λ _. failed) (λ _. refl) (λ ended ending text. c.take_line.ensures.cause.failed failed)
 
-pub returns : goal.returns
-returns g c = record {
+pub returns-in-Err : goal.returns-in-Err
+returns-in-Err g c = record {
   takes = λ bytes is short.
       let host : Seen = g.H.Host.seen c.args.host.now in
       let middle : Seen = g.H.Host.seen c.take_line.new.host in
       let is_disk : IsErrOf c.take_line.result agent_fault.DiskFault → c.in-Err.field-0 ≡ agent_fault.DiskFault
       = λ failed. IfErr-at_err (λ (f : AgentFault). f ≡ agent_fault.DiskFault) (sym failed ∙ c.in-Err.is) refl in
       let other : IsErrOf c.take_line.result agent_fault.DiskFault → ⊥ = λ failed. let same = is_disk failed in grind (arith, same) in
-      torn-line g.H.Host.honest c.args.self.now host c.args.number bytes short c.args.said is c.requires.answer c.take_line.result middle c.take_line.new.self c.take_line.new.feed c.take_line.ensures Memory refl tt (λ e. cc) (λ e. cc) (λ failed. absurd (other failed)) (λ ended ending text. tt);
+      torn-line g.H.Host.honest c.args.self.now host c.args.number bytes short c.args.said is c.take_line.result middle c.take_line.new.self c.take_line.new.feed c.take_line.ensures Memory refl tt (λ e. cc) (λ e. cc) (λ failed. absurd (other failed)) (λ ended ending text. tt);
   ready = tt;
 }

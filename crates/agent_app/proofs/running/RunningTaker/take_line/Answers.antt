@@ -1,8 +1,8 @@
 use Rattle.plugin_text.proofs.LimitLemmas.{limits-of}
 use Rattle.agent_app.proofs.running.RunningTaker.take_line.Goals as goal
 
-pub take_said-requires : goal.take_said-requires
-take_said-requires g c = record {
+pub take-requires : goal.take-requires
+take-requires g c = record {
   ready = c.requires.ready;
   limits = limits-of c.args.line.now c.in-Ok.said c.requires.whole c.in-Ok.ensures.line;
 }

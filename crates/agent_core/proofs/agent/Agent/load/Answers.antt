@@ -1,6 +1,8 @@
-use Rattle.std.proofs.Common.{true, false, refl, inr}
+use Rattle.std.proofs.Common.{true, false, refl, sym, inr, subst}
 use Rattle.std.proofs.lemmas.Result.{IfErr-at_err, IfOk-weaker, on_ok_weaker}
 use Rattle.host_model.specs.Disks.{reads_as}
+use Rattle.host_model.specs.Seen.{Seen}
+use Rattle.agent_core.specs.Agent.{IsAgentOf}
 use Rattle.agent_core.proofs.NoteLemmas.{noted}
 use Rattle.agent_core.proofs.OpenFaults.{err-weaker}
 use Rattle.agent_core.proofs.OpeningLemmas.{opened-for}
@@ -11,7 +13,8 @@ returns-in-Ok-clause-opened g c =
     let disk = reads_as (g.H.Host.seen c.args.host.now).past in
     let past = (g.H.Host.seen c.open_store.new.host).past in
     IfOk-weaker c.replayed.result _ _ (λ agent is_of true_host set h stands.
-    is_of past set h (opened-for disk past c.in-Ok.store (c.in-Ok.ensures.opened true_host) set h stands)) c.replayed.ensures.of
+    subst (λ (s : Seen). IsAgentOf s.past agent set h) (sym c.replayed.ensures.host)
+    (is_of past set h (opened-for disk past c.in-Ok.store (c.in-Ok.ensures.opened true_host) set h stands))) c.replayed.ensures.of
 
 pub returns-in-Ok-clause-stands : goal.returns-in-Ok-clause-stands
 returns-in-Ok-clause-stands g c true_host set h stands =

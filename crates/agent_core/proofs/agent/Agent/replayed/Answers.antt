@@ -1,6 +1,7 @@
 use Rattle.std.proofs.Common.{◌≡◌, not, [], refl, ap, ◌∙◌}
 use Rattle.std.proofs.lemmas.Result.{err_from_is_err_and}
 use Rattle.history.specs.Registry.{Registry, empty}
+use Rattle.alarm_core.specs.Course.{held}
 use Rattle.agent_core.specs.declared.left.Left.{Left}
 use Rattle.agent_core.specs.declared.left.Role.TheVariants.{Undecided}
 use Rattle.agent_core.specs.Notes.{left_by}
@@ -17,35 +18,35 @@ starts-empty : (registry : Registry) → registry ≡ empty → starts registry 
 starts-empty registry e = ap starts e
 
 pub returns-in_err-replay_all-clause-stands : goal.returns-in_err-replay_all-clause-stands
-returns-in_err-replay_all-clause-stands c =
+returns-in_err-replay_all-clause-stands g c =
     let error = err_from_is_err_and c.from_residual.result c.from_residual.ensures.1 in
     rw (error.1, error.2) (λ past set h opened.
     c.in_err-replay_all.ensures.stands past set h
-    (replaying-begins past c.args.store (starts c.new.result) c.new-last_rows.result set h opened (starts-empty c.new.result c.new.ensures) c.new-last_rows.ensures.of_no_beats))
+    (replaying-begins past c.args.store (starts c.new-registry.result) c.new-last_rows.result c.nothing_seen-latest.result (held c.in-Ok.alarms) set h opened (starts-empty c.new-registry.result c.new-registry.ensures) c.new-last_rows.ensures.of_no_beats c.nothing_seen-latest.ensures.none c.in-Ok.ensures.held))
 
 pub returns-clause-of : goal.returns-clause-of
-returns-clause-of c past set h opened =
+returns-clause-of g c past set h opened =
     replayed-is_of past _ c.replay_all.new.left set h
     (c.in_ok-replay_all.ensures.replaying past set h
-    (replaying-begins past c.args.store (starts c.new.result) c.new-last_rows.result set h opened (starts-empty c.new.result c.new.ensures) c.new-last_rows.ensures.of_no_beats))
+    (replaying-begins past c.args.store (starts c.new-registry.result) c.new-last_rows.result c.nothing_seen-latest.result (held c.in-Ok.alarms) set h opened (starts-empty c.new-registry.result c.new-registry.ensures) c.new-last_rows.ensures.of_no_beats c.nothing_seen-latest.ensures.none c.in-Ok.ensures.held))
     c.in_ok-replay_all.ensures.done refl c.last.ensures c.count.ensures (ap not c.may_collect-copies.ensures) refl
 
 pub returns-in_err-replay_all-clause-broken : goal.returns-in_err-replay_all-clause-broken
-returns-in_err-replay_all-clause-broken c =
+returns-in_err-replay_all-clause-broken g c =
     let error = err_from_is_err_and c.from_residual.result c.from_residual.ensures.1 in
     rw (error.1, error.2) (λ damaged past set beats opens.
-    c.in_err-replay_all.ensures.broken damaged past set beats (taken-begins past c.args.store (starts c.new.result) set beats opens (starts-empty c.new.result c.new.ensures)))
+    c.in_err-replay_all.ensures.broken damaged past set beats (taken-begins past c.args.store (starts c.new-registry.result) set beats opens (starts-empty c.new-registry.result c.new-registry.ensures)))
 
 pub returns-clause-notes : goal.returns-clause-notes
-returns-clause-notes c past set beats opens =
+returns-clause-notes g c past set beats opens =
     taken-all past c.replay_all.new.store c.replay_all.new.left set beats
-    (c.in_ok-replay_all.ensures.notes past set beats (taken-begins past c.args.store (starts c.new.result) set beats opens (starts-empty c.new.result c.new.ensures)))
+    (c.in_ok-replay_all.ensures.notes past set beats (taken-begins past c.args.store (starts c.new-registry.result) set beats opens (starts-empty c.new-registry.result c.new-registry.ensures)))
     c.in_ok-replay_all.ensures.done
 
 pub returns-clause-left : goal.returns-clause-left
-returns-clause-left c past set beats opens =
+returns-clause-left g c past set beats opens =
     let left = taken-left past c.replay_all.new.store c.replay_all.new.left set beats
-    (c.in_ok-replay_all.ensures.notes past set beats (taken-begins past c.args.store (starts c.new.result) set beats opens (starts-empty c.new.result c.new.ensures)))
+    (c.in_ok-replay_all.ensures.notes past set beats (taken-begins past c.args.store (starts c.new-registry.result) set beats opens (starts-empty c.new-registry.result c.new-registry.ensures)))
     c.in_ok-replay_all.ensures.done in
     record {
       registry = ap (λ (l : Left). l.registry) left;

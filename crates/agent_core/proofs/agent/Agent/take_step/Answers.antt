@@ -1,10 +1,11 @@
-use Rattle.std.proofs.Common.{Ok, sym, subst}
+use Rattle.std.proofs.Common.{ℕ, List, Result, Ok, Err, sym, subst}
 use Rattle.collect_block.specs.declared.step.Step.{Step}
-use Rattle.collect_block.specs.declared.step.Step.TheVariants as step
+use Rattle.agent_core.specs.declared.fault.AgentFault.{AgentFault}
 use Rattle.agent_core.specs.declared.reply.Said.TheVariants as said
 use Rattle.host_model.specs.Seen.{Seen}
+use Rattle.agent_core.specs.Calls.{Queries}
 use Rattle.agent_core.specs.Steps.{Takes}
-use Rattle.agent_core.proofs.StepLemmas.{beat-stored, step-quiet}
+use Rattle.agent_core.proofs.StepLemmas.{beat-stored, query-answered, query-failed, step-disabled, step-nothing}
 use Rattle.agent_core.proofs.agent.Agent.take_step.Goals as goal
 
 pub returns-in-Nothing : goal.returns-in-Nothing
@@ -12,21 +13,14 @@ returns-in-Nothing g c =
     let host : Seen = g.H.Host.seen c.args.host.now in
     let agent = c.args.self.now in
     subst (λ (s : Step). Takes g.H.Host.honest host agent s (Ok said.Nothing) host agent) (sym c.in-Nothing.is)
-    (step-quiet g.H.Host.honest host agent c.requires.going c.requires.ready step.Nothing (λ none. none))
-
-pub returns-in-Query : goal.returns-in-Query
-returns-in-Query g c =
-    let host : Seen = g.H.Host.seen c.args.host.now in
-    let agent = c.args.self.now in
-    subst (λ (s : Step). Takes g.H.Host.honest host agent s (Ok (said.Asked c.in-Query.text)) host agent) (sym c.in-Query.is)
-    (step-quiet g.H.Host.honest host agent c.requires.going c.requires.ready (step.Query c.in-Query.text) (λ none. none))
+    (step-nothing g.H.Host.honest host agent c.requires.going c.requires.ready)
 
 pub returns-in-Disabled : goal.returns-in-Disabled
 returns-in-Disabled g c =
     let host : Seen = g.H.Host.seen c.args.host.now in
     let agent = c.args.self.now in
     subst (λ (s : Step). Takes g.H.Host.honest host agent s (Ok said.Disabled) host agent) (sym c.in-Disabled.is)
-    (step-quiet g.H.Host.honest host agent c.requires.going c.requires.ready step.Disabled (λ none. none))
+    (step-disabled g.H.Host.honest host agent c.requires.going c.requires.ready)
 
 pub returns-in-Ok : goal.returns-in-Ok
 returns-in-Ok g c =
@@ -35,3 +29,27 @@ returns-in-Ok g c =
     let agent = c.args.self.now in
     subst (λ (s : Step). Takes g.H.Host.honest host agent s (Ok (said.Stored c.in-Ok.reply)) host' c.beat.new.self) (sym c.in-Beat.is)
     (beat-stored g.H.Host.honest host host' agent c.beat.new.self c.in-Beat.beat c.in-Beat.moment c.in-Ok.reply c.requires.going c.in-Ok.ensures)
+
+abbrev replied : List ℕ → Result (List ℕ) AgentFault
+replied reply = Ok reply
+
+abbrev unreplied : AgentFault → Result (List ℕ) AgentFault
+unreplied fault = Err fault
+
+pub returns-in-Ok-query : goal.returns-in-Ok-query
+returns-in-Ok-query g c =
+    let host : Seen = g.H.Host.seen c.args.host.now in
+    let host' : Seen = g.H.Host.seen c.query.new.host in
+    let agent = c.args.self.now in
+    let did = subst (λ (text : List ℕ). Queries g.H.Host.honest host agent text (replied c.in-Ok-query.reply) host' c.query.new.self) c.as_str.ensures c.in-Ok-query.ensures in
+    subst (λ (s : Step). Takes g.H.Host.honest host agent s (Ok (said.Table c.in-Ok-query.reply)) host' c.query.new.self) (sym c.in-Query.is)
+    (query-answered g.H.Host.honest host host' agent c.query.new.self c.in-Query.text c.requires.going c.in-Ok-query.reply did)
+
+pub returns : goal.returns
+returns g c =
+    let host : Seen = g.H.Host.seen c.args.host.now in
+    let host' : Seen = g.H.Host.seen c.query.new.host in
+    let agent = c.args.self.now in
+    let did = subst (λ (text : List ℕ). Queries g.H.Host.honest host agent text (unreplied c.in-Err-query.fault) host' c.query.new.self) c.as_str.ensures c.in-Err-query.ensures in
+    subst (λ (s : Step). Takes g.H.Host.honest host agent s (Err c.in-Err-query.fault) host' c.query.new.self) (sym c.in-Query.is)
+    (query-failed g.H.Host.honest host host' agent c.query.new.self c.in-Query.text c.requires.going c.in-Err-query.fault did)

@@ -1,4 +1,4 @@
-use Rattle.std.proofs.Common.{◌<◌, ◌≤◌, ◌≡◌, List, ℕ, length, ap, sym, ◌∙◌, arith}
+use Rattle.std.proofs.Common.{◌≡◌, List, ℕ, length, ap, ◌∙◌, arith}
 use Rattle.alarm_core.specs.Series.{series_of_chart}
 use Rattle.alarm_core.proofs.TableLemmas.{length_range, table_at}
 use Rattle.alarm_core.proofs.SeriesLemmas.{chart_count}

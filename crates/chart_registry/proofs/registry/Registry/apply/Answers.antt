@@ -4,9 +4,9 @@ use Rattle.std.proofs.lemmas.Result.{err_from_is_err_and, IfErr-weaker}
 use Rattle.history.specs.declared.beat.OpenDim.{OpenDim}
 use Rattle.history.specs.declared.chart.ChartDef.{ChartDef}
 use Rattle.history.specs.Registry.{Registry as Definitions, is_chart, with_definitions}
-use Rattle.chart_registry.specs.Defining.{defines, IsReasonOf}
+use Rattle.chart_registry.specs.Defining.{RefusesDimension, IsReasonOf}
 use Rattle.chart_registry.proofs.Applying.{has_chart-applied}
-use Rattle.chart_registry.proofs.ReasonLemmas.{charts-wider, dimensions-wider, front-taken}
+use Rattle.chart_registry.proofs.FirstLemmas.{chart-first, dimension-first}
 use Rattle.chart_registry.proofs.RegistryLemmas.{kept-within}
 use Rattle.chart_registry.proofs.registry.Registry.apply.Goals as goal
 
@@ -23,31 +23,19 @@ define_dimensions-requires c = λ k d within.
 
 pub returns-in_err-define_charts-clause-refused : goal.returns-in_err-define_charts-clause-refused
 returns-in_err-define_charts-clause-refused c =
-    let registry = c.args.self.now in
-    let beat = c.args.beat.now in
     let error = err_from_is_err_and c.from_residual.result c.from_residual.ensures.1 in
-    let reason = charts-wider registry beat c.as_slice.result.now c.as_slice.ensures _ c.in_err-define_charts.ensures.refused in
-    rw error.1 (subst (IsReasonOf registry beat) (sym error.2) reason)
+    let reason = chart-first c.args.self.now c.args.beat.now c.define_charts.new.self c.as_slice.result.now c.as_slice.ensures _ c.in_err-define_charts.ensures.first in
+    rw error.1 (subst (IsReasonOf c.args.self.now c.args.beat.now) (sym error.2) reason)
 
 pub returns-clause-refused : goal.returns-clause-refused
 returns-clause-refused c =
-    let registry = c.args.self.now in
-    let beat = c.args.beat.now in
-    let made : c.define_charts.new.self ≡ with_definitions registry beat.charts [] =
-    c.in_ok-define_charts.ensures.ok ∙ ap (λ (charts : List ChartDef). with_definitions registry charts []) c.as_slice.ensures in
-    IfErr-weaker c.define_dimensions.result (IsReasonOf c.define_charts.new.self (defines [] c.as_slice-2.result.now)) (IsReasonOf registry beat)
-    (λ fault reason. dimensions-wider registry beat c.define_charts.new.self made fault
-    (subst (λ (dimensions : List OpenDim). IsReasonOf c.define_charts.new.self (defines [] dimensions) fault) c.as_slice-2.ensures reason)) c.define_dimensions.ensures.refused
+    let made : c.define_charts.new.self ≡ with_definitions c.args.self.now c.args.beat.now.charts [] =
+    c.in_ok-define_charts.ensures.ok ∙ ap (λ (charts : List ChartDef). with_definitions c.args.self.now charts []) c.as_slice.ensures in
+    IfErr-weaker c.define_dimensions.result (RefusesDimension c.define_charts.new.self c.as_slice-2.result.now c.define_dimensions.new.self) (IsReasonOf c.args.self.now c.args.beat.now)
+    (dimension-first c.args.self.now c.args.beat.now c.define_dimensions.new.self c.define_charts.new.self c.as_slice-2.result.now made c.as_slice-2.ensures) c.define_dimensions.ensures.first
 
 pub returns-in_err-define_charts-clause-few : goal.returns-in_err-define_charts-clause-few
 returns-in_err-define_charts-clause-few c = kept-within c.self.inside c.args.self.now c.self.view_is c.self.invariant
 
 pub returns-clause-few : goal.returns-clause-few
 returns-clause-few c = kept-within c.self.inside c.args.self.now c.self.view_is c.self.invariant
-
-pub returns-clause-err : goal.returns-clause-err
-returns-clause-err c =
-    let made : c.define_charts.new.self ≡ with_definitions c.args.self.now c.args.beat.now.charts [] =
-    c.in_ok-define_charts.ensures.ok ∙ ap (λ (charts : List ChartDef). with_definitions c.args.self.now charts []) c.as_slice.ensures in
-    front-taken c.args.self.now c.define_charts.new.self c.define_dimensions.new.self c.args.beat.now c.as_slice-2.result.now c.define_dimensions.result made c.as_slice-2.ensures
-    c.define_dimensions.ensures.err

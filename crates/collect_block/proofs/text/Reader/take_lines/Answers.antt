@@ -35,8 +35,8 @@ returns-clause-takes c = λ every h reads.
 
 pub returns-in_err-end-clause-memory : goal.returns-in_err-end-clause-memory
 returns-in_err-end-clause-memory c =
-    on_err ((every : ℕ) (h : List Beat) → IsReaderOf c.args.self.now c.args.registry.now every h [] → WasShort every h c.args.lines.now) c.from_residual.result
+    on_err ((every : ℕ) (h : List Beat) → IsReaderOf c.args.self.now c.args.registry.now every h [] → WasShort every h c.args.lines.now c.take.new.registry) c.from_residual.result
     (λ every h reads.
     let some = c.loop-line.invariant.1 every h reads in
     took-short every h c.args.lines.now c.loop-line.line-index c.line-item.result c.loop-line-test.true (sym c.line-item.is) c.loop-line.self c.loop-line.registry some
-    (c.in_err-end.ensures.memory every h some.past some.reads))
+    c.take.new.registry (c.in_err-end.ensures.memory every h some.past some.reads))

@@ -1,14 +1,10 @@
-use Rattle.std.proofs.Common.{◌≡◌, ℕ, ap, sym, ◌+◌, List, ◌++◌, take, drop, Some}
-use Rattle.std.proofs.lemmas.List.{take-append-drop, drop-drop}
+use Rattle.std.proofs.Common.{◌≡◌, ℕ, ap, sym, List, drop, Some}
 use Rattle.host_model.specs.MemoryLink.{LinkState}
+use Rattle.host_model.proofs.TakenLemmas.{front_and_rest}
 use Rattle.host_model.proofs.memory_link.MemoryLinkLink.recv.Goals as goal
 
 abbrev left_of : LinkState → List ℕ
 left_of link = link.left
-
--- what was left is its front and then the rest
-front_and_rest : (bytes into : List ℕ) (taken n : ℕ) → take n into ≡ take n (drop taken bytes) → drop taken bytes ≡ take n into ++ drop (taken + n) bytes
-front_and_rest bytes into taken n front = rw (front, ← drop-drop n taken bytes) (sym (take-append-drop n (drop taken bytes)))
 
 pub returns-clause-bytes : goal.returns-clause-bytes
 returns-clause-bytes c =

@@ -1,63 +1,62 @@
-use Rattle.std.proofs.Common.{◌≡◌, ℕ, List, [], ◌∷◌, false, length, inl, refl, sym, ap, ◌∙◌, subst, arith}
+use Rattle.std.proofs.Common.{◌≡◌, false, ℕ, List, [], ◌∷◌, length, inl, refl, sym, ap, ◌∙◌, subst, arith}
 use Rattle.host_model.specs.declared.file.File.TheVariants.{JournalA}
+use Rattle.host_model.specs.Images.{contents}
 use Rattle.host_model.specs.Past.{Event, of}
 use Rattle.host_model.specs.Moments.{Throughout}
 use Rattle.host_model.specs.Disks.{EveryDisk}
 use Rattle.host_model.proofs.CallLemmas.{unmoved}
 use Rattle.journal_core.specs.Journal.{IsOpen}
-use Rattle.store_core.specs.Stands.{is_made, StandsIfMade}
+use Rattle.beat_tiers.specs.State.{TiersState}
+use Rattle.store_core.specs.Stands.{is_begun}
 use Rattle.store_core.specs.Tiers.{HasTiers}
 use Rattle.store_core.proofs.TierLemmas.{tiers_begin}
-use Rattle.store_core.proofs.DiskCases.{no_image_begun}
 use Rattle.store_core.proofs.FirstRecordLaw.{length-settings_body}
-use Rattle.store_core.proofs.StoreLemmas.{made_moments}
+use Rattle.store_core.proofs.StoreLemmas.{made_moments, WasOrIsNew}
 use Rattle.store_core.proofs.store.Store.create.Goals as goal
 
 pub returns-in_default-clause-any_moment : goal.returns-in_default-clause-any_moment
-returns-in_default-clause-any_moment g c h none =
-    unmoved (EveryDisk (StandsIfMade c.args.settings.now)) (g.H.Host.seen c.args.host.now).past (g.H.Host.seen c.is_made.new.host).past (c.is_made.ensures.past h)
-    (λ disk images. inl (none disk images))
+returns-in_default-clause-any_moment g c h =
+    let old = (g.H.Host.seen c.args.host.now).past in
+    unmoved (EveryDisk (WasOrIsNew old c.args.settings.now)) old (g.H.Host.seen c.is_made.new.host).past (c.is_made.ensures.past h) (λ disk images. inl images)
 
 pub returns-then-made-clause-any_moment : goal.returns-then-made-clause-any_moment
-returns-then-made-clause-any_moment g c h none =
-    unmoved (EveryDisk (StandsIfMade c.args.settings.now)) (g.H.Host.seen c.args.host.now).past (g.H.Host.seen c.is_made.new.host).past (c.is_made.ensures.past h)
-    (λ disk images. inl (none disk images))
+returns-then-made-clause-any_moment g c h =
+    let old = (g.H.Host.seen c.args.host.now).past in
+    unmoved (EveryDisk (WasOrIsNew old c.args.settings.now)) old (g.H.Host.seen c.is_made.new.host).past (c.is_made.ensures.past h) (λ disk images. inl images)
 
 pub returns-in_default-write_settings-clause-any_moment : goal.returns-in_default-write_settings-clause-any_moment
-returns-in_default-write_settings-clause-any_moment g c h none =
-    unmoved (EveryDisk (StandsIfMade c.args.settings.now)) (g.H.Host.seen c.args.host.now).past (g.H.Host.seen c.is_made.new.host).past (c.is_made.ensures.past h)
-    (λ disk images. inl (none disk images))
+returns-in_default-write_settings-clause-any_moment g c h =
+    let old = (g.H.Host.seen c.args.host.now).past in
+    unmoved (EveryDisk (WasOrIsNew old c.args.settings.now)) old (g.H.Host.seen c.is_made.new.host).past (c.is_made.ensures.past h) (λ disk images. inl images)
 
 pub returns-in_default-new_tiers-clause-any_moment : goal.returns-in_default-new_tiers-clause-any_moment
-returns-in_default-new_tiers-clause-any_moment g c h none =
-    unmoved (EveryDisk (StandsIfMade c.args.settings.now)) (g.H.Host.seen c.args.host.now).past (g.H.Host.seen c.is_made.new.host).past (c.is_made.ensures.past h)
-    (λ disk images. inl (none disk images))
+returns-in_default-new_tiers-clause-any_moment g c h =
+    let old = (g.H.Host.seen c.args.host.now).past in
+    unmoved (EveryDisk (WasOrIsNew old c.args.settings.now)) old (g.H.Host.seen c.is_made.new.host).past (c.is_made.ensures.past h) (λ disk images. inl images)
 
 pub make-requires : goal.make-requires
 make-requires g c =
     let size = ap length (c.as_slice.ensures ∙ c.in-Ok-write_settings.ensures) ∙ length-settings_body c.args.settings.now in omega (arith, size)
 
 pub returns-in_err-journal-clause-any_moment : goal.returns-in_err-journal-clause-any_moment
-returns-in_err-journal-clause-any_moment g c h none =
-    let old = (g.H.Host.seen c.args.host.now).past in
+returns-in_err-journal-clause-any_moment g c h =
     let middle = (g.H.Host.seen c.is_made.new.host).past in
     let new = (g.H.Host.seen c.make.new.host).past in
     let set = c.args.settings.now in
-    let none_here = subst (EveryDisk (λ disk. is_made disk ≡ false)) (sym (c.is_made.ensures.past h)) none in
-    let begun = no_image_begun middle (λ file. g.met.H.Host.reads_an_image c.is_made.new.host file h) none_here in
-    subst (λ (past : List Event). Throughout (EveryDisk (StandsIfMade set)) past new) (c.is_made.ensures.past h)
-    (made_moments middle new set c.as_slice.result.now (c.as_slice.ensures ∙ c.in-Ok-write_settings.ensures) c.requires (c.make.ensures.any_moment h begun))
+    let unbegun : is_begun (contents (of JournalA middle)) ≡ false =
+    subst (λ (past : List Event). is_begun (contents (of JournalA past)) ≡ false) (sym (c.is_made.ensures.past h)) (sym (c.in-Ok.ensures.value h) ∙ c.if-made.false) in
+    subst (λ (past : List Event). Throughout (EveryDisk (WasOrIsNew past set)) past new) (c.is_made.ensures.past h)
+    (made_moments middle new set c.as_slice.result.now (c.as_slice.ensures ∙ c.in-Ok-write_settings.ensures) c.requires (c.make.ensures.only_here h) (c.make.ensures.any_moment h unbegun))
 
 pub returns-clause-any_moment : goal.returns-clause-any_moment
-returns-clause-any_moment g c h none =
-    let old = (g.H.Host.seen c.args.host.now).past in
+returns-clause-any_moment g c h =
     let middle = (g.H.Host.seen c.is_made.new.host).past in
     let new = (g.H.Host.seen c.make.new.host).past in
     let set = c.args.settings.now in
-    let none_here = subst (EveryDisk (λ disk. is_made disk ≡ false)) (sym (c.is_made.ensures.past h)) none in
-    let begun = no_image_begun middle (λ file. g.met.H.Host.reads_an_image c.is_made.new.host file h) none_here in
-    subst (λ (past : List Event). Throughout (EveryDisk (StandsIfMade set)) past new) (c.is_made.ensures.past h)
-    (made_moments middle new set c.as_slice.result.now (c.as_slice.ensures ∙ c.in-Ok-write_settings.ensures) c.requires (c.make.ensures.any_moment h begun))
+    let unbegun : is_begun (contents (of JournalA middle)) ≡ false =
+    subst (λ (past : List Event). is_begun (contents (of JournalA past)) ≡ false) (sym (c.is_made.ensures.past h)) (sym (c.in-Ok.ensures.value h) ∙ c.if-made.false) in
+    subst (λ (past : List Event). Throughout (EveryDisk (WasOrIsNew past set)) past new) (c.is_made.ensures.past h)
+    (made_moments middle new set c.as_slice.result.now (c.as_slice.ensures ∙ c.in-Ok-write_settings.ensures) c.requires (c.make.ensures.only_here h) (c.make.ensures.any_moment h unbegun))
 
 pub returns-clause-created : goal.returns-clause-created
 returns-clause-created g c h = record {
@@ -71,5 +70,6 @@ returns-clause-created g c h = record {
   count = refl;
   last = refl;
   tiers = subst (HasTiers c.args.settings.now []) (sym c.in-Ok-new_tiers.ensures) (tiers_begin c.args.settings.now c.requires.tiers);
+  before = ap (λ (tiers : TiersState). tiers.points.before) c.in-Ok-new_tiers.ensures;
   going = refl;
 }

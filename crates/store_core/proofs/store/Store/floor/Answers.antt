@@ -1,10 +1,11 @@
-use Rattle.std.proofs.Common.{sym, subst}
+use Rattle.std.proofs.Common.{ap, ◌∙◌}
+use Rattle.beat_tiers.specs.State.{tier_floor}
 use Rattle.store_core.specs.Store.{StoreState}
-use Rattle.store_core.specs.Tiers.{HasTiers}
 use Rattle.store_core.proofs.TierLemmas.{floor_is}
 use Rattle.store_core.proofs.store.Store.floor.Goals as goal
 
 pub returns : goal.returns
-returns c past set beats rest is_at =
-    let has = subst (λ (store : StoreState). HasTiers set beats store.tiers) (sym c.self.view_is) is_at.tiers in
-    floor_is set beats c.self.inside.tiers has c.floor.result c.args.tier (λ place one there is. c.floor.ensures.others place one there is) c.floor.ensures.first c.requires
+returns c = λ past set beats rest is_at.
+    c.floor.ensures
+    ∙ ap (λ (s : StoreState). tier_floor s.tiers c.args.tier) c.self.view_is
+    ∙ floor_is set beats c.args.self.now.tiers is_at.tiers c.args.tier c.requires

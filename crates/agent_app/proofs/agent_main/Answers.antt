@@ -1,0 +1,28 @@
+use Rattle.std.proofs.Common.{ℕ, List, Option, inr, refl}
+use Rattle.host_model.specs.Seen.{Seen}
+use Rattle.agent_app.specs.Query.{question_of, reply_for}
+use Rattle.agent_app.specs.Log.{log_for}
+use Rattle.agent_app.proofs.WantLemmas.{no-usage, want-asks, want-complete, want-configures, want-converts, want-leaves, want-runs}
+use Rattle.agent_app.proofs.agent_main.Goals as goal
+
+pub returns-in-Err : goal.returns-in-Err
+returns-in-Err g c =
+    let host : Seen = g.H.Host.seen c.args.host.now in
+    let left : Option (List ℕ) = g.S.Source.left c.args.source.now in
+    let faults : ℕ = g.S.Source.faults c.args.source.now in
+    record {
+      usage = λ is. absurd (no-usage is);
+      no_form = λ none. inr refl;
+      untouched = λ none. (refl, refl);
+      converts = λ is. want-converts g.H.Host.honest left host.past faults host.tell_faults;
+      leaves_disk = λ is. want-leaves g.H.Host.honest host;
+      complete = λ is. want-complete left faults host.tell_faults;
+      makes = λ settings is. inr (refl, refl);
+      new_takes_nothing = λ settings is. refl;
+      runs = λ is. want-runs g.H.Host.honest host (λ h file. g.met.H.Host.reads_an_image c.args.host.now file h) left faults;
+      asks = λ is. want-asks g.H.Host.honest host (λ h file. g.met.H.Host.reads_an_image c.args.host.now file h) (reply_for (question_of c.args.words.now));
+      query_takes_nothing = λ is. refl;
+      configures = λ is. want-configures g.H.Host.honest host (λ h file. g.met.H.Host.reads_an_image c.args.host.now file h) left faults;
+      logs = λ form is. want-asks g.H.Host.honest host (λ h file. g.met.H.Host.reads_an_image c.args.host.now file h) (log_for form);
+      log_takes_nothing = λ form is. refl;
+    }

@@ -1,0 +1,21 @@
+use Rattle.std.proofs.Common.{Result, subst, ◌∙◌}
+use Rattle.host_model.specs.Seen.{Seen}
+use Rattle.alarm_events.specs.declared.log.Log.{Log}
+use Rattle.agent_core.specs.declared.fault.AgentFault.{AgentFault}
+use Rattle.agent_core.specs.Calls.{Logs}
+use Rattle.agent_app.specs.Log.{log_for}
+use Rattle.agent_app.proofs.AskLemmas.{log-by, unasked}
+use Rattle.agent_app.proofs.log.tell_log.Goals as goal
+
+pub returns-in_default : goal.returns-in_default
+returns-in_default g c = unasked g.H.Host.honest c.args.agent.now (log_for c.args.form) (g.H.Host.seen c.args.host.now)
+
+pub returns-in-Ok-write_as : goal.returns-in-Ok-write_as
+returns-in-Ok-write_as g c =
+    let host : Seen = g.H.Host.seen c.args.host.now in
+    let host' : Seen = g.H.Host.seen c.tell_reply.new.host in
+    log-by g.H.Host.honest c.args.agent.now c.args.form host c.in-Ok.log (subst (λ (r : Result Log AgentFault). Logs c.args.agent.now r) c.in-Ok.is c.log.ensures)
+    host' c.tell_reply.ensures.disk c.as_str.result.now (c.as_str.ensures ∙ c.in-Ok-write_as.ensures) c.tell_reply.result c.tell_reply.ensures.told c.tell_reply.ensures.cause
+
+pub returns : goal.returns
+returns g c = unasked g.H.Host.honest c.args.agent.now (log_for c.args.form) (g.H.Host.seen c.args.host.now)

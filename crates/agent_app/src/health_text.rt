@@ -1,0 +1,141 @@
+//! The text of a configuration, taken from a source.
+ghost use Rattle.std.specs.Prelude.{◌≡◌, ◌<◌, ◌≤◌, ◌++◌, [], length, take, IsErrOf, IfOk, IfErr, IfSome};
+ghost use Rattle.host_model.specs.Cause.{HasCause};
+ghost use Rattle.host_model.specs.Source.{Takes};
+ghost use Rattle.agent_app.specs.HealthText.{Stops, TakesText};
+
+use fixed_num::ByteList;
+use host_model::Source;
+use std::alloc::Global;
+
+/// The most bytes that the text of a configuration has.
+const TEXT_LIMIT: usize = 1 << 20;
+
+/// How many bytes are asked of the source at once.
+const PIECE_SIZE: usize = 1 << 16;
+
+/// Why a source gave no text of a configuration.
+#[derive(Clone, Copy, Debug, PartialEq, Eq)]
+pub(crate) enum HealthEnd {
+    /// The source failed.
+    ReadFault,
+    /// More than 2^20 bytes came.
+    TooLong,
+    /// There was no memory.
+    Memory,
+}
+
+/// Adds to the text what the source gives next, and says how many bytes that is: none at its end.
+fn take_piece<S: Source>(
+    text: &mut ByteList,
+    piece: &mut [u8],
+    source: &mut S,
+) -> Result<usize, HealthEnd>
+    ensures takes { IfOk result
+        (λ n. Takes (S.left source.old) (take n piece.new) (S.left source.new)) }
+    ensures added { IfOk result (λ n. text.new ≡ text.old ++ take n piece.new) }
+    ensures within { IfOk result (λ n. n ≤ length piece.old) }
+    ensures end { IfOk result (λ n. n ≡ 0 → 0 < length piece.old
+        → IfSome (S.left source.new) (λ more. more ≡ [])) }
+    ensures stops { IfErr result
+        (λ end. Stops end (length piece.old) (S.left source.old) (S.left source.new)) }
+    ensures cause { HasCause (S.faults source.old) (S.faults source.new)
+        (IsErrOf result HealthEnd.ReadFault) }
+{
+    let Ok(taken) = source.pull(piece) else {
+        return Err(HealthEnd::ReadFault);
+    };
+    match text.extend(&piece[..taken]) {
+        Ok(()) => Ok(taken),
+        Err(_) => Err(HealthEnd::Memory),
+    }
+}
+
+/// Takes the text piece by piece, each into `piece`.
+fn take_pieces<S: Source>(
+    alloc: Global,
+    piece: &mut [u8],
+    source: &mut S,
+) -> Result<ByteList, HealthEnd>
+    requires { 0 < length piece.old }
+    ensures takes { TakesText result (S.left source.old) (S.left source.new) }
+    ensures cause { HasCause (S.faults source.old) (S.faults source.new)
+        (IsErrOf result HealthEnd.ReadFault) }
+{
+    let mut text = ByteList::new(alloc);
+    let mut room = TEXT_LIMIT + 1;
+    while room > 0 {
+        let size = room.min(piece.len());
+        let taken = take_piece(&mut text, &mut piece[..size], source)?;
+        if taken == 0 {
+            return Ok(text);
+        }
+        room -= taken;
+    }
+    Err(HealthEnd::TooLong)
+}
+
+/// Takes the text of a configuration from a source, to its end.
+///
+/// No more than 2^20 + 1 bytes are taken: where that many came, the answer is `TooLong`, also where the source
+/// would fail next. `ReadFault` comes where the source failed before that. Want of memory may come at any place.
+pub(crate) fn read_health<S: Source>(alloc: Global, source: &mut S) -> Result<ByteList, HealthEnd>
+    ensures takes { TakesText result (S.left source.old) (S.left source.new) }
+    ensures cause { HasCause (S.faults source.old) (S.faults source.new)
+        (IsErrOf result HealthEnd.ReadFault) }
+{
+    let Ok(mut piece) = vec![in alloc; 0; PIECE_SIZE] else {
+        return Err(HealthEnd::Memory);
+    };
+    take_pieces(alloc, &mut piece, source)
+}
+
+#[cfg(test)]
+mod tests {
+    use super::*;
+    use host_model::{CallList, MemorySource};
+    use std::test::Fail;
+
+    #[test]
+    fn takes_all_that_comes(rt: HostRuntime) -> Result<(), Fail> {
+        let alloc = rt.alloc();
+        let mut source = MemorySource::new(alloc, b"alarm: high\n", CallList::new(alloc))?;
+        let text = read_health(alloc, &mut source)?;
+        assert_eq!(rt; text.as_slice(), b"alarm: high\n".as_slice());
+        let text = read_health(alloc, &mut source)?;
+        assert!(rt; text.is_empty());
+        Ok(())
+    }
+
+    /// How the reading of so many bytes ends, and how many of them the source has left.
+    fn ends(alloc: Global, size: usize) -> Result<(Result<usize, HealthEnd>, usize), Fail> {
+        let bytes = vec![in alloc; b'#'; size]?;
+        let mut source = MemorySource::new(alloc, &bytes, CallList::new(alloc))?;
+        let read = read_health(alloc, &mut source).map(|text| text.len());
+        let mut rest = vec![in alloc; 0; size]?;
+        let left = source.pull(&mut rest)?;
+        Ok((read, left))
+    }
+
+    #[test]
+    fn takes_one_byte_above_the_most(rt: HostRuntime) -> Result<(), Fail> {
+        let alloc = rt.alloc();
+        assert_eq!(rt; ends(alloc, 1_048_575)?, (Ok(1_048_575), 0));
+        assert_eq!(rt; ends(alloc, 1_048_576)?, (Ok(1_048_576), 0));
+        assert_eq!(rt; ends(alloc, 1_048_577)?, (Err(HealthEnd::TooLong), 0));
+        assert_eq!(rt; ends(alloc, 1_048_587)?, (Err(HealthEnd::TooLong), 10));
+        Ok(())
+    }
+
+    #[test]
+    fn a_call_that_fails_ends_it(rt: HostRuntime) -> Result<(), Fail> {
+        let alloc = rt.alloc();
+        for call in 0..2 {
+            let fails = CallList::from_vec(vec![in alloc; call]?);
+            let mut source = MemorySource::new(alloc, b"alarm: high\n", fails)?;
+            let end = read_health(alloc, &mut source).err();
+            assert_eq!(rt; end, Some(HealthEnd::ReadFault), "at {call}");
+        }
+        Ok(())
+    }
+}

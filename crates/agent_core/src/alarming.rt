@@ -1,0 +1,130 @@
+//! The alarms of an agent follow the beats that are stored.
+
+ghost use Rattle.std.specs.Prelude.{◌≡◌, ◌∷◌, List, map, None, IfOk, IfErr, OnOk};
+ghost use Rattle.health_config.specs.ConfigOf.{entities_of, text_of};
+ghost use Rattle.health_config.specs.Entity.{alarm_of};
+ghost use Rattle.host_model.specs.Past.{Event as AnEvent};
+ghost use Rattle.history.specs.History.{Beat as HistoryBeat, last, registry_of};
+ghost use Rattle.alarm_core.specs.Course.{configured, held, stepped_by};
+ghost use Rattle.entry_codec.specs.declared.entry.Settings.{Settings as ASettings};
+ghost use Rattle.store_core.specs.declared.beat.Beat.{Beat as StoreBeat};
+ghost use Rattle.store_core.specs.Store.{IsStoreAt};
+ghost use Rattle.store_core.specs.Tiers.{floor_at};
+ghost use Rattle.store_core.specs.View.{points_of};
+ghost use Rattle.agent_core.specs.Alarms.{alarms_at, HaveFollowed, IsSteppingOf};
+ghost use Rattle.agent_core.specs.Kept.{AreBeatsOf};
+ghost use Rattle.agent_core.specs.LastSeen.{IsLatestOf};
+
+use crate::fault::AgentFault;
+use alarm_core::{AlarmFault, Alarms, EventList, Latest};
+use chart_registry::Registry;
+use health_config::Config;
+use host_model::Host;
+use std::alloc::Global;
+use store_core::{Store, StoreView};
+
+/// What a beat does to alarms.
+#[derive(Drop)]
+pub enum Stepping {
+    /// They are stepped on a beat at this moment.
+    Beat(u32),
+    /// They get another configuration.
+    Configuration(Config),
+    /// Nothing.
+    Nothing,
+}
+
+/// Steps alarms on a beat at a moment, by what a store tells. After an `Err` nothing is known of the alarms.
+fn step<H: Host>(
+    alarms: &mut Alarms,
+    store: &mut Store,
+    host: &mut H,
+    registry: &Registry,
+    latest: &Latest,
+    moment: u32,
+) -> Result<EventList, AgentFault>
+    requires { store.old.fault ≡ None }
+    ensures held { OnOk result
+        ((past : List AnEvent) (set : ASettings) (beats rest : List StoreBeat)
+        → IsStoreAt past store.old set beats rest → held alarms.new
+        ≡ (stepped_by (held alarms.old) (record {
+          moment = moment;
+          registry = registry.now;
+          latest = latest.now;
+          floor = floor_at set beats 0;
+          told = points_of beats;
+        })).held) }
+    ensures events { IfOk result
+        (λ events. (past : List AnEvent) (set : ASettings) (beats rest : List StoreBeat)
+        → IsStoreAt past store.old set beats rest → events
+        ≡ (stepped_by (held alarms.old) (record {
+          moment = moment;
+          registry = registry.now;
+          latest = latest.now;
+          floor = floor_at set beats 0;
+          told = points_of beats;
+        })).events) }
+    ensures store { store.new ≡ store.old }
+    ensures host { H.seen host.new ≡ H.seen host.old }
+    ensures memory { IfErr result (λ fault. fault ≡ AgentFault.Memory) }
+{
+    let mut view = StoreView { store, host };
+    match alarms.step(moment, registry, latest, &mut view) {
+        Ok(events) => Ok(events),
+        // No point of a store is read from the disk.
+        Err(AlarmFault::Disk) => unreachable!(),
+        Err(_) => Err(AgentFault::Memory),
+    }
+}
+
+/// Gives alarms another configuration at a moment. After an `Err` nothing is known of the alarms.
+fn configure(
+    alarms: &mut Alarms,
+    config: Config,
+    registry: &Registry,
+    moment: u32,
+) -> Result<EventList, AgentFault>
+    ensures held { OnOk result (held alarms.new
+        ≡ (configured (held alarms.old) (text_of config)
+        (map alarm_of (entities_of config)) registry.now moment).held) }
+    ensures events { IfOk result (λ events. events
+        ≡ (configured (held alarms.old) (text_of config)
+        (map alarm_of (entities_of config)) registry.now moment).events) }
+    ensures memory { IfErr result (λ fault. fault ≡ AgentFault.Memory) }
+{
+    match alarms.configure(config, registry, moment) {
+        Ok(events) => Ok(events),
+        Err(_) => Err(AgentFault::Memory),
+    }
+}
+
+/// Has the alarms follow a beat that is stored, and gives the events that it tells. Registry and latest are
+/// those of the history with the beat, and `latest` has the last moment of the history before it. After an
+/// `Err` nothing is known of the alarms.
+pub(crate) fn follow<H: Host>(
+    alloc: Global,
+    alarms: &mut Alarms,
+    store: &mut Store,
+    host: &mut H,
+    registry: &Registry,
+    latest: &Latest,
+    stepping: Stepping,
+) -> Result<EventList, AgentFault>
+    requires { store.old.fault ≡ None }
+    ensures followed { IfOk result
+        (λ events. (past : List AnEvent) (set : ASettings) (h : List HistoryBeat)
+        (beat : HistoryBeat) (beats rest : List StoreBeat) → AreBeatsOf (beat ∷ h) beats
+        → IsStoreAt past store.old set beats rest → registry.now ≡ registry_of (beat ∷ h)
+        → IsLatestOf latest.now (beat ∷ h) → latest.now.before ≡ last h
+        → held alarms.old ≡ alarms_at set h → IsSteppingOf beat stepping
+        → HaveFollowed set (beat ∷ h) (held alarms.new) events) }
+    ensures store { store.new ≡ store.old }
+    ensures host { H.seen host.new ≡ H.seen host.old }
+    ensures memory { IfErr result (λ fault. fault ≡ AgentFault.Memory) }
+{
+    match stepping {
+        Stepping::Beat(moment) => step(alarms, store, host, registry, latest, moment),
+        Stepping::Configuration(config) => configure(alarms, config, registry, latest.before),
+        Stepping::Nothing => Ok(EventList::new(alloc)),
+    }
+}

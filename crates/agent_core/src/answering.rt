@@ -1,0 +1,123 @@
+//! Answers from the points that the store of an agent keeps.
+
+ghost use Rattle.std.specs.Prelude.{◌≡◌, ◌<◌, List, length, All, None, Some, Ok, IfOk, IfErr};
+ghost use Rattle.host_model.specs.Past.{Event};
+ghost use Rattle.history.specs.History.{Beat as HistoryBeat, registry_of};
+ghost use Rattle.query_engine.specs.Windows.{table_of};
+ghost use Rattle.query_text.specs.Told.{fault_text};
+ghost use Rattle.entry_codec.specs.declared.entry.Settings.{Settings as ASettings};
+ghost use Rattle.store_core.specs.declared.beat.Beat.{Beat as StoreBeat};
+ghost use Rattle.store_core.specs.Store.{IsStoreOf};
+ghost use Rattle.store_core.specs.Tiers.{floor_at, kept_of};
+ghost use Rattle.store_core.specs.View.{points_of, widths};
+ghost use Rattle.agent_core.specs.Answers.{reply_of, reply_to};
+ghost use Rattle.agent_core.specs.Kept.{AreBeatsOf};
+
+use crate::fault::{AgentFault, store_fault};
+use chart_registry::Registry;
+use fixed_num::Text;
+use host_model::Host;
+use query_engine::{PointFault, Request, Table};
+use query_text::{QueryFault, read_query, write_fault, write_table};
+use std::alloc::Global;
+use store_core::{Kept, Store, answer_by};
+
+/// The answer to a request.
+fn table_of<H: Host>(
+    alloc: Global,
+    store: &mut Store,
+    host: &mut H,
+    request: &Request,
+) -> Result<Table, AgentFault>
+    requires { store.old.fault ≡ None }
+    ensures answered { IfOk result
+        (λ table. (past : List Event) (set : ASettings) (beats : List StoreBeat)
+        → IsStoreOf past store.old set beats
+        → table ≡ table_of widths (floor_at set beats) (points_of beats) request.now) }
+    ensures store { store.new ≡ store.old }
+    ensures host { H.seen host.new ≡ H.seen host.old }
+    ensures memory { IfErr result (λ fault. fault ≡ AgentFault.Memory) }
+{
+    match answer_by(alloc, store, host, request) {
+        Ok(table) => Ok(table),
+        Err(PointFault::Disk) => Err(AgentFault::DiskFault),
+        Err(PointFault::Memory) => Err(AgentFault::Memory),
+    }
+}
+
+/// The reply to a query, of which this was read.
+fn reply_to<H: Host>(
+    alloc: Global,
+    store: &mut Store,
+    registry: &Registry,
+    host: &mut H,
+    request: &Request,
+) -> Result<Text, AgentFault>
+    requires going { store.old.fault ≡ None }
+    requires within { All (λ series. series < length registry.now.dimensions) request.now.series }
+    ensures answered { IfOk result
+        (λ reply. (past : List Event) (set : ASettings) (h : List HistoryBeat)
+        (beats : List StoreBeat) → AreBeatsOf h beats → IsStoreOf past store.old set beats
+        → registry.now ≡ registry_of h → reply ≡ reply_to set h (Ok request.now)) }
+    ensures store { store.new ≡ store.old }
+    ensures host { H.seen host.new ≡ H.seen host.old }
+    ensures memory { IfErr result (λ fault. fault ≡ AgentFault.Memory) }
+{
+    match table_of(alloc, store, host, request) {
+        Ok(table) => match write_table(alloc, request, registry, &table) {
+            Ok(text) => Ok(text),
+            Err(_) => Err(AgentFault::Memory),
+        },
+        Err(fault) => Err(fault),
+    }
+}
+
+/// The line of a refusal.
+fn refusal_line(alloc: Global, fault: QueryFault) -> Result<Text, AgentFault>
+    ensures text { IfOk result (λ text. fault_text fault ≡ Some text) }
+    ensures memory { IfErr result (λ fault. fault ≡ AgentFault.Memory) }
+{
+    match write_fault(alloc, fault) {
+        Ok(text) => Ok(text),
+        Err(_) => Err(AgentFault::Memory),
+    }
+}
+
+/// The reply to a query.
+pub(crate) fn reply<H: Host>(
+    alloc: Global,
+    store: &mut Store,
+    registry: &Registry,
+    host: &mut H,
+    text: &str,
+) -> Result<Text, AgentFault>
+    requires { store.old.fault ≡ None }
+    ensures answered { IfOk result
+        (λ reply. (past : List Event) (set : ASettings) (h : List HistoryBeat)
+        (beats : List StoreBeat) → AreBeatsOf h beats → IsStoreOf past store.old set beats
+        → registry.now ≡ registry_of h → reply ≡ reply_of set h text.now) }
+    ensures store { store.new ≡ store.old }
+    ensures host { H.seen host.new ≡ H.seen host.old }
+    ensures memory { IfErr result (λ fault. fault ≡ AgentFault.Memory) }
+{
+    match read_query(alloc, text, registry) {
+        Ok(request) => reply_to(alloc, store, registry, host, &request),
+        Err(fault) => refusal_line(alloc, fault),
+    }
+}
+
+/// The kept beats of a store that was not refused.
+pub(crate) fn kept<H: Host>(store: &mut Store, host: &mut H) -> Result<Kept, AgentFault>
+    requires { store.old.fault ≡ None }
+    ensures answered { IfOk result
+        (λ kept. (past : List Event) (set : ASettings) (beats : List StoreBeat)
+        → IsStoreOf past store.old set beats → kept ≡ kept_of set beats) }
+    ensures store { store.new ≡ store.old }
+    ensures host { H.seen host.new ≡ H.seen host.old }
+    ensures memory { IfErr result (λ fault. fault ≡ AgentFault.Memory) }
+{
+    match store.kept(host) {
+        Ok(kept) => Ok(kept),
+        Err(fault) => Err(store_fault(fault)),
+    }
+}

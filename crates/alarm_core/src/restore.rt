@@ -1,0 +1,146 @@
+//! The states of kept alarms.
+ghost use Rattle.std.specs.Prelude.{◌≡◌, ◌⊎◌, [], ◌∷◌, ◌++◌, find, map, Ok, IfOk, IfErr, IsErr, OnOk};
+ghost use Rattle.std.specs.List.{list_all};
+ghost use Rattle.health_config.specs.Config.{config_read};
+ghost use Rattle.health_config.specs.ConfigOf.{configuration_of, text_of};
+ghost use Rattle.health_config.specs.Entity.{alarm_of};
+ghost use Rattle.alarm_core.specs.Kept as spec;
+
+use crate::fault::AlarmFault;
+use crate::pairing::push_state;
+use crate::pairs::{Pair, alarm_in};
+use crate::state::{Holder, NameList, State, StateList};
+use alarm_events::KeptState;
+use chart_registry::Registry;
+use fixed_num::Text;
+use health_config::{Config, ConfigFault, Entity};
+use std::alloc::{AllocError, Global};
+
+/// States, and the names of those alarms among them that no pair has.
+#[derive(Debug, Drop)]
+pub struct Restored {
+    pub states: StateList,
+    pub lost: NameList,
+}
+
+/// The configuration of a kept text.
+pub fn read_config(alloc: Global, text: &[u8]) -> Result<Config, AlarmFault>
+    ensures config { IfOk result (λ config. config_read text.now ≡ Ok (configuration_of config)) }
+    ensures text { IfOk result (λ config. text_of config ≡ text.now) }
+    ensures refused { IfErr result (λ fault. (fault ≡ AlarmFault.Memory)
+        ⊎ ((fault ≡ AlarmFault.BadBytes) × IsErr (config_read text.now))) }
+{
+    match Config::read(alloc, text) {
+        Ok(config) => Ok(config),
+        Err(ConfigFault::Memory) => Err(AlarmFault::Memory),
+        Err(_) => Err(AlarmFault::BadBytes),
+    }
+}
+
+fn is_known(kept: &KeptState, registry: &Registry) -> bool
+    ensures { result ≡ spec.is_known registry.now kept.now }
+{
+    kept.chart < registry.charts()
+}
+
+/// Whether the chart of each state is there.
+pub fn are_known(states: &[KeptState], registry: &Registry) -> bool
+    ensures { result ≡ list_all (spec.is_known registry.now) states.now }
+{
+    states.iter().all(|kept| is_known(kept, registry))
+}
+
+/// Whether the alarm at a place has this name.
+fn is_named(entities: &[Entity], place: usize, name: &str) -> bool
+    ensures { result ≡ spec.is_named (map alarm_of entities.now) place name.now }
+{
+    match alarm_in(entities, place) {
+        Some(alarm) => alarm.name.as_str() == name,
+        None => false,
+    }
+}
+
+/// Whether a pair is that of a kept state.
+fn is_pair_of(entities: &[Entity], kept: &KeptState, pair: Pair) -> bool
+    ensures { result ≡ spec.is_pair_of (map alarm_of entities.now) kept.now pair }
+{
+    pair.chart == kept.chart && is_named(entities, pair.alarm, kept.alarm.as_str())
+}
+
+/// The pair of a kept state.
+fn pair_of(entities: &[Entity], pairs: &[Pair], kept: &KeptState) -> Option<Pair>
+    ensures { result ≡ find (spec.is_pair_of (map alarm_of entities.now) kept.now) pairs.now }
+{
+    for pair in pairs {
+        if is_pair_of(entities, kept, *pair) {
+            return Some(*pair);
+        }
+    }
+    None
+}
+
+fn state_by(alarm: Holder, kept: &KeptState) -> State
+    ensures { result ≡ spec.state_by alarm kept.now }
+{
+    State {
+        alarm,
+        chart: kept.chart,
+        value: kept.value,
+        status: kept.status,
+        delay: kept.delay,
+    }
+}
+
+fn push_name(names: &mut NameList, name: Text) -> Result<(), AllocError>
+    ensures { OnOk result (names.new ≡ names.old ++ name ∷ []) }
+{
+    names.push(name).map_err(|_| AllocError)
+}
+
+/// Adds a state of no pair.
+fn restore_lost(restored: &mut Restored, kept: &KeptState) -> Result<(), AllocError>
+    ensures { OnOk result (restored.new ≡ spec.lost_one restored.old kept.now) }
+{
+    let place = restored.lost.len();
+    push_name(&mut restored.lost, kept.alarm.clone()?)?;
+    push_state(&mut restored.states, state_by(Holder::Lost(place), kept))
+}
+
+/// Adds a state.
+fn restore_one(
+    restored: &mut Restored,
+    entities: &[Entity],
+    pairs: &[Pair],
+    kept: &KeptState,
+) -> Result<(), AllocError>
+    ensures { OnOk result (restored.new
+        ≡ spec.restored_one (map alarm_of entities.now) pairs.now restored.old kept.now) }
+{
+    match pair_of(entities, pairs, kept) {
+        Some(pair) => {
+            let state = state_by(Holder::Alarm(pair.alarm), kept);
+            push_state(&mut restored.states, state)
+        }
+        None => restore_lost(restored, kept),
+    }
+}
+
+/// The states of kept ones: each is of the pair that is its own. It compares each with each pair.
+pub fn restore(
+    alloc: Global,
+    entities: &[Entity],
+    pairs: &[Pair],
+    states: &[KeptState],
+) -> Result<Restored, AllocError>
+    ensures { IfOk result (λ restored. restored
+        ≡ spec.restored_states (map alarm_of entities.now) pairs.now states.now) }
+{
+    let mut restored = Restored {
+        states: StateList::new(alloc),
+        lost: NameList::new(alloc),
+    };
+    for kept in states {
+        restore_one(&mut restored, entities, pairs, kept)?;
+    }
+    Ok(restored)
+}

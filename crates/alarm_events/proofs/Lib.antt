@@ -1,0 +1,4 @@
+mod Loops
+pub mod Combining
+pub mod Fields
+pub mod AlarmsLaw

@@ -1,0 +1,10 @@
+use Rattle.alarm_events.proofs.AlarmsLaw.{reads_back, is_read, one_value}
+use Rattle.alarm_events.proofs.law.every_kept.Goals as goal
+
+pub returns : goal.returns
+returns c = record {
+  reads_back = reads_back;
+  has_spelling = λ k bytes fits is. (is_read bytes k fits is).0;
+  is_spelt = λ k bytes fits is. (is_read bytes k fits is).1;
+  one_value = one_value;
+}

@@ -1,0 +1,11 @@
+pub mod Bytes
+pub mod Course
+pub mod Follower
+pub mod Goes
+pub mod Looking
+pub mod Reads
+pub mod Run
+pub mod Runner
+pub mod Steps
+pub mod Text
+pub mod Words

@@ -1,0 +1,39 @@
+ghost use Rattle.std.specs.Prelude.{◌≡◌, ◌≢◌, ℕ, List, Option, Some, Result, Err};
+ghost use Rattle.host_model.specs.Spawner.{Child, Children};
+ghost use Rattle.plugin_runner.specs.declared.fault.RunFault.{RunFault};
+ghost use Rattle.plugin_runner.specs.declared.fault.RunFault.TheVariants as fault;
+ghost use Rattle.plugin_runner.specs.declared.fault.Turn.{Turn};
+ghost use Rattle.plugin_runner.specs.declared.runner.Runner.{Runner};
+ghost use Rattle.plugin_runner.specs.Bytes.{bytes_of, IsFront};
+ghost use Rattle.plugin_runner.specs.Course.{Course, Event, IsRunnerOf, answer_after, course_after, text_of};
+ghost use Rattle.plugin_runner.specs.Goes.{Hears};
+ghost use Rattle.plugin_runner.specs.Run.{Ran, Run};
+ghost use Rattle.plugin_runner.specs.Runner.{lasting_answer};
+
+/// The laws of a runner of a course, whatever the clock gives later. It does nothing.
+pub fn any_course()
+    // What was put is a prefix of the text of what was heard, and all of it unless memory ran out.
+    ensures front { (runner : Runner) (course : Course) (later : List ℕ) → IsRunnerOf runner course
+        → IsFront course.told (bytes_of (text_of course later)) }
+    ensures whole { (runner : Runner) (course : Course) (later : List ℕ) → IsRunnerOf runner course
+        → lasting_answer runner ≢ Some (Err fault.Memory)
+        → course.told ≡ bytes_of (text_of course later) }
+
+    // It is at its end just where the text asks for that, and with that answer.
+    ensures answer { (runner : Runner) (course : Course) (later : List ℕ) → IsRunnerOf runner course
+        → lasting_answer runner ≢ Some (Err fault.Memory)
+        → lasting_answer runner ≡ answer_after course.starts (text_of course later) course.children }
+{}
+
+/// The law of a collector over a spawner that tells its children: after its last turn its text is that of the
+/// children which were started, each with all its bytes and its end. It does nothing.
+pub fn any_run()
+    ensures { (coming : List Child) (course : Course) (event : Option Event) (taken added : List ℕ)
+        (answer : Option (Result Turn RunFault)) (before after : Children) (faults faults' : ℕ)
+        → Run coming course before
+        → Hears course answer event (Some before) (Some after) faults faults'
+        → (later : List ℕ) (last : Result Turn RunFault)
+        → answer_after course.starts (text_of (course_after event taken added course) later)
+        (course_after event taken added course).children ≡ Some last
+        → Ran coming (course_after event taken added course) later }
+{}

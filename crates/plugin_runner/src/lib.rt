@@ -1,0 +1,25 @@
+//! A program that is run as a collector, and the text that becomes of what it writes.
+//!
+//! A `Runner` starts the program, takes what it writes, and starts it again while it ends with 0. Its text has the
+//! whole lines of all children in their order, and between them the MOMENT lines that close beats: before a BEGIN
+//! whose chart has a row in the open beat, and at a child's end, where an open block is dropped first. What is put
+//! where is said by looking back over the lines of the text; the runner keeps an open beat instead. It is proved
+//! over every spawner and clock that tell theirs that the bytes which turns have put are the text of what was heard,
+//! or a prefix of it where memory ran out, and that each answer has its cause (`any_course`). `any_run` says what that text is where a
+//! spawner tells its children.
+//!
+//! It stands on `plugin_text` for lines and what they say, on `history` for questions about lines, and on
+//! `host_model` for the outside.
+#![tactic(auto)]
+
+mod command;
+mod fault;
+mod follower;
+mod law;
+mod moment;
+mod runner;
+mod writing;
+
+pub use fault::{RunFault, Turn};
+pub use law::{any_course, any_run};
+pub use runner::Runner;

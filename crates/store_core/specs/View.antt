@@ -1,0 +1,38 @@
+-- What a view of a store answers by. A list of beats has the newest first, a list of points the earliest.
+use Rattle.std.specs.Prelude.{◌≡◌, ℕ, List, map, reverse}
+use Rattle.std.specs.Borrow.{GName}
+use Rattle.host_model.specs.Past.{Event}
+use Rattle.host_model.specs.Seen.{Seen}
+use Rattle.tier_rollup.specs.declared.point.Point.{Point}
+use Rattle.beat_tiers.specs.Beats.{series_points}
+use Rattle.beat_tiers.specs.State.{tier_floor}
+use Rattle.query_engine.specs.Points.{Tiers}
+use Rattle.entry_codec.specs.declared.entry.Settings.{Settings}
+use Rattle.store_core.specs.declared.beat.Beat.{Beat}
+use Rattle.store_core.specs.Store.{IsStoreAt, StoreState}
+use Rattle.store_core.specs.Tiers.{seen}
+pub use Rattle.store_core.specs.Tiers.{widths}
+
+-- the widths, and the floors of what is kept
+abbrev pub view_tiers : StoreState → Tiers
+view_tiers store = record { widths = widths; floor = tier_floor store.tiers }
+
+-- the points that beats gave to a series
+abbrev pub points_of : List Beat → ℕ → List Point
+points_of beats series = reverse (series_points (map seen beats) series)
+
+-- the store has applied some beats, and these are their points
+pub record Tells (store : StoreState) (told : ℕ → List Point) : Type 0 where
+  pub past : List Event
+  pub set : Settings
+  pub beats : List Beat
+  pub rest : List Beat
+  pub is_at : IsStoreAt past store set beats rest
+  pub told_is : told ≡ points_of beats
+
+-- a store and its host, and which they are
+pub record ViewHeld : Type 0 where
+  pub store : StoreState
+  pub store_name : GName
+  pub host : Seen
+  pub host_name : GName

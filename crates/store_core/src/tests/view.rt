@@ -1,0 +1,242 @@
+ghost use Rattle.store_core.specs.Store.{IsReady, IsReplayed};
+
+use super::*;
+use crate::StoreView;
+use fixed_num::{Frac, Units};
+use query_engine::{
+    Group, ListPoints, MomentList, Point, PointList, Points, Request, SeriesList, SeriesPointsList,
+    Table, answer,
+};
+use std::process::Abort;
+use storage_number::pack;
+
+/// Few points in a segment, of which one is kept.
+const FEW: Settings = Settings {
+    id: 7,
+    tier0: TierSettings {
+        items: 4,
+        extents: 1,
+    },
+    tier1: TierSettings {
+        items: 100,
+        extents: 1,
+    },
+    tier2: TierSettings {
+        items: 100,
+        extents: 1,
+    },
+};
+
+/// How many ten-millionths one has.
+const ONE: Units = 10_000_000;
+
+/// The storage number of a whole number.
+fn word(value: i32) -> u32 {
+    pack(
+        Frac {
+            num: Units::from(value),
+            den: 1,
+        },
+        false,
+        false,
+    )
+}
+
+/// Stores a beat with a point of series 0.
+fn put<H: Host>(
+    alloc: Global,
+    store: &mut Store,
+    host: &mut H,
+    moment: u32,
+    value: i32,
+) -> Result<(), Fail>
+    requires ready { IsReady H.honest (H.seen host.old).past store.old }
+    requires replayed { IsReplayed store.old }
+    ensures ready { IsReady H.honest (H.seen host.new).past store.new }
+    ensures replayed { IsReplayed store.new }
+{
+    let mut points = BeatPointList::new(alloc);
+    points.push(BeatPoint {
+        series: 0,
+        step: 1,
+        word: word(value),
+    })?;
+    let beat = Beat {
+        moment: Some(moment),
+        points,
+        note: ByteList::new(alloc),
+    };
+    if !beat.is_in_form() || !beat.fits_a_record() {
+        return Err(Fail::from("a beat out of form"));
+    }
+    store.commit(host, &beat)?;
+    Ok(())
+}
+
+fn request(alloc: Global, window: u32, rows: u32, group: Group) -> Result<Request, Fail> {
+    let mut series = SeriesList::new(alloc);
+    series.push(0)?;
+    Ok(Request {
+        series,
+        after: 0,
+        window,
+        rows,
+        group,
+    })
+}
+
+/// Checks that a table has one row, from 0 on, with this cell.
+fn check_cell(rt: &impl Abort, table: &Table, cell: Option<Units>) {
+    let rows = table.rows.as_slice();
+    assert_eq!(rt; rows.len(), 1);
+    assert_eq!(rt; rows[0].start, 0);
+    assert_eq!(rt; rows[0].cells.as_slice(), [cell].as_slice());
+}
+
+/// A database with few points, with 1 to 6 at 10 to 60.
+fn six_beats(alloc: Global, host: &mut MemoryHost) -> Result<Store, Fail> {
+    if !is_in_limits(&FEW) {
+        return Err(Fail::from("settings out of limits"));
+    }
+    let mut store = Store::create(alloc, host, &FEW)?;
+    put(alloc, &mut store, host, 10, 1)?;
+    put(alloc, &mut store, host, 20, 2)?;
+    put(alloc, &mut store, host, 30, 3)?;
+    put(alloc, &mut store, host, 40, 4)?;
+    put(alloc, &mut store, host, 50, 5)?;
+    put(alloc, &mut store, host, 60, 6)?;
+    Ok(store)
+}
+
+/// The answer of a view of the store.
+fn ask(
+    alloc: Global,
+    store: &mut Store,
+    host: &mut MemoryHost,
+    request: &Request,
+) -> Result<Table, Fail> {
+    let mut view = StoreView { store, host };
+    Ok(answer(alloc, &mut view, request)?)
+}
+
+#[test]
+fn a_minute_and_a_half(rt: HostRuntime) -> Result<(), Fail> {
+    let alloc = rt.alloc();
+    let mut host = host_of(alloc, &[])?;
+    let mut store = six_beats(alloc, &mut host)?;
+    let minute = request(alloc, 60, 1, Group::Average)?;
+    let half = request(alloc, 30, 1, Group::Average)?;
+    check_cell(
+        &rt,
+        &ask(alloc, &mut store, &mut host, &minute)?,
+        Some(3 * ONE),
+    );
+    check_cell(
+        &rt,
+        &ask(alloc, &mut store, &mut host, &half)?,
+        Some(15_000_000),
+    );
+    Ok(())
+}
+
+#[test]
+fn what_expired_is_answered_by_its_record(rt: HostRuntime) -> Result<(), Fail> {
+    let alloc = rt.alloc();
+    let mut host = host_of(alloc, &[])?;
+    let mut store = Store::create(alloc, &mut host, &FEW)?;
+    put(alloc, &mut store, &mut host, 10, 1)?;
+    put(alloc, &mut store, &mut host, 20, 2)?;
+    put(alloc, &mut store, &mut host, 30, 3)?;
+    put(alloc, &mut store, &mut host, 40, 4)?;
+    put(alloc, &mut store, &mut host, 50, 5)?;
+    put(alloc, &mut store, &mut host, 60, 6)?;
+    put(alloc, &mut store, &mut host, 70, 7)?;
+    put(alloc, &mut store, &mut host, 80, 8)?;
+    assert_eq!(rt;
+        [store.floor(0), store.floor(1), store.floor(2)],
+        [41, 0, 0]
+    );
+    let minute = request(alloc, 60, 1, Group::Average)?;
+    let half = request(alloc, 30, 1, Group::Average)?;
+    check_cell(
+        &rt,
+        &ask(alloc, &mut store, &mut host, &minute)?,
+        Some(3 * ONE),
+    );
+    check_cell(&rt, &ask(alloc, &mut store, &mut host, &half)?, None);
+    Ok(())
+}
+
+#[test]
+fn floors_and_kept_beats(rt: HostRuntime) -> Result<(), Fail> {
+    let alloc = rt.alloc();
+    let mut host = host_of(alloc, &[])?;
+    let mut store = Store::create(alloc, &mut host, &FEW)?;
+    put(alloc, &mut store, &mut host, 1, 1)?;
+    put(alloc, &mut store, &mut host, 2, 2)?;
+    put(alloc, &mut store, &mut host, 3, 3)?;
+    put(alloc, &mut store, &mut host, 4, 4)?;
+    assert_eq!(rt; store.floor(0), 0);
+    put(alloc, &mut store, &mut host, 5, 5)?;
+    put(alloc, &mut store, &mut host, 6, 6)?;
+    put(alloc, &mut store, &mut host, 7, 7)?;
+    put(alloc, &mut store, &mut host, 8, 8)?;
+    assert_eq!(rt; store.floor(0), 5);
+    put(alloc, &mut store, &mut host, 9, 9)?;
+    let kept = store.kept(&mut host)?;
+    assert_eq!(rt; kept.before, 4);
+    let beats = kept.beats.as_slice();
+    assert_eq!(rt; beats.len(), 5);
+    for (beat, value) in beats.iter().zip(5..10) {
+        assert_eq!(rt; beat.moment, value);
+        assert_eq!(rt; beat.points.len(), 1);
+        assert_eq!(rt; beat.points.as_slice()[0].series, 0);
+    }
+    Ok(())
+}
+
+#[test]
+fn a_store_answers_as_a_list(rt: HostRuntime) -> Result<(), Fail> {
+    let alloc = rt.alloc();
+    let mut host = host_of(alloc, &[])?;
+    let mut store = Store::create(alloc, &mut host, &SETTINGS)?;
+    put(alloc, &mut store, &mut host, 59, 10)?;
+    put(alloc, &mut store, &mut host, 60, 20)?;
+    let points = PointList::from_vec(vec![in alloc;
+        Point {
+            moment: 59,
+            word: word(10)
+        },
+        Point {
+            moment: 60,
+            word: word(20)
+        },
+    ]?);
+    let mut list = ListPoints::new(
+        MomentList::from_vec(vec![in alloc; 1, 60, 3_600]?),
+        MomentList::from_vec(vec![in alloc; 0, 0, 0]?),
+        SeriesPointsList::from_vec(vec![in alloc; points]?),
+    );
+    let request = request(alloc, 60, 2, Group::Sum)?;
+    let plain = answer(alloc, &mut list, &request)?;
+    let mut view = StoreView {
+        store: &mut store,
+        host: &mut host,
+    };
+    assert_eq!(rt; view.widths(), [1, 60, 3_600].as_slice());
+    assert_eq!(rt;
+        view.next_record(alloc, 1, 0, 0, 9)?,
+        view.record_of(alloc, 1, 0, 0)?.map(|one| (0, one))
+    );
+    let table = answer(alloc, &mut view, &request)?;
+    assert_eq!(rt; table.rows.len(), 2);
+    for (row, other) in table.rows.as_slice().iter().zip(plain.rows.as_slice()) {
+        assert_eq!(rt; row.start, other.start);
+        assert_eq!(rt; row.cells.as_slice(), other.cells.as_slice());
+    }
+    assert_eq!(rt;
+        table.rows.as_slice()[1].cells.as_slice(),
+        [Some(20 * ONE)].as_slice()
+    );
+    Ok(())
+}
