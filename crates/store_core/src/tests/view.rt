@@ -195,6 +195,14 @@ fn floors_and_kept_beats(rt: HostRuntime) -> Result<(), Fail> {
     Ok(())
 }
 
+/// The rows of two tables are the same.
+fn check_rows(rt: &impl Abort, table: &Table, plain: &Table) {
+    for (row, other) in table.rows.as_slice().iter().zip(plain.rows.as_slice()) {
+        assert_eq!(rt; row.start, other.start);
+        assert_eq!(rt; row.cells.as_slice(), other.cells.as_slice());
+    }
+}
+
 #[test]
 fn a_store_answers_as_a_list(rt: HostRuntime) -> Result<(), Fail> {
     let alloc = rt.alloc();
@@ -230,10 +238,7 @@ fn a_store_answers_as_a_list(rt: HostRuntime) -> Result<(), Fail> {
     );
     let table = answer(alloc, &mut view, &request)?;
     assert_eq!(rt; table.rows.len(), 2);
-    for (row, other) in table.rows.as_slice().iter().zip(plain.rows.as_slice()) {
-        assert_eq!(rt; row.start, other.start);
-        assert_eq!(rt; row.cells.as_slice(), other.cells.as_slice());
-    }
+    check_rows(&rt, &table, &plain);
     assert_eq!(rt;
         table.rows.as_slice()[1].cells.as_slice(),
         [Some(20 * ONE)].as_slice()
