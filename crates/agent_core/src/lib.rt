@@ -51,6 +51,3 @@ pub use health_config::ConfigFault;
 pub use law::{any_call, any_history, any_log, any_notes, any_text};
 pub use reply::{Reply, Said, write_reply};
 pub use store_core::{Kept, KeptBeat, KeptBeatList, KeptPoint, KeptPointList, Why, is_in_limits};
-
-#[cfg(test)]
-mod tests;

@@ -7,7 +7,10 @@ ghost use Rattle.agent_core.specs.Agent.{AgentIsReady};
 ghost use Rattle.agent_core.specs.Fed.{IsFed};
 ghost use Rattle.agent_core.specs.Rules.{IsOpenBeat};
 
-use super::*;
+use agent_core::{
+    Agent, AgentFault, ConfigFault, EventList, Reply, Said, Settings, TierSettings, Why,
+    is_in_limits, write_reply,
+};
 use collect_block::Feed;
 use fixed_num::Text;
 use history::{
