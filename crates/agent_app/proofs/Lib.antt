@@ -1,6 +1,7 @@
 mod AckLemmas
 mod AskLemmas
 mod CauseLemmas
+mod CollectorLemmas
 mod CommandLemmas
 mod ConfigureLemmas
 mod ConvertLemmas
