@@ -15,7 +15,7 @@ use Rattle.plugin_text.proofs.PartsLemmas.{parts_first, parts_whole, lines-appen
 use Rattle.line_stream.specs.declared.stream.Stream.{Stream}
 use Rattle.line_stream.specs.Chain.{Acts, Chain, begins, pauses, not_begun, after_pause}
 use Rattle.line_stream.specs.Run.{input_limit, Ended, at_line, at_pause, at_long_line, at_end, at_fault, at_limit, at_want, Ran, Running, Steps, Stops, TookAll}
-use Rattle.line_stream.specs.Stream.{BrokeAt, HandsOver, HasTaken}
+use Rattle.line_stream.specs.Stream.{BrokeAt, HandsOver, HasTaken, IsFresh}
 
 -- ---- how many lines a text has
 
@@ -216,12 +216,12 @@ Takes-none (Some rest) = refl
 
 module _ {T H : Type 0} (acts : Acts T H) where
   -- a run that begins
-  pub start-taken : (stream : Stream) (taker : T) (host : H) → stream.splitter.rest ≡ [] → stream.splitter.refused ≡ None → stream.count ≡ 0 → HasTaken acts stream taker host [] taker host
-  start-taken stream taker host rest_is going count = record {
-    going = going;
-    rest_is = rest_is;
-    held = subst IsRest (sym rest_is) (record { no_line_feed = refl; short = refl });
-    count = count;
+  pub start-taken : (stream : Stream) (taker : T) (host : H) → IsFresh stream → HasTaken acts stream taker host [] taker host
+  start-taken stream taker host fresh = record {
+    going = fresh.going;
+    rest_is = fresh.empty;
+    held = subst IsRest (sym fresh.empty) (record { no_line_feed = refl; short = refl });
+    count = fresh.none;
     took = record { short = All-cons (λ (l : List ℕ). fits l ≡ true) [] [] refl (All-nil (λ (l : List ℕ). fits l ≡ true)); chain = begins };
     paused = not_begun;
   }
@@ -283,16 +283,20 @@ module _ {T H : Type 0} (acts : Acts T H) (start : T) (begin : H) (stream : Stre
     ended = subst (λ (all : List ℕ). Ended acts ReadFault start begin all taker host left' source_rose) (sym (append-nil text)) (at_fault refl rose within has.took has.paused);
   }
 
+  -- the taker was told the end
+  pub end-told : (status : Status) (lines_taken : ℕ) (held : List ℕ) (new : T) (host' : H) → lines_taken ≡ stream.count → held ≡ stream.splitter.rest → acts.ends taker host lines_taken held status new host'
+      → acts.ends taker host (length (lines text)) (rest text) status new host'
+  end-told status lines_taken held new host' counted held_is ends =
+      subst (λ (r : List ℕ). acts.ends taker host (length (lines text)) r status new host') (held_is ∙ has.rest_is) (subst (λ (n : ℕ). acts.ends taker host n held status new host') (counted ∙ has.count) ends)
+
   -- the input ended
-  pub end-stops : (status : Status) (lines_taken : ℕ) (bytes held : List ℕ) (new : T) (host' : H) (left left' : Option (List ℕ)) (source_rose : Type 0) → Takes left bytes left' → bytes ≡ [] → length text < input_limit → IfSome left' (λ rest. rest ≡ [])
-      → lines_taken ≡ stream.count → held ≡ stream.splitter.rest → acts.ends taker host lines_taken held status new host' → Stops acts status start begin text new host' left left' source_rose
-  end-stops status lines_taken bytes held new host' left left' source_rose takes none room nothing counted held_is ends = record {
+  pub end-stops : (status : Status) (bytes : List ℕ) (new : T) (host' : H) (left left' : Option (List ℕ)) (source_rose : Type 0) → Takes left bytes left' → bytes ≡ [] → length text < input_limit → IfSome left' (λ rest. rest ≡ [])
+      → acts.ends taker host (length (lines text)) (rest text) status new host' → Stops acts status start begin text new host' left left' source_rose
+  end-stops status bytes new host' left left' source_rose takes none room nothing ends = record {
     bytes = [];
     takes = subst (λ (b : List ℕ). Takes left b left') none takes;
     within = omega (arith, length-append text [], room);
-    ended = subst (λ (all : List ℕ). Ended acts status start begin all new host' left' source_rose) (sym (append-nil text))
-        (at_end taker host room nothing has.took
-        (subst (λ (r : List ℕ). acts.ends taker host (length (lines text)) r status new host') (held_is ∙ has.rest_is) (subst (λ (n : ℕ). acts.ends taker host n held status new host') (counted ∙ has.count) ends)));
+    ended = subst (λ (all : List ℕ). Ended acts status start begin all new host' left' source_rose) (sym (append-nil text)) (at_end taker host room nothing has.took ends);
   }
 
 -- the piece ended the run

@@ -1,5 +1,5 @@
 -- How a stream goes from piece to piece.
-use Rattle.std.specs.Prelude.{◌≡◌, ℕ, ◌+◌, List, ◌∷◌, ◌++◌, length, None, Result, Err, MatchResult}
+use Rattle.std.specs.Prelude.{◌≡◌, ℕ, ◌+◌, List, [], ◌∷◌, ◌++◌, length, None, Result, Err, MatchResult}
 use Rattle.host_model.specs.declared.status.Status.{Status}
 use Rattle.plugin_text.specs.Lines.{lines, rest, IsRest}
 use Rattle.line_stream.specs.declared.stream.Stream.{Stream}
@@ -30,3 +30,13 @@ pub record HasTaken {T H : Type 0} (acts : Acts T H) (stream : Stream) (taker : 
   pub count : stream.count ≡ length (lines text)
   pub took : TookAll acts taker host text taker' host'
   pub paused : HasPaused acts taker host taker' host'
+
+-- nothing was taken of a stream's text: it has taken the empty text, whoever takes its lines
+pub record IsFresh (stream : Stream) : Type 0 where
+  pub empty : stream.splitter.rest ≡ []
+  pub going : stream.splitter.refused ≡ None
+  pub none : stream.count ≡ 0
+
+-- the number of the line that is handed over next
+abbrev pub next_number : Stream → ℕ
+next_number stream = stream.count + 1

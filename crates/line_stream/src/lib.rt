@@ -6,13 +6,16 @@
 //! a taker does with a line is a relation of its own, and a run is a chain of such steps. So what a command
 //! makes of a whole text is proved from that chain alone, whatever the pieces were.
 //!
+//! `take_text` takes its pieces of a `Source`. Who has a text from elsewhere hands its pieces to a `Stream`, and tells
+//! it when the text has ended.
+//!
 //! It stands on `plugin_text` for lines, on `history` for what one line is, and on `host_model` for the outside.
 #![tactic(auto)]
 
 mod stream;
 mod taker;
 
-pub use stream::take_text;
+pub use stream::{INPUT_LIMIT, Stream, take_text};
 pub use taker::Taker;
 
 #[cfg(test)]

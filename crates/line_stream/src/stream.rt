@@ -2,30 +2,30 @@ ghost use Rattle.std.specs.Prelude.{◌≡◌, ℕ, ◌+◌, ◌^◌, ◌<◌, �
 ghost use Rattle.std.specs.List.{AllPass};
 ghost use Rattle.history.specs.Limits.{is_one_line};
 ghost use Rattle.host_model.specs.Cause.{Rose};
-ghost use Rattle.plugin_text.specs.Lines.{fits};
+ghost use Rattle.plugin_text.specs.Lines.{fits, lines, rest};
 ghost use Rattle.line_stream.specs.Chain.{acts_of, Chain};
 ghost use Rattle.line_stream.specs.Run.{input_limit, Ended, Ran, Steps, Stops};
-ghost use Rattle.line_stream.specs.Stream.{HandsOver, HasTaken};
+ghost use Rattle.line_stream.specs.Stream.{HandsOver, HasTaken, IsFresh, next_number};
 
 use crate::taker::Taker;
 use host_model::{Host, Source, Status};
 use plugin_text::{LineFault, LineList, Splitter};
 use std::alloc::Global;
 
-/// The most bytes that are taken of an input.
-const INPUT_LIMIT: usize = 1 << 40;
+/// The most bytes that are taken of an input: 2^40.
+pub const INPUT_LIMIT: usize = 1 << 40;
 
 /// How many bytes are asked of the source at once.
 const PIECE_SIZE: usize = 1 << 16;
 
-/// What is kept of the part of a text that was taken.
+/// A text that comes in pieces, whose lines are handed to a taker: what is kept of the part that was taken.
 #[derive(Drop)]
-pub(crate) struct Stream {
-    pub(crate) splitter: Splitter,
+pub struct Stream {
+    splitter: Splitter,
     /// The lines of the last piece.
-    pub(crate) lines: LineList,
+    lines: LineList,
     /// How many lines were handed over.
-    pub(crate) count: u64,
+    count: u64,
 }
 
 /// Hands over the next line.
@@ -74,9 +74,10 @@ fn hand_over<H: Host, T: Taker<H>>(
 }
 
 impl Stream {
-    fn new(alloc: Global) -> Stream
-        ensures splitter { (result.splitter.rest ≡ []) × (result.splitter.refused ≡ None) }
-        ensures count { result.count ≡ 0 }
+    /// A stream of which nothing was taken yet. It takes no memory.
+    pub fn new(alloc: Global) -> Stream
+        ensures fresh { IsFresh result }
+        ensures first { next_number result ≡ 1 }
     {
         Stream {
             splitter: Splitter::new(alloc),
@@ -85,14 +86,16 @@ impl Stream {
         }
     }
 
-    /// Takes the next piece of the text. `Err` is how the run ends.
-    fn take_piece<H: Host, T: Taker<H>>(
+    /// Takes the next piece of the text, and hands over the lines that end in it. `Err` is how the run ends: at
+    /// a line, between two pieces, at a line that is too long, or with `Status::Memory`. No more than
+    /// `INPUT_LIMIT` bytes may be taken in all.
+    pub fn take_piece<H: Host, T: Taker<H>>(
         &mut self,
         taker: &mut T,
         host: &mut H,
         piece: &[u8],
     ) -> Result<(), Status>
-        requires ready { T.ready taker.old host.old (self.old.count + 1) }
+        requires ready { T.ready taker.old host.old (next_number self.old) }
         requires room { (start : T) × (begin : H) × (text : List ℕ)
             × HasTaken
             (acts_of T.takes T.pauses T.ends T.overflows) self.old start begin text taker.old host.old
@@ -110,7 +113,7 @@ impl Stream {
             → (left : Option (List ℕ))
             → Ended (acts_of T.takes T.pauses T.ends T.overflows) status start begin
             (text ++ piece.now) taker.new host.new left ⊥) }
-        ensures ready { OnOk result (T.ready taker.new host.new (self.new.count + 1)) }
+        ensures ready { OnOk result (T.ready taker.new host.new (next_number self.new)) }
     {
         self.lines.clear();
         match self.splitter.feed(piece, &mut self.lines) {
@@ -126,6 +129,23 @@ impl Stream {
             Err(_) => Err(Status::Memory),
         }
     }
+
+    /// Tells the taker that the text has ended, with the number of its lines and the bytes behind the last line
+    /// feed, and gives how the run ends.
+    pub fn end<H: Host, T: Taker<H>>(&self, taker: &mut T, host: &mut H) -> Status
+        requires ready { T.ready taker.old host.old (next_number self.now) }
+        requires room { (start : T) × (begin : H) × (text : List ℕ)
+            × HasTaken
+            (acts_of T.takes T.pauses T.ends T.overflows) self.now start begin text taker.old host.old
+            × (length text ≤ input_limit) }
+        ensures ends { (start : T) (begin : H) (text : List ℕ)
+            → HasTaken
+            (acts_of T.takes T.pauses T.ends T.overflows) self.now start begin text taker.old host.old
+            → T.ends taker.old host.old (length (lines text)) (rest text)
+            result taker.new host.new }
+    {
+        taker.end(host, self.count, self.splitter.rest())
+    }
 }
 
 /// Takes more of the input. `Err` is how the run ends.
@@ -136,7 +156,7 @@ fn take_next<S: Source, H: Host, T: Taker<H>>(
     source: &mut S,
     host: &mut H,
 ) -> Result<usize, Status>
-    requires ready { T.ready taker.old host.old (stream.old.count + 1) }
+    requires ready { T.ready taker.old host.old (next_number stream.old) }
     requires room { (start : T) × (begin : H) × (text : List ℕ)
         × HasTaken
         (acts_of T.takes T.pauses T.ends T.overflows) stream.old start begin text taker.old host.old
@@ -158,14 +178,14 @@ fn take_next<S: Source, H: Host, T: Taker<H>>(
         → Stops (acts_of T.takes T.pauses T.ends T.overflows) status start begin text
         taker.new host.new (S.left source.old) (S.left source.new)
         (Rose (S.faults source.old) (S.faults source.new))) }
-    ensures ready { OnOk result (T.ready taker.new host.new (stream.new.count + 1)) }
+    ensures ready { OnOk result (T.ready taker.new host.new (next_number stream.new)) }
     ensures count { S.faults source.old ≤ S.faults source.new }
     ensures stays { (IsErrOf result Status.ReadFault → ⊥)
         → S.faults source.new ≡ S.faults source.old }
 {
     match source.pull(piece) {
         Err(_) => Err(Status::ReadFault),
-        Ok(0) => Err(taker.end(host, stream.count, stream.splitter.rest())),
+        Ok(0) => Err(stream.end(taker, host)),
         Ok(taken) => match stream.take_piece(taker, host, &piece[..taken]) {
             Ok(()) => Ok(taken),
             Err(status) => Err(status),
@@ -182,8 +202,7 @@ fn take_pieces<S: Source, H: Host, T: Taker<H>>(
     host: &mut H,
 ) -> Status
     requires ready { T.ready taker.old host.old 1 }
-    requires start { (stream.old.splitter.rest ≡ []) × (stream.old.splitter.refused ≡ None)
-        × (stream.old.count ≡ 0) }
+    requires start { IsFresh stream.old }
     requires some { 0 < length piece.old }
     ensures ran { Ran (acts_of T.takes T.pauses T.ends T.overflows) result
         taker.old host.old taker.new host.new (S.left source.old) (S.left source.new)

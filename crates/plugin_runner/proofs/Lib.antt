@@ -1,8 +1,11 @@
 pub mod ChildLemmas
+pub mod CollectLemmas
 pub mod CourseLemmas
 pub mod FollowLemmas
 pub mod HearLemmas
 pub mod LinesLemmas
+pub mod PatienceLemmas
 pub mod RunLemmas
 pub mod SpawnerLemmas
 pub mod StepLemmas
+pub mod TurnsLemmas

@@ -1,8 +1,11 @@
 pub mod Bytes
+pub mod Collected
+pub mod Collecting
 pub mod Course
 pub mod Follower
 pub mod Goes
 pub mod Looking
+pub mod Patience
 pub mod Reads
 pub mod Run
 pub mod Runner

@@ -49,7 +49,8 @@ impl Follower {
 
     /// Takes the next line. At the first BEGIN of a beat it reads the clock.
     pub(crate) fn note<C: Clock>(&mut self, clock: &mut C, line: Line) -> Result<(), AllocError>
-        ensures ok { OnOk result (Notes line self.old self.new (C.readings clock.old) (C.readings clock.new)) }
+        ensures ok { OnOk result
+            (Notes line self.old self.new (C.readings clock.old) (C.readings clock.new)) }
         ensures err { OnErr result (C.readings clock.new ≡ C.readings clock.old) }
     {
         match line {
@@ -76,7 +77,8 @@ impl Follower {
     }
 
     fn begin<C: Clock>(&mut self, clock: &mut C, chart: Text)
-        ensures { Notes (line.Begin chart) self.old self.new (C.readings clock.old) (C.readings clock.new) }
+        ensures { Notes (line.Begin chart) self.old self.new
+            (C.readings clock.old) (C.readings clock.new) }
     {
         if !self.begun {
             self.reading = clock.moment();
@@ -87,7 +89,8 @@ impl Follower {
 
     fn end(&mut self) -> Result<(), AllocError>
         ensures { OnOk result ((origin : Origin) (readings : List ℕ) (past : List ALine)
-            → Follows self.old origin readings past → Follows self.new origin readings (line.End ∷ past)) }
+            → Follows self.old origin readings past
+            → Follows self.new origin readings (line.End ∷ past)) }
     {
         match self.block.take() {
             Some(chart) => {

@@ -1,11 +1,12 @@
-ghost use Rattle.std.specs.Prelude.{◌≡◌, ◌≢◌, ℕ, List, Option, Some, Result, Err};
+ghost use Rattle.std.specs.Prelude.{◌≡◌, ◌≢◌, ℕ, List, Option, Some, None, Result, Err};
 ghost use Rattle.host_model.specs.Spawner.{Child, Children};
 ghost use Rattle.plugin_runner.specs.declared.fault.RunFault.{RunFault};
 ghost use Rattle.plugin_runner.specs.declared.fault.RunFault.TheVariants as fault;
 ghost use Rattle.plugin_runner.specs.declared.fault.Turn.{Turn};
 ghost use Rattle.plugin_runner.specs.declared.runner.Runner.{Runner};
 ghost use Rattle.plugin_runner.specs.Bytes.{bytes_of, IsFront};
-ghost use Rattle.plugin_runner.specs.Course.{Course, Event, IsRunnerOf, answer_after, course_after, text_of};
+ghost use Rattle.plugin_runner.specs.Collected.{HasTurned};
+ghost use Rattle.plugin_runner.specs.Course.{Course, Event, IsRunnerOf, answer_after, course_after, new_course, text_of};
 ghost use Rattle.plugin_runner.specs.Goes.{Hears};
 ghost use Rattle.plugin_runner.specs.Run.{Ran, Run};
 ghost use Rattle.plugin_runner.specs.Runner.{lasting_answer};
@@ -36,4 +37,17 @@ pub fn any_run()
         → answer_after course.starts (text_of (course_after event taken added course) later)
         (course_after event taken added course).children ≡ Some last
         → Ran coming (course_after event taken added course) later }
+{}
+
+/// The law of `take_collected` over a spawner that tells its children: where the last turn came to an end of the
+/// text, this is the text of the children which were started, each with all its bytes and its end. It does
+/// nothing.
+pub fn any_collected()
+    ensures { (coming : List Child) (words : List (List ℕ)) (every starts last : ℕ)
+        (begun : List (List (List ℕ))) (course : Course) (answer ending : Result Turn RunFault)
+        (after : Option Children) (ahead ahead' : Option (List ℕ)) (later : List ℕ)
+        → HasTurned answer (new_course words every starts last) course
+        (Some (record { starts = begun; running = None; coming = coming })) after ahead ahead'
+        → answer_after course.starts (text_of course later) course.children ≡ Some ending
+        → Ran coming course later }
 {}

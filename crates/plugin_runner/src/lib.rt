@@ -5,13 +5,18 @@
 //! whose chart has a row in the open beat, and at a child's end, where an open block is dropped first. What is put
 //! where is said by looking back over the lines of the text; the runner keeps an open beat instead. It is proved
 //! over every spawner and clock that tell theirs that the bytes which turns have put are the text of what was heard,
-//! or a prefix of it where memory ran out, and that each answer has its cause (`any_course`). `any_run` says what that text is where a
-//! spawner tells its children.
+//! or a prefix of it where memory ran out, and that each answer has its cause (`any_course`). `any_run` says what
+//! that text is where a spawner tells its children.
 //!
-//! It stands on `plugin_text` for lines and what they say, on `history` for questions about lines, and on
-//! `host_model` for the outside.
+//! `take_collected` takes turns of a new runner to the end, and hands the lines of its text to a `Taker`. It is proved
+//! which lines those are and why it halted, for every taker. `any_collected` is its law where a spawner tells its
+//! children.
+//!
+//! It stands on `line_stream` for takers of lines, on `plugin_text` for lines and what they say, on `history` for
+//! questions about lines, and on `host_model` for the outside.
 #![tactic(auto)]
 
+mod collecting;
 mod command;
 mod fault;
 mod follower;
@@ -20,6 +25,7 @@ mod moment;
 mod runner;
 mod writing;
 
+pub use collecting::{Halt, take_collected};
 pub use fault::{RunFault, Turn};
-pub use law::{any_course, any_run};
+pub use law::{any_collected, any_course, any_run};
 pub use runner::Runner;

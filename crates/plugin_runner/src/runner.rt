@@ -1,6 +1,8 @@
-ghost use Rattle.std.specs.Prelude.{◌≡◌, ◌≢◌, ◌+◌, ◌<◌, ◌≤◌, ℕ, List, [], ◌++◌, length, Option, Some, None, IfSome, IfOk, OnErr, MatchBool};
+ghost use Rattle.std.specs.Prelude.{◌≡◌, ◌≢◌, ◌+◌, ◌<◌, ◌≤◌, ℕ, Ok, List, [], ◌++◌, length, Option, Some, None, IfSome, IfOk, OnErr, MatchBool};
+ghost use Rattle.plugin_runner.specs.declared.fault.Turn.TheVariants as turn;
 ghost use Rattle.plugin_runner.specs.declared.runner.Phase.TheVariants as phase;
 ghost use Rattle.plugin_runner.specs.Course.{Course, Bytes, End, IsRunnerOf, Listens, new_course};
+ghost use Rattle.plugin_runner.specs.Patience.{Spends, patience, room};
 ghost use Rattle.plugin_runner.specs.Goes.{Advances, Goes, IsLeft, Lands, IsSilent, ending_of};
 ghost use Rattle.plugin_runner.specs.Steps.{PutsAll, PutsSome, PutsUpTo};
 ghost use Rattle.plugin_runner.specs.Runner.{Extends, IsFault, Turned, answer_of, if_lasting, lasting_answer};
@@ -111,6 +113,10 @@ impl Runner {
         ensures repeated { IfSome (lasting_answer self.old) (λ answer. (result ≡ answer)
             × (self.new ≡ self.old) × (spawner.new ≡ spawner.old)
             × (clock.new ≡ clock.old) × (out.new ≡ out.old)) }
+
+        // Turns that answer More come to an end, unless bytes are put without end.
+        ensures patience { result ≡ Ok turn.More
+            → Spends (patience self.old) (patience self.new) out.old out.new }
     {
         match self.phase {
             Phase::Over(ending) => ending.answer(),
@@ -137,6 +143,7 @@ impl Runner {
             → IsRunnerOf self.old course
             → Goes result course self.old self.new (P.children spawner.old) (P.children spawner.new)
             (P.faults spawner.old) (P.faults spawner.new) ahead ahead out out }
+        ensures patience { result ≡ Ok turn.More → patience self.new < patience self.old }
     {
         let Ok(words) = start_words(self.alloc, &self.words, self.follower.every) else {
             return self.end(Ending::Memory);
@@ -165,6 +172,8 @@ impl Runner {
             → Goes result course self.old self.new (P.children spawner.old) (P.children spawner.new)
             (P.faults spawner.old) (P.faults spawner.new)
             (C.readings clock.old) (C.readings clock.new) out.old out.new }
+        ensures patience { result ≡ Ok turn.More
+            → Spends (patience self.old) (patience self.new) out.old out.new }
     {
         let mut piece = [0; ROOM];
         let room = ROOM - self.splitter.rest().len();
@@ -193,6 +202,8 @@ impl Runner {
             → Goes result course self.old self.new (P.children spawner.old) (P.children spawner.new)
             (P.faults spawner.old) (P.faults spawner.new)
             (C.readings clock.old) (C.readings clock.new) out.old out.new }
+        ensures patience { result ≡ Ok turn.More
+            → Spends (patience self.old) (patience self.new) out.old out.new }
     {
         match spawner.finish() {
             Err(_) => Err(RunFault::PipeFault),
@@ -213,6 +224,8 @@ impl Runner {
         ensures goes { (course : Course) → Listens self.old course
             → Advances (Some (End status)) course self.new
             (C.readings clock.old) (C.readings clock.new) out.old out.new }
+        ensures again { result ≡ Ok turn.More → (self.new.phase ≡ phase.Ready)
+            × (self.new.restarts + 1 ≡ self.old.restarts) }
     {
         if self.follower.close(clock, out).is_err() {
             return self.end(Ending::Memory);
@@ -241,6 +254,7 @@ impl Runner {
     ) -> Result<Turn, RunFault>
         requires phase { self.old.phase ≡ phase.Runs }
         requires room { length self.old.splitter.rest + length piece.now ≤ 8193 }
+        requires some { 0 < length piece.now }
         ensures turned { Turned result self.old self.new
             (P.faults spawner.old) (P.faults spawner.new) }
         ensures out { Extends result out.old out.new }
@@ -250,6 +264,8 @@ impl Runner {
         ensures goes { (course : Course) → Listens self.old course
             → Advances (Some (Bytes piece.now)) course self.new
             (C.readings clock.old) (C.readings clock.new) out.old out.new }
+        ensures patience { result ≡ Ok turn.More
+            → Spends (patience self.old) (patience self.new) out.old out.new }
     {
         match ending_of(self.put_piece(clock, piece, out)) {
             None => Ok(Turn::More),
@@ -267,8 +283,12 @@ impl Runner {
         piece: &[u8],
         out: &mut ByteList,
     ) -> Result<Option<Ending>, AllocError>
-        requires { length self.old.splitter.rest + length piece.now ≤ 8193 }
+        requires room { length self.old.splitter.rest + length piece.now ≤ 8193 }
+        requires some { 0 < length piece.now }
         ensures phase { self.new.phase ≡ self.old.phase }
+        ensures restarts { self.new.restarts ≡ self.old.restarts }
+        ensures patience { IfOk result (λ ending. ending ≡ None
+            → Spends (room self.old.splitter.rest) (room self.new.splitter.rest) out.old out.new) }
         ensures out { (added : List ℕ) × (out.new ≡ out.old ++ added) }
         ensures goes { (course : Course) → Listens self.old course
             → Lands (ending_of result) piece.now course self.new
@@ -318,6 +338,8 @@ fn take_lines<C: Clock>(
         (C.readings clock.old) (C.readings clock.new) out.old out.new)) }
     ensures err { OnErr result (PutsSome lines.now follower.old
         (C.readings clock.old) (C.readings clock.new) out.old out.new) }
+    ensures grows { IfOk result (λ last. MatchBool last (Unit {0})
+        (length out.old + length lines.now ≤ length out.new)) }
     ensures out { (added : List ℕ) × (out.new ≡ out.old ++ added) }
 {
     for at in 0..lines.len() {

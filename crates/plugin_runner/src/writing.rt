@@ -1,5 +1,5 @@
 //! Lines that are read, and put behind a text.
-ghost use Rattle.std.specs.Prelude.{◌≡◌, ℕ, List, ◌∷◌, [], ◌++◌, IfOk, OnOk, OnErr, false};
+ghost use Rattle.std.specs.Prelude.{◌≡◌, ℕ, List, ◌∷◌, [], ◌++◌, ◌<◌, length, IfOk, OnOk, OnErr, false};
 ghost use Rattle.std.specs.Option.{option_map_or};
 ghost use Rattle.history.specs.Read.{is_disable};
 ghost use Rattle.history.specs.declared.line.Line.{Line as ALine};
@@ -72,6 +72,7 @@ impl Follower {
             (C.readings clock.old) (C.readings clock.new) out.old out.new) }
         ensures err { OnErr result (PutsFront (with_line_put bytes.now) self.old
             (C.readings clock.old) (C.readings clock.new) out.old out.new) }
+        ensures grows { OnOk result (length out.old < length out.new) }
     {
         append_line(out, bytes)?;
         match said {
@@ -145,6 +146,7 @@ impl Follower {
             (C.readings clock.old) (C.readings clock.new) out.old out.new) }
         ensures err { OnErr result (PutsFront (put bytes.now) self.old
             (C.readings clock.old) (C.readings clock.new) out.old out.new) }
+        ensures grows { OnOk result (length out.old < length out.new) }
     {
         let said = meaning_of(self.alloc, bytes)?;
         let disables = is_disable(&said);

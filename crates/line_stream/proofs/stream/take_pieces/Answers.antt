@@ -1,5 +1,6 @@
 use Rattle.std.proofs.Common.{ℕ, ◌∙◌, refl, arith, length-take}
 use Rattle.line_stream.specs.Chain.{acts_of}
+use Rattle.line_stream.specs.Stream.{HasTaken}
 use Rattle.line_stream.proofs.RunLemmas.{start-taken, start-running, step-running, stop-ran, limit-ran}
 use Rattle.line_stream.proofs.stream.take_pieces.Goals as goal
 
@@ -7,9 +8,9 @@ pub loop-budget-init : goal.loop-budget-init
 loop-budget-init g c =
     let acts = acts_of g.T.Taker.takes g.T.Taker.pauses g.T.Taker.ends g.T.Taker.overflows in
     let start = c.requires.start in (
-      start-running acts _ (g.S.Source.left c.args.source.now) (start-taken acts c.args.stream.now c.args.taker.now c.args.host.now start.0 start.1 start.2),
+      start-running acts (λ text. HasTaken acts c.args.stream.now c.args.taker.now c.args.host.now text c.args.taker.now c.args.host.now) (g.S.Source.left c.args.source.now) (start-taken acts c.args.stream.now c.args.taker.now c.args.host.now start),
       refl,
-      rw start.2 c.requires.ready,
+      rw start.none c.requires.ready,
     )
 
 pub loop-budget-preserved : goal.loop-budget-preserved

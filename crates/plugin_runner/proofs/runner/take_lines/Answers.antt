@@ -10,7 +10,7 @@ whole lines at line within is =
     sym (take-append-drop at lines) ∙ ap (λ (l : List (List ℕ)). take at lines ++ l) (rw (add-one) (drop-cons lines at line within ∙ ap (λ (x : List ℕ). x ∷ drop (suc at) lines) (sym is)))
 
 pub loop-at-init : goal.loop-at-init
-loop-at-init g c = record { plain = tt; puts = Puts-nothing c.args.follower.now _ c.args.out.now }
+loop-at-init g c = (record { plain = tt; puts = Puts-nothing c.args.follower.now _ c.args.out.now }, omega arith)
 
 pub returns-in_err-take_line-clause-err : goal.returns-in_err-take_line-clause-err
 returns-in_err-take_line-clause-err g c =
@@ -23,8 +23,8 @@ returns-in_err-take_line-clause-err g c =
       last = line;
       more = drop (at + 1) lines;
       whole = whole lines at line within c.line.ensures;
-      plain = c.loop-at.invariant.plain;
-      puts = PutsFront-next (take at lines) line c.args.follower.now c.loop-at.follower _ _ _ c.args.out.now c.loop-at.out c.take_line.new.out c.loop-at.invariant.puts [] c.in_err-take_line.ensures.err;
+      plain = c.loop-at.invariant.0.plain;
+      puts = PutsFront-next (take at lines) line c.args.follower.now c.loop-at.follower _ _ _ c.args.out.now c.loop-at.out c.take_line.new.out c.loop-at.invariant.0.puts [] c.in_err-take_line.ensures.err;
     } in
     on_err _ _ some
 
@@ -39,9 +39,9 @@ returns-then-branch-clause-ok g c =
       last = line;
       more = drop (at + 1) lines;
       whole = whole lines at line within c.line.ensures;
-      plain = c.loop-at.invariant.plain;
+      plain = c.loop-at.invariant.0.plain;
       says = sym c.in_ok-take_line.ensures.disables ∙ c.if-branch.true;
-      puts = Puts-next (take at lines) line c.args.follower.now c.loop-at.follower _ _ _ c.args.out.now c.loop-at.out c.take_line.new.out c.loop-at.invariant.puts c.take_line.new.self c.in_ok-take_line.ensures.ok;
+      puts = Puts-next (take at lines) line c.args.follower.now c.loop-at.follower _ _ _ c.args.out.now c.loop-at.out c.take_line.new.out c.loop-at.invariant.0.puts c.take_line.new.self c.in_ok-take_line.ensures.ok;
     }
 
 pub loop-at-preserved : goal.loop-at-preserved
@@ -50,9 +50,14 @@ loop-at-preserved g c =
     let at = c.loop-at.at in
     let line = c.line.result.now in
     let within : at < length lines = omega arith in
-    let next : take (at + 1) lines ≡ take at lines ++ line ∷ [] = take_more lines at line within ∙ ap (λ (x : List ℕ). take at lines ++ x ∷ []) (sym c.line.ensures) in
-    subst (λ all. PutsAll all c.args.follower.now c.take_line.new.self (g.C.Clock.readings c.args.clock.now) (g.C.Clock.readings c.take_line.new.clock) c.args.out.now c.take_line.new.out) (sym next)
-    (record {
-      plain = IsPlain-snoc (take at lines) line c.loop-at.invariant.plain (sym c.in_ok-take_line.ensures.disables ∙ c.if-branch.false);
-      puts = Puts-next (take at lines) line c.args.follower.now c.loop-at.follower _ _ _ c.args.out.now c.loop-at.out c.take_line.new.out c.loop-at.invariant.puts c.take_line.new.self c.in_ok-take_line.ensures.ok;
-    })
+    let next : take (at + 1) lines ≡ take at lines ++ line ∷ [] = take_more lines at line within ∙ ap (λ (x : List ℕ). take at lines ++ x ∷ []) (sym c.line.ensures) in (
+      subst (λ all. PutsAll all c.args.follower.now c.take_line.new.self (g.C.Clock.readings c.args.clock.now) (g.C.Clock.readings c.take_line.new.clock) c.args.out.now c.take_line.new.out) (sym next)
+          (record {
+            plain = IsPlain-snoc (take at lines) line c.loop-at.invariant.0.plain (sym c.in_ok-take_line.ensures.disables ∙ c.if-branch.false);
+            puts = Puts-next (take at lines) line c.args.follower.now c.loop-at.follower _ _ _ c.args.out.now c.loop-at.out c.take_line.new.out c.loop-at.invariant.0.puts c.take_line.new.self c.in_ok-take_line.ensures.ok;
+          }),
+      omega (arith, c.loop-at.invariant.1, c.in_ok-take_line.ensures.grows),
+    )
+
+pub returns-clause-grows : goal.returns-clause-grows
+returns-clause-grows g c = omega (arith, c.loop-at.invariant.1, c.len-at-end.ensures, c.loop-at-test.false)

@@ -1,5 +1,5 @@
-use Rattle.std.proofs.Common.{[], ◌∷◌, ◌++◌, sym, refl, ◌∙◌}
-use Rattle.plugin_runner.proofs.StepLemmas.{ok-with, err-with, on_err, front-all, Puts-line, Puts-refused, PutsFront-line}
+use Rattle.std.proofs.Common.{[], ◌∷◌, ◌++◌, length, sym, refl, ap, ◌∙◌, length-append, arith}
+use Rattle.plugin_runner.proofs.StepLemmas.{ok-with, err-with, on_ok, on_err, front-all, Puts-line, Puts-refused, PutsFront-line}
 use Rattle.plugin_runner.proofs.follower.Follower.put.Goals as goal
 
 pub returns-in_err-append_line-clause-err : goal.returns-in_err-append_line-clause-err
@@ -21,3 +21,10 @@ returns-in-Some-clause-err g c =
     let line = c.args.bytes.now in
     err-with c.note.result _ _ c.note.ensures.err
     (λ same. PutsFront-line line c.args.self.now _ _ c.args.out.now c.append_line.new.out (line ++ 10 ∷ []) same c.in_ok-append_line.ensures.ok (front-all (line ++ 10 ∷ []) (line ++ 10 ∷ []) refl))
+
+pub returns-in-Some-clause-grows : goal.returns-in-Some-clause-grows
+returns-in-Some-clause-grows g c =
+    on_ok c.note.result _ (omega (arith, ap length c.in_ok-append_line.ensures.ok, length-append c.args.out.now (c.args.bytes.now ++ 10 ∷ []), length-append c.args.bytes.now (10 ∷ [])))
+
+pub returns-in-None-clause-grows : goal.returns-in-None-clause-grows
+returns-in-None-clause-grows g c = omega (arith, ap length c.in_ok-append_line.ensures.ok, length-append c.args.out.now (c.args.bytes.now ++ 10 ∷ []), length-append c.args.bytes.now (10 ∷ []))

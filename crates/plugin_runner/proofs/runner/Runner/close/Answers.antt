@@ -3,7 +3,7 @@ use Rattle.plugin_runner.specs.declared.runner.Ending.TheVariants as ending
 use Rattle.plugin_runner.specs.declared.runner.Phase.TheVariants.{Ready, Over}
 use Rattle.plugin_runner.specs.declared.runner.Runner.{Runner}
 use Rattle.plugin_runner.specs.Course.{End, course_after}
-use Rattle.plugin_runner.proofs.CourseLemmas.{err_is, ok_is, over-runner, tells-some_close, tells-status, tells-ended, waits-again}
+use Rattle.plugin_runner.proofs.CourseLemmas.{err_is, ok_is, over-runner, tells-some_close, tells-status, tells-ended, waits-again, not_more}
 use Rattle.plugin_runner.proofs.runner.Runner.close.Goals as goal
 
 pub returns-then-is_err-clause-goes : goal.returns-then-is_err-clause-goes
@@ -58,3 +58,15 @@ returns-in-Some-clause-goes g c = λ course l.
       wrote = p.wrote;
       next = waits-again c.args.self.now course c.args.status l c.close.new.self _ _ c.args.out.now c.close.new.out p zero new refl refl less refl c.new.ensures.empty c.new.ensures.open;
     }
+
+pub returns-then-is_err-clause-again : goal.returns-then-is_err-clause-again
+returns-then-is_err-clause-again g c = λ is. absurd (not_more ending.Memory (sym c.end.ensures.answer ∙ is))
+
+pub returns-then-status-ne0-clause-again : goal.returns-then-status-ne0-clause-again
+returns-then-status-ne0-clause-again g c = λ is. absurd (not_more (ending.Disabled (Some (to_z w32 (of_z w32 c.args.status)))) (sym c.end-then-status-ne0.ensures.answer ∙ is))
+
+pub returns-in-None-clause-again : goal.returns-in-None-clause-again
+returns-in-None-clause-again g c = λ is. absurd (not_more ending.Ended (sym c.end-in-None.ensures.answer ∙ is))
+
+pub returns-in-Some-clause-again : goal.returns-in-Some-clause-again
+returns-in-Some-clause-again g c = λ is. (refl, omega (arith, c.in-Some.ensures))

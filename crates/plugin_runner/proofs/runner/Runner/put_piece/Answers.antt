@@ -3,6 +3,7 @@ use Rattle.plugin_text.specs.Lines.{parts, lines}
 use Rattle.plugin_runner.specs.declared.runner.Runner.{Runner}
 use Rattle.plugin_runner.specs.Bytes.{IsFront}
 use Rattle.plugin_runner.proofs.CourseLemmas.{lands-memory, listens-all, tells-disabled, tells-long, tells-front, tells-nothing, tells-some}
+use Rattle.plugin_runner.proofs.PatienceLemmas.{feed-spends}
 use Rattle.plugin_runner.proofs.runner.Runner.put_piece.Goals as goal
 
 pub returns-in_err-held-clause-goes : goal.returns-in_err-held-clause-goes
@@ -43,13 +44,21 @@ returns-in-Ok-clause-goes g c = λ course l.
       next = listens-all old course piece l c.feed.new.out is c.in-Ok.ensures.short new _ _ c.args.out.now c.take_lines.new.out refl refl c.feed.ensures.held c.in-Ok.ensures.refused (λ more. ap parts (sym (append_assoc old.splitter.rest piece more)) ∙ c.in-Ok.ensures.onward more) p;
     }
 
+pub returns-in-Ok-clause-patience : goal.returns-in-Ok-clause-patience
+returns-in-Ok-clause-patience g c = λ is.
+    let old = c.args.self.now in
+    let whole : List ℕ = old.splitter.rest ++ c.args.piece.now in
+    let cut : c.feed.new.out ≡ lines whole = c.in-Ok.ensures.lines ∙ ap (λ (x : List (List ℕ)). x ++ lines whole) c.new-lines.ensures in
+    let grows = rw c.if-branch.false at c.in_ok-take_lines-in-Ok.ensures.grows in
+    feed-spends old.splitter.rest c.feed.new.self.rest c.args.piece.now c.feed.new.out c.args.out.now c.take_lines.new.out c.requires.room c.requires.some cut c.in-Ok.ensures.rest grows
+
 pub returns-in_err-append_both-in-Err-LineTooLong-clause-goes : goal.returns-in_err-append_both-in-Err-LineTooLong-clause-goes
 returns-in_err-append_both-in-Err-LineTooLong-clause-goes g c = λ course l.
     let old = c.args.self.now in
     let piece = c.args.piece.now in
     let new : Runner = record old { splitter = c.feed.new.self } in
     let held : c.as_slice.result.now ≡ old.splitter.rest = c.as_slice.ensures ∙ c.in_ok-held.ensures ∙ c.rest.ensures.value in
-    let size : length (old.splitter.rest ++ piece) ≤ 8193 = omega (arith, c.requires, length-append old.splitter.rest piece) in
+    let size : length (old.splitter.rest ++ piece) ≤ 8193 = omega (arith, c.requires.room, length-append old.splitter.rest piece) in
     let long = c.in-Err-LineTooLong.ensures.long l.going (ap Err c.in-Err-LineTooLong.field-0-is) in
     let e = c.in_err-append_both-in-Err-LineTooLong.ensures.err in
     let front : IsFront e.0 (old.splitter.rest ++ piece) = subst (λ (b : List ℕ). IsFront e.0 (b ++ piece)) held e.2 in
@@ -61,7 +70,7 @@ returns-in-Err-LineTooLong-clause-goes g c = λ course l.
     let old = c.args.self.now in
     let piece = c.args.piece.now in
     let held : c.as_slice.result.now ≡ old.splitter.rest = c.as_slice.ensures ∙ c.in_ok-held.ensures ∙ c.rest.ensures.value in
-    let size : length (old.splitter.rest ++ piece) ≤ 8193 = omega (arith, c.requires, length-append old.splitter.rest piece) in
+    let size : length (old.splitter.rest ++ piece) ≤ 8193 = omega (arith, c.requires.room, length-append old.splitter.rest piece) in
     let long = c.in-Err-LineTooLong.ensures.long l.going (ap Err c.in-Err-LineTooLong.field-0-is) in
     record {
       taken = [];
@@ -74,6 +83,8 @@ returns-in-Err-LineTooLong-clause-goes g c = λ course l.
 pub returns : goal.returns
 returns g c = record {
   phase = refl;
+  restarts = refl;
+  patience = tt;
   out = ([], sym (append-nil c.args.out.now));
   goes = λ course l. record { taken = []; reads = refl; added = []; wrote = sym (append-nil c.args.out.now); next = tells-nothing c.args.self.now course c.args.piece.now l };
 }

@@ -1,9 +1,11 @@
-use Rattle.std.proofs.Common.{◌≡◌, ℕ, List, Some, None, refl, ap, ◌∙◌}
+use Rattle.std.proofs.Common.{◌≡◌, ℕ, List, Some, None, refl, sym, ap, ◌∙◌}
 use Rattle.std.specs.Option.{option_map}
 use Rattle.host_model.specs.Spawner.{after_start}
+use Rattle.plugin_runner.specs.declared.runner.Ending.TheVariants as ending
 use Rattle.plugin_runner.specs.Course.{Start}
 use Rattle.plugin_runner.specs.Words.{start_words}
-use Rattle.plugin_runner.proofs.CourseLemmas.{Advances-memory, Advances-nothing, Advances-start, runner-waits, not_both}
+use Rattle.plugin_runner.proofs.CourseLemmas.{Advances-memory, Advances-nothing, Advances-start, runner-waits, not_both, not_more}
+use Rattle.plugin_runner.proofs.PatienceLemmas.{room-within, start-spends}
 use Rattle.plugin_runner.proofs.runner.Runner.start.Goals as goal
 
 pub returns-in_default-clause-goes : goal.returns-in_default-clause-goes
@@ -42,3 +44,11 @@ returns-clause-goes g c = λ course ahead out r.
       last = λ runs goes ends none. cc none;
       advances = Advances-start c.args.self.now course ahead out w;
     }
+
+pub returns-in_default-clause-patience : goal.returns-in_default-clause-patience
+returns-in_default-clause-patience g c = λ is. absurd (not_more ending.Memory (sym c.end.ensures.answer ∙ is))
+
+pub returns-clause-patience : goal.returns-clause-patience
+returns-clause-patience g c = λ is.
+    let held = c.args.self.now.splitter.rest in
+    start-spends c.args.self.now.phase c.args.self.now.restarts _ _ c.requires (room-within held)

@@ -1,4 +1,4 @@
-use Rattle.std.proofs.Common.{◌≡◌, None, Some, refl, sym, ap, subst, ◌∙◌}
+use Rattle.std.proofs.Common.{◌≡◌, None, Some, refl, sym, ap, subst, ◌∙◌, arith}
 use Rattle.plugin_runner.specs.Runner.{IsFault, answer_of, answer_in}
 use Rattle.plugin_runner.proofs.CourseLemmas.{Advances-nothing, not_more, not_fault, not_spawn, not_pipe}
 use Rattle.plugin_runner.proofs.runner.Runner.turn.Goals as goal
@@ -15,3 +15,9 @@ returns-in-Over-clause-goes g c = λ course r. record {
       cc never;
   advances = Advances-nothing c.args.self.now course _ c.args.out.now r;
 }
+
+pub returns-in-Over-clause-patience : goal.returns-in-Over-clause-patience
+returns-in-Over-clause-patience g c = λ is. absurd (not_more c.in-Over.ending (sym c.answer.ensures ∙ is))
+
+pub returns-in-Ready-clause-patience : goal.returns-in-Ready-clause-patience
+returns-in-Ready-clause-patience g c = λ is. omega (arith, c.start.ensures.patience is)
