@@ -24,7 +24,7 @@ use Rattle.agent_core.specs.Kept.{StandsForHistory, StandsForNew}
 use Rattle.agent_app.specs.Course.{asked, begun, converted, made_again, no_run, none_found, now_made, one_run, ran, AreStored, Course, Database, HoldsDatabase, HoldsRuns, MayHaveMade, OneRun, WhereWhole}
 use Rattle.agent_app.specs.New.{Makes}
 use Rattle.agent_app.specs.Query.{Asks}
-use Rattle.agent_app.specs.Run.{history_with_text, is_opened, is_whole, no_more, IsAckedUpTo, IsAsFound, Keeps, Resumes, RunsAll, RunsOn}
+use Rattle.agent_app.specs.Run.{history_with_text, is_opened, is_whole, no_more, run_every, IsAckedUpTo, IsAsFound, Keeps, Resumes, RunsAll, RunsOn}
 use Rattle.agent_app.proofs.AckLemmas.{acked-nothing, acked-since, acked-weaker, text-front, IsFront}
 use Rattle.agent_app.proofs.ExtendsLemmas.{extends-length, extends-whole}
 
@@ -77,8 +77,8 @@ module _ (starts : List (Option Database)) (tried : List Settings) (runs : List 
             start = here.start;
             among = here.among;
             stored = Some (record { settings = base.settings; history = before });
-            are = one_run runs (run_as ended text) base before taken are takes no_more (extends-whole before taken)
-                (λ t is all. sym (ap (history_with_text before) (whole t is all))) acked;
+            are = one_run runs (run_as ended text) base before taken are takes no_more (extends-whole run_every before taken)
+                (λ t is all. sym (ap (history_with_text run_every before) (whole t is all))) acked;
             holds = holds;
           }
 
@@ -103,13 +103,13 @@ module _ (starts : List (Option Database)) (tried : List Settings) (runs : List 
 
     moments-none : Throughout (EveryStop (Stored None)) host.past host'.past
     moments-none =
-        untold (found.output h)
-        (λ disk text images by_then. unchanged None [] takes-none (λ t is. absurd (none-some t is)) (λ t is. absurd (none-some t is)) disk text images (text-front host.past text by_then)) (found.any_moment h)
+        untold (found.host_is.output h)
+        (λ disk text images by_then. unchanged None [] takes-none (λ t is. absurd (none-some t is)) (λ t is. absurd (none-some t is)) disk text images (text-front host.past text by_then)) (found.host_is.any_moment h)
 
     end-none : EveryDisk (λ disk. Stored (Some s) disk (told host'.past)) host'.past
     end-none disk images =
-        unchanged (Some s) [] takes-none not-opened (λ t is whole. refl) disk (told host'.past) (at_end (found.any_moment h) disk images)
-        (record { more = []; whole = append-nil (told host'.past) ∙ found.output h })
+        unchanged (Some s) [] takes-none not-opened (λ t is whole. refl) disk (told host'.past) (at_end (found.host_is.any_moment h) disk images)
+        (record { more = []; whole = append-nil (told host'.past) ∙ found.host_is.output h })
 
   -- ---- there was one of this history
   module _ (start : Option Database) (among : Contains starts start) (base : Database) (are : AreStored tried start runs (Some base))
@@ -130,9 +130,9 @@ module _ (starts : List (Option Database)) (tried : List Settings) (runs : List 
     DiskRose = Rose host.disk_faults host'.disk_faults
 
     abbrev OnIt : List Event → Type 0
-    OnIt read = RunsOn s set earlier left left' read host'.past SourceRose TellRose DiskRose
+    OnIt read = RunsOn s run_every set earlier left left' read host'.past SourceRose TellRose DiskRose
 
-    run : Resumes s set earlier left left' host.past host'.past SourceRose TellRose DiskRose
+    run : Resumes s run_every set earlier left left' host.past host'.past SourceRose TellRose DiskRose
     run = all.resumes h set earlier stands
 
     opening : (taken : List ℕ) → Takes left taken left' → Throughout (EveryStop (Stored None)) host.past run.read
@@ -140,8 +140,8 @@ module _ (starts : List (Option Database)) (tried : List Settings) (runs : List 
         untold run.silent
         (λ disk text images by_then. unchanged None taken takes (λ t is. absurd (none-some t is)) (λ t is. absurd (none-some t is)) disk text images (text-front host.past text by_then)) run.before
 
-    once-read : (ended : Option Status) (taken : List ℕ) → Takes left taken left' → (disk : File → List ℕ) (text : List ℕ) → (keeps : Keeps set earlier (history_with_text earlier taken) (told run.read) disk text)
-        → WhereWhole (run_as ended text) (keeps.stored ≡ history_with_text earlier taken) → Stored ended disk text
+    once-read : (ended : Option Status) (taken : List ℕ) → Takes left taken left' → (disk : File → List ℕ) (text : List ℕ) → (keeps : Keeps set earlier (history_with_text run_every earlier taken) (told run.read) disk text)
+        → WhereWhole (run_as ended text) (keeps.stored ≡ history_with_text run_every earlier taken) → Stored ended disk text
     once-read ended taken takes disk text keeps whole =
         let acked = subst (λ (first : List ℕ). IsAckedUpTo (length keeps.stored) (drop (length first) text)) run.silent keeps.acked in
         record {
@@ -158,15 +158,15 @@ module _ (starts : List (Option Database)) (tried : List Settings) (runs : List 
         by : OnIt run.read ⊎ (((s ≡ status.DiskFault) ⊎ (s ≡ status.Memory)) × (host'.past ≡ run.read) × (left' ≡ left)) → Throughout (EveryStop (Stored None)) host.past host'.past
         by (inl on) =
             joined (opening on.runs.taken on.runs.takes)
-            (weakened (λ now keeps disk text images told_by. once-read None on.runs.taken on.runs.takes disk text (keeps disk text images told_by) (λ t is. absurd (none-some t is))) on.runs.stops)
+            (weakened (λ now keeps disk text images told_by. once-read None on.runs.taken on.runs.takes disk text (keeps disk text images told_by) (λ t is. absurd (none-some t is))) on.runs.stores.stops)
         by (inr (short, is, same)) = subst (Throughout (EveryStop (Stored None)) host.past) (sym is) (opening [] (subst (Takes left []) (sym same) (Takes-none left)))
 
     -- the run on it ended
     end-on : OnIt run.read → EveryDisk (λ disk. Stored (Some s) disk (told host'.past)) host'.past
     end-on on disk images = by (is_whole s) refl
       where
-        keeps : Keeps set earlier (history_with_text earlier on.runs.taken) (told run.read) disk (told host'.past)
-        keeps = at_end on.runs.stops disk (told host'.past) images (full_text host'.past (told host'.past) refl)
+        keeps : Keeps set earlier (history_with_text run_every earlier on.runs.taken) (told run.read) disk (told host'.past)
+        keeps = at_end on.runs.stores.stops disk (told host'.past) images (full_text host'.past (told host'.past) refl)
 
         by : (whole : Bool) → is_whole s ≡ whole → Stored (Some s) disk (told host'.past)
         by false part =
@@ -175,12 +175,12 @@ module _ (starts : List (Option Database)) (tried : List Settings) (runs : List 
         by true all =
             once-read (Some s) on.runs.taken on.runs.takes disk (told host'.past)
             (record {
-              stored = history_with_text earlier on.runs.taken;
-              since = extends-whole earlier on.runs.taken;
+              stored = history_with_text run_every earlier on.runs.taken;
+              since = extends-whole run_every earlier on.runs.taken;
               within = no_more;
-              stands = on.runs.ends all disk images;
-              acked = acked-weaker (length keeps.stored) (length (history_with_text earlier on.runs.taken)) (drop (length (told run.read)) (told host'.past))
-                  (extends-length keeps.stored (history_with_text earlier on.runs.taken) keeps.within) keeps.acked;
+              stands = on.runs.stores.ends all disk images;
+              acked = acked-weaker (length keeps.stored) (length (history_with_text run_every earlier on.runs.taken)) (drop (length (told run.read)) (told host'.past))
+                  (extends-length keeps.stored (history_with_text run_every earlier on.runs.taken) keeps.within) keeps.acked;
             }) (λ t is whole. refl)
 
     -- it ended before the database was read

@@ -14,7 +14,7 @@ use Rattle.agent_core.specs.Kept.{StandsForHistory}
 use Rattle.agent_app.specs.Convert.{LeavesDisk}
 use Rattle.agent_app.specs.New.{Makes}
 use Rattle.agent_app.specs.Query.{Asks}
-use Rattle.agent_app.specs.Run.{history_with_text, is_opened, is_whole, Extends, IsAckedUpTo, RunsAll}
+use Rattle.agent_app.specs.Run.{history_with_text, is_opened, is_whole, run_every, Extends, IsAckedUpTo, RunsAll}
 
 -- one run: how it ended, where no stop came before; what its source had left, before it and after it, where the source
 -- tells that; and what the run told
@@ -78,7 +78,7 @@ pub data AreStored (tried : List Settings) (start : Option Database) : List OneR
   none_found : (runs : List OneRun) (run : OneRun) → AreStored tried start runs None → MayHaveFoundNone run → run.text ≡ [] → AreStored tried start (run ∷ runs) None
   now_made : (runs : List OneRun) (set : Settings) → Contains tried set → AreStored tried start runs None → AreStored tried start runs (Some (record { settings = set; history = [] }))
   one_run : (runs : List OneRun) (run : OneRun) (base : Database) (stored : List Beat) (taken : List ℕ) → AreStored tried start runs (Some base) → Takes run.left taken run.left_after
-      → Extends base.history stored → Extends stored (history_with_text base.history taken) → WhereWhole run (stored ≡ history_with_text base.history taken)
+      → Extends base.history stored → Extends stored (history_with_text run_every base.history taken) → WhereWhole run (stored ≡ history_with_text run_every base.history taken)
       → IsAckedUpTo (length stored) run.text → AreStored tried start (run ∷ runs) (Some (record { settings = base.settings; history = stored }))
 
 -- the disk holds what these runs stored from one of these starts
