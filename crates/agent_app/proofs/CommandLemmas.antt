@@ -2,7 +2,7 @@
 use Rattle.std.proofs.Common.{◌≡◌, ◌∙◌, ◌<◌, ◌≤◌, ◌⊎◌, ◌&&◌, ◌||◌, ◌==◌, ℕ, Bool, true, false, refl, sym, ap, subst, arith, List, [], ◌∷◌, length, Option, Some, None, inl, inr, codes, true≢false, nat_lt}
 use Rattle.std.proofs.lemmas.Bool.Decides.{nat_tests}
 use Rattle.std.proofs.lemmas.Slice.Eq.{bytes_eq-Decides}
-use Rattle.std.specs.Prelude.{if◌then◌else◌, nat_le}
+use Rattle.std.specs.Prelude.{if◌then◌else◌, map, nat_le, slice_index_or}
 use Rattle.std.specs.List.{list_any}
 use Rattle.std.specs.Option.{option_map, option_and_then}
 use Rattle.std.specs.Str.{bytes_eq}
@@ -19,12 +19,13 @@ use Rattle.clap.specs.Simple.{subcommand_of}
 use Rattle.clap.specs.Faults.{fault_of}
 use Rattle.clap.specs.declared.error.kind.ErrorKind.{ErrorKind}
 use Rattle.clap.specs.declared.error.kind.ErrorKind.TheVariants as kind
-use Rattle.agent_app.specs.Command.{command_of, form_named, form_of, is_option, number_of, settings_of, settings_with, tier_of, up_to}
-use Rattle.agent_app.specs.Forms.{command_in, form_in, forms, settings_in}
+use Rattle.agent_app.specs.Command.{collect_of, command_of, form_named, form_of, is_option, number_of, settings_of, settings_with, tier_of, up_to}
+use Rattle.agent_app.specs.Forms.{collect_in, command_in, form_in, forms, settings_in}
 use Rattle.entry_codec.specs.declared.entry.TierSettings.{TierSettings}
+use Rattle.agent_app.specs.declared.command.TheConstants.{EVERY_LIMIT, STARTS_LIMIT}
 use Rattle.agent_app.specs.declared.command.Command.{Command}
-use Rattle.agent_app.specs.declared.command.Command.TheVariants.{New, Query}
-use Rattle.agent_app.proofs.FormLemmas.{or_false, leaf_fault, leaf_missing, leaf_rows, alone_fault, stray_word, convert_fault, health_fault, log_fault, new_fault, query_fault, run_fault, convert_rows, health_rows, log_rows, new_rows, query_rows, run_rows, unknown_fault, empty_fault}
+use Rattle.agent_app.specs.declared.command.Command.TheVariants.{Collect, New, Query}
+use Rattle.agent_app.proofs.FormLemmas.{or_false, leaf_fault, leaf_missing, leaf_rows, alone_fault, stray_word, collect_fault, convert_fault, health_fault, log_fault, new_fault, query_fault, run_fault, collect_rows, convert_rows, health_rows, log_rows, new_rows, query_rows, run_rows, unknown_fault, empty_fault}
 
 cons≢nil : (k : ErrorKind) (ks : Kinds) → k ∷ ks ≡ [] → ⊥
 cons≢nil k ks e = true≢false (ap some e)
@@ -57,16 +58,16 @@ past_7 n k ks some is = by (nat_lt 7 n) refl
     by true e = grind (arith, nat_tests)
     by false e = absurd (cons≢nil k ks (sym is ∙ fits_7 n some (grind (arith, nat_tests))))
 
-few : (n : ℕ) → 0 < n → nat_lt n 5 ≡ true → range_kinds 5 usize_max n ≡ kind.TooFewValues ∷ []
-few n some less =
+few : (least n : ℕ) → nat_lt 0 least ≡ true → (least == usize_max) ≡ false → 0 < n → nat_lt n least ≡ true → range_kinds least usize_max n ≡ kind.TooFewValues ∷ []
+few least n any apart some less =
     let a : (n == 0) ≡ false = grind (arith, nat_tests) in
-    rw (a, less) refl
+    rw (a, any, apart, less) refl
 
-enough : (n : ℕ) → n ≤ usize_max → nat_lt n 5 ≡ false → range_kinds 5 usize_max n ≡ []
-enough n most less =
+enough : (least n : ℕ) → nat_lt 0 least ≡ true → (least == usize_max) ≡ false → 0 < n → n ≤ usize_max → nat_lt n least ≡ false → range_kinds least usize_max n ≡ []
+enough least n any apart some most less =
     let a : (n == 0) ≡ false = grind (arith, nat_tests) in
     let b : nat_lt usize_max n ≡ false = grind (arith, nat_tests) in
-    rw (a, less, b) refl
+    rw (a, any, apart, less, b) refl
 
 some_fit : (n : ℕ) → 0 < n → n ≤ usize_max → range_kinds 1 usize_max n ≡ []
 some_fit n some most =
@@ -86,6 +87,20 @@ settings-past (a ∷ b ∷ c ∷ d ∷ e ∷ f ∷ []) past = refl
 settings-past (a ∷ b ∷ c ∷ d ∷ e ∷ f ∷ g ∷ []) past = absurd (omega arith)
 settings-past (a ∷ b ∷ c ∷ d ∷ e ∷ f ∷ g ∷ h ∷ more) past = refl
 
+pub collect-read : {B : Type 0} (f : B → Text) (words : List B) (d : B) (every starts : ℕ) → 2 < length words
+    → option_and_then (up_to EVERY_LIMIT) (number_of (f (slice_index_or words 0 d))) ≡ Some every
+    → option_and_then (up_to STARTS_LIMIT) (number_of (f (slice_index_or words 1 d))) ≡ Some starts → Some (Collect every starts) ≡ collect_of (map f words)
+collect-read f [] d every starts three e s = absurd (omega (arith, three))
+collect-read f (a ∷ []) d every starts three e s = absurd (omega (arith, three))
+collect-read f (a ∷ b ∷ []) d every starts three e s = absurd (omega (arith, three))
+collect-read f (a ∷ b ∷ c ∷ more) d every starts three e s = rw (e, s) refl
+
+pub collect-short : (words : List Text) → length words < 3 → collect_of words ≡ None
+collect-short [] few = refl
+collect-short (a ∷ []) few = refl
+collect-short (a ∷ b ∷ []) few = refl
+collect-short (a ∷ b ∷ c ∷ more) few = absurd (omega (arith, few))
+
 -- ---- each command
 
 abbrev Agrees : List Text → Type 0
@@ -99,6 +114,17 @@ taken words passes same = (λ e. same, λ k ks e. absurd (cons≢nil k ks (sym e
 -- words that it refuses
 refused : (words : List Text) (k : ErrorKind) (ks : Kinds) → fault_of forms words ≡ k ∷ ks → command_of words ≡ None → Agrees words
 refused words k ks fails none = (λ e. absurd (cons≢nil k ks (sym fails ∙ e)), λ _ _ _. none)
+
+agrees-collect : (more : List Text) → length more ≤ usize_max → list_any is_option more ≡ false → Agrees (codes "collect" ∷ more)
+agrees-collect [] most plain = refused _ _ _ (collect_fault [] ∙ leaf_missing 3 usize_max refl (codes "collect")) refl
+agrees-collect (w ∷ more) most plain = by (nat_lt (length (w ∷ more)) 3) refl
+  where
+    fault : fault_of forms (codes "collect" ∷ w ∷ more) ≡ range_kinds 3 usize_max (length (w ∷ more))
+    fault = collect_fault (w ∷ more) ∙ leaf_fault 3 usize_max refl (codes "collect") w more plain
+
+    by : (b : Bool) → nat_lt (length (w ∷ more)) 3 ≡ b → Agrees (codes "collect" ∷ w ∷ more)
+    by true less = refused _ _ _ (fault ∙ few 3 (length (w ∷ more)) refl refl (omega arith) less) (rw (plain, collect-short (w ∷ more) (grind (arith, nat_tests))) refl)
+    by false less = taken _ (fault ∙ enough 3 (length (w ∷ more)) refl refl (omega arith) most less) (rw (collect_rows (w ∷ more), leaf_rows 3 usize_max refl w more plain, plain) refl)
 
 agrees-convert : (more : List Text) → list_any is_option more ≡ false → Agrees (codes "convert" ∷ more)
 agrees-convert [] plain = taken _ (convert_fault [] ∙ alone_fault (codes "convert")) (rw (convert_rows []) refl)
@@ -136,21 +162,22 @@ agrees-query (w ∷ more) most plain = by (nat_lt (length (w ∷ more)) 5) refl
     by : (b : Bool) → nat_lt (length (w ∷ more)) 5 ≡ b → Agrees (codes "query" ∷ w ∷ more)
     by true less =
         let short : nat_le 5 (length (w ∷ more)) ≡ false = grind (arith, nat_tests) in
-        refused _ _ _ (fault ∙ few (length (w ∷ more)) (omega arith) less) (rw short refl)
+        refused _ _ _ (fault ∙ few 5 (length (w ∷ more)) refl refl (omega arith) less) (rw short refl)
     by false less =
         let long : nat_le 5 (length (w ∷ more)) ≡ true = grind (arith, nat_tests) in
-        taken _ (fault ∙ enough (length (w ∷ more)) most less) (rw (query_rows (w ∷ more), long, plain) refl)
+        taken _ (fault ∙ enough 5 (length (w ∷ more)) refl refl (omega arith) most less) (rw (query_rows (w ∷ more), long, plain) refl)
 
-module _ (w : Text) (convert : bytes_eq (codes "convert") w ≡ false) (health : bytes_eq (codes "health") w ≡ false) (log : bytes_eq (codes "log") w ≡ false) (new : bytes_eq (codes "new") w ≡ false) (query : bytes_eq (codes "query") w ≡ false)
-    (run : bytes_eq (codes "run") w ≡ false) where
+module _ (w : Text) (collect : bytes_eq (codes "collect") w ≡ false) (convert : bytes_eq (codes "convert") w ≡ false) (health : bytes_eq (codes "health") w ≡ false) (log : bytes_eq (codes "log") w ≡ false)
+    (new : bytes_eq (codes "new") w ≡ false) (query : bytes_eq (codes "query") w ≡ false) (run : bytes_eq (codes "run") w ≡ false) where
   unknown : (more : List Text) → command_of (w ∷ more) ≡ None
   unknown [] = rw (flip (codes "convert") w false convert, flip (codes "health") w false health, flip (codes "run") w false run) refl
-  unknown (next ∷ more) = rw (flip (codes "log") w false log, flip (codes "new") w false new, flip (codes "query") w false query) refl
+  unknown (next ∷ more) = rw (flip (codes "collect") w false collect, flip (codes "log") w false log, flip (codes "new") w false new, flip (codes "query") w false query) refl
 
 pub agrees : (words : List Text) → length words ≤ usize_max → list_any is_option words ≡ false → Agrees words
 agrees [] most plain = refused _ _ _ empty_fault refl
 agrees (w ∷ more) most plain =
-    by (bytes_eq (codes "convert") w) (bytes_eq (codes "health") w) (bytes_eq (codes "log") w) (bytes_eq (codes "new") w) (bytes_eq (codes "query") w) (bytes_eq (codes "run") w) refl refl refl refl refl refl
+    by (bytes_eq (codes "collect") w) (bytes_eq (codes "convert") w) (bytes_eq (codes "health") w) (bytes_eq (codes "log") w) (bytes_eq (codes "new") w) (bytes_eq (codes "query") w) (bytes_eq (codes "run") w)
+    refl refl refl refl refl refl refl
   where
     each : (is_option w ≡ false) × (list_any is_option more ≡ false)
     each = or_false (is_option w) (list_any is_option more) plain
@@ -158,16 +185,17 @@ agrees (w ∷ more) most plain =
     named : (name : Text) → bytes_eq name w ≡ true → Agrees (name ∷ more) → Agrees (w ∷ more)
     named name is h = subst (λ (x : Text). Agrees (x ∷ more)) ((bytes_eq-Decides name w).0 is) h
 
-    by : (a b c d e f : Bool) → bytes_eq (codes "convert") w ≡ a → bytes_eq (codes "health") w ≡ b → bytes_eq (codes "log") w ≡ c → bytes_eq (codes "new") w ≡ d → bytes_eq (codes "query") w ≡ e
-        → bytes_eq (codes "run") w ≡ f → Agrees (w ∷ more)
-    by true b c d e f convert health log new query run = named (codes "convert") convert (agrees-convert more each.1)
-    by false true c d e f convert health log new query run = named (codes "health") health (agrees-health more each.1)
-    by false false true d e f convert health log new query run = named (codes "log") log (agrees-log more (omega arith) each.1)
-    by false false false true e f convert health log new query run = named (codes "new") new (agrees-new more each.1)
-    by false false false false true f convert health log new query run = named (codes "query") query (agrees-query more (omega arith) each.1)
-    by false false false false false true convert health log new query run = named (codes "run") run (agrees-run more each.1)
-    by false false false false false false convert health log new query run =
-        refused _ _ _ (unknown_fault w more each.0 convert health log new query run) (unknown w convert health log new query run more)
+    by : (a b c d e f g : Bool) → bytes_eq (codes "collect") w ≡ a → bytes_eq (codes "convert") w ≡ b → bytes_eq (codes "health") w ≡ c → bytes_eq (codes "log") w ≡ d → bytes_eq (codes "new") w ≡ e
+        → bytes_eq (codes "query") w ≡ f → bytes_eq (codes "run") w ≡ g → Agrees (w ∷ more)
+    by true b c d e f g collect convert health log new query run = named (codes "collect") collect (agrees-collect more (omega arith) each.1)
+    by false true c d e f g collect convert health log new query run = named (codes "convert") convert (agrees-convert more each.1)
+    by false false true d e f g collect convert health log new query run = named (codes "health") health (agrees-health more each.1)
+    by false false false true e f g collect convert health log new query run = named (codes "log") log (agrees-log more (omega arith) each.1)
+    by false false false false true f g collect convert health log new query run = named (codes "new") new (agrees-new more each.1)
+    by false false false false false true g collect convert health log new query run = named (codes "query") query (agrees-query more (omega arith) each.1)
+    by false false false false false false true collect convert health log new query run = named (codes "run") run (agrees-run more each.1)
+    by false false false false false false false collect convert health log new query run =
+        refused _ _ _ (unknown_fault w more each.0 collect convert health log new query run) (unknown w collect convert health log new query run more)
 
 -- ---- a word that begins with `-`
 
@@ -263,6 +291,10 @@ none_either false false true true = refl
 none_either false false true false = refl
 none_either false false false long = refl
 
+no_collector : (b : Bool) (command other : Option Command) → (if b && false then command else other) ≡ other
+no_collector true command other = refl
+no_collector false command other = refl
+
 begins : (w : Text) (more : List Text) → is_option w ≡ true → command_of (w ∷ more) ≡ None
 begins [] more e = absurd (true≢false (sym e))
 begins (x ∷ xs) more e = subst (λ (y : ℕ). command_of ((y ∷ xs) ∷ more) ≡ None) (sym (is_45 x e)) (by more)
@@ -278,7 +310,7 @@ options-none (w ∷ next ∷ more) is = by (is_option w) refl is
   where
     by : (b : Bool) → is_option w ≡ b → (b || list_any is_option (next ∷ more)) ≡ true → command_of (w ∷ next ∷ more) ≡ None
     by true e h = begins w (next ∷ more) e
-    by false e h = rw (no_form (next ∷ more) h, no_settings (next ∷ more) h, h) (none_either (bytes_eq w (codes "log")) (bytes_eq w (codes "new")) (bytes_eq w (codes "query")) (nat_le 5 (length (next ∷ more))))
+    by false e h = rw (no_form (next ∷ more) h, no_settings (next ∷ more) h, h) (no_collector (bytes_eq w (codes "collect")) (collect_of (next ∷ more)) _ ∙ none_either (bytes_eq w (codes "log")) (bytes_eq w (codes "new")) (bytes_eq w (codes "query")) (nat_le 5 (length (next ∷ more))))
 
 -- ---- settings
 
@@ -308,6 +340,9 @@ refused-none words most plain e has other = elim has [
 
 pub settings-found : (f : Found) (o : Option (List Text)) → o ≡ option_map raw_values (matched_of f (codes "words")) → option_and_then settings_of o ≡ settings_in (rows_of f)
 settings-found f o is = ap (option_and_then settings_of) (is ∙ raw_values-rows f (codes "words"))
+
+pub collect-found : (f : Found) (o : Option (List Text)) → o ≡ option_map raw_values (matched_of f (codes "words")) → option_and_then collect_of o ≡ collect_in (rows_of f)
+collect-found f o is = ap (option_and_then collect_of) (is ∙ raw_values-rows f (codes "words"))
 
 pub form-found : (f : Found) (o : Option (List Text)) → o ≡ option_map raw_values (matched_of f (codes "words")) → option_and_then form_of o ≡ form_in (rows_of f)
 form-found f o is = ap (option_and_then form_of) (is ∙ raw_values-rows f (codes "words"))

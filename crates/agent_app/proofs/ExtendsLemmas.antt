@@ -7,7 +7,6 @@ use Rattle.history.specs.Looking.{beat}
 use Rattle.history.specs.Read.{history_at, is_disable}
 use Rattle.plugin_text.specs.Lines.{parts, fits}
 use Rattle.point_lines.specs.declared.refusal.Refusal.{Refusal}
-use Rattle.point_lines.specs.Judged.{every}
 use Rattle.entry_codec.specs.declared.entry.Settings.{Settings}
 use Rattle.agent_core.specs.Rules.{history_with}
 use Rattle.agent_app.specs.Reading.{HasRead, LineRules, line_read, lines_read}
@@ -22,26 +21,26 @@ extends-length a b no_more = omega arith
 extends-length a b (one_more beat g before) = omega (arith, extends-length a g before)
 
 -- the history of one line more
-pub extends-line : (h0 : List Beat) (past : List Line) (said : Line) → Extends (history_at every h0 past) (history_at every h0 (said ∷ past))
-extends-line h0 past (line.Moment moment) = one_more (collected moment (beat every past)) (history_at every h0 past) no_more
-extends-line h0 past said = no_more
+pub extends-line : (every : ℕ) (h0 : List Beat) (past : List Line) (said : Line) → Extends (history_at every h0 past) (history_at every h0 (said ∷ past))
+extends-line every h0 past (line.Moment moment) = one_more (collected moment (beat every past)) (history_at every h0 past) no_more
+extends-line every h0 past said = no_more
 
-pub extends-start : (h0 : List Beat) (past : List Line) → Extends h0 (history_at every h0 past)
-extends-start h0 [] = no_more
-extends-start h0 (said ∷ past) = extends-further h0 (history_at every h0 past) (history_at every h0 (said ∷ past)) (extends-start h0 past) (extends-line h0 past said)
+pub extends-start : (every : ℕ) (h0 : List Beat) (past : List Line) → Extends h0 (history_at every h0 past)
+extends-start every h0 [] = no_more
+extends-start every h0 (said ∷ past) = extends-further h0 (history_at every h0 past) (history_at every h0 (said ∷ past)) (extends-start every h0 past) (extends-line every h0 past said)
 
-pub with-line : (h0 : List Beat) (past : List Line) (said : Line) → history_with (history_at every h0 past) every past said ≡ history_at every h0 (said ∷ past)
-with-line h0 past (line.Moment moment) = refl
-with-line h0 past said = refl
+pub with-line : (every : ℕ) (h0 : List Beat) (past : List Line) (said : Line) → history_with (history_at every h0 past) every past said ≡ history_at every h0 (said ∷ past)
+with-line every h0 past (line.Moment moment) = refl
+with-line every h0 past said = refl
 
 -- lines that were read behind others
 pub record LinesAfter (past read : List Line) : Type 0 where
   pub later : List Line
   pub whole : read ≡ later ++ past
 
-module _ (h0 : List Beat) where
+module _ (every : ℕ) (h0 : List Beat) where
   abbrev rules : LineRules Line Refusal
-  rules = line_rules h0
+  rules = line_rules every h0
 
   -- the history of the lines that are read after these
   extends-lines : (ps : List (List ℕ)) (past : List Line) → Extends (history_at every h0 past) (history_at every h0 (lines_read rules past ps))
@@ -53,7 +52,7 @@ module _ (h0 : List Beat) where
           → Extends (history_at every h0 past) (history_at every h0 (if ends then past else lines_read rules (said ∷ past) (next ∷ more)))
       goes said true later = no_more
       goes said false later =
-          extends-further (history_at every h0 past) (history_at every h0 (said ∷ past)) (history_at every h0 (lines_read rules (said ∷ past) (next ∷ more))) (extends-line h0 past said) later
+          extends-further (history_at every h0 past) (history_at every h0 (said ∷ past)) (history_at every h0 (lines_read rules (said ∷ past) (next ∷ more))) (extends-line every h0 past said) later
 
       by : (short : Bool) (r : Result Line Refusal) → ((said : Line) → Extends (history_at every h0 (said ∷ past)) (history_at every h0 (lines_read rules (said ∷ past) (next ∷ more))))
           → Extends (history_at every h0 past) (history_at every h0 (if not short then past else line_read rules past r (λ (said : Line). lines_read rules (said ∷ past) (next ∷ more))))
@@ -78,11 +77,11 @@ module _ (h0 : List Beat) where
       by true (Ok said) onward = goes said (is_disable said) (onward said)
 
   -- the history of a text
-  pub extends-whole : (text : List ℕ) → Extends h0 (history_with_text h0 text)
+  pub extends-whole : (text : List ℕ) → Extends h0 (history_with_text every h0 text)
   extends-whole text = extends-lines (parts text) []
 
   -- and of one of which these lines are read
-  pub extends-text : (set : Settings) (front : List (List ℕ)) (past : List Line) (made : List ℕ) → HasRead (run_rules set h0) front past made → (text next : List ℕ) (more : List (List ℕ)) → parts text ≡ front ++ next ∷ more
-      → Extends (history_at every h0 past) (history_with_text h0 text)
+  pub extends-text : (set : Settings) (front : List (List ℕ)) (past : List Line) (made : List ℕ) → HasRead (run_rules every set h0) front past made → (text next : List ℕ) (more : List (List ℕ)) → parts text ≡ front ++ next ∷ more
+      → Extends (history_at every h0 past) (history_with_text every h0 text)
   extends-text set front past made has text next more whole =
       subst (λ (read : List Line). Extends (history_at every h0 past) (history_at every h0 read)) (sym (ap (lines_read rules []) whole ∙ has.says next more)) (extends-lines (next ∷ more) past)

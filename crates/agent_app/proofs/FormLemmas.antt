@@ -176,6 +176,9 @@ module _ (name : Text) (s : Shape) (found : find (λ sub. answers_to name (label
   pub rows_by : subcommand_of forms (name ∷ more) ≡ Some (s.name, rows_after s.rules [] more)
   rows_by = rw (walked_to, found) refl
 
+abbrev collect : Shape
+collect = leaf (codes "collect") (ready 3 usize_max ∷ [])
+
 abbrev convert : Shape
 convert = leaf (codes "convert") []
 
@@ -193,6 +196,10 @@ query = leaf (codes "query") (ready 5 usize_max ∷ [])
 
 abbrev run : Shape
 run = leaf (codes "run") []
+
+pub collect_fault : (more : List Text) → fault_of forms (codes "collect" ∷ more) ≡ level_fault collect [] nothing_held more false []
+unfolding walked
+collect_fault more = entered_by (codes "collect") collect refl more refl refl
 
 pub convert_fault : (more : List Text) → fault_of forms (codes "convert" ∷ more) ≡ level_fault convert [] nothing_held more false []
 unfolding walked
@@ -217,6 +224,10 @@ query_fault more = entered_by (codes "query") query refl more refl refl
 pub run_fault : (more : List Text) → fault_of forms (codes "run" ∷ more) ≡ level_fault run [] nothing_held more false []
 unfolding walked
 run_fault more = entered_by (codes "run") run refl more refl refl
+
+pub collect_rows : (more : List Text) → subcommand_of forms (codes "collect" ∷ more) ≡ Some (codes "collect", rows_after collect.rules [] more)
+unfolding walked
+collect_rows more = rows_by (codes "collect") collect refl more refl refl
 
 pub convert_rows : (more : List Text) → subcommand_of forms (codes "convert" ∷ more) ≡ Some (codes "convert", rows_after convert.rules [] more)
 unfolding walked
@@ -243,11 +254,12 @@ unfolding walked
 run_rows more = rows_by (codes "run") run refl more refl refl
 
 pub unknown_fault : (w : Text) (more : List Text) → is_option w ≡ false
-    → bytes_eq (codes "convert") w ≡ false → bytes_eq (codes "health") w ≡ false → bytes_eq (codes "log") w ≡ false → bytes_eq (codes "new") w ≡ false → bytes_eq (codes "query") w ≡ false → bytes_eq (codes "run") w ≡ false
+    → bytes_eq (codes "collect") w ≡ false → bytes_eq (codes "convert") w ≡ false → bytes_eq (codes "health") w ≡ false → bytes_eq (codes "log") w ≡ false → bytes_eq (codes "new") w ≡ false
+    → bytes_eq (codes "query") w ≡ false → bytes_eq (codes "run") w ≡ false
     → fault_of forms (w ∷ more) ≡ kind.UnknownArgument ∷ kind.InvalidSubcommand ∷ []
 unfolding walk_fault
-unknown_fault w more plain a b c d e f =
-    let none : subcommand_met names idle w ≡ None = rw (a, b, c, d, e, f) refl in
+unknown_fault w more plain a b c d e f g =
+    let none : subcommand_met names idle w ≡ None = rw (a, b, c, d, e, f, g) refl in
     rw (met [] names idle 1 w nothing_held plain none refl, none, no_dashes w plain, no_long w plain, no_short w plain) refl
 
 pub empty_fault : fault_of forms [] ≡ kind.MissingSubcommand ∷ []

@@ -1,6 +1,8 @@
 mod AckLemmas
 mod AskLemmas
 mod CauseLemmas
+mod CollectLemmas
+mod CollectorLemmas
 mod CommandLemmas
 mod ConfigureLemmas
 mod ConvertLemmas

@@ -1,5 +1,5 @@
 -- What `run` promises: where the database was opened, and where it was not.
-use Rattle.std.proofs.Common.{◌≡◌, ◌⊎◌, inl, inr, ℕ, ◌≤◌, false, List, [], ◌++◌, length, Option, Some, None, IfSome, Result, Ok, Err, true, refl, sym, ap, subst, ◌∙◌, append-nil, arith, true≢false}
+use Rattle.std.proofs.Common.{◌≡◌, ◌⊎◌, inl, inr, ℕ, ◌≤◌, Bool, false, List, [], ◌++◌, length, Option, Some, None, IfSome, Result, Ok, Err, true, refl, sym, ap, subst, ◌∙◌, append-nil, arith, true≢false}
 use Rattle.host_model.specs.declared.file.File.{File}
 use Rattle.host_model.specs.Cause.{Rose}
 use Rattle.host_model.specs.declared.status.Status.{Status}
@@ -12,9 +12,8 @@ use Rattle.host_model.proofs.DiskLemmas.{untold}
 use Rattle.history.specs.History.{Beat}
 use Rattle.history.specs.Registry.{Registry}
 use Rattle.collect_block.specs.Feed.{CountsFor, IsFeedOf}
-use Rattle.point_lines.specs.Judged.{every}
 use Rattle.entry_codec.specs.declared.entry.Settings.{Settings}
-use Rattle.line_stream.specs.Run.{Ran}
+use Rattle.line_stream.specs.Run.{input_limit, Ended, Ran}
 use Rattle.line_stream.proofs.RunLemmas.{rose-later, Takes-none}
 use Rattle.store_core.specs.Stands.{is_made}
 use Rattle.agent_core.specs.declared.fault.AgentFault.{AgentFault}
@@ -25,14 +24,15 @@ use Rattle.host_model.specs.Seen.{Seen}
 use Rattle.agent_core.specs.Faults.{IsOpening}
 use Rattle.agent_core.specs.Kept.{StandsForHistory}
 use Rattle.agent_app.specs.declared.running.Running.{Running}
-use Rattle.agent_app.specs.Run.{ends_a_run, finds_none, is_opened, Finds, is_whole, Keeps, IsAsFound, no_more, run_output, run_reading, run_rules, run_status, HasRunCause, Resumes, Runs, RunsAll}
+use Rattle.agent_app.specs.Convert.{LeavesFiles}
+use Rattle.agent_app.specs.Run.{ends_a_run, finds_none, history_with_text, is_opened, Finds, is_whole, Keeps, IsAsFound, IsHostAsFound, LeavesOthers, no_more, run_every, run_output, run_reading, run_rules, run_status, HasRunCause, Resumes, Runs, RunsAll, Stores}
 use Rattle.agent_app.specs.Running.{opening_status, Counts, DiskRose, IsRunning, TellRose}
 use Rattle.agent_app.proofs.AckLemmas.{acked-nothing, acked-since, text-front}
 use Rattle.agent_app.proofs.CauseLemmas.{both-counts, cause-as, stayed}
 use Rattle.agent_core.proofs.Within.{within-of}
 use Rattle.agent_app.proofs.HasReadLemmas.{read-start}
 use Rattle.agent_app.proofs.RunningLemmas.{stands-all}
-use Rattle.agent_app.proofs.RunLemmas.{EndsFor, both-others, cause-wider, ends-otherwise, run-for, run-over, run-quiet, run_acts}
+use Rattle.agent_app.proofs.RunLemmas.{EndsFor, Over, both-others, is-by-end, run-for, run-over, run-quiet, run_acts, stops-wider}
 
 -- at each moment of the opening a stop leaves the history
 pub opening-stops : (set : Settings) (h0 : List Beat) (old new : List Event) → EveryDisk (StandsForHistory set h0) old → told new ≡ told old → Throughout (EveryDisk (IsDisk old)) old new → Throughout (EveryStop (Keeps set h0 h0 (told old))) old new
@@ -83,28 +83,37 @@ module _ (honest : Type 0) (host host' : Seen) (first : honest → IsDisk host.p
       apart : status.Memory ≡ status.TellFault → ⊥
       apart e = cc
 
-  unopened-runs : (why : AgentFault) → Opens honest host (Err why) host' → (left : Option (List ℕ)) (source_rose : Type 0) → honest → (set : Settings) (h0 : List Beat) → EveryDisk (StandsForHistory set h0) host.past
-      → Runs (opening_status why) set h0 left left host.past host'.past source_rose (TellRose host host') (DiskRose host host')
-  unopened-runs why opens left source_rose h set h0 stands =
+  -- nothing was stored or told
+  pub unopened-stores : (why : AgentFault) → Opens honest host (Err why) host' → honest → (every : ℕ) (set : Settings) (h0 : List Beat) → EveryDisk (StandsForHistory set h0) host.past
+      → Stores (opening_status why) every set h0 false [] host.past host'.past
+  unopened-stores why opens h every set h0 stands =
       let which = opens.stands h set h0 (stands (reads_as host.past) (first h)) in
       let short : is_whole (opening_status why) ≡ false = by-fault (λ (f : AgentFault). is_whole (opening_status f) ≡ false) why which refl refl in
+      record {
+        stops = opening-stops set h0 host.past host'.past stands (opens.only_here h).output (opens.any_moment h);
+        ends = λ all. absurd (true≢false (sym all ∙ short));
+        output = record { sent = []; unsent = run_output every set h0 false []; whole = refl; tells = (opens.only_here h).output ∙ sym (append-nil (told host.past)); all = λ all. absurd (true≢false (sym all ∙ short)) };
+        told_for = λ is. absurd (untold-yet why is);
+      }
+
+  unopened-runs : (why : AgentFault) → Opens honest host (Err why) host' → (left : Option (List ℕ)) (source_rose : Type 0) → honest → (set : Settings) (h0 : List Beat) → EveryDisk (StandsForHistory set h0) host.past
+      → Runs (opening_status why) run_every set h0 left left host.past host'.past source_rose (TellRose host host') (DiskRose host host')
+  unopened-runs why opens left source_rose h set h0 stands =
+      let which = opens.stands h set h0 (stands (reads_as host.past) (first h)) in
       record {
         taken = [];
         ended = false;
         takes = Takes-none left;
         within = omega arith;
         at_end = λ e. absurd (true≢false (sym e));
-        stops = opening-stops set h0 host.past host'.past stands (opens.only_here h).output (opens.any_moment h);
-        ends = λ all. absurd (true≢false (sym all ∙ short));
-        output = record { sent = []; unsent = run_output set h0 false []; whole = refl; tells = (opens.only_here h).output ∙ sym (append-nil (told host.past)); all = λ all. absurd (true≢false (sym all ∙ short)) };
-        told_for = λ is. absurd (untold-yet why is);
+        stores = unopened-stores why opens h run_every set h0 stands;
         cause =
-            by-fault (λ (f : AgentFault). why ≡ f → HasRunCause (opening_status f) false (run_reading set h0 false []).ending [] source_rose (TellRose host host') (DiskRose host host')) why which
+            by-fault (λ (f : AgentFault). why ≡ f → HasRunCause (opening_status f) false (run_reading run_every set h0 false []).ending [] source_rose (TellRose host host') (DiskRose host host')) why which
             (λ is. opens.cause.failed (ap (λ (f : AgentFault). Err f) is)) (λ is. tt) refl;
       }
 
   unopened-resumes : (why : AgentFault) → Opens honest host (Err why) host' → (left : Option (List ℕ)) (source_rose : Type 0) → honest → (set : Settings) (h0 : List Beat) → StandsForHistory set h0 (reads_as host.past)
-      → Resumes (opening_status why) set h0 left left host.past host'.past source_rose (TellRose host host') (DiskRose host host')
+      → Resumes (opening_status why) run_every set h0 left left host.past host'.past source_rose (TellRose host host') (DiskRose host host')
   unopened-resumes why opens left source_rose h set h0 here = record {
     read = host'.past;
     before = opens.any_moment h;
@@ -113,10 +122,10 @@ module _ (honest : Type 0) (host host' : Seen) (first : honest → IsDisk host.p
   }
 
   unopened-whole : (why : AgentFault) → Opens honest host (Err why) host' → honest → (set : Settings) (h0 : List Beat) → EveryDisk (StandsForHistory set h0) host.past → (text : List ℕ) → (DiskRose host host' → ⊥)
-      → (opening_status why ≡ run_status set h0 text) ⊎ (opening_status why ≡ status.Memory)
+      → (opening_status why ≡ run_status run_every set h0 text) ⊎ (opening_status why ≡ status.Memory)
   unopened-whole why opens h set h0 stands text none =
       let which = opens.stands h set h0 (stands (reads_as host.past) (first h)) in
-      by-fault (λ (f : AgentFault). why ≡ f → (opening_status f ≡ run_status set h0 text) ⊎ (opening_status f ≡ status.Memory)) why which
+      by-fault (λ (f : AgentFault). why ≡ f → (opening_status f ≡ run_status run_every set h0 text) ⊎ (opening_status f ≡ status.Memory)) why which
       (λ is. absurd (none (opens.cause.failed (ap (λ (f : AgentFault). Err f) is)))) (λ is. inr refl) refl
 
   unopened-none : (why : AgentFault) → Opens honest host (Err why) host' → opening_status why ≡ status.NotADatabase → honest → is_made (reads_as host.past) ≡ false
@@ -220,8 +229,11 @@ module _ (honest : Type 0) (host host' : Seen) (first : honest → IsDisk host.p
       apart : status.Memory ≡ status.DiskFault → ⊥
       apart e = cc
 
+  pub unopened-host : (why : AgentFault) → Opens honest host (Err why) host' → IsHostAsFound honest host host'
+  unopened-host why opens = record { output = λ h. (opens.only_here h).output; tells = opens.tells; any_moment = opens.any_moment; same = opens.same }
+
   pub unopened-leaves : (why : AgentFault) → Opens honest host (Err why) host' → (left : Option (List ℕ)) (faults : ℕ) → IsAsFound honest left left faults faults host host'
-  unopened-leaves why opens left faults = record { source = (refl, refl); output = λ h. (opens.only_here h).output; tells = opens.tells; any_moment = opens.any_moment; same = opens.same }
+  unopened-leaves why opens left faults = record { source = (refl, refl); host_is = unopened-host why opens }
 
   pub unopened-finds : (why : AgentFault) → Opens honest host (Err why) host' → Finds honest (opening_status why) host
   unopened-finds why opens = record {
@@ -259,118 +271,160 @@ found-one status.NotADatabase none ends = true≢false (sym ends)
 found-one (status.Damaged part) none ends = true≢false (sym ends)
 found-one s none ends = true≢false (sym none)
 
-module _ (honest : Type 0) (host : Seen) (agent : AgentState) (middle : Seen) (opens : Opens honest host (Ok agent) middle) (s : Status) (ends : ends_a_run s ≡ true) where
-  pub opened-finds : Finds honest s host
-  opened-finds = record {
-    none = λ is h. absurd (ends-otherwise s ends status.NotADatabase refl is);
+module _ (honest : Type 0) (host : Seen) (agent : AgentState) (middle : Seen) (opens : Opens honest host (Ok agent) middle) (s : Status) where
+  pub found-finds : (finds_none s ≡ true → ⊥) → Finds honest s host
+  found-finds found = record {
+    none = λ is h. absurd (found (ap finds_none is));
     unmade = λ h unmade. absurd (true≢false (sym (opens.some h) ∙ unmade));
-    damaged = λ part is h set g stands. ends-otherwise s ends (status.Damaged part) refl is;
-    parts = λ part is. absurd (ends-otherwise s ends (status.Damaged part) refl is);
-    damaged_records = λ is h. absurd (ends-otherwise s ends (status.Damaged 4) refl is);
-    damaged_notes = λ is h. absurd (ends-otherwise s ends (status.Damaged 5) refl is);
+    damaged = λ part is h set g stands. found (ap finds_none is);
+    parts = λ part is. absurd (found (ap finds_none is));
+    damaged_records = λ is h. absurd (found (ap finds_none is));
+    damaged_notes = λ is h. absurd (found (ap finds_none is));
     opened = λ is h. opens.notes h;
   }
 
-module _ {H : Type 0} (honest : Type 0) (seen : H → Seen) (host : Seen) (agent : AgentState) (middle : H) (opens : Opens honest host (Ok agent) (seen middle)) (first : honest → IsDisk host.past (reads_as host.past))
-    (running : Running) (agent-is : running.agent ≡ agent) (feed-is : IsFeedOf running.feed every []) (feed-counts : (registry : Registry) → CountsFor running.feed registry) where
-  -- by whatever history the disk reads as, and since whatever moment
-  begins-at : honest → (set : Settings) (h0 : List Beat) → StandsForHistory set h0 (reads_as host.past) → (start : List Event) → told (seen middle).past ≡ told start
-      → Throughout (EveryStop (Keeps set h0 h0 (told start))) start (seen middle).past → IsRunning (seen middle).past running set h0 [] start
-  begins-at h set h0 here start silent stops = record {
-    read = [];
-    made = [];
-    has = read-start (run_rules set h0);
-    at = record {
-      within = within-of h0 here.beats here.are;
-      accepted = tt;
-      agent = subst (λ (a : AgentState). IsAgentOf (seen middle).past a set h0) (sym agent-is) (opens.opened h set h0 here);
-      feed = feed-is;
-      counts = feed-counts running.agent.registry;
-      tells = silent ∙ sym (append-nil (told start));
-      closed = refl;
-      acked = acked-nothing (length h0);
-      stops = stops;
-    };
-  }
+  pub opened-finds : ends_a_run s ≡ true → Finds honest s host
+  opened-finds ends = found-finds (λ none. found-one s none ends)
 
-  begins-so : honest → (set : Settings) (h0 : List Beat) → EveryDisk (StandsForHistory set h0) host.past → IsRunning (seen middle).past running set h0 [] host.past
-  begins-so h set h0 stands =
-      begins-at h set h0 (stands (reads_as host.past) (first h)) host.past (opens.only_here h).output
-      (opening-stops set h0 host.past (seen middle).past stands (opens.only_here h).output (opens.any_moment h))
+-- what came of a run over this text whose database was opened, when the host was such
+pub record Since {H : Type 0} (honest : Type 0) (seen : H → Seen) (s : Status) (every : ℕ) (host : Seen) (middle : H) (ended : Bool) (text : List ℕ) (left : Option (List ℕ)) (source_rose : Type 0) (host' : H) : Type 0 where
+  pub ends : EndsFor honest s text source_rose (seen middle) (seen host')
+  pub counts : Counts host (seen host') (s ≡ status.TellFault) (s ≡ status.DiskFault)
+  pub others : LeavesOthers honest host (seen host')
+  pub stops : (h : honest) (set : Settings) (h0 : List Beat) → EveryDisk (StandsForHistory set h0) host.past
+      → Over honest seen h every set h0 host.past s ended text left (seen host').past source_rose (TellRose host (seen host')) (DiskRose host (seen host'))
+  -- once the database was read a stop leaves the history that the disk reads as
+  pub stands : honest → (set : Settings) (h0 : List Beat) → StandsForHistory set h0 (reads_as host.past) → EveryDisk (StandsForHistory set h0) (seen middle).past
+  pub resumes : (h : honest) (set : Settings) (h0 : List Beat) → StandsForHistory set h0 (reads_as host.past)
+      → Over honest seen h every set h0 (seen middle).past s ended text left (seen host').past source_rose (TellRose host (seen host')) (DiskRose host (seen host'))
+  pub quiet : honest → (set : Settings) (h0 : List Beat) → StandsForHistory set h0 (reads_as host.past) → history_with_text every h0 text ≡ h0 → LeavesFiles (seen middle).past (seen host').past
 
-  stands-now : honest → (set : Settings) (h0 : List Beat) → StandsForHistory set h0 (reads_as host.past) → EveryDisk (StandsForHistory set h0) (seen middle).past
-  stands-now h set h0 here = stands-all (seen middle).past agent set h0 (opens.opened h set h0 here)
-
-  -- since the database was read, a stop leaves that history
-  begins-read : honest → (set : Settings) (h0 : List Beat) → StandsForHistory set h0 (reads_as host.past) → IsRunning (seen middle).past running set h0 [] (seen middle).past
-  begins-read h set h0 here =
-      let now = (seen middle).past in
-      begins-at h set h0 here now refl (opening-stops set h0 now now (stands-now h set h0 here) refl (begins (λ disk images. images)))
-
-  module _ (s : Status) (running' : Running) (host' : H) (left left' : Option (List ℕ)) (faults faults' : ℕ) (up : faults ≤ faults') (still : (s ≡ status.ReadFault → ⊥) → faults' ≡ faults)
-      (ran : Ran (run_acts honest seen) s running middle running' host' left left' (Rose faults faults')) where
-    for-all : EndsFor honest s ran.text (Rose faults faults') (seen middle) (seen host')
-    for-all = run-for honest seen s running middle ran.text (Rose faults faults') running' host' left' ran.ended
-
-    opening : Counts host (seen middle) ⊥ ⊥
-    opening = record {
-      tells = stayed host.tell_faults (seen middle).tell_faults ⊥ opens.tells (λ never. never);
-      disk = cause-as host.disk_faults (seen middle).disk_faults (opened_with agent ≡ failed_by fault.DiskFault) ⊥ (λ never. absurd never) (λ e. cc) opens.cause;
+module _ {H : Type 0} (honest : Type 0) (seen : H → Seen) (host : Seen) (agent : AgentState) (middle : H) (opens : Opens honest host (Ok agent) (seen middle)) (first : honest → IsDisk host.past (reads_as host.past)) where
+  module _ (every : ℕ) (running : Running) (agent-is : running.agent ≡ agent) (feed-is : IsFeedOf running.feed every []) (feed-counts : (registry : Registry) → CountsFor running.feed registry) where
+    -- by whatever history the disk reads as, and since whatever moment
+    begins-at : honest → (set : Settings) (h0 : List Beat) → StandsForHistory set h0 (reads_as host.past) → (start : List Event) → told (seen middle).past ≡ told start
+        → Throughout (EveryStop (Keeps set h0 h0 (told start))) start (seen middle).past → IsRunning (seen middle).past running every set h0 [] start
+    begins-at h set h0 here start silent stops = record {
+      read = [];
+      made = [];
+      has = read-start (run_rules every set h0);
+      at = record {
+        within = within-of h0 here.beats here.are;
+        accepted = tt;
+        agent = subst (λ (a : AgentState). IsAgentOf (seen middle).past a set h0) (sym agent-is) (opens.opened h set h0 here);
+        feed = feed-is;
+        counts = feed-counts running.agent.registry;
+        tells = silent ∙ sym (append-nil (told start));
+        closed = refl;
+        acked = acked-nothing (length h0);
+        stops = stops;
+      };
     }
 
-    all-counts : Counts host (seen host') (s ≡ status.TellFault) (s ≡ status.DiskFault)
-    all-counts = both-counts host (seen middle) (seen host') (s ≡ status.TellFault) (s ≡ status.DiskFault) opening for-all.counts
+    begins-so : honest → (set : Settings) (h0 : List Beat) → EveryDisk (StandsForHistory set h0) host.past → IsRunning (seen middle).past running every set h0 [] host.past
+    begins-so h set h0 stands =
+        begins-at h set h0 (stands (reads_as host.past) (first h)) host.past (opens.only_here h).output
+        (opening-stops set h0 host.past (seen middle).past stands (opens.only_here h).output (opens.any_moment h))
 
-    tells-sooner : TellRose (seen middle) (seen host') → TellRose host (seen host')
-    tells-sooner = rose-later host.tell_faults (seen middle).tell_faults (seen host').tell_faults opening.tells.later for-all.counts.tells.later
+    stands-now : honest → (set : Settings) (h0 : List Beat) → StandsForHistory set h0 (reads_as host.past) → EveryDisk (StandsForHistory set h0) (seen middle).past
+    stands-now h set h0 here = stands-all (seen middle).past agent set h0 (opens.opened h set h0 here)
 
-    disk-sooner : DiskRose (seen middle) (seen host') → DiskRose host (seen host')
-    disk-sooner = rose-later host.disk_faults (seen middle).disk_faults (seen host').disk_faults opening.disk.later for-all.counts.disk.later
+    -- since the database was read, a stop leaves that history
+    begins-read : honest → (set : Settings) (h0 : List Beat) → StandsForHistory set h0 (reads_as host.past) → IsRunning (seen middle).past running every set h0 [] (seen middle).past
+    begins-read h set h0 here =
+        let now = (seen middle).past in
+        begins-at h set h0 here now refl (opening-stops set h0 now now (stands-now h set h0 here) refl (begins (λ disk images. images)))
 
-    abbrev runs-over : honest → (set : Settings) (h0 : List Beat) (start : List Event) → IsRunning (seen middle).past running set h0 [] start
-        → Runs s set h0 left left' start (seen host').past (Rose faults faults') (TellRose host (seen host')) (DiskRose host (seen host'))
-    runs-over h set h0 start going =
-        let over = run-over honest seen h set h0 start s middle ran.text left' (Rose faults faults') ran.within running going running' host' ran.ended in
-        record {
-          taken = ran.text;
-          ended = over.ended;
-          takes = ran.takes;
-          within = ran.within;
-          at_end = over.at_end;
-          stops = over.stops.stops;
-          ends = over.stops.ends;
-          output = over.stops.output;
-          told_for = over.stops.told_for;
-          cause =
-              cause-wider s over.ended (run_reading set h0 over.ended ran.text).ending ran.text (Rose faults faults') (TellRose (seen middle) (seen host')) (DiskRose (seen middle) (seen host'))
-              (Rose faults faults') (TellRose host (seen host')) (DiskRose host (seen host')) (λ rose. rose) tells-sooner disk-sooner over.stops.cause;
-        }
+    module _ (s : Status) (running' : Running) (host' : H) (text : List ℕ) (left : Option (List ℕ)) (source_rose : Type 0) (within : length text ≤ input_limit)
+        (how : Ended (run_acts honest seen) s running middle text running' host' left source_rose) where
+      abbrev ended : Bool
+      ended = is-by-end (run_acts honest seen) s running middle text running' host' left source_rose how
+
+      for-all : EndsFor honest s text source_rose (seen middle) (seen host')
+      for-all = run-for honest seen s running middle text source_rose running' host' left how
+
+      opening : Counts host (seen middle) ⊥ ⊥
+      opening = record {
+        tells = stayed host.tell_faults (seen middle).tell_faults ⊥ opens.tells (λ never. never);
+        disk = cause-as host.disk_faults (seen middle).disk_faults (opened_with agent ≡ failed_by fault.DiskFault) ⊥ (λ never. absurd never) (λ e. cc) opens.cause;
+      }
+
+      tells-sooner : TellRose (seen middle) (seen host') → TellRose host (seen host')
+      tells-sooner = rose-later host.tell_faults (seen middle).tell_faults (seen host').tell_faults opening.tells.later for-all.counts.tells.later
+
+      disk-sooner : DiskRose (seen middle) (seen host') → DiskRose host (seen host')
+      disk-sooner = rose-later host.disk_faults (seen middle).disk_faults (seen host').disk_faults opening.disk.later for-all.counts.disk.later
+
+      over-since : (h : honest) (set : Settings) (h0 : List Beat) (start : List Event) → IsRunning (seen middle).past running every set h0 [] start
+          → Over honest seen h every set h0 start s ended text left (seen host').past source_rose (TellRose host (seen host')) (DiskRose host (seen host'))
+      over-since h set h0 start going =
+          let over = run-over honest seen h every set h0 start s middle text left source_rose within running going running' host' how in
+          record {
+            at_end = over.at_end;
+            stops = stops-wider s every set h0 ended text start (seen host').past source_rose (TellRose (seen middle) (seen host')) (DiskRose (seen middle) (seen host'))
+                source_rose (TellRose host (seen host')) (DiskRose host (seen host')) (λ rose. rose) tells-sooner disk-sooner over.stops;
+            whole = λ more is none_read none_told none_disk. over.whole more is none_read (λ rose. none_told (tells-sooner rose)) (λ rose. none_disk (disk-sooner rose));
+          }
+
+      pub ran-since : Since honest seen s every host middle ended text left source_rose host'
+      ran-since = record {
+        ends = for-all;
+        counts = both-counts host (seen middle) (seen host') (s ≡ status.TellFault) (s ≡ status.DiskFault) opening for-all.counts;
+        others = both-others honest host (seen middle) (seen host') (λ h. (opens.only_here h).others) for-all.others;
+        stops = λ h set h0 stands. over-since h set h0 host.past (begins-so h set h0 stands);
+        stands = stands-now;
+        resumes = λ h set h0 here. over-since h set h0 (seen middle).past (begins-read h set h0 here);
+        quiet = λ h set h0 here none.
+            run-quiet honest seen h every set h0 (seen middle).past text none s running middle (begins-read h set h0 here) left source_rose running' host' how;
+      }
+
+  -- ---- a run over a source
+  module _ (running : Running) (agent-is : running.agent ≡ agent) (feed-is : IsFeedOf running.feed run_every []) (feed-counts : (registry : Registry) → CountsFor running.feed registry)
+      (s : Status) (running' : Running) (host' : H) (left left' : Option (List ℕ)) (faults faults' : ℕ) (up : faults ≤ faults') (still : (s ≡ status.ReadFault → ⊥) → faults' ≡ faults)
+      (ran : Ran (run_acts honest seen) s running middle running' host' left left' (Rose faults faults')) where
+    abbrev by_end : Bool
+    by_end = is-by-end (run_acts honest seen) s running middle ran.text running' host' left' (Rose faults faults') ran.ended
+
+    since : Since honest seen s run_every host middle by_end ran.text left' (Rose faults faults') host'
+    since = ran-since run_every running agent-is feed-is feed-counts s running' host' ran.text left' (Rose faults faults') ran.within ran.ended
+
+    abbrev runs-from : (h : honest) (set : Settings) (h0 : List Beat) (start : List Event)
+        → Over honest seen h run_every set h0 start s by_end ran.text left' (seen host').past (Rose faults faults') (TellRose host (seen host')) (DiskRose host (seen host'))
+        → Runs s run_every set h0 left left' start (seen host').past (Rose faults faults') (TellRose host (seen host')) (DiskRose host (seen host'))
+    runs-from h set h0 start over = record {
+      taken = ran.text;
+      ended = by_end;
+      takes = ran.takes;
+      within = ran.within;
+      at_end = over.at_end;
+      stores = over.stops.stores;
+      cause = over.stops.cause;
+    }
 
     pub opened : RunsAll honest s left left' faults faults' host (seen host')
     opened = record {
-      runs = λ h set h0 stands. runs-over h set h0 host.past (begins-so h set h0 stands);
+      runs = λ h set h0 stands. runs-from h set h0 host.past (since.stops h set h0 stands);
       resumes = λ h set h0 here. record {
         read = (seen middle).past;
         before = opens.any_moment h;
         silent = (opens.only_here h).output;
         after = inl (record {
-          stands = stands-now h set h0 here;
-          runs = runs-over h set h0 (seen middle).past (begins-read h set h0 here);
-          quiet = λ none. run-quiet honest seen h set h0 (seen middle).past ran.text none s running middle (begins-read h set h0 here) left' (Rose faults faults') running' host' ran.ended;
-          stored_for = (run-over honest seen h set h0 (seen middle).past s middle ran.text left' (Rose faults faults') ran.within running (begins-read h set h0 here) running' host' ran.ended).stops.stored_for;
+          stands = since.stands h set h0 here;
+          runs = runs-from h set h0 (seen middle).past (since.resumes h set h0 here);
+          quiet = since.quiet h set h0 here;
+          stored_for = (since.resumes h set h0 here).stops.stored_for;
         });
       };
       complete = λ h set h0 stands.
-          let over = run-over honest seen h set h0 host.past s middle ran.text left' (Rose faults faults') ran.within running (begins-so h set h0 stands) running' host' ran.ended in
-          complete-by left left' ran.text (λ text. (Rose faults faults' → ⊥) → (TellRose host (seen host') → ⊥) → (DiskRose host (seen host') → ⊥) → (s ≡ run_status set h0 text) ⊎ (s ≡ status.Memory)) ran.takes
-          (λ more is none_read none_told none_disk. over.whole more is none_read (λ rose. none_told (tells-sooner rose)) (λ rose. none_disk (disk-sooner rose)));
-      finds = opened-finds honest host agent (seen middle) opens s for-all.ends;
-      statuses = inl for-all.ends;
-      input = record { taken = ran.text; takes = ran.takes; within = ran.within; limit = for-all.limit; read = λ is. (for-all.read is).1 };
-      leaves = λ none. absurd (found-one s none for-all.ends);
+          complete-by left left' ran.text (λ text. (Rose faults faults' → ⊥) → (TellRose host (seen host') → ⊥) → (DiskRose host (seen host') → ⊥) → (s ≡ run_status run_every set h0 text) ⊎ (s ≡ status.Memory)) ran.takes
+          (since.stops h set h0 stands).whole;
+      finds = opened-finds honest host agent (seen middle) opens s since.ends.ends;
+      statuses = inl since.ends.ends;
+      input = record { taken = ran.text; takes = ran.takes; within = ran.within; limit = since.ends.limit; read = λ is. (since.ends.read is).1 };
+      leaves = λ none. absurd (found-one s none since.ends.ends);
       untaken = λ h none. absurd (none (opens.notes h));
-      others = both-others honest host (seen middle) (seen host') (λ h. (opens.only_here h).others) for-all.others;
-      read_cause = record { later = up; failed = λ is. (for-all.read is).0; stays = still };
-      tell_cause = all-counts.tells;
-      disk_cause = all-counts.disk;
+      others = since.others;
+      read_cause = record { later = up; failed = λ is. (since.ends.read is).0; stays = still };
+      tell_cause = since.counts.tells;
+      disk_cause = since.counts.disk;
     }

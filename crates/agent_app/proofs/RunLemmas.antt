@@ -13,7 +13,6 @@ use Rattle.plugin_text.specs.Lines.{fits, lines, parts, rest, BeginsWithLines, H
 use Rattle.plugin_text.proofs.LongLemmas.{IsLongAfter-append}
 use Rattle.plugin_text.proofs.PartsLemmas.{parts_whole}
 use Rattle.point_lines.specs.declared.refusal.Refusal.{Refusal}
-use Rattle.point_lines.specs.Judged.{every}
 use Rattle.entry_codec.specs.declared.entry.Settings.{Settings}
 use Rattle.line_stream.specs.Chain.{Acts, acts_of, Chain, begins, goes_on, pauses}
 use Rattle.line_stream.specs.Run.{input_limit, Ended, at_line, at_pause, at_long_line, at_end, at_fault, at_limit, at_want}
@@ -37,15 +36,12 @@ cause-wider status.TellFault ended ending taken a b c a' b' c' f g h has = g has
 cause-wider status.DiskFault ended ending taken a b c a' b' c' f g h has = h has
 cause-wider s ended ending taken a b c a' b' c' f g h has = has
 
-stops-wider : (s : Status) (set : Settings) (h0 : List Beat) (ended : Bool) (text : List ℕ) (start new : List Event) (a b c a' b' c' : Type 0) → (a → a') → (b → b') → (c → c')
-    → StopsIn s set h0 ended text start new a b c → StopsIn s set h0 ended text start new a' b' c'
-stops-wider s set h0 ended text start new a b c a' b' c' f g h stop = record {
-  stops = stop.stops;
-  ends = stop.ends;
-  output = stop.output;
-  told_for = stop.told_for;
+pub stops-wider : (s : Status) (every : ℕ) (set : Settings) (h0 : List Beat) (ended : Bool) (text : List ℕ) (start new : List Event) (a b c a' b' c' : Type 0) → (a → a') → (b → b') → (c → c')
+    → StopsIn s every set h0 ended text start new a b c → StopsIn s every set h0 ended text start new a' b' c'
+stops-wider s every set h0 ended text start new a b c a' b' c' f g h stop = record {
+  stores = stop.stores;
   stored_for = stop.stored_for;
-  cause = cause-wider s ended (run_reading set h0 ended text).ending text a b c a' b' c' f g h stop.cause;
+  cause = cause-wider s ended (run_reading every set h0 ended text).ending text a b c a' b' c' f g h stop.cause;
 }
 
 -- where nothing outside failed, the status is that of how the reading ends, or there was no memory
@@ -61,27 +57,27 @@ status-told status.Memory ended ending taken a b c f g h has = inr refl
 status-told s ended ending taken a b c f g h has = absurd has
 
 -- ---- the status of a text
-module _ (set : Settings) (h0 : List Beat) where
+module _ (every : ℕ) (set : Settings) (h0 : List Beat) where
   -- of one that goes on behind what was taken
   status-onward : (limit : ℕ) (text more : List ℕ) → length text ≤ limit
-      → ending_status (run_reading set h0 (nat_lt (length (text ++ more)) limit) (text ++ take (limit - length text) more)).ending ≡ ending_status (run_reading set h0 (nat_lt (length (text ++ more)) limit) (take limit (text ++ more))).ending
-  status-onward limit text more within = ap (λ (t : List ℕ). ending_status (run_reading set h0 (nat_lt (length (text ++ more)) limit) t).ending) (sym (take-append_past limit text more within))
+      → ending_status (run_reading every set h0 (nat_lt (length (text ++ more)) limit) (text ++ take (limit - length text) more)).ending ≡ ending_status (run_reading every set h0 (nat_lt (length (text ++ more)) limit) (take limit (text ++ more))).ending
+  status-onward limit text more within = ap (λ (t : List ℕ). ending_status (run_reading every set h0 (nat_lt (length (text ++ more)) limit) t).ending) (sym (take-append_past limit text more within))
 
   -- of one that ended
-  status-ended : (limit : ℕ) (text : List ℕ) → length text < limit → ending_status (run_reading set h0 true text).ending ≡ ending_status (run_reading set h0 (nat_lt (length text) limit) (take limit text)).ending
+  status-ended : (limit : ℕ) (text : List ℕ) → length text < limit → ending_status (run_reading every set h0 true text).ending ≡ ending_status (run_reading every set h0 (nat_lt (length text) limit) (take limit text)).ending
   status-ended limit text within =
       let ended : nat_lt (length text) limit ≡ true = grind (arith, nat_tests) in
       let all : take limit text ≡ text = take_all limit text (omega arith) in
-      λ i. ending_status (run_reading set h0 (sym ended i) (sym all i)).ending
+      λ i. ending_status (run_reading every set h0 (sym ended i) (sym all i)).ending
 
   -- of one that fills the limit
   status-full : (limit : ℕ) (text more : List ℕ) → length text ≡ limit
-      → ending_status (run_reading set h0 false text).ending ≡ ending_status (run_reading set h0 (nat_lt (length (text ++ more)) limit) (take limit (text ++ more))).ending
+      → ending_status (run_reading every set h0 false text).ending ≡ ending_status (run_reading every set h0 (nat_lt (length (text ++ more)) limit) (take limit (text ++ more))).ending
   status-full limit text more full =
       let longer : limit ≤ length (text ++ more) = omega (arith, length-append text more) in
       let open_end : nat_lt (length (text ++ more)) limit ≡ false = grind (arith, nat_tests) in
       let all : take limit (text ++ more) ≡ text = take-append-le limit text more (omega arith) ∙ take_all limit text (omega arith) in
-      λ i. ending_status (run_reading set h0 (sym open_end i) (sym all i)).ending
+      λ i. ending_status (run_reading every set h0 (sym open_end i) (sym all i)).ending
 
 rest-fits : (text : List ℕ) → HasNoLongLine text → fits (rest text) ≡ true
 rest-fits text short =
@@ -118,11 +114,6 @@ pub record EndsFor (honest : Type 0) (s : Status) (taken : List ℕ) (source_ros
   pub ends : ends_a_run s ≡ true
   pub counts : Counts host host' (s ≡ status.TellFault) (s ≡ status.DiskFault)
   pub others : LeavesOthers honest host host'
-
--- no such status is another
-module _ (s : Status) (ends : ends_a_run s ≡ true) where
-  pub ends-otherwise : (other : Status) → ends_a_run other ≡ false → s ≡ other → ⊥
-  ends-otherwise other none is = true≢false (sym ends ∙ ap ends_a_run is ∙ none)
 
 takers-end : (s : Status) → IsTakers s → ends_a_run s ≡ true
 takers-end status.Ok takers = refl
@@ -172,6 +163,12 @@ module _ (honest : Type 0) (s : Status) (taken : List ℕ) (source_rose : Type 0
     want-for : s ≡ status.Memory → EndsFor honest s taken source_rose host host'
     want-for is = takers-for (subst IsTakers (sym is) tt) (kept (λ e. cc) (λ e. cc))
 
+-- whether the end of the input ended a run
+abbrev pub is-by-end : {T H : Type 0} (acts : Acts T H) (s : Status) (taker : T) (host : H) (text : List ℕ) (taker'' : T) (host'' : H) (left : Option (List ℕ)) (source_rose : Type 0)
+    → Ended acts s taker host text taker'' host'' left source_rose → Bool
+is-by-end acts s taker host text taker'' host'' left source_rose (at_end taker' host' below nothing took step) = true
+is-by-end acts s taker host text taker'' host'' left source_rose other = false
+
 -- ---- a run
 module _ {H : Type 0} (honest : Type 0) (seen : H → Seen) where
   abbrev pub run_acts : Acts Running H
@@ -195,29 +192,29 @@ module _ {H : Type 0} (honest : Type 0) (seen : H → Seen) where
   chain-others running host front running' host' (pauses lines between running'' middle host'' before step) =
       subst (λ (m : H). LeavesOthers honest (seen host) (seen m)) (sym step.2) (chain-others running host lines between middle before)
 
-  module _ (h : honest) (set : Settings) (h0 : List Beat) (start : List Event) where
-    pub chain-runs : (running : Running) (host : H) → IsRunning (seen host).past running set h0 [] start → (front : List (List ℕ)) (running' : Running) (host' : H) → Chain run_acts running host front running' host'
-        → IsRunning (seen host').past running' set h0 front start
+  module _ (h : honest) (every : ℕ) (set : Settings) (h0 : List Beat) (start : List Event) where
+    pub chain-runs : (running : Running) (host : H) → IsRunning (seen host).past running every set h0 [] start → (front : List (List ℕ)) (running' : Running) (host' : H) → Chain run_acts running host front running' host'
+        → IsRunning (seen host').past running' every set h0 front start
     chain-runs running host first front running' host' begins = first
     chain-runs running host first front running' host' (goes_on lines line between running'' middle host'' before step) =
-        step.run h set h0 lines start (chain-runs running host first lines between middle before) refl
+        step.run h every set h0 lines start (chain-runs running host first lines between middle before) refl
     chain-runs running host first front running' host' (pauses lines between running'' middle host'' before step) =
-        subst (λ (m : H). IsRunning (seen m).past running'' set h0 lines start) (sym step.2)
-        (subst (λ (r : Running). IsRunning (seen middle).past r set h0 lines start) (sym step.1) (chain-runs running host first lines between middle before))
+        subst (λ (m : H). IsRunning (seen m).past running'' every set h0 lines start) (sym step.2)
+        (subst (λ (r : Running). IsRunning (seen middle).past r every set h0 lines start) (sym step.1) (chain-runs running host first lines between middle before))
 
     -- where the text closes no beat, nothing happens to any file
-    module _ (text : List ℕ) (none : history_with_text h0 text ≡ h0) where
-      chain-quiet : (running : Running) (host : H) → IsRunning (seen host).past running set h0 [] start → (front : List (List ℕ)) (running' : Running) (host' : H) → Chain run_acts running host front running' host'
+    module _ (text : List ℕ) (none : history_with_text every h0 text ≡ h0) where
+      chain-quiet : (running : Running) (host : H) → IsRunning (seen host).past running every set h0 [] start → (front : List (List ℕ)) (running' : Running) (host' : H) → Chain run_acts running host front running' host'
           → (next : List ℕ) (more : List (List ℕ)) → parts text ≡ front ++ next ∷ more → LeavesFiles (seen host).past (seen host').past
       chain-quiet running host first front running' host' begins next more whole = leaves-nothing (seen host).past
       chain-quiet running host first front running' host' (goes_on lines line between running'' middle host'' before step) next more whole =
           let sooner : parts text ≡ lines ++ line ∷ next ∷ more = whole ∙ append_assoc lines (line ∷ []) (next ∷ more) in
           leaves-further (seen host).past (seen middle).past (seen host').past (chain-quiet running host first lines between middle before line (next ∷ more) sooner)
-          (step.quiet h set h0 lines start (chain-runs running host first lines between middle before) text next more sooner none)
+          (step.quiet h every set h0 lines start (chain-runs running host first lines between middle before) text next more sooner none)
       chain-quiet running host first front running' host' (pauses lines between running'' middle host'' before step) next more whole =
           subst (λ (m : H). LeavesFiles (seen host).past (seen m).past) (sym step.2) (chain-quiet running host first lines between middle before next more whole)
 
-      module _ (s : Status) (running : Running) (host : H) (first : IsRunning (seen host).past running set h0 [] start) (left : Option (List ℕ)) (source_rose : Type 0) where
+      module _ (s : Status) (running : Running) (host : H) (first : IsRunning (seen host).past running every set h0 [] start) (left : Option (List ℕ)) (source_rose : Type 0) where
         -- all of its lines were taken
         lines-quiet : (running' : Running) (middle : H) → Chain run_acts running host (lines text) running' middle → LeavesFiles (seen host).past (seen middle).past
         lines-quiet running' middle chain = chain-quiet running host first (lines text) running' middle chain (rest text) [] (parts_whole text)
@@ -225,7 +222,7 @@ module _ {H : Type 0} (honest : Type 0) (seen : H → Seen) where
         pub run-quiet : (running'' : Running) (host'' : H) → Ended run_acts s running host text running'' host'' left source_rose → LeavesFiles (seen host).past (seen host'').past
         run-quiet running'' host'' (at_line front line next more running' middle whole short_front short chain step) =
             leaves-further (seen host).past (seen middle).past (seen host'').past (chain-quiet running host first front running' middle chain line (next ∷ more) whole)
-            (step.quiet h set h0 front start (chain-runs running host first front running' middle chain) text next more whole none)
+            (step.quiet h every set h0 front start (chain-runs running host first front running' middle chain) text next more whole none)
         run-quiet running'' host'' (at_pause running' middle took step) = absurd (not-ok s (Err s) refl step.0)
         run-quiet running'' host'' (at_long_line front long more running' middle whole short over chain step) =
             leaves-further (seen host).past (seen middle).past (seen host'').past (chain-quiet running host first front running' middle chain long more whole) (step.quiet h)
@@ -238,11 +235,10 @@ module _ {H : Type 0} (honest : Type 0) (seen : H → Seen) where
             chain-quiet running host first front running'' host'' took.chain follows.next follows.more follows.whole
 
     -- how a run over this text ended, and that its status is that of the text where nothing outside fails
-    pub record Over (s : Status) (text : List ℕ) (left : Option (List ℕ)) (new : List Event) (source_rose tell_rose disk_rose : Type 0) : Type 0 where
-      pub ended : Bool
+    pub record Over (s : Status) (ended : Bool) (text : List ℕ) (left : Option (List ℕ)) (new : List Event) (source_rose tell_rose disk_rose : Type 0) : Type 0 where
       pub at_end : ended ≡ true → (length text < input_limit) × IfSome left (λ bytes. bytes ≡ [])
-      pub stops : StopsIn s set h0 ended text start new source_rose tell_rose disk_rose
-      pub whole : (more : List ℕ) → left ≡ Some more → (source_rose → ⊥) → (tell_rose → ⊥) → (disk_rose → ⊥) → (s ≡ run_status set h0 (text ++ more)) ⊎ (s ≡ status.Memory)
+      pub stops : StopsIn s every set h0 ended text start new source_rose tell_rose disk_rose
+      pub whole : (more : List ℕ) → left ≡ Some more → (source_rose → ⊥) → (tell_rose → ⊥) → (disk_rose → ⊥) → (s ≡ run_status every set h0 (text ++ more)) ⊎ (s ≡ status.Memory)
 
     not-ended : {A : Type 0} → false ≡ true → A
     not-ended e = absurd (true≢false (sym e))
@@ -260,70 +256,67 @@ module _ {H : Type 0} (honest : Type 0) (seen : H → Seen) where
         disk-sooner : DiskRose (seen middle) (seen host'') → DiskRose (seen host) (seen host'')
         disk-sooner = rose-later (seen host).disk_faults (seen middle).disk_faults (seen host'').disk_faults first.disk.later second.disk.later
 
-        over-by : (ended : Bool) (t : List ℕ) → StopsIn s set h0 ended t start (seen host'').past ⊥ (TellRose (seen middle) (seen host'')) (DiskRose (seen middle) (seen host''))
-            → StopsIn s set h0 ended t start (seen host'').past source_rose (TellRose (seen host) (seen host'')) (DiskRose (seen host) (seen host''))
+        over-by : (ended : Bool) (t : List ℕ) → StopsIn s every set h0 ended t start (seen host'').past ⊥ (TellRose (seen middle) (seen host'')) (DiskRose (seen middle) (seen host''))
+            → StopsIn s every set h0 ended t start (seen host'').past source_rose (TellRose (seen host) (seen host'')) (DiskRose (seen host) (seen host''))
         over-by ended t =
-            stops-wider s set h0 ended t start (seen host'').past ⊥ (TellRose (seen middle) (seen host'')) (DiskRose (seen middle) (seen host'')) source_rose (TellRose (seen host) (seen host'')) (DiskRose (seen host) (seen host''))
+            stops-wider s every set h0 ended t start (seen host'').past ⊥ (TellRose (seen middle) (seen host'')) (DiskRose (seen middle) (seen host'')) source_rose (TellRose (seen host) (seen host'')) (DiskRose (seen host) (seen host''))
             (λ no. absurd no) tells-sooner disk-sooner
 
         -- however the text goes on
-        over-onward : ((ended : Bool) (more : List ℕ) → StopsIn s set h0 ended (text ++ more) start (seen host'').past ⊥ (TellRose (seen middle) (seen host'')) (DiskRose (seen middle) (seen host'')))
-            → Over s text left (seen host'').past source_rose (TellRose (seen host) (seen host'')) (DiskRose (seen host) (seen host''))
+        over-onward : ((ended : Bool) (more : List ℕ) → StopsIn s every set h0 ended (text ++ more) start (seen host'').past ⊥ (TellRose (seen middle) (seen host'')) (DiskRose (seen middle) (seen host'')))
+            → Over s false text left (seen host'').past source_rose (TellRose (seen host) (seen host'')) (DiskRose (seen host) (seen host''))
         over-onward stops = record {
-          ended = false;
           at_end = λ e. not-ended e;
-          stops = subst (λ (t : List ℕ). StopsIn s set h0 false t start (seen host'').past source_rose (TellRose (seen host) (seen host'')) (DiskRose (seen host) (seen host''))) (append-nil text)
+          stops = subst (λ (t : List ℕ). StopsIn s every set h0 false t start (seen host'').past source_rose (TellRose (seen host) (seen host'')) (DiskRose (seen host) (seen host''))) (append-nil text)
               (over-by false (text ++ []) (stops false []));
           whole = λ more is none_read none_told none_disk.
               let ended = nat_lt (length (text ++ more)) input_limit in
               let taken = text ++ take (input_limit - length text) more in
-              told-as s (ending_status (run_reading set h0 ended taken).ending) (run_status set h0 (text ++ more)) (status-onward set h0 input_limit text more within)
-              (status-told s ended (run_reading set h0 ended taken).ending taken source_rose (TellRose (seen host) (seen host'')) (DiskRose (seen host) (seen host'')) none_read none_told none_disk
+              told-as s (ending_status (run_reading every set h0 ended taken).ending) (run_status every set h0 (text ++ more)) (status-onward every set h0 input_limit text more within)
+              (status-told s ended (run_reading every set h0 ended taken).ending taken source_rose (TellRose (seen host) (seen host'')) (DiskRose (seen host) (seen host'')) none_read none_told none_disk
               (over-by ended taken (stops ended (take (input_limit - length text) more))).cause);
         }
 
       -- the run stopped where all lines were taken
-      over-open : (running'' : Running) (host'' : H) → IsRunning (seen host'').past running'' set h0 (lines text) start → HasNoLongLine text → (s ≡ status.TellFault → ⊥) → (s ≡ status.DiskFault → ⊥)
+      over-open : (running'' : Running) (host'' : H) → IsRunning (seen host'').past running'' every set h0 (lines text) start → HasNoLongLine text → (s ≡ status.TellFault → ⊥) → (s ≡ status.DiskFault → ⊥)
           → ((ending : Ending Refusal) → ending ≡ GoesOn → HasRunCause s false ending text source_rose (TellRose (seen host) (seen host'')) (DiskRose (seen host) (seen host'')))
-          → ((more : List ℕ) → left ≡ Some more → (source_rose → ⊥) → (s ≡ run_status set h0 (text ++ more)) ⊎ (s ≡ status.Memory))
-          → Over s text left (seen host'').past source_rose (TellRose (seen host) (seen host'')) (DiskRose (seen host) (seen host''))
+          → ((more : List ℕ) → left ≡ Some more → (source_rose → ⊥) → (s ≡ run_status every set h0 (text ++ more)) ⊎ (s ≡ status.Memory))
+          → Over s false text left (seen host'').past source_rose (TellRose (seen host) (seen host'')) (DiskRose (seen host) (seen host''))
       over-open running'' host'' going short untold stored cause whole =
-          let reads = read-open (run_rules set h0) (lines text) going.read going.made going.has text refl (rest-fits text short) in
+          let reads = read-open (run_rules every set h0) (lines text) going.read going.made going.has text refl (rest-fits text short) in
           record {
-            ended = false;
             at_end = λ e. not-ended e;
-            stops = whole-stop (seen host'').past running'' set h0 start going.read going.made going.at false text source_rose (TellRose (seen host) (seen host'')) (DiskRose (seen host) (seen host'')) s untold stored
-                (ap all_told reads ∙ append-nil going.made) (ap (history_at every h0) (says-all (run_rules set h0) (lines text) going.read going.made going.has text refl))
-                (cause (run_reading set h0 false text).ending (ap (λ (r : Reading Refusal). r.ending) reads));
+            stops = whole-stop (seen host'').past running'' every set h0 start going.read going.made going.at false text source_rose (TellRose (seen host) (seen host'')) (DiskRose (seen host) (seen host'')) s untold stored
+                (ap all_told reads ∙ append-nil going.made) (ap (history_at every h0) (says-all (run_rules every set h0) (lines text) going.read going.made going.has text refl))
+                (cause (run_reading every set h0 false text).ending (ap (λ (r : Reading Refusal). r.ending) reads));
             whole = λ more is none_read none_told none_disk. whole more is none_read;
           }
 
-      module _ (running : Running) (first : IsRunning (seen host).past running set h0 [] start) where
-        pub run-over : (running'' : Running) (host'' : H) → Ended run_acts s running host text running'' host'' left source_rose
-            → Over s text left (seen host'').past source_rose (TellRose (seen host) (seen host'')) (DiskRose (seen host) (seen host''))
+      module _ (running : Running) (first : IsRunning (seen host).past running every set h0 [] start) where
+        pub run-over : (running'' : Running) (host'' : H) → (how : Ended run_acts s running host text running'' host'' left source_rose)
+            → Over s (is-by-end run_acts s running host text running'' host'' left source_rose how) text left (seen host'').past source_rose (TellRose (seen host) (seen host'')) (DiskRose (seen host) (seen host''))
         run-over running'' host'' (at_line front line next more running' middle whole short_front short chain step) =
             let going = chain-runs running host first front running' middle chain in
             over-onward middle host'' _ _ (chain-counts running host front running' middle chain) step.counts
-            (λ ended behind. let on = line-onward text front line next more whole behind in step.run h set h0 front start going refl ended (text ++ behind) on.next on.more on.whole)
+            (λ ended behind. let on = line-onward text front line next more whole behind in step.run h every set h0 front start going refl ended (text ++ behind) on.next on.more on.whole)
         run-over running'' host'' (at_pause running' middle took step) = absurd (not-ok s (Err s) refl step.0)
         run-over running'' host'' (at_long_line front long more running' middle whole short over chain step) =
             let going = chain-runs running host first front running' middle chain in
             over-onward middle host'' _ _ (chain-counts running host front running' middle chain) step.counts
             (λ ended behind.
             let on = IsLongAfter-append text behind front (record { long = long; more = more; whole = whole; short = short; too_long = over }) in
-            step.run h set h0 front start going refl ended (text ++ behind) on.long on.more on.whole on.too_long)
+            step.run h every set h0 front start going refl ended (text ++ behind) on.long on.more on.whole on.too_long)
         run-over running'' host'' (at_end running' middle below nothing took step) =
             let going = chain-runs running host first (lines text) running' middle took.chain in
-            let stop = over-by middle host'' _ _ (chain-counts running host (lines text) running' middle took.chain) step.counts true text (step.run h set h0 text start going refl refl) in
+            let stop = over-by middle host'' _ _ (chain-counts running host (lines text) running' middle took.chain) step.counts true text (step.run h every set h0 text start going refl refl) in
             record {
-              ended = true;
               at_end = λ _. (below, nothing);
               stops = stop;
               whole = λ more is none_read none_told none_disk.
                   let no_more : more ≡ [] = subst (λ (l : Option (List ℕ)). IfSome l (λ bytes. bytes ≡ [])) is nothing in
-                  let same : run_status set h0 text ≡ run_status set h0 (text ++ more) = ap (run_status set h0) (sym (ap (λ (t : List ℕ). text ++ t) no_more ∙ append-nil text)) in
-                  told-as s (ending_status (run_reading set h0 true text).ending) (run_status set h0 (text ++ more)) (status-ended set h0 input_limit text below ∙ same)
-                  (status-told s true (run_reading set h0 true text).ending text source_rose (TellRose (seen host) (seen host'')) (DiskRose (seen host) (seen host'')) none_read none_told none_disk stop.cause);
+                  let same : run_status every set h0 text ≡ run_status every set h0 (text ++ more) = ap (run_status every set h0) (sym (ap (λ (t : List ℕ). text ++ t) no_more ∙ append-nil text)) in
+                  told-as s (ending_status (run_reading every set h0 true text).ending) (run_status every set h0 (text ++ more)) (status-ended every set h0 input_limit text below ∙ same)
+                  (status-told s true (run_reading every set h0 true text).ending text source_rose (TellRose (seen host) (seen host'')) (DiskRose (seen host) (seen host'')) none_read none_told none_disk stop.cause);
             }
         run-over running'' host'' (at_fault is rose below took last) =
             over-open running'' host'' (chain-runs running host first (lines text) running'' host'' took.chain) took.short (λ e. cc) (λ e. cc)
@@ -331,20 +324,19 @@ module _ {H : Type 0} (honest : Type 0) (seen : H → Seen) where
             (λ more there none. absurd (none rose))
         run-over running'' host'' (at_limit is full took) =
             let going = chain-runs running host first (lines text) running'' host'' took.chain in
-            let reads = read-open (run_rules set h0) (lines text) going.read going.made going.has text refl (rest-fits text took.short) in
+            let reads = read-open (run_rules every set h0) (lines text) going.read going.made going.has text refl (rest-fits text took.short) in
             over-open running'' host'' going took.short (λ e. cc) (λ e. cc)
             (λ ending goes. subst (λ (a : Status). HasRunCause a false ending text source_rose (TellRose (seen host) (seen host'')) (DiskRose (seen host) (seen host''))) (sym is) (refl, goes, full))
-            (λ more there none. inl (is ∙ ap (λ (r : Reading Refusal). ending_status r.ending) (sym reads) ∙ status-full set h0 input_limit text more full))
+            (λ more there none. inl (is ∙ ap (λ (r : Reading Refusal). ending_status r.ending) (sym reads) ∙ status-full every set h0 input_limit text more full))
         run-over running'' host'' (at_want front is took) =
             let going = chain-runs running host first front running'' host'' took.chain in
             let follows = front-followed text front took.begins in
             record {
-              ended = false;
               at_end = λ e. not-ended e;
-              stops = subst (λ (a : Status). StopsIn a set h0 false text start (seen host'').past source_rose (TellRose (seen host) (seen host'')) (DiskRose (seen host) (seen host''))) (sym is)
-                  (want-stop (seen host'').past running'' set h0 start going.read going.made going.at false text source_rose (TellRose (seen host) (seen host'')) (DiskRose (seen host) (seen host''))
-                  (extends-text h0 set front going.read going.made going.has text follows.next follows.more follows.whole)
-                  (output-behind set h0 front going.read going.made going.has false text follows.next follows.more follows.whole));
+              stops = subst (λ (a : Status). StopsIn a every set h0 false text start (seen host'').past source_rose (TellRose (seen host) (seen host'')) (DiskRose (seen host) (seen host''))) (sym is)
+                  (want-stop (seen host'').past running'' every set h0 start going.read going.made going.at false text source_rose (TellRose (seen host) (seen host'')) (DiskRose (seen host) (seen host''))
+                  (extends-text every h0 set front going.read going.made going.has text follows.next follows.more follows.whole)
+                  (output-behind every set h0 front going.read going.made going.has false text follows.next follows.more follows.whole));
               whole = λ more there none_read none_told none_disk. inr is;
             }
 

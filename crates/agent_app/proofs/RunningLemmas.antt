@@ -13,7 +13,6 @@ use Rattle.history.specs.declared.line.Line.{Line}
 use Rattle.history.specs.History.{Beat}
 use Rattle.history.specs.Read.{history_at, refusal_at}
 use Rattle.plugin_text.specs.Lines.{rest}
-use Rattle.point_lines.specs.Judged.{every}
 use Rattle.collect_block.specs.Feed.{CountsFor, IsFeedOf}
 use Rattle.entry_codec.specs.declared.entry.Settings.{Settings}
 use Rattle.store_core.proofs.StoreLemmas.{every_image_of, store_told}
@@ -55,7 +54,7 @@ keeps-more set h0 h whole before more start new stops =
     let kept = held disk text images by_then in
     record { stored = kept.stored; since = kept.since; within = extends-further kept.stored h whole kept.within more; stands = kept.stands; acked = kept.acked }) stops
 
-module _ (past : List Event) (running : Running) (set : Settings) (h0 : List Beat) (start : List Event) (read : List Line) (made : List ℕ) (at : RunsAt past running set h0 start read made) where
+module _ (past : List Event) (running : Running) (every : ℕ) (set : Settings) (h0 : List Beat) (start : List Event) (read : List Line) (made : List ℕ) (at : RunsAt past running every set h0 start read made) where
   abbrev now : List Beat
   now = history_at every h0 read
 
@@ -70,15 +69,15 @@ module _ (past : List Event) (running : Running) (set : Settings) (h0 : List Bea
       → Throughout (EveryDisk (StandsForOneOf set now reason (history_with now every read said))) past new → told new ≡ told past → Throughout (EveryStop (Keeps set h0 whole (told start))) start new
   line-stops said reason new whole here there moments silent =
       let after = history_at every h0 (said ∷ read) in
-      let one = extends-line h0 read said in
+      let one = extends-line every h0 read said in
       let shows : (disk : File → List ℕ) (text : List ℕ) → StandsForOneOf set now reason (history_with now every read said) disk → IsText past text → Keeps set h0 whole (told start) disk text
       = λ disk text stands by_then. elim stands [
-        | inl same ↦ record { stored = now; since = extends-start h0 read; within = here; stands = same; acked = acked-by text by_then }
+        | inl same ↦ record { stored = now; since = extends-start every h0 read; within = here; stands = same; acked = acked-by text by_then }
         | inr more ↦ record {
           stored = after;
-          since = extends-start h0 (said ∷ read);
+          since = extends-start every h0 (said ∷ read);
           within = there more.0;
-          stands = subst (λ (h : List Beat). StandsForHistory set h disk) (with-line h0 read said) more.1;
+          stands = subst (λ (h : List Beat). StandsForHistory set h disk) (with-line every h0 read said) more.1;
           acked = acked-weaker (length now) (length after) (drop (length (told start)) text) (extends-length now after one) (acked-by text by_then);
         }
       ] in
@@ -87,14 +86,14 @@ module _ (past : List Event) (running : Running) (set : Settings) (h0 : List Bea
   -- a line was taken
   pub line-taken : (said : Line) (new : List Event) (running' : Running) (reason : Option BlockFault) → refusal_at every h0 read said ≡ None
       → IsAgentOf new running'.agent set (history_with now every read said) → IsFeedOf running'.feed every (said ∷ read) → CountsFor running'.feed running'.agent.registry
-      → Throughout (EveryDisk (StandsForOneOf set now reason (history_with now every read said))) past new → told new ≡ told past → RunsAt new running' set h0 start (said ∷ read) made
+      → Throughout (EveryDisk (StandsForOneOf set now reason (history_with now every read said))) past new → told new ≡ told past → RunsAt new running' every set h0 start (said ∷ read) made
   line-taken said new running' reason free agent feed counts moments silent =
       let after = history_at every h0 (said ∷ read) in
-      let one = extends-line h0 read said in
+      let one = extends-line every h0 read said in
       record {
         within = at.within;
         accepted = (free, at.accepted);
-        agent = subst (IsAgentOf new running'.agent set) (with-line h0 read said) agent;
+        agent = subst (IsAgentOf new running'.agent set) (with-line every h0 read said) agent;
         feed = feed;
         counts = counts;
         tells = silent ∙ at.tells;
@@ -113,7 +112,7 @@ module _ (past : List Event) (running : Running) (set : Settings) (h0 : List Bea
         ∙ ap (λ (t : List ℕ). t ++ text) at.tells ∙ append_assoc (told start) made text in
         record {
           stored = now;
-          since = extends-start h0 read;
+          since = extends-start every h0 read;
           within = no_more;
           stands = stands-all past running.agent set now at.agent disk images;
           acked = acked-since (length now) (told start) (made ++ text) said (drop by_then.0 sent ++ left) front (acked-more (length now) made text at.closed at.acked acked);
@@ -122,7 +121,7 @@ module _ (past : List Event) (running : Running) (set : Settings) (h0 : List Bea
     here-stop : EveryStop (Keeps set h0 now (told start)) past
     here-stop disk said images by_then = record {
       stored = now;
-      since = extends-start h0 read;
+      since = extends-start every h0 read;
       within = no_more;
       stands = stands-all past running.agent set now at.agent disk images;
       acked = acked-by said by_then;
@@ -136,7 +135,7 @@ module _ (past : List Event) (running : Running) (set : Settings) (h0 : List Bea
         joined at.stops (may_have_moved (EveryStop (Keeps set h0 now (told start))) (λ (n : ℕ). Told (take n text)) past new may here-stop (λ n. front-stop (take n text) (drop n text) (take-append-drop n text)))
 
     -- the text was told, whole lines of it
-    pub text-told : (new : List Event) → new ≡ Told text ∷ past → rest text ≡ [] → RunsAt new running set h0 start read (made ++ text)
+    pub text-told : (new : List Event) → new ≡ Told text ∷ past → rest text ≡ [] → RunsAt new running every set h0 start read (made ++ text)
     text-told new is closed = record {
       within = at.within;
       accepted = at.accepted;

@@ -12,7 +12,7 @@ use Rattle.history.specs.History.{Beat}
 use Rattle.history.specs.Read.{history_at}
 use Rattle.plugin_text.specs.Lines.{parts}
 use Rattle.point_lines.specs.declared.refusal.Refusal.{Refusal}
-use Rattle.point_lines.specs.Judged.{every, refusal_number}
+use Rattle.point_lines.specs.Judged.{refusal_number}
 use Rattle.entry_codec.specs.declared.entry.Settings.{Settings}
 use Rattle.agent_core.specs.Kept.{StandsForHistory, StandsForOneOf}
 use Rattle.agent_core.specs.Rules.{history_with}
@@ -31,13 +31,13 @@ pub record Behind (made output : List ℕ) : Type 0 where
   pub whole : output ≡ made ++ left
 
 -- what was told of the lines that were read is a front of the output
-pub output-behind : (set : Settings) (h0 : List Beat) (front : List (List ℕ)) (read : List Line) (made : List ℕ) → HasRead (run_rules set h0) front read made → (ended : Bool) (text next : List ℕ) (more : List (List ℕ)) → parts text ≡ front ++ next ∷ more
-    → Behind made (run_output set h0 ended text)
-output-behind set h0 front read made has ended text next more whole =
-    let on = reading (run_rules set h0) ended read (next ∷ more) in
+pub output-behind : (every : ℕ) (set : Settings) (h0 : List Beat) (front : List (List ℕ)) (read : List Line) (made : List ℕ) → HasRead (run_rules every set h0) front read made → (ended : Bool) (text next : List ℕ) (more : List (List ℕ)) → parts text ≡ front ++ next ∷ more
+    → Behind made (run_output every set h0 ended text)
+output-behind every set h0 front read made has ended text next more whole =
+    let on = reading (run_rules every set h0) ended read (next ∷ more) in
     record {
       left = on.told ++ ending_line on.ending;
-      whole = ap all_told (ap (reading (run_rules set h0) ended []) whole ∙ has.onward ended next more) ∙ append_assoc made on.told (ending_line on.ending);
+      whole = ap all_told (ap (reading (run_rules every set h0) ended []) whole ∙ has.onward ended next more) ∙ append_assoc made on.told (ending_line on.ending);
     }
 
 refusal-cause : (number : ℕ) (why : Refusal) (ended : Bool) (ending : Ending Refusal) (text : List ℕ) (source_rose tell_rose disk_rose : Type 0) → ending ≡ RefusedAt number why
@@ -48,42 +48,46 @@ refusal-cause number why ended ending text source_rose tell_rose disk_rose is = 
     by true e = (why, is, sym (ap (λ (b : Bool). if b then Limit number (refusal_number why) else Refused number (refusal_number why)) e))
     by false e = (why, is, sym (ap (λ (b : Bool). if b then Limit number (refusal_number why) else Refused number (refusal_number why)) e))
 
-module _ (past : List Event) (running : Running) (set : Settings) (h0 : List Beat) (start : List Event) (read : List Line) (made : List ℕ) (at : RunsAt past running set h0 start read made) where
+module _ (past : List Event) (running : Running) (every : ℕ) (set : Settings) (h0 : List Beat) (start : List Event) (read : List Line) (made : List ℕ) (at : RunsAt past running every set h0 start read made) where
   abbrev now : List Beat
   now = history_at every h0 read
 
   module _ (ended : Bool) (text : List ℕ) (source_rose tell_rose disk_rose : Type 0) where
     abbrev Stops : Status → List Event → Type 0
-    Stops status new = StopsIn status set h0 ended text start new source_rose tell_rose disk_rose
+    Stops status new = StopsIn status every set h0 ended text start new source_rose tell_rose disk_rose
 
     abbrev Kept : List Event → Type 0
-    Kept new = Throughout (EveryStop (Keeps set h0 (history_with_text h0 text) (told start))) start new
+    Kept new = Throughout (EveryStop (Keeps set h0 (history_with_text every h0 text) (told start))) start new
 
-    short-stop : (status : Status) (new : List Event) (sent unsent : List ℕ) → is_whole status ≡ false → Kept new → run_output set h0 ended text ≡ sent ++ unsent → told new ≡ told start ++ sent
-        → (status ≡ TellFault → run_output set h0 ended text ≡ [] → ⊥) → FailsAtBeat status set h0 ended text sent → HasRunCause status ended (run_reading set h0 ended text).ending text source_rose tell_rose disk_rose → Stops status new
+    short-stop : (status : Status) (new : List Event) (sent unsent : List ℕ) → is_whole status ≡ false → Kept new → run_output every set h0 ended text ≡ sent ++ unsent → told new ≡ told start ++ sent
+        → (status ≡ TellFault → run_output every set h0 ended text ≡ [] → ⊥) → FailsAtBeat status every set h0 ended text sent → HasRunCause status ended (run_reading every set h0 ended text).ending text source_rose tell_rose disk_rose → Stops status new
     short-stop status new sent unsent short kept whole tells told_for stored_for cause = record {
-      stops = kept;
-      ends = λ all. absurd (true≢false (sym all ∙ short));
-      output = record { sent = sent; unsent = unsent; whole = whole; tells = tells; all = λ all. absurd (true≢false (sym all ∙ short)) };
-      told_for = told_for;
+      stores = record {
+        stops = kept;
+        ends = λ all. absurd (true≢false (sym all ∙ short));
+        output = record { sent = sent; unsent = unsent; whole = whole; tells = tells; all = λ all. absurd (true≢false (sym all ∙ short)) };
+        told_for = told_for;
+      };
       stored_for = stored_for;
       cause = cause;
     }
 
     -- all of the text was told, and all of its beats are stored
-    pub whole-stop : (status : Status) → (status ≡ TellFault → ⊥) → (status ≡ DiskFault → ⊥) → run_output set h0 ended text ≡ made → history_with_text h0 text ≡ now → HasRunCause status ended (run_reading set h0 ended text).ending text source_rose tell_rose disk_rose → Stops status past
+    pub whole-stop : (status : Status) → (status ≡ TellFault → ⊥) → (status ≡ DiskFault → ⊥) → run_output every set h0 ended text ≡ made → history_with_text every h0 text ≡ now → HasRunCause status ended (run_reading every set h0 ended text).ending text source_rose tell_rose disk_rose → Stops status past
     whole-stop status untold stored output history cause = record {
-      stops = subst (λ (h : List Beat). Throughout (EveryStop (Keeps set h0 h (told start))) start past) (sym history) at.stops;
-      ends = λ _. subst (λ (h : List Beat). EveryDisk (StandsForHistory set h) past) (sym history) (stands-all past running.agent set now at.agent);
-      output = record { sent = made; unsent = []; whole = output ∙ sym (append-nil made); tells = at.tells; all = λ _. refl };
-      told_for = λ is. absurd (untold is);
+      stores = record {
+        stops = subst (λ (h : List Beat). Throughout (EveryStop (Keeps set h0 h (told start))) start past) (sym history) at.stops;
+        ends = λ _. subst (λ (h : List Beat). EveryDisk (StandsForHistory set h) past) (sym history) (stands-all past running.agent set now at.agent);
+        output = record { sent = made; unsent = []; whole = output ∙ sym (append-nil made); tells = at.tells; all = λ _. refl };
+        told_for = λ is. absurd (untold is);
+      };
       stored_for = λ is. absurd (stored is);
       cause = cause;
     }
 
     -- there was no memory
-    pub want-stop : Extends now (history_with_text h0 text) → Behind made (run_output set h0 ended text) → Stops Memory past
-    want-stop more behind = short-stop Memory past made behind.left refl (keeps-more set h0 now (history_with_text h0 text) (told start) more start past at.stops) behind.whole at.tells (λ is. absurd (short is)) (λ is. absurd (stored is)) tt
+    pub want-stop : Extends now (history_with_text every h0 text) → Behind made (run_output every set h0 ended text) → Stops Memory past
+    want-stop more behind = short-stop Memory past made behind.left refl (keeps-more set h0 now (history_with_text every h0 text) (told start) more start past at.stops) behind.whole at.tells (λ is. absurd (short is)) (λ is. absurd (stored is)) tt
       where
         short : Memory ≡ TellFault → ⊥
         short e = cc
@@ -92,27 +96,27 @@ module _ (past : List Event) (running : Running) (set : Settings) (h0 : List Bea
         stored e = cc
 
     -- the line that says this was not taken
-    pub line-stop : (status : Status) (said : Line) (reason : Option BlockFault) (new : List Event) → is_whole status ≡ false → (status ≡ TellFault → ⊥) → FailsAtBeat status set h0 ended text made → HasRunCause status ended (run_reading set h0 ended text).ending text source_rose tell_rose disk_rose
+    pub line-stop : (status : Status) (said : Line) (reason : Option BlockFault) (new : List Event) → is_whole status ≡ false → (status ≡ TellFault → ⊥) → FailsAtBeat status every set h0 ended text made → HasRunCause status ended (run_reading every set h0 ended text).ending text source_rose tell_rose disk_rose
         → Throughout (EveryDisk (StandsForOneOf set now reason (history_with now every read said))) past new → told new ≡ told past
-        → Extends now (history_with_text h0 text) → (reason ≡ None → Extends (history_at every h0 (said ∷ read)) (history_with_text h0 text)) → Behind made (run_output set h0 ended text) → Stops status new
+        → Extends now (history_with_text every h0 text) → (reason ≡ None → Extends (history_at every h0 (said ∷ read)) (history_with_text every h0 text)) → Behind made (run_output every set h0 ended text) → Stops status new
     line-stop status said reason new short untold stored_for cause moments silent here there behind =
-        short-stop status new made behind.left short (line-stops past running set h0 start read made at said reason new (history_with_text h0 text) here there moments silent) behind.whole (silent ∙ at.tells) (λ is. absurd (untold is)) stored_for cause
+        short-stop status new made behind.left short (line-stops past running every set h0 start read made at said reason new (history_with_text every h0 text) here there moments silent) behind.whole (silent ∙ at.tells) (λ is. absurd (untold is)) stored_for cause
 
     -- a text that is told next was not told whole
     pub cut-stop : (status : Status) (honest : Type 0) (next : List ℕ) (new : List Event) → honest → IsCutShort status honest next past new tell_rose → IsAckedUpTo (length now) next → (next ≡ [] → ⊥)
-        → Extends now (history_with_text h0 text) → Behind (made ++ next) (run_output set h0 ended text) → Stops status new
+        → Extends now (history_with_text every h0 text) → Behind (made ++ next) (run_output every set h0 ended text) → Stops status new
     cut-stop status honest next new h (inl (is, rose, torn)) acked some more behind = subst (λ (s : Status). Stops s new) (sym is) (by (torn h))
       where
         kept : Kept new
-        kept = keeps-more set h0 now (history_with_text h0 text) (told start) more start new (torn-stops past running set h0 start read made at next acked new (torn h))
+        kept = keeps-more set h0 now (history_with_text every h0 text) (told start) more start new (torn-stops past running every set h0 start read made at next acked new (torn h))
 
-        output : run_output set h0 ended text ≡ made ++ (next ++ behind.left)
+        output : run_output every set h0 ended text ≡ made ++ (next ++ behind.left)
         output = behind.whole ∙ append_assoc made next behind.left
 
-        told_for : TellFault ≡ TellFault → run_output set h0 ended text ≡ [] → ⊥
+        told_for : TellFault ≡ TellFault → run_output every set h0 ended text ≡ [] → ⊥
         told_for is none = some (middle-none made next behind.left (sym output ∙ none))
 
-        stored_for : (sent : List ℕ) → FailsAtBeat TellFault set h0 ended text sent
+        stored_for : (sent : List ℕ) → FailsAtBeat TellFault every set h0 ended text sent
         stored_for sent is = cc
 
         by : MayAdd (λ (n : ℕ). Told (take n next)) past new → Stops TellFault new
@@ -128,24 +132,26 @@ module _ (past : List Event) (running : Running) (set : Settings) (h0 : List Bea
 
     -- a refusal ends the text
     pub refusal-stop : (status : Status) (honest : Type 0) (number : ℕ) (why : Refusal) (new : List Event) → honest → TellsRefusal status honest number why past new tell_rose
-        → run_reading set h0 ended text ≡ record { told = made; ending = RefusedAt number why } → history_with_text h0 text ≡ now → Stops status new
+        → run_reading every set h0 ended text ≡ record { told = made; ending = RefusedAt number why } → history_with_text every h0 text ≡ now → Stops status new
     refusal-stop status honest number why new h (inl (is, done)) whole history =
         let line = refusal_line number why in
         let stands : EveryDisk (StandsForHistory set now) (Told line ∷ past) = stands-all past running.agent set now at.agent in
         subst (λ (s : Status). Stops s new) (sym is) (record {
-          stops = subst (λ (w : List Beat). Throughout (EveryStop (Keeps set h0 w (told start))) start new) (sym history)
-              (told-stops past running set h0 start read made at line (acked-refusal (length now) number why) new (done h));
-          ends = λ _. subst (λ (w : List Beat). EveryDisk (StandsForHistory set w) new) (sym history) (subst (λ (p : List Event). EveryDisk (StandsForHistory set now) p) (sym (done h)) stands);
-          output = record {
-            sent = made ++ line;
-            unsent = [];
-            whole = ap all_told whole ∙ sym (append-nil (made ++ line));
-            tells = ap told (done h) ∙ ap (λ (t : List ℕ). t ++ line) at.tells ∙ append_assoc (told start) made line;
-            all = λ _. refl;
+          stores = record {
+            stops = subst (λ (w : List Beat). Throughout (EveryStop (Keeps set h0 w (told start))) start new) (sym history)
+                (told-stops past running every set h0 start read made at line (acked-refusal (length now) number why) new (done h));
+            ends = λ _. subst (λ (w : List Beat). EveryDisk (StandsForHistory set w) new) (sym history) (subst (λ (p : List Event). EveryDisk (StandsForHistory set now) p) (sym (done h)) stands);
+            output = record {
+              sent = made ++ line;
+              unsent = [];
+              whole = ap all_told whole ∙ sym (append-nil (made ++ line));
+              tells = ap told (done h) ∙ ap (λ (t : List ℕ). t ++ line) at.tells ∙ append_assoc (told start) made line;
+              all = λ _. refl;
+            };
+            told_for = λ untold none. apart (refusal_status number why) TellFault (refusal-inside number why) refl untold;
           };
-          told_for = λ untold none. apart (refusal_status number why) TellFault (refusal-inside number why) refl untold;
           stored_for = λ failed. absurd (apart (refusal_status number why) DiskFault (refusal-inside number why) refl failed);
-          cause = refusal-cause number why ended (run_reading set h0 ended text).ending text source_rose tell_rose disk_rose (ap (λ (r : Reading Refusal). r.ending) whole);
+          cause = refusal-cause number why ended (run_reading every set h0 ended text).ending text source_rose tell_rose disk_rose (ap (λ (r : Reading Refusal). r.ending) whole);
         })
     refusal-stop status honest number why new h (inr cut) whole history =
         cut-stop status honest (refusal_line number why) new h cut (acked-refusal (length now) number why) (refusal-some number why)

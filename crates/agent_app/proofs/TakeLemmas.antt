@@ -22,7 +22,7 @@ use Rattle.plugin_text.specs.Line.{line as line_of}
 use Rattle.plugin_text.specs.Lines.{fits, lines, parts, rest}
 use Rattle.point_lines.specs.declared.refusal.Refusal.{Refusal}
 use Rattle.point_lines.specs.declared.refusal.Refusal.TheVariants as refusal
-use Rattle.point_lines.specs.Judged.{every, refusal_number}
+use Rattle.point_lines.specs.Judged.{refusal_number}
 use Rattle.point_lines.proofs.StepLemmas.{counts-at}
 use Rattle.collect_block.specs.declared.feed.Feed.{Feed}
 use Rattle.collect_block.specs.Feed.{Becomes, CountsFor, IsFeedOf}
@@ -96,24 +96,24 @@ told-counts : (host host' : Seen) (tell disk : Type 0) → HasCause host.tell_fa
 told-counts host host' tell disk cause same never = record { tells = cause; disk = stayed host.disk_faults host'.disk_faults disk same never }
 
 -- ---- how a line is judged
-module _ (h0 : List Beat) (read : List Line) (bytes : List ℕ) (said : Line) (is : line_of bytes ≡ Ok said) where
-  judged-free : refusal_at every h0 read said ≡ None → judged_after h0 read (line_of bytes) ≡ Ok said
-  judged-free free = ap (judged_after h0 read) is ∙ ap (λ (o : Option BlockFault). option_map_or (λ (fault : BlockFault). Err (refusal.Block fault)) o (Ok said)) free
+module _ (every : ℕ) (h0 : List Beat) (read : List Line) (bytes : List ℕ) (said : Line) (is : line_of bytes ≡ Ok said) where
+  judged-free : refusal_at every h0 read said ≡ None → judged_after every h0 read (line_of bytes) ≡ Ok said
+  judged-free free = ap (judged_after every h0 read) is ∙ ap (λ (o : Option BlockFault). option_map_or (λ (fault : BlockFault). Err (refusal.Block fault)) o (Ok said)) free
 
-  judged-refused : (fault : BlockFault) → refusal_at every h0 read said ≡ Some fault → judged_after h0 read (line_of bytes) ≡ Err (refusal.Block fault)
-  judged-refused fault reason = ap (judged_after h0 read) is ∙ ap (λ (o : Option BlockFault). option_map_or (λ (fault : BlockFault). Err (refusal.Block fault)) o (Ok said)) reason
+  judged-refused : (fault : BlockFault) → refusal_at every h0 read said ≡ Some fault → judged_after every h0 read (line_of bytes) ≡ Err (refusal.Block fault)
+  judged-refused fault reason = ap (judged_after every h0 read) is ∙ ap (λ (o : Option BlockFault). option_map_or (λ (fault : BlockFault). Err (refusal.Block fault)) o (Ok said)) reason
 
-disable-same : (h0 : List Beat) (read : List Line) (said : Line) → is_disable said ≡ true → history_at every h0 (said ∷ read) ≡ history_at every h0 read
-disable-same h0 read line.Disable is = refl
-disable-same h0 read said is = absurd (true≢false (sym is))
+disable-same : (every : ℕ) (h0 : List Beat) (read : List Line) (said : Line) → is_disable said ≡ true → history_at every h0 (said ∷ read) ≡ history_at every h0 read
+disable-same every h0 read line.Disable is = refl
+disable-same every h0 read said is = absurd (true≢false (sym is))
 
 pub fault-is : (bytes : List ℕ) (fault : LineFault) → IsFaultFor (line_of bytes) fault → (fault ≡ line_fault.Memory → ⊥) → line_of bytes ≡ Err fault
 fault-is bytes line_fault.Memory told not = absurd (not refl)
 fault-is bytes fault told not = told
 
 -- this is what is told of a line, whole lines that acknowledge no beat but those by then
-pub record IsToldOf (set : Settings) (h0 : List Beat) (read : List Line) (said : Line) (next : List ℕ) : Type 0 where
-  pub is : next ≡ told_of set h0 read said
+pub record IsToldOf (every : ℕ) (set : Settings) (h0 : List Beat) (read : List Line) (said : Line) (next : List ℕ) : Type 0 where
+  pub is : next ≡ told_of every set h0 read said
   pub acked : IsAckedUpTo (length (history_at every h0 (said ∷ read))) next
   pub closed : rest next ≡ []
   pub some : next ≡ [] → ⊥
@@ -153,16 +153,16 @@ refused-leaves (Err other) fault P refused left = absurd refused
 -- ---- a line
 module _ (honest : Type 0) (running : Running) (host : Seen) (number : ℕ) (bytes : List ℕ) (short : fits bytes ≡ true) where
   refused-line : (running' : Running) (status : Status) (host' : Seen) (why : Refusal)
-      → (honest → (set : Settings) (h0 : List Beat) (start : List Event) (read : List Line) (made : List ℕ) → RunsAt host.past running set h0 start read made → judged_after h0 read (line_of bytes) ≡ Err why)
+      → (honest → (every : ℕ) (set : Settings) (h0 : List Beat) (start : List Event) (read : List Line) (made : List ℕ) → RunsAt host.past running every set h0 start read made → judged_after every h0 read (line_of bytes) ≡ Err why)
       → TellsRefusal status honest number why host.past host'.past (TellRose host host') → HasCause host.tell_faults host'.tell_faults (status ≡ TellFault) → host'.disk_faults ≡ host.disk_faults
       → TakesLine honest running host number bytes (Err status) running' host'
   refused-line running' status host' why judged telling cause same = record {
-    run = λ h set h0 front start going number_is ended text next more whole.
-        let judge = judged h set h0 start going.read going.made going.at in
-        refusal-stop host.past running set h0 start going.read going.made going.at ended text ⊥ (TellRose host host') (DiskRose host host') status honest number why host'.past h telling
-        (read-refused (run_rules set h0) front going.read going.made going.has text bytes next more why ended whole short judge ∙ ap (λ (n : ℕ). record { told = going.made; ending = RefusedAt n why }) (sym number_is))
-        (ap (history_at every h0) (says-refused (run_rules set h0) front going.read going.made going.has text bytes next more why whole short judge));
-    quiet = λ h set h0 front start going text next more whole none. refusal-leaves status honest number why host.past host'.past (TellRose host host') telling h;
+    run = λ h every set h0 front start going number_is ended text next more whole.
+        let judge = judged h every set h0 start going.read going.made going.at in
+        refusal-stop host.past running every set h0 start going.read going.made going.at ended text ⊥ (TellRose host host') (DiskRose host host') status honest number why host'.past h telling
+        (read-refused (run_rules every set h0) front going.read going.made going.has text bytes next more why ended whole short judge ∙ ap (λ (n : ℕ). record { told = going.made; ending = RefusedAt n why }) (sym number_is))
+        (ap (history_at every h0) (says-refused (run_rules every set h0) front going.read going.made going.has text bytes next more why whole short judge));
+    quiet = λ h every set h0 front start going text next more whole none. refusal-leaves status honest number why host.past host'.past (TellRose host host') telling h;
     statuses = refusal-takers status honest number why host.past host'.past (TellRose host host') telling;
     counts = ended-counts host host' status (told-counts host host' (status ≡ TellFault) (status ≡ DiskFault) cause same (refusal-stored status honest number why host.past host'.past (TellRose host host') telling));
     others = λ h file other. at_end (refusal-leaves status honest number why host.past host'.past (TellRose host host') telling h) file;
@@ -171,10 +171,10 @@ module _ (honest : Type 0) (running : Running) (host : Seen) (number : ℕ) (byt
   -- there was no memory to read it
   pub want-line : TakesLine honest running host number bytes (Err Memory) running host
   want-line = record {
-    run = λ h set h0 front start going number_is ended text next more whole.
-        want-stop host.past running set h0 start going.read going.made going.at ended text ⊥ (TellRose host host) (DiskRose host host)
-        (extends-text h0 set front going.read going.made going.has text bytes (next ∷ more) whole) (output-behind set h0 front going.read going.made going.has ended text bytes (next ∷ more) whole);
-    quiet = λ h set h0 front start going text next more whole none. leaves-nothing host.past;
+    run = λ h every set h0 front start going number_is ended text next more whole.
+        want-stop host.past running every set h0 start going.read going.made going.at ended text ⊥ (TellRose host host) (DiskRose host host)
+        (extends-text every h0 set front going.read going.made going.has text bytes (next ∷ more) whole) (output-behind every set h0 front going.read going.made going.has ended text bytes (next ∷ more) whole);
+    quiet = λ h every set h0 front start going text next more whole none. leaves-nothing host.past;
     statuses = tt;
     counts = ended-counts host host Memory (same-counts host (Memory ≡ TellFault) (Memory ≡ DiskFault) (λ e. cc) (λ e. cc));
     others = λ h file other. refl;
@@ -185,7 +185,7 @@ module _ (honest : Type 0) (running : Running) (host : Seen) (number : ℕ) (byt
       → HasCause host.tell_faults host'.tell_faults (status ≡ TellFault) → host'.disk_faults ≡ host.disk_faults
       → TakesLine honest running host number bytes (Err status) running host'
   bad-line status host' fault is telling cause same =
-      refused-line running status host' (refusal.Line fault) (λ h set h0 start read made at. ap (judged_after h0 read) is) telling cause same
+      refused-line running status host' (refusal.Line fault) (λ h every set h0 start read made at. ap (judged_after every h0 read) is) telling cause same
 
   -- ---- a line that says this was handed to the agent
   module _ (said : Line) (is : line_of bytes ≡ Ok said) (result : Result Said AgentFault) (middle : Seen) (agent : AgentState) (feed : Feed)
@@ -193,8 +193,8 @@ module _ (honest : Type 0) (running : Running) (host : Seen) (number : ℕ) (byt
     abbrev now : Running
     now = record running { agent = agent; feed = feed }
 
-    abbrev reason : List Line → Option BlockFault
-    reason read = line_refusal running.agent.registry running.agent.copies running.agent.last every read said
+    abbrev reason : ℕ → List Line → Option BlockFault
+    reason every read = line_refusal running.agent.registry running.agent.copies running.agent.last every read said
 
     lined-tell : (tell : Type 0) → (tell → ⊥) → HasCause host.tell_faults middle.tell_faults tell
     lined-tell tell never = stayed host.tell_faults middle.tell_faults tell lined.tells never
@@ -209,123 +209,123 @@ module _ (honest : Type 0) (running : Running) (host : Seen) (number : ℕ) (byt
     lined-others : LeavesOthers honest host middle
     lined-others h file other = (lined.only_here h).others file other
 
-    module _ (h : honest) (set : Settings) (h0 : List Beat) (start : List Event) (read : List Line) (made : List ℕ) (at : RunsAt host.past running set h0 start read made) where
-      reason-is : reason read ≡ refusal_at every h0 read said
+    module _ (h : honest) (every : ℕ) (set : Settings) (h0 : List Beat) (start : List Event) (read : List Line) (made : List ℕ) (at : RunsAt host.past running every set h0 start read made) where
+      reason-is : reason every read ≡ refusal_at every h0 read said
       reason-is = (λ i. line_refusal (at.agent.holds.registry_is i) (at.agent.copies i) (at.agent.last_is i) every read said) ∙ text-line every h0 at.within read said at.accepted
 
-      refused-by : RefusedBy (reason read) result
+      refused-by : RefusedBy (reason every read) result
       refused-by = lined.refused at.agent.going every read at.feed (counts-at running.feed running.agent.registry said at.counts)
 
-      moments : Throughout (EveryDisk (StandsForOneOf set (history_at every h0 read) (reason read) (history_with (history_at every h0 read) every read said))) host.past middle.past
+      moments : Throughout (EveryDisk (StandsForOneOf set (history_at every h0 read) (reason every read) (history_with (history_at every h0 read) every read said))) host.past middle.past
       moments = lined.any_moment h set (history_at every h0 read) every read at.agent at.feed
 
       module _ (reply : Said) (ok : result ≡ Ok reply) where
         free : refusal_at every h0 read said ≡ None
-        free = sym reason-is ∙ subst (λ (r : Result Said AgentFault). RefusedBy (reason read) r) ok refused-by
+        free = sym reason-is ∙ subst (λ (r : Result Said AgentFault). RefusedBy (reason every read) r) ok refused-by
 
-        judged : judged_after h0 read (line_of bytes) ≡ Ok said
-        judged = judged-free h0 read bytes said is free
+        judged : judged_after every h0 read (line_of bytes) ≡ Ok said
+        judged = judged-free every h0 read bytes said is free
 
-        taken : RunsAt middle.past now set h0 start (said ∷ read) made
+        taken : RunsAt middle.past now every set h0 start (said ∷ read) made
         taken =
-            line-taken host.past running set h0 start read made at said middle.past now (reason read) free
+            line-taken host.past running every set h0 start read made at said middle.past now (reason every read) free
             (subst (λ (r : Result Said AgentFault). OnOk r (honest → (set : Settings) (h : List Beat) (every : ℕ) (past : List Line) → IsAgentOf host.past running.agent set h → IsFeedOf running.feed every past
             → IsAgentOf middle.past agent set (history_with h every past said))) ok lined.done h set (history_at every h0 read) every read at.agent at.feed)
             (subst (λ (r : Result Said AgentFault). OnOk r (Becomes said running.feed feed)) ok lined.takes every read at.feed)
             (subst (λ (r : Result Said AgentFault). OnOk r (CountsFor running.feed running.agent.registry → CountsFor feed agent.registry)) ok lined.counts_on at.counts) moments (lined.only_here h).output
 
       -- the history with the line's beat is within that of the text, if nothing stands against the line
-      module _ (front : List (List ℕ)) (has : HasRead (run_rules set h0) front read made) (text next : List ℕ) (more : List (List ℕ)) (whole : parts text ≡ front ++ bytes ∷ next ∷ more) where
+      module _ (front : List (List ℕ)) (has : HasRead (run_rules every set h0) front read made) (text next : List ℕ) (more : List (List ℕ)) (whole : parts text ≡ front ++ bytes ∷ next ∷ more) where
         with-next : parts text ≡ (front ++ bytes ∷ []) ++ next ∷ more
         with-next = whole ∙ sym (append_assoc front (bytes ∷ []) (next ∷ more))
 
-        reaches : reason read ≡ None → Extends (history_at every h0 (said ∷ read)) (history_with_text h0 text)
+        reaches : reason every read ≡ None → Extends (history_at every h0 (said ∷ read)) (history_with_text every h0 text)
         reaches none = by (is_disable said) refl
           where
-            by : (ends : Bool) → is_disable said ≡ ends → Extends (history_at every h0 (said ∷ read)) (history_with_text h0 text)
-            by true ends = subst (λ (g : List Beat). Extends g (history_with_text h0 text)) (sym (disable-same h0 read said ends)) (extends-text h0 set front read made has text bytes (next ∷ more) whole)
+            by : (ends : Bool) → is_disable said ≡ ends → Extends (history_at every h0 (said ∷ read)) (history_with_text every h0 text)
+            by true ends = subst (λ (g : List Beat). Extends g (history_with_text every h0 text)) (sym (disable-same every h0 read said ends)) (extends-text every h0 set front read made has text bytes (next ∷ more) whole)
             by false ends =
-                let judge = judged-free h0 read bytes said is (sym reason-is ∙ none) in
-                extends-text h0 set (front ++ bytes ∷ []) (said ∷ read) (made ++ told_of set h0 read said) (read-next (run_rules set h0) front read made has bytes said short judge ends) text next more with-next
+                let judge = judged-free every h0 read bytes said is (sym reason-is ∙ none) in
+                extends-text every h0 set (front ++ bytes ∷ []) (said ∷ read) (made ++ told_of every set h0 read said) (read-next (run_rules every set h0) front read made has bytes said short judge ends) text next more with-next
 
-    module _ (h : honest) (set : Settings) (h0 : List Beat) (start : List Event) (read : List Line) (made : List ℕ) (at : RunsAt host.past running set h0 start read made)
-        (front : List (List ℕ)) (has : HasRead (run_rules set h0) front read made) (ended : Bool) (text next : List ℕ) (more : List (List ℕ)) (whole : parts text ≡ front ++ bytes ∷ next ∷ more) where
+    module _ (h : honest) (every : ℕ) (set : Settings) (h0 : List Beat) (start : List Event) (read : List Line) (made : List ℕ) (at : RunsAt host.past running every set h0 start read made)
+        (front : List (List ℕ)) (has : HasRead (run_rules every set h0) front read made) (ended : Bool) (text next : List ℕ) (more : List (List ℕ)) (whole : parts text ≡ front ++ bytes ∷ next ∷ more) where
       -- nothing stands against the line, and it is a MOMENT
-      fails-at : (moment : ℕ) → said ≡ line.Moment moment → refusal_at every h0 read said ≡ None → FailsAtMoment set h0 ended text made
+      fails-at : (moment : ℕ) → said ≡ line.Moment moment → refusal_at every h0 read said ≡ None → FailsAtMoment every set h0 ended text made
       fails-at moment same none =
-          let has' = read-next (run_rules set h0) front read made has bytes said short (judged-free h0 read bytes said is none) (ap is_disable same) in
-          let on = reading (run_rules set h0) ended (said ∷ read) (next ∷ more) in
+          let has' = read-next (run_rules every set h0) front read made has bytes said short (judged-free every h0 read bytes said is none) (ap is_disable same) in
+          let on = reading (run_rules every set h0) ended (said ∷ read) (next ∷ more) in
           let split = whole ∙ sym (append_assoc front (bytes ∷ []) (next ∷ more)) in
-          let reads : (run_reading set h0 ended text).told ≡ (made ++ told_of set h0 read said) ++ on.told =
-          ap (λ (ps : List (List ℕ)). (reading (run_rules set h0) ended [] ps).told) split ∙ ap (λ (r : Reading Refusal). r.told) (has'.onward ended next more) in
-          let beyond = lines-after h0 (next ∷ more) (said ∷ read) in
+          let reads : (run_reading every set h0 ended text).told ≡ (made ++ told_of every set h0 read said) ++ on.told =
+          ap (λ (ps : List (List ℕ)). (reading (run_rules every set h0) ended [] ps).told) split ∙ ap (λ (r : Reading Refusal). r.told) (has'.onward ended next more) in
+          let beyond = lines-after every h0 (next ∷ more) (said ∷ read) in
           record {
             past = read;
             moment = moment;
             later = beyond.later;
-            accepted = ap (lines_read (line_rules h0) []) split ∙ has'.says next more ∙ beyond.whole ∙ ap (λ (l : Line). beyond.later ++ l ∷ read) same;
+            accepted = ap (lines_read (line_rules every h0) []) split ∙ has'.says next more ∙ beyond.whole ∙ ap (λ (l : Line). beyond.later ++ l ∷ read) same;
             missing = on.told;
-            told = reads ∙ ap (λ (l : Line). made ++ told_of set h0 read l ++ on.told) same;
+            told = reads ∙ ap (λ (l : Line). made ++ told_of every set h0 read l ++ on.told) same;
           }
 
       -- the disk failed at a beat
-      failed-at : result ≡ Err agent_fault.DiskFault → FailsAtMoment set h0 ended text made
+      failed-at : result ≡ Err agent_fault.DiskFault → FailsAtMoment every set h0 ended text made
       failed-at failed = by said refl (lined.fails failed)
         where
           free' : refusal_at every h0 read said ≡ None
-          free' = sym (reason-is h set h0 start read made at) ∙ subst (λ (r : Result Said AgentFault). RefusedBy (reason read) r) failed (refused-by h set h0 start read made at)
+          free' = sym (reason-is h every set h0 start read made at) ∙ subst (λ (r : Result Said AgentFault). RefusedBy (reason every read) r) failed (refused-by h every set h0 start read made at)
 
-          by : (l : Line) → said ≡ l → ClosesBeat l → FailsAtMoment set h0 ended text made
+          by : (l : Line) → said ≡ l → ClosesBeat l → FailsAtMoment every set h0 ended text made
           by (line.Moment moment) same closes = fails-at moment same free'
           by other same closes = absurd closes
 
     -- where the text closes no beat, the agent did nothing to the disk
-    asked-nothing : (h : honest) (set : Settings) (h0 : List Beat) (front : List (List ℕ)) (start : List Event) → IsRunning host.past running set h0 front start → (text next : List ℕ) (more : List (List ℕ)) → parts text ≡ front ++ bytes ∷ next ∷ more
-        → history_with_text h0 text ≡ h0 → middle.past ≡ host.past
-    asked-nothing h set h0 front start going text next more whole none = by (moment-or-not said)
+    asked-nothing : (h : honest) (every : ℕ) (set : Settings) (h0 : List Beat) (front : List (List ℕ)) (start : List Event) → IsRunning host.past running every set h0 front start → (text next : List ℕ) (more : List (List ℕ)) → parts text ≡ front ++ bytes ∷ next ∷ more
+        → history_with_text every h0 text ≡ h0 → middle.past ≡ host.past
+    asked-nothing h every set h0 front start going text next more whole none = by (moment-or-not said)
       where
         here : List Line
         here = going.read
 
         -- the history of the text would be longer
-        accepted : (moment : ℕ) → said ≡ line.Moment moment → reason here ≡ None → ⊥
+        accepted : (moment : ℕ) → said ≡ line.Moment moment → reason every here ≡ None → ⊥
         accepted moment same free =
-            let reached = extends-length (history_at every h0 (said ∷ here)) (history_with_text h0 text) (reaches h set h0 start here going.made going.at front going.has text next more whole free) in
+            let reached = extends-length (history_at every h0 (said ∷ here)) (history_with_text every h0 text) (reaches h every set h0 start here going.made going.at front going.has text next more whole free) in
             let one_more : length (history_at every h0 (said ∷ here)) ≡ length (history_at every h0 here) + 1 = ap (λ (l : Line). length (history_at every h0 (l ∷ here))) same ∙ omega arith in
-            omega (arith, reached, one_more, ap length none, extends-length h0 (history_at every h0 here) (extends-start h0 here))
+            omega (arith, reached, one_more, ap length none, extends-length h0 (history_at every h0 here) (extends-start every h0 here))
 
-        of-reason : (moment : ℕ) → said ≡ line.Moment moment → (r : Option BlockFault) → reason here ≡ r → middle.past ≡ host.past
+        of-reason : (moment : ℕ) → said ≡ line.Moment moment → (r : Option BlockFault) → reason every here ≡ r → middle.past ≡ host.past
         of-reason moment same None free = absurd (accepted moment same free)
         of-reason moment same (Some fault) against =
             ap (λ (s : Seen). s.past)
-            (refused-leaves result fault ((agent ≡ running.agent) × (middle ≡ host)) (subst (λ (r : Option BlockFault). RefusedBy r result) against (refused-by h set h0 start here going.made going.at)) lined.unchanged).1
+            (refused-leaves result fault ((agent ≡ running.agent) × (middle ≡ host)) (subst (λ (r : Option BlockFault). RefusedBy r result) against (refused-by h every set h0 start here going.made going.at)) lined.unchanged).1
 
         by : ((moment : ℕ) × (said ≡ line.Moment moment)) ⊎ ((moment : ℕ) → said ≡ line.Moment moment → ⊥) → middle.past ≡ host.past
-        by (inl (moment, same)) = of-reason moment same (reason here) refl
+        by (inl (moment, same)) = of-reason moment same (reason every here) refl
         by (inr other) = lined.quiet other h
 
     -- nor did what was told since
-    written-by : (h : honest) (set : Settings) (h0 : List Beat) (front : List (List ℕ)) (start : List Event) → IsRunning host.past running set h0 front start → (text next : List ℕ) (more : List (List ℕ)) → parts text ≡ front ++ bytes ∷ next ∷ more
-        → history_with_text h0 text ≡ h0 → (host' : Seen) → LeavesFiles middle.past host'.past → LeavesFiles host.past host'.past
-    written-by h set h0 front start going text next more whole none host' leaves = subst (λ (p : List Event). LeavesFiles p host'.past) (asked-nothing h set h0 front start going text next more whole none) leaves
+    written-by : (h : honest) (every : ℕ) (set : Settings) (h0 : List Beat) (front : List (List ℕ)) (start : List Event) → IsRunning host.past running every set h0 front start → (text next : List ℕ) (more : List (List ℕ)) → parts text ≡ front ++ bytes ∷ next ∷ more
+        → history_with_text every h0 text ≡ h0 → (host' : Seen) → LeavesFiles middle.past host'.past → LeavesFiles host.past host'.past
+    written-by h every set h0 front start going text next more whole none host' leaves = subst (λ (p : List Event). LeavesFiles p host'.past) (asked-nothing h every set h0 front start going text next more whole none) leaves
 
-    unwritten : honest → (set : Settings) (h0 : List Beat) (front : List (List ℕ)) (start : List Event) → IsRunning host.past running set h0 front start → (text next : List ℕ) (more : List (List ℕ)) → parts text ≡ front ++ bytes ∷ next ∷ more
-        → history_with_text h0 text ≡ h0 → LeavesFiles host.past middle.past
-    unwritten h set h0 front start going text next more whole none = written-by h set h0 front start going text next more whole none middle (leaves-nothing middle.past)
+    unwritten : honest → (every : ℕ) (set : Settings) (h0 : List Beat) (front : List (List ℕ)) (start : List Event) → IsRunning host.past running every set h0 front start → (text next : List ℕ) (more : List (List ℕ)) → parts text ≡ front ++ bytes ∷ next ∷ more
+        → history_with_text every h0 text ≡ h0 → LeavesFiles host.past middle.past
+    unwritten h every set h0 front start going text next more whole none = written-by h every set h0 front start going text next more whole none middle (leaves-nothing middle.past)
 
     -- the disk failed, or there was no memory
     pub torn-line : (status : Status) → is_whole status ≡ false → IsTakers status → (status ≡ TellFault → ⊥) → (status ≡ DiskFault → result ≡ Err agent_fault.DiskFault) → (result ≡ Err agent_fault.DiskFault → status ≡ DiskFault)
         → ((ended : Bool) (ending : Ending Refusal) (text : List ℕ) → HasRunCause status ended ending text ⊥ (TellRose host middle) (DiskRose host middle))
         → TakesLine honest running host number bytes (Err status) now middle
     torn-line status part takers untold back on cause = record {
-      run = λ h set h0 front start going number_is ended text next more whole.
+      run = λ h every set h0 front start going number_is ended text next more whole.
           let read = going.read in
           let made = going.made in
-          line-stop host.past running set h0 start read made going.at ended text ⊥ (TellRose host middle) (DiskRose host middle) status said (reason read) middle.past part untold
-          (λ is_disk. failed-at h set h0 start read made going.at front going.has ended text next more whole (back is_disk))
-          (cause ended (run_reading set h0 ended text).ending text) (moments h set h0 start read made going.at) (lined.only_here h).output
-          (extends-text h0 set front read made going.has text bytes (next ∷ more) whole) (reaches h set h0 start read made going.at front going.has text next more whole)
-          (output-behind set h0 front read made going.has ended text bytes (next ∷ more) whole);
+          line-stop host.past running every set h0 start read made going.at ended text ⊥ (TellRose host middle) (DiskRose host middle) status said (reason every read) middle.past part untold
+          (λ is_disk. failed-at h every set h0 start read made going.at front going.has ended text next more whole (back is_disk))
+          (cause ended (run_reading every set h0 ended text).ending text) (moments h every set h0 start read made going.at) (lined.only_here h).output
+          (extends-text every h0 set front read made going.has text bytes (next ∷ more) whole) (reaches h every set h0 start read made going.at front going.has text next more whole)
+          (output-behind every set h0 front read made going.has ended text bytes (next ∷ more) whole);
       quiet = unwritten;
       statuses = takers;
       counts = ended-counts host middle status (record { tells = lined-tell (status ≡ TellFault) untold; disk = lined-disk (status ≡ DiskFault) back on });
@@ -333,17 +333,17 @@ module _ (honest : Type 0) (running : Running) (host : Seen) (number : ℕ) (byt
     }
 
     -- it was taken, and nothing is told of it
-    pub quiet-line : (reply : Said) → result ≡ Ok reply → ((set : Settings) (h0 : List Beat) (read : List Line) → (is_disable said ≡ false) × (told_of set h0 read said ≡ [])) → TakesLine honest running host number bytes (Ok tt) now middle
+    pub quiet-line : (reply : Said) → result ≡ Ok reply → ((every : ℕ) (set : Settings) (h0 : List Beat) (read : List Line) → (is_disable said ≡ false) × (told_of every set h0 read said ≡ [])) → TakesLine honest running host number bytes (Ok tt) now middle
     quiet-line reply ok quiet = record {
-      run = λ h set h0 front start going number_is.
+      run = λ h every set h0 front start going number_is.
           let read = going.read in
           let made = going.made in
-          let silent = quiet set h0 read in
+          let silent = quiet every set h0 read in
           record {
             read = said ∷ read;
-            made = made ++ told_of set h0 read said;
-            has = read-next (run_rules set h0) front read made going.has bytes said short (judged h set h0 start read made going.at reply ok) silent.0;
-            at = subst (λ (t : List ℕ). RunsAt middle.past now set h0 start (said ∷ read) t) (sym (ap (λ (l : List ℕ). made ++ l) silent.1 ∙ append-nil made)) (taken h set h0 start read made going.at reply ok);
+            made = made ++ told_of every set h0 read said;
+            has = read-next (run_rules every set h0) front read made going.has bytes said short (judged h every set h0 start read made going.at reply ok) silent.0;
+            at = subst (λ (t : List ℕ). RunsAt middle.past now every set h0 start (said ∷ read) t) (sym (ap (λ (l : List ℕ). made ++ l) silent.1 ∙ append-nil made)) (taken h every set h0 start read made going.at reply ok);
           };
       quiet = unwritten;
       statuses = tt;
@@ -354,14 +354,14 @@ module _ (honest : Type 0) (running : Running) (host : Seen) (number : ℕ) (byt
     -- it ends the text
     pub last-line : (reply : Said) → result ≡ Ok reply → is_disable said ≡ true → TakesLine honest running host number bytes (Err Done) now middle
     last-line reply ok ends = record {
-      run = λ h set h0 front start going number_is ended text next more whole.
+      run = λ h every set h0 front start going number_is ended text next more whole.
           let read = going.read in
           let made = going.made in
-          let judge = judged h set h0 start read made going.at reply ok in
-          let reads = read-over (run_rules set h0) front read made going.has text bytes next more said ended whole short judge ends in
-          whole-stop middle.past now set h0 start (said ∷ read) made (taken h set h0 start read made going.at reply ok) ended text ⊥ (TellRose host middle) (DiskRose host middle) Done (λ e. cc) (λ e. cc)
+          let judge = judged h every set h0 start read made going.at reply ok in
+          let reads = read-over (run_rules every set h0) front read made going.has text bytes next more said ended whole short judge ends in
+          whole-stop middle.past now every set h0 start (said ∷ read) made (taken h every set h0 start read made going.at reply ok) ended text ⊥ (TellRose host middle) (DiskRose host middle) Done (λ e. cc) (λ e. cc)
           (ap all_told reads ∙ append-nil (made ++ []) ∙ append-nil made)
-          (ap (history_at every h0) (says-over (run_rules set h0) front read made going.has text bytes next more said whole short judge ends) ∙ sym (disable-same h0 read said ends))
+          (ap (history_at every h0) (says-over (run_rules every set h0) front read made going.has text bytes next more said whole short judge ends) ∙ sym (disable-same every h0 read said ends))
           (ap (λ (r : Reading Refusal). r.ending) reads);
       quiet = unwritten;
       statuses = tt;
@@ -376,31 +376,31 @@ module _ (honest : Type 0) (running : Running) (host : Seen) (number : ℕ) (byt
     block-line fault err status host' telling cause stays =
         let same : middle ≡ host = (subst (λ (r : Result Said AgentFault). IfErr r (λ (f : AgentFault). LeavesAll f → (agent ≡ running.agent) × (middle ≡ host))) err lined.unchanged tt).1 in
         refused-line now status host' (refusal.Block fault)
-        (λ h set h0 start read made at. judged-refused h0 read bytes said is fault
-        (sym (reason-is h set h0 start read made at) ∙ subst (λ (r : Result Said AgentFault). RefusedBy (reason read) r) err (refused-by h set h0 start read made at)))
+        (λ h every set h0 start read made at. judged-refused every h0 read bytes said is fault
+        (sym (reason-is h every set h0 start read made at) ∙ subst (λ (r : Result Said AgentFault). RefusedBy (reason every read) r) err (refused-by h every set h0 start read made at)))
         (subst (λ (s : Seen). TellsRefusal status honest number (refusal.Block fault) s.past host'.past (Rose s.tell_faults host'.tell_faults)) same telling)
         (subst (λ (s : Seen). HasCause s.tell_faults host'.tell_faults (status ≡ TellFault)) same cause) (stays ∙ ap (λ (s : Seen). s.disk_faults) same)
 
     -- something is told of it
     module _ (reply : Said) (ok : result ≡ Ok reply) (goes : is_disable said ≡ false) (next : List ℕ)
-        (tells : honest → (set : Settings) (h0 : List Beat) (start : List Event) (read : List Line) (made : List ℕ) → RunsAt host.past running set h0 start read made
-        → RunsAt middle.past now set h0 start (said ∷ read) made → IsToldOf set h0 read said next) where
+        (tells : honest → (every : ℕ) (set : Settings) (h0 : List Beat) (start : List Event) (read : List Line) (made : List ℕ) → RunsAt host.past running every set h0 start read made
+        → RunsAt middle.past now every set h0 start (said ∷ read) made → IsToldOf every set h0 read said next) where
       told-ok : (host' : Seen) → (honest → host'.past ≡ Told next ∷ middle.past) → Counts middle host' (went_on ≡ ended_so TellFault) (went_on ≡ ended_so DiskFault) → TakesLine honest running host number bytes (Ok tt) now host'
       told-ok host' telling counts = record {
-        run = λ h set h0 front start going number_is.
+        run = λ h every set h0 front start going number_is.
             let read = going.read in
             let made = going.made in
-            let at = taken h set h0 start read made going.at reply ok in
-            let of = tells h set h0 start read made going.at at in
+            let at = taken h every set h0 start read made going.at reply ok in
+            let of = tells h every set h0 start read made going.at at in
             record {
               read = said ∷ read;
-              made = made ++ told_of set h0 read said;
-              has = read-next (run_rules set h0) front read made going.has bytes said short (judged h set h0 start read made going.at reply ok) goes;
-              at = subst (λ (t : List ℕ). RunsAt host'.past now set h0 start (said ∷ read) (made ++ t)) of.is
-                  (text-told middle.past now set h0 start (said ∷ read) made at next of.acked host'.past (telling h) of.closed);
+              made = made ++ told_of every set h0 read said;
+              has = read-next (run_rules every set h0) front read made going.has bytes said short (judged h every set h0 start read made going.at reply ok) goes;
+              at = subst (λ (t : List ℕ). RunsAt host'.past now every set h0 start (said ∷ read) (made ++ t)) of.is
+                  (text-told middle.past now every set h0 start (said ∷ read) made at next of.acked host'.past (telling h) of.closed);
             };
-        quiet = λ h set h0 front start going text after_next more whole none.
-            written-by h set h0 front start going text after_next more whole none host' (subst (LeavesFiles middle.past) (sym (telling h)) (one-told middle.past next));
+        quiet = λ h every set h0 front start going text after_next more whole none.
+            written-by h every set h0 front start going text after_next more whole none host' (subst (LeavesFiles middle.past) (sym (telling h)) (one-told middle.past next));
         statuses = tt;
         counts = both-counts host middle host' (went_on ≡ ended_so TellFault) (went_on ≡ ended_so DiskFault) (lined-ok reply ok) counts;
         others = λ h file other. ap (of file) (telling h) ∙ lined-others h file other;
@@ -411,19 +411,19 @@ module _ (honest : Type 0) (running : Running) (host : Seen) (number : ℕ) (byt
       told-err status host' cut counts =
           let cut' : IsCutShort status honest next middle.past host'.past (TellRose host host') = subst (λ (n : ℕ). IsCutShort status honest next middle.past host'.past (Rose n host'.tell_faults)) lined.tells cut in
           record {
-            run = λ h set h0 front start going number_is ended text after_next more whole.
+            run = λ h every set h0 front start going number_is ended text after_next more whole.
                 let read = going.read in
                 let made = going.made in
-                let at = taken h set h0 start read made going.at reply ok in
-                let is_of = tells h set h0 start read made going.at at in
-                let has = read-next (run_rules set h0) front read made going.has bytes said short (judged h set h0 start read made going.at reply ok) goes in
-                let whole' = with-next h set h0 start read made going.at front going.has text after_next more whole in
-                let behind = output-behind set h0 (front ++ bytes ∷ []) (said ∷ read) (made ++ told_of set h0 read said) has ended text after_next more whole' in
-                cut-stop middle.past now set h0 start (said ∷ read) made at ended text ⊥ (TellRose host host') (DiskRose host host') status honest next host'.past h cut' is_of.acked is_of.some
-                (extends-text h0 set (front ++ bytes ∷ []) (said ∷ read) (made ++ told_of set h0 read said) has text after_next more whole')
-                (subst (λ (t : List ℕ). Behind (made ++ t) (run_output set h0 ended text)) (sym is_of.is) behind);
-            quiet = λ h set h0 front start going text after_next more whole none.
-                written-by h set h0 front start going text after_next more whole none host' (cut-leaves status honest next middle.past host'.past (TellRose host host') cut' h);
+                let at = taken h every set h0 start read made going.at reply ok in
+                let is_of = tells h every set h0 start read made going.at at in
+                let has = read-next (run_rules every set h0) front read made going.has bytes said short (judged h every set h0 start read made going.at reply ok) goes in
+                let whole' = with-next h every set h0 start read made going.at front going.has text after_next more whole in
+                let behind = output-behind every set h0 (front ++ bytes ∷ []) (said ∷ read) (made ++ told_of every set h0 read said) has ended text after_next more whole' in
+                cut-stop middle.past now every set h0 start (said ∷ read) made at ended text ⊥ (TellRose host host') (DiskRose host host') status honest next host'.past h cut' is_of.acked is_of.some
+                (extends-text every h0 set (front ++ bytes ∷ []) (said ∷ read) (made ++ told_of every set h0 read said) has text after_next more whole')
+                (subst (λ (t : List ℕ). Behind (made ++ t) (run_output every set h0 ended text)) (sym is_of.is) behind);
+            quiet = λ h every set h0 front start going text after_next more whole none.
+                written-by h every set h0 front start going text after_next more whole none host' (cut-leaves status honest next middle.past host'.past (TellRose host host') cut' h);
             statuses = cut-takers status honest next middle.past host'.past (TellRose host host') cut';
             counts = both-counts host middle host' (ended_so status ≡ ended_so TellFault) (ended_so status ≡ ended_so DiskFault) (lined-ok reply ok) counts;
             others = λ h file other. at_end (cut-leaves status honest next middle.past host'.past (TellRose host host') cut' h) file ∙ lined-others h file other;
@@ -441,9 +441,9 @@ module _ (honest : Type 0) (running : Running) (host : Seen) (number : ℕ) (byt
 
     -- its beat is stored
     module _ (moment : ℕ) (said-is : said ≡ line.Moment moment) (reply : Reply) (ok : result ≡ Ok (Stored reply)) (reply-count : reply.count ≡ agent.count) where
-      stored-told : honest → (set : Settings) (h0 : List Beat) (start : List Event) (read : List Line) (made : List ℕ) → RunsAt host.past running set h0 start read made
-          → RunsAt middle.past now set h0 start (said ∷ read) made → IsToldOf set h0 read said (reply_text reply)
-      stored-told h set h0 start read made before after =
+      stored-told : honest → (every : ℕ) (set : Settings) (h0 : List Beat) (start : List Event) (read : List Line) (made : List ℕ) → RunsAt host.past running every set h0 start read made
+          → RunsAt middle.past now every set h0 start (said ∷ read) made → IsToldOf every set h0 read said (reply_text reply)
+      stored-told h every set h0 start read made before after =
           let whole = history_at every h0 (said ∷ read) in
           let closed : List Beat = history_at every h0 (line.Moment moment ∷ read) in
           let same : closed ≡ whole = ap (λ (l : Line). history_at every h0 (l ∷ read)) (sym said-is) in
@@ -459,7 +459,7 @@ module _ (honest : Type 0) (running : Running) (host : Seen) (number : ℕ) (byt
           ap reply_text told-is ∙ ap (λ (g : List Beat). reply_text (record { count = agent.count; events = events_at set g })) same in
           record {
             is = ap reply_text told-is
-                ∙ ap (λ (n : ℕ). reply_text (record { count = n; events = events_at set closed })) (after.agent.count ∙ ap counted one-more) ∙ sym (ap (told_of set h0 read) said-is);
+                ∙ ap (λ (n : ℕ). reply_text (record { count = n; events = events_at set closed })) (after.agent.count ∙ ap counted one-more) ∙ sym (ap (told_of every set h0 read) said-is);
             acked = subst (IsAckedUpTo (length whole)) (sym text-is)
                 (acked-told (length whole) agent.count set whole after.agent.holds.beats after.agent.holds.are (omega (arith, after.agent.count)) (omega (arith, after.agent.count)));
             closed = ap rest text-is ∙ closed-told (length whole) agent.count set whole after.agent.holds.beats after.agent.holds.are;
@@ -473,8 +473,8 @@ module _ (honest : Type 0) (running : Running) (host : Seen) (number : ℕ) (byt
 
     -- it is a question, whose answer is told
     module _ (asked : List ℕ) (said-is : said ≡ line.Query asked) (answer : List ℕ) (ok : result ≡ Ok (Table answer)) where
-      answer-told : honest → (set : Settings) (h0 : List Beat) (start : List Event) (read : List Line) (made : List ℕ) → RunsAt host.past running set h0 start read made → IsToldOf set h0 read said answer
-      answer-told h set h0 start read made at =
+      answer-told : honest → (every : ℕ) (set : Settings) (h0 : List Beat) (start : List Event) (read : List Line) (made : List ℕ) → RunsAt host.past running every set h0 start read made → IsToldOf every set h0 read said answer
+      answer-told h every set h0 start read made at =
           let now = history_at every h0 read in
           let beats = at.agent.holds.beats in
           let are = at.agent.holds.are in
@@ -483,7 +483,7 @@ module _ (honest : Type 0) (running : Running) (host : Seen) (number : ℕ) (byt
           let is : answer ≡ reply_of set now asked = table-same answer (reply_of set now asked) (subst (λ (l : Line). Answers set now l (Table answer)) said-is answered) in
           let same : length (history_at every h0 (said ∷ read)) ≡ length now = ap (λ (l : Line). length (history_at every h0 (l ∷ read))) said-is in
           record {
-            is = is ∙ sym (ap (told_of set h0 read) said-is);
+            is = is ∙ sym (ap (told_of every set h0 read) said-is);
             acked = subst (λ (n : ℕ). IsAckedUpTo n answer) (sym same) (subst (IsAckedUpTo (length now)) (sym is) (acked-reply (length now) set now beats are asked));
             closed = ap rest is ∙ closed-reply set now beats are asked;
             some = λ none. reply-some set now beats are asked (sym is ∙ none);
@@ -494,23 +494,23 @@ module _ (honest : Type 0) (running : Running) (host : Seen) (number : ℕ) (byt
           → HasCause middle.tell_faults host'.tell_faults (IsErrOf answered TellFault) → host'.disk_faults ≡ middle.disk_faults → TakesLine honest running host number bytes answered now host'
       answer-line shown same =
           told-line (Table answer) ok (ap is_disable said-is) shown
-          (λ h set h0 start read made before after. subst (IsToldOf set h0 read said) (sym same) (answer-told h set h0 start read made before))
+          (λ h every set h0 start read made before after. subst (IsToldOf every set h0 read said) (sym same) (answer-told h every set h0 start read made before))
 
 -- ---- what the agent said of a line
-pub nothing-said : (count : ℕ) (said : Line) → IsSaid count said Nothing → (set : Settings) (h0 : List Beat) (read : List Line) → (is_disable said ≡ false) × (told_of set h0 read said ≡ [])
-nothing-said count (line.Moment moment) same set h0 read = absurd (apart same.0 same.1)
+pub nothing-said : (count : ℕ) (said : Line) → IsSaid count said Nothing → (every : ℕ) (set : Settings) (h0 : List Beat) (read : List Line) → (is_disable said ≡ false) × (told_of every set h0 read said ≡ [])
+nothing-said count (line.Moment moment) same every set h0 read = absurd (apart same.0 same.1)
   where
     apart : (events : List AlarmEvent) → Nothing ≡ Stored (record { count = count; events = events }) → ⊥
     apart events e = cc
-nothing-said count (line.Query text) same set h0 read = absurd (apart same.0 same.1)
+nothing-said count (line.Query text) same every set h0 read = absurd (apart same.0 same.1)
   where
     apart : (reply : List ℕ) → Nothing ≡ Table reply → ⊥
     apart reply e = cc
-nothing-said count line.Disable same set h0 read = absurd (apart same)
+nothing-said count line.Disable same every set h0 read = absurd (apart same)
   where
     apart : Nothing ≡ Disabled → ⊥
     apart e = cc
-nothing-said count said same set h0 read = (refl, refl)
+nothing-said count said same every set h0 read = (refl, refl)
 
 pub disabled-said : (count : ℕ) (said : Line) → IsSaid count said Disabled → is_disable said ≡ true
 disabled-said count line.Disable same = refl
@@ -577,10 +577,10 @@ module _ (honest : Type 0) (running : Running) (host : Seen) where
   pub long-line : (number : ℕ) (status : Status) (host' : Seen) → TellsRefusal status honest number (refusal.Line line_fault.LineTooLong) host.past host'.past (TellRose host host')
       → HasCause host.tell_faults host'.tell_faults (status ≡ TellFault) → host'.disk_faults ≡ host.disk_faults → Overflows honest running host number status host'
   long-line number status host' telling cause same = record {
-    run = λ h set h0 front start going number_is ended text long more whole over.
-        refusal-stop host.past running set h0 start going.read going.made going.at ended text ⊥ (TellRose host host') (DiskRose host host') status honest number (refusal.Line line_fault.LineTooLong) host'.past h telling
-        (read-long (run_rules set h0) front going.read going.made going.has text long more ended whole over ∙ ap (λ (n : ℕ). record { told = going.made; ending = RefusedAt n (refusal.Line line_fault.LineTooLong) }) (sym number_is))
-        (ap (history_at every h0) (says-long (run_rules set h0) front going.read going.made going.has text long more whole over));
+    run = λ h every set h0 front start going number_is ended text long more whole over.
+        refusal-stop host.past running every set h0 start going.read going.made going.at ended text ⊥ (TellRose host host') (DiskRose host host') status honest number (refusal.Line line_fault.LineTooLong) host'.past h telling
+        (read-long (run_rules every set h0) front going.read going.made going.has text long more ended whole over ∙ ap (λ (n : ℕ). record { told = going.made; ending = RefusedAt n (refusal.Line line_fault.LineTooLong) }) (sym number_is))
+        (ap (history_at every h0) (says-long (run_rules every set h0) front going.read going.made going.has text long more whole over));
     quiet = refusal-leaves status honest number (refusal.Line line_fault.LineTooLong) host.past host'.past (TellRose host host') telling;
     statuses = refusal-takers status honest number (refusal.Line line_fault.LineTooLong) host.past host'.past (TellRose host host') telling;
     counts = told-counts host host' (status ≡ TellFault) (status ≡ DiskFault) cause same (refusal-stored status honest number (refusal.Line line_fault.LineTooLong) host.past host'.past (TellRose host host') telling);
@@ -590,12 +590,12 @@ module _ (honest : Type 0) (running : Running) (host : Seen) where
   module _ (count : ℕ) (left : List ℕ) (short : fits left ≡ true) where
     pub end-reached : ((every : ℕ) (past : List Line) → IsFeedOf running.feed every past → is_unfinished every past left ≡ false) → EndsRun honest running host count left Done host
     end-reached finished = record {
-      run = λ h set h0 text start going count_is left_is.
+      run = λ h every set h0 text start going count_is left_is.
           let fit : fits (rest text) ≡ true = subst (λ (t : List ℕ). fits t ≡ true) left_is short in
           let all : is_unfinished every going.read (rest text) ≡ false = subst (λ (t : List ℕ). is_unfinished every going.read t ≡ false) left_is (finished every going.read going.at.feed) in
-          let reads = read-ended (run_rules set h0) (lines text) going.read going.made going.has text refl fit all in
-          whole-stop host.past running set h0 start going.read going.made going.at true text ⊥ (TellRose host host) (DiskRose host host) Done (λ e. cc) (λ e. cc)
-          (ap all_told reads ∙ append-nil (going.made ++ []) ∙ append-nil going.made) (ap (history_at every h0) (says-all (run_rules set h0) (lines text) going.read going.made going.has text refl))
+          let reads = read-ended (run_rules every set h0) (lines text) going.read going.made going.has text refl fit all in
+          whole-stop host.past running every set h0 start going.read going.made going.at true text ⊥ (TellRose host host) (DiskRose host host) Done (λ e. cc) (λ e. cc)
+          (ap all_told reads ∙ append-nil (going.made ++ []) ∙ append-nil going.made) (ap (history_at every h0) (says-all (run_rules every set h0) (lines text) going.read going.made going.has text refl))
           (ap (λ (r : Reading Refusal). r.ending) reads);
       quiet = λ h. leaves-nothing host.past;
       statuses = tt;
@@ -607,14 +607,14 @@ module _ (honest : Type 0) (running : Running) (host : Seen) where
         → TellsRefusal status honest count (refusal.Block fault) host.past host'.past (TellRose host host') → HasCause host.tell_faults host'.tell_faults (status ≡ TellFault) → host'.disk_faults ≡ host.disk_faults
         → EndsRun honest running host count left status host'
     end-refused fault unfinished status host' telling cause same = record {
-      run = λ h set h0 text start going count_is left_is.
+      run = λ h every set h0 text start going count_is left_is.
           let fit : fits (rest text) ≡ true = subst (λ (t : List ℕ). fits t ≡ true) left_is short in
           let why = unfinished every going.read going.at.feed in
           let open_end : is_unfinished every going.read (rest text) ≡ true = subst (λ (t : List ℕ). is_unfinished every going.read t ≡ true) left_is why.0 in
-          refusal-stop host.past running set h0 start going.read going.made going.at true text ⊥ (TellRose host host') (DiskRose host host') status honest count (refusal.Block fault) host'.past h telling
-          (read-unfinished (run_rules set h0) (lines text) going.read going.made going.has text refl fit open_end
+          refusal-stop host.past running every set h0 start going.read going.made going.at true text ⊥ (TellRose host host') (DiskRose host host') status honest count (refusal.Block fault) host'.past h telling
+          (read-unfinished (run_rules every set h0) (lines text) going.read going.made going.has text refl fit open_end
           ∙ (λ i. record { told = going.made; ending = RefusedAt (sym count_is i) (refusal.Block (sym why.1 i)) }))
-          (ap (history_at every h0) (says-all (run_rules set h0) (lines text) going.read going.made going.has text refl));
+          (ap (history_at every h0) (says-all (run_rules every set h0) (lines text) going.read going.made going.has text refl));
       quiet = refusal-leaves status honest count (refusal.Block fault) host.past host'.past (TellRose host host') telling;
       statuses = refusal-takers status honest count (refusal.Block fault) host.past host'.past (TellRose host host') telling;
       counts = told-counts host host' (status ≡ TellFault) (status ≡ DiskFault) cause same (refusal-stored status honest count (refusal.Block fault) host.past host'.past (TellRose host host') telling);

@@ -10,12 +10,15 @@ use Rattle.agent_core.specs.Calls.{Opens}
 use Rattle.history.specs.History.{Beat}
 use Rattle.entry_codec.specs.declared.entry.Settings.{Settings}
 use Rattle.line_stream.proofs.RunLemmas.{Takes-none}
+use Rattle.agent_app.specs.declared.collect.Collector.{Collector}
+use Rattle.agent_app.specs.Collect.{CollectsAll, Outside}
 use Rattle.agent_app.specs.Convert.{output_of, Converts, EndsAsText, LeavesDisk}
 use Rattle.agent_app.specs.Health.{ConfiguresAll}
 use Rattle.agent_app.specs.Query.{Asks}
 use Rattle.agent_app.specs.Run.{RunsAll}
 use Rattle.agent_app.proofs.AskLemmas.{unopened-asked}
 use Rattle.agent_app.proofs.CauseLemmas.{stayed}
+use Rattle.agent_app.proofs.CollectLemmas.{uncollected}
 use Rattle.agent_app.proofs.ConfigureLemmas.{unopened-configured}
 use Rattle.agent_app.proofs.OpeningLemmas.{failed_by, fault-is, unopened}
 
@@ -62,6 +65,9 @@ module _ (honest : Type 0) (host : Seen) (first : honest → IsDisk host.past (r
 
   pub want-runs : (left : Option (List ℕ)) (faults : ℕ) → RunsAll honest status.Memory left left faults faults host host
   want-runs left faults = unopened honest host host first fault.Memory unopened-want left faults
+
+  pub want-collects : (asked : Collector) (outside : Outside) → CollectsAll honest asked status.Memory outside outside host host
+  want-collects asked outside = uncollected honest host host first fault.Memory unopened-want asked outside
 
   pub want-configures : (left : Option (List ℕ)) (faults : ℕ) → ConfiguresAll honest status.Memory left left faults faults host host
   want-configures left faults = unopened-configured honest host host first fault.Memory unopened-want left faults

@@ -1,5 +1,5 @@
 -- The words of a command line.
-use Rattle.std.specs.Prelude.{ℕ, ◌==◌, ◌^◌, Bool, false, not, ◌&&◌, nat_le, nat_lt, List, [], ◌∷◌, length, Option, Some, None, codes, if◌then◌else◌}
+use Rattle.std.specs.Prelude.{ℕ, ◌==◌, ◌<◌, ◌≤◌, ◌^◌, Bool, false, not, ◌&&◌, nat_le, nat_lt, List, [], ◌∷◌, length, Option, Some, None, codes, if◌then◌else◌}
 use Rattle.std.specs.List.{list_any}
 use Rattle.std.specs.Option.{option_map, option_and_then}
 use Rattle.std.specs.Str.{bytes_eq}
@@ -8,7 +8,8 @@ use Rattle.fixed_num.specs.UnitsText.{is_numeral}
 use Rattle.entry_codec.specs.declared.entry.Settings.{Settings}
 use Rattle.entry_codec.specs.declared.entry.TierSettings.{TierSettings}
 use Rattle.agent_app.specs.declared.command.Command.{Command}
-use Rattle.agent_app.specs.declared.command.Command.TheVariants.{Convert, Health, Log, New, Query, Run}
+use Rattle.agent_app.specs.declared.command.Command.TheVariants.{Collect, Convert, Health, Log, New, Query, Run}
+use Rattle.agent_app.specs.declared.command.TheConstants.{EVERY_LIMIT, STARTS_LIMIT}
 use Rattle.agent_app.specs.declared.command.Form.{Form}
 use Rattle.agent_app.specs.declared.command.Form.TheVariants as form
 
@@ -58,6 +59,24 @@ settings_of (id ∷ items0 ∷ extents0 ∷ items1 ∷ extents1 ∷ items2 ∷ e
     settings_with (number_of id) (tier_of items0 extents0) (tier_of items1 extents1) (tier_of items2 extents2)
 settings_of words = None
 
+-- ---- a collector
+
+-- EVERY, STARTS, and then the program and its arguments
+abbrev pub collect_of : List (List ℕ) → Option Command
+collect_of (every ∷ starts ∷ program ∷ arguments) =
+    option_and_then (λ (e : ℕ). option_map (λ (s : ℕ). Collect e s) (option_and_then (up_to STARTS_LIMIT) (number_of starts)))
+    (option_and_then (up_to EVERY_LIMIT) (number_of every))
+collect_of words = None
+
+-- what a command line that gives `collect` has
+pub record IsCollector (every starts : ℕ) (words : List (List ℕ)) : Type 0 where
+  pub every_least : 1 ≤ every
+  pub every_most : every ≤ EVERY_LIMIT
+  pub starts_least : 1 ≤ starts
+  pub starts_most : starts ≤ STARTS_LIMIT
+  -- the program stands behind the first three words
+  pub program : 3 < length words
+
 -- ---- commands
 
 -- the command of a single word
@@ -89,7 +108,8 @@ is_question words = nat_le 5 (length words) && not (list_any is_option words)
 -- the command of a word with these behind it
 abbrev pub longer : List ℕ → List (List ℕ) → Option Command
 longer word more =
-    if bytes_eq word (codes "log") then option_map Log (form_of more)
+    if bytes_eq word (codes "collect") && not (list_any is_option more) then collect_of more
+    else if bytes_eq word (codes "log") then option_map Log (form_of more)
     else if bytes_eq word (codes "new") then option_map New (settings_of more)
     else if bytes_eq word (codes "query") && is_question more then Some Query
     else None

@@ -6,7 +6,7 @@ use Rattle.clap.specs.Lexer.{usize_max}
 use Rattle.clap.specs.Walk.{Row, Rule, all_of}
 use Rattle.clap.specs.Simple.{App, new_app, new_rule, on_top, with_rule, with_subcommand}
 use Rattle.clap.specs.declared.builder.action.ArgAction.TheVariants.{Append}
-use Rattle.agent_app.specs.Command.{form_of, settings_of}
+use Rattle.agent_app.specs.Command.{collect_of, form_of, settings_of}
 use Rattle.entry_codec.specs.declared.entry.Settings.{Settings}
 use Rattle.agent_app.specs.declared.command.Command.{Command}
 use Rattle.agent_app.specs.declared.command.Command.TheVariants.{Convert, Health, Log, New, Query, Run}
@@ -35,9 +35,14 @@ program = on_top (λ top. record top {
 
 -- the program with its commands
 abbrev pub forms : App
-forms = with_subcommand (with_subcommand (with_subcommand (with_subcommand (with_subcommand (with_subcommand program
-    (new_app (codes "convert")).top) (new_app (codes "health")).top) (with_words (codes "log") 1 usize_max).top) (with_words (codes "new") 1 7).top)
-    (with_words (codes "query") 5 usize_max).top) (new_app (codes "run")).top
+forms = with_subcommand (with_subcommand (with_subcommand (with_subcommand (with_subcommand (with_subcommand (with_subcommand program
+    (with_words (codes "collect") 3 usize_max).top) (new_app (codes "convert")).top) (new_app (codes "health")).top)
+    (with_words (codes "log") 1 usize_max).top) (with_words (codes "new") 1 7).top) (with_words (codes "query") 5 usize_max).top)
+    (new_app (codes "run")).top
+
+-- the collector that the words behind `collect` give
+abbrev pub collect_in : List Row → Option Command
+collect_in rows = option_and_then collect_of (all_of (codes "words") rows)
 
 -- the settings that the words behind `new` give
 abbrev pub settings_in : List Row → Option Settings
@@ -50,7 +55,8 @@ form_in rows = option_and_then form_of (all_of (codes "words") rows)
 -- the command that the words behind a name give
 abbrev pub named : List ℕ → List Row → Option Command
 named name rows =
-    if bytes_eq name (codes "convert") then Some Convert
+    if bytes_eq name (codes "collect") then collect_in rows
+    else if bytes_eq name (codes "convert") then Some Convert
     else if bytes_eq name (codes "health") then Some Health
     else if bytes_eq name (codes "log") then option_map Log (form_in rows)
     else if bytes_eq name (codes "new") then option_map New (settings_in rows)

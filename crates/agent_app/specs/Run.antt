@@ -23,7 +23,6 @@ use Rattle.plugin_text.specs.Line.{line}
 use Rattle.plugin_text.specs.Lines.{lines, parts}
 use Rattle.point_lines.specs.declared.refusal.Refusal.{Refusal}
 use Rattle.point_lines.specs.declared.refusal.Refusal.TheVariants as refusal
-use Rattle.point_lines.specs.Judged.{every}
 use Rattle.entry_codec.specs.declared.entry.Settings.{Settings}
 use Rattle.store_core.specs.Stands.{is_made, IsDamaged}
 use Rattle.store_core.specs.Store.{counted}
@@ -37,50 +36,50 @@ use Rattle.line_stream.specs.Run.{input_limit}
 use Rattle.agent_app.specs.Convert.{all_told, ending_status, HasStatusCause, LeavesFiles}
 use Rattle.agent_app.specs.Reading.{Ending, LineRules, Reading, Rules, lines_read, reading_of}
 
--- ---- what a text says behind a history
+-- ---- what a text says behind a history; `every` is the update_every of the charts whose line leaves it open
 
 -- a line that says this may stand after these lines, or why not
-abbrev pub judged_after : List Beat → List Line → Result Line LineFault → Result Line Refusal
-judged_after h0 past (Err fault) = Err (refusal.Line fault)
-judged_after h0 past (Ok said) = option_map_or (λ (fault : BlockFault). Err (refusal.Block fault)) (refusal_at every h0 past said) (Ok said)
+abbrev pub judged_after : ℕ → List Beat → List Line → Result Line LineFault → Result Line Refusal
+judged_after every h0 past (Err fault) = Err (refusal.Line fault)
+judged_after every h0 past (Ok said) = option_map_or (λ (fault : BlockFault). Err (refusal.Block fault)) (refusal_at every h0 past said) (Ok said)
 
 -- what is told of a line: of a MOMENT that its beat is stored, with its number in the history and the events that it
 -- makes, and of a question its reply over the history at its place
-abbrev pub told_of : Settings → List Beat → List Line → Line → List ℕ
-told_of set h0 past (Moment moment) = reply_text (record { count = counted (length (history_at every h0 past) + 1); events = events_at set (history_at every h0 (Moment moment ∷ past)) })
-told_of set h0 past (Query text) = reply_of set (history_at every h0 past) text
-told_of set h0 past said = []
+abbrev pub told_of : ℕ → Settings → List Beat → List Line → Line → List ℕ
+told_of every set h0 past (Moment moment) = reply_text (record { count = counted (length (history_at every h0 past) + 1); events = events_at set (history_at every h0 (Moment moment ∷ past)) })
+told_of every set h0 past (Query text) = reply_of set (history_at every h0 past) text
+told_of every set h0 past said = []
 
 -- how the lines of a text are read that follows this history
-abbrev pub line_rules : List Beat → LineRules Line Refusal
-line_rules h0 = record { judge = λ past bytes. judged_after h0 past (line bytes); ends_text = is_disable }
+abbrev pub line_rules : ℕ → List Beat → LineRules Line Refusal
+line_rules every h0 = record { judge = λ past bytes. judged_after every h0 past (line bytes); ends_text = is_disable }
 
 -- the rules of a text whose beats are stored behind this history, in a database of these settings
-abbrev pub run_rules : Settings → List Beat → Rules Line Refusal
-run_rules set h0 = record {
-  lines = line_rules h0;
-  tell = told_of set h0;
+abbrev pub run_rules : ℕ → Settings → List Beat → Rules Line Refusal
+run_rules every set h0 = record {
+  lines = line_rules every h0;
+  tell = told_of every set h0;
   tell_end = λ past. [];
   is_unfinished = is_unfinished every;
   too_long = refusal.Line LineTooLong;
   unfinished = refusal.Block Unfinished;
 }
 
-abbrev pub run_reading : Settings → List Beat → Bool → List ℕ → Reading Refusal
-run_reading set h0 ended text = reading_of (run_rules set h0) ended text
+abbrev pub run_reading : ℕ → Settings → List Beat → Bool → List ℕ → Reading Refusal
+run_reading every set h0 ended text = reading_of (run_rules every set h0) ended text
 
 -- the history with the beats of the text's accepted lines
-abbrev pub history_with_text : List Beat → List ℕ → List Beat
-history_with_text h0 text = history_at every h0 (lines_read (line_rules h0) [] (parts text))
+abbrev pub history_with_text : ℕ → List Beat → List ℕ → List Beat
+history_with_text every h0 text = history_at every h0 (lines_read (line_rules every h0) [] (parts text))
 
 -- all that is told of a text: its stored beats and its answers, and then its refusal
-abbrev pub run_output : Settings → List Beat → Bool → List ℕ → List ℕ
-run_output set h0 ended text = all_told (run_reading set h0 ended text)
+abbrev pub run_output : ℕ → Settings → List Beat → Bool → List ℕ → List ℕ
+run_output every set h0 ended text = all_told (run_reading every set h0 ended text)
 
 -- the status of a run over the text, when nothing fails: that of the first refusal in the bytes that it takes, or
 -- else of the end, where that has come
-abbrev pub run_status : Settings → List Beat → List ℕ → Status
-run_status set h0 text = ending_status (run_reading set h0 (nat_lt (length text) input_limit) (take input_limit text)).ending
+abbrev pub run_status : ℕ → Settings → List Beat → List ℕ → Status
+run_status every set h0 text = ending_status (run_reading every set h0 (nat_lt (length text) input_limit) (take input_limit text)).ending
 
 -- ---- what stops leave
 
@@ -108,6 +107,10 @@ pub record Keeps (set : Settings) (h0 whole : List Beat) (before : List ℕ) (di
 
 -- ---- what a run promises
 
+-- the update_every with which `run` reads, in seconds
+abbrev pub run_every : ℕ
+run_every = 1
+
 -- at all other statuses all beats were stored and the whole output was told
 abbrev pub is_whole : Status → Bool
 is_whole TellFault = false
@@ -128,55 +131,64 @@ abbrev pub HasRunCause : Status → Bool → Ending Refusal → List ℕ → (so
 HasRunCause DiskFault ended ending taken source_rose tell_rose disk_rose = disk_rose
 HasRunCause status ended ending taken source_rose tell_rose disk_rose = HasStatusCause status ended ending taken source_rose tell_rose
 
+-- a text of which this was taken, on a database of these settings and this history: what a stop leaves, and what was told
+pub record Stores (status : Status) (every : ℕ) (set : Settings) (h0 : List Beat) (ended : Bool) (taken : List ℕ) (old new : List Event) : Type 0 where
+  -- at every moment a stop leaves the history with a front of the beats, and with every beat that was acknowledged
+  pub stops : Throughout (EveryStop (Keeps set h0 (history_with_text every h0 taken) (told old))) old new
+  -- at the end all of them, unless the output, the disk or memory failed
+  pub ends : is_whole status ≡ true → EveryDisk (StandsForHistory set (history_with_text every h0 taken)) new
+  pub output : TellsRun status (run_output every set h0 ended taken) old new
+  -- no failure of the output ends a run of which nothing is to be told
+  pub told_for : status ≡ TellFault → run_output every set h0 ended taken ≡ [] → ⊥
+
 -- a run on a database of these settings and this history took these bytes of the source
-pub record Runs (status : Status) (set : Settings) (h0 : List Beat) (left left' : Option (List ℕ)) (old new : List Event) (source_rose tell_rose disk_rose : Type 0) : Type 0 where
+pub record Runs (status : Status) (every : ℕ) (set : Settings) (h0 : List Beat) (left left' : Option (List ℕ)) (old new : List Event) (source_rose tell_rose disk_rose : Type 0) : Type 0 where
   pub taken : List ℕ
   -- whether the source said that the input had ended
   pub ended : Bool
   pub takes : Takes left taken left'
   pub within : length taken ≤ input_limit
   pub at_end : ended ≡ true → (length taken < input_limit) × IfSome left' (λ bytes. bytes ≡ [])
-  -- at every moment a stop leaves the history with a front of the beats, and with every beat that was acknowledged
-  pub stops : Throughout (EveryStop (Keeps set h0 (history_with_text h0 taken) (told old))) old new
-  -- at the end all of them, unless the output, the disk or memory failed
-  pub ends : is_whole status ≡ true → EveryDisk (StandsForHistory set (history_with_text h0 taken)) new
-  pub output : TellsRun status (run_output set h0 ended taken) old new
-  -- no failure of the output ends a run of which nothing is to be told
-  pub told_for : status ≡ TellFault → run_output set h0 ended taken ≡ [] → ⊥
-  pub cause : HasRunCause status ended (run_reading set h0 ended taken).ending taken source_rose tell_rose disk_rose
+  pub stores : Stores status every set h0 ended taken old new
+  pub cause : HasRunCause status ended (run_reading every set h0 ended taken).ending taken source_rose tell_rose disk_rose
 
 -- The disk failed at a MOMENT that may stand where it does: it is the last but `later` of the lines that are read, behind
 -- these, and of all that is to be told next comes that its beat is stored. So much was told before.
-pub record FailsAtMoment (set : Settings) (h0 : List Beat) (ended : Bool) (text sent : List ℕ) : Type 0 where
+pub record FailsAtMoment (every : ℕ) (set : Settings) (h0 : List Beat) (ended : Bool) (text sent : List ℕ) : Type 0 where
   pub past : List Line
   pub moment : ℕ
   pub later : List Line
-  pub accepted : lines_read (line_rules h0) [] (parts text) ≡ later ++ Moment moment ∷ past
+  pub accepted : lines_read (line_rules every h0) [] (parts text) ≡ later ++ Moment moment ∷ past
   pub missing : List ℕ
-  pub told : (run_reading set h0 ended text).told ≡ sent ++ told_of set h0 past (Moment moment) ++ missing
+  pub told : (run_reading every set h0 ended text).told ≡ sent ++ told_of every set h0 past (Moment moment) ++ missing
 
 -- the disk ended a run over this text at an accepted MOMENT, if it ended it
-abbrev pub FailsAtBeat : Status → Settings → List Beat → Bool → (text sent : List ℕ) → Type 0
-FailsAtBeat status set h0 ended text sent = status ≡ DiskFault → FailsAtMoment set h0 ended text sent
+abbrev pub FailsAtBeat : Status → ℕ → Settings → List Beat → Bool → (text sent : List ℕ) → Type 0
+FailsAtBeat status every set h0 ended text sent = status ≡ DiskFault → FailsAtMoment every set h0 ended text sent
 
 -- from some moment on all that a stop might leave of the disk was a database of this history, and the run was one on it
-pub record RunsOn (status : Status) (set : Settings) (h0 : List Beat) (left left' : Option (List ℕ)) (read new : List Event) (source_rose tell_rose disk_rose : Type 0) : Type 0 where
+pub record RunsOn (status : Status) (every : ℕ) (set : Settings) (h0 : List Beat) (left left' : Option (List ℕ)) (read new : List Event) (source_rose tell_rose disk_rose : Type 0) : Type 0 where
   pub stands : EveryDisk (StandsForHistory set h0) read
-  pub runs : Runs status set h0 left left' read new source_rose tell_rose disk_rose
+  pub runs : Runs status every set h0 left left' read new source_rose tell_rose disk_rose
   -- a text that closes no beat, as one of questions, writes nothing
-  pub quiet : history_with_text h0 runs.taken ≡ h0 → LeavesFiles read new
+  pub quiet : history_with_text every h0 runs.taken ≡ h0 → LeavesFiles read new
   -- the disk fails at an accepted MOMENT alone
-  pub stored_for : FailsAtBeat status set h0 runs.ended runs.taken runs.output.sent
+  pub stored_for : FailsAtBeat status every set h0 runs.ended runs.taken runs.stores.output.sent
 
--- a run on a database that reads as this history, whatever else a stop might have left of it
-pub record Resumes (status : Status) (set : Settings) (h0 : List Beat) (left left' : Option (List ℕ)) (old new : List Event) (source_rose tell_rose disk_rose : Type 0) : Type 0 where
+-- a run on a database, where `On` says what it is once the database was read, and `untaken` that it took nothing
+pub record OnceRead (On : List Event → Type 0) (untaken : Type 0) (status : Status) (old new : List Event) : Type 0 where
   -- what had happened once the database was read
   pub read : List Event
   -- until then a stop leaves what it might have left before, and nothing is told
   pub before : Throughout (EveryDisk (IsDisk old)) old read
   pub silent : told read ≡ told old
-  -- from then on the run is one on that history, unless the disk or memory failed before, and then it ended there
-  pub after : RunsOn status set h0 left left' read new source_rose tell_rose disk_rose ⊎ (((status ≡ DiskFault) ⊎ (status ≡ Memory)) × (new ≡ read) × (left' ≡ left))
+  -- from then on the run is such, unless the disk or memory failed before, and then it ended there
+  pub after : On read ⊎ (((status ≡ DiskFault) ⊎ (status ≡ Memory)) × (new ≡ read) × untaken)
+
+-- a run on a database that reads as this history, whatever else a stop might have left of it
+abbrev pub Resumes : Status → ℕ → Settings → List Beat → (left left' : Option (List ℕ)) → (old new : List Event) → (source_rose tell_rose disk_rose : Type 0) → Type 0
+Resumes status every set h0 left left' old new source_rose tell_rose disk_rose =
+    OnceRead (λ read. RunsOn status every set h0 left left' read new source_rose tell_rose disk_rose) (left' ≡ left) status old new
 
 -- the statuses of a run, but those of one that found no database that can be opened
 abbrev pub ends_a_run : Status → Bool
@@ -205,14 +217,18 @@ pub record TakesInput (status : Status) (left left' : Option (List ℕ)) : Type 
   -- behind as many bytes as may be taken, no failure of the source ends the run
   pub read : status ≡ ReadFault → length taken < input_limit
 
--- the source, the output and the disk are as the run found them: at every moment a crash leaves what it might have
--- left before, all files read as before, and nothing was told or taken
-pub record IsAsFound (honest : Type 0) (left left' : Option (List ℕ)) (source_faults source_faults' : ℕ) (host host' : Seen) : Type 0 where
-  pub source : (left' ≡ left) × (source_faults' ≡ source_faults)
+-- the output and the disk are as the run found them: at every moment a crash leaves what it might have left before,
+-- all files read as before, and nothing was told
+pub record IsHostAsFound (honest : Type 0) (host host' : Seen) : Type 0 where
   pub output : honest → told host'.past ≡ told host.past
   pub tells : host'.tell_faults ≡ host.tell_faults
   pub any_moment : honest → Throughout (EveryDisk (IsDisk host.past)) host.past host'.past
   pub same : honest → (file : File) → reads_as host'.past file ≡ reads_as host.past file
+
+-- and nothing was taken of the source
+pub record IsAsFound (honest : Type 0) (left left' : Option (List ℕ)) (source_faults source_faults' : ℕ) (host host' : Seen) : Type 0 where
+  pub source : (left' ≡ left) × (source_faults' ≡ source_faults)
+  pub host_is : IsHostAsFound honest host host'
 
 -- nothing happens to a file but the journal
 abbrev pub LeavesOthers : (honest : Type 0) → (host host' : Seen) → Type 0
@@ -245,14 +261,14 @@ pub record Finds (honest : Type 0) (status : Status) (host : Seen) : Type 0 wher
 -- `run` ended with this status, and left the source and the host so
 pub record RunsAll (honest : Type 0) (status : Status) (left left' : Option (List ℕ)) (source_faults source_faults' : ℕ) (host host' : Seen) : Type 0 where
   pub runs : honest → (set : Settings) (h0 : List Beat) → EveryDisk (StandsForHistory set h0) host.past
-      → Runs status set h0 left left' host.past host'.past (Rose source_faults source_faults') (Rose host.tell_faults host'.tell_faults) (Rose host.disk_faults host'.disk_faults)
+      → Runs status run_every set h0 left left' host.past host'.past (Rose source_faults source_faults') (Rose host.tell_faults host'.tell_faults) (Rose host.disk_faults host'.disk_faults)
   -- where the images differ, as after a run that the disk ended, that history counts which the files read as
   pub resumes : honest → (set : Settings) (h0 : List Beat) → StandsForHistory set h0 (reads_as host.past)
-      → Resumes status set h0 left left' host.past host'.past (Rose source_faults source_faults') (Rose host.tell_faults host'.tell_faults) (Rose host.disk_faults host'.disk_faults)
+      → Resumes status run_every set h0 left left' host.past host'.past (Rose source_faults source_faults') (Rose host.tell_faults host'.tell_faults) (Rose host.disk_faults host'.disk_faults)
   -- where no call on the outside fails, the status is that of the text, or there was no memory
   pub complete : honest → (set : Settings) (h0 : List Beat) → EveryDisk (StandsForHistory set h0) host.past
       → IfSome left (λ text. (Rose source_faults source_faults' → ⊥) → (Rose host.tell_faults host'.tell_faults → ⊥) → (Rose host.disk_faults host'.disk_faults → ⊥)
-      → (status ≡ run_status set h0 text) ⊎ (status ≡ Memory))
+      → (status ≡ run_status run_every set h0 text) ⊎ (status ≡ Memory))
   pub finds : Finds honest status host
   -- whatever the host tells, these are the statuses of a run, and no more is taken of the source than may be
   pub statuses : (ends_a_run status ≡ true) ⊎ (finds_none status ≡ true)

@@ -3,7 +3,6 @@ use Rattle.std.specs.Prelude.{◌≡◌, ℕ, ◌+◌, Bool, true, false, List, 
 use Rattle.host_model.specs.declared.status.Status.{Status}
 use Rattle.host_model.specs.declared.status.Status.TheVariants.{Ok as Done, Refused, Limit, TellFault, DiskFault, NotADatabase, Damaged, Memory}
 use Rattle.host_model.specs.Cause.{HasCause, Rose}
-use Rattle.host_model.specs.Disks.{EveryDisk}
 use Rattle.host_model.specs.Moments.{Throughout, EveryStop}
 use Rattle.host_model.specs.Past.{Event, Told, told, MayAdd}
 use Rattle.history.specs.declared.line.Line.{Line}
@@ -11,7 +10,6 @@ use Rattle.history.specs.History.{Beat, registry_of}
 use Rattle.history.specs.Read.{history_at}
 use Rattle.plugin_text.specs.Lines.{lines, parts, rest, fits}
 use Rattle.point_lines.specs.declared.refusal.Refusal.{Refusal}
-use Rattle.point_lines.specs.Judged.{every}
 use Rattle.chart_registry.specs.Accepted.{AreAccepted, IsWithin}
 use Rattle.collect_block.specs.Feed.{CountsFor, IsFeedOf}
 use Rattle.entry_codec.specs.declared.entry.Settings.{Settings}
@@ -20,16 +18,15 @@ use Rattle.agent_core.specs.declared.fault.AgentFault.TheVariants as agent_fault
 use Rattle.agent_core.specs.Agent.{IsAgentOf, AgentIsReady}
 use Rattle.host_model.specs.Seen.{Seen}
 use Rattle.agent_core.specs.Fed.{IsFed}
-use Rattle.agent_core.specs.Kept.{StandsForHistory}
 use Rattle.agent_app.specs.declared.running.Running.{Running}
 use Rattle.agent_app.specs.Convert.{refusal_line, refusal_status, LeavesFiles}
 use Rattle.agent_app.specs.Reading.{HasRead}
-use Rattle.agent_app.specs.Run.{history_with_text, is_whole, run_output, run_reading, run_rules, FailsAtBeat, HasRunCause, IsAckedUpTo, Keeps, LeavesOthers, TellsRun}
+use Rattle.agent_app.specs.Run.{history_with_text, run_reading, run_rules, FailsAtBeat, HasRunCause, IsAckedUpTo, Keeps, LeavesOthers, Stores}
 
 -- ---- a run under way
 
 -- After these lines the run's agent and feed are of just these, `made` was told since the start, whole lines, and a stop at any moment since left what it may leave.
-pub record RunsAt (past : List Event) (running : Running) (set : Settings) (h0 : List Beat) (start : List Event) (read : List Line) (made : List ℕ) : Type 0 where
+pub record RunsAt (past : List Event) (running : Running) (every : ℕ) (set : Settings) (h0 : List Beat) (start : List Event) (read : List Line) (made : List ℕ) : Type 0 where
   pub within : IsWithin (registry_of h0)
   pub accepted : AreAccepted every h0 read
   pub agent : IsAgentOf past running.agent set (history_at every h0 read)
@@ -41,20 +38,17 @@ pub record RunsAt (past : List Event) (running : Running) (set : Settings) (h0 :
   pub stops : Throughout (EveryStop (Keeps set h0 (history_at every h0 read) (told start))) start past
 
 -- the run has taken these lines of its text, and goes on
-pub record IsRunning (past : List Event) (running : Running) (set : Settings) (h0 : List Beat) (front : List (List ℕ)) (start : List Event) : Type 0 where
+pub record IsRunning (past : List Event) (running : Running) (every : ℕ) (set : Settings) (h0 : List Beat) (front : List (List ℕ)) (start : List Event) : Type 0 where
   pub read : List Line
   pub made : List ℕ
-  pub has : HasRead (run_rules set h0) front read made
-  pub at : RunsAt past running set h0 start read made
+  pub has : HasRead (run_rules every set h0) front read made
+  pub at : RunsAt past running every set h0 start read made
 
 -- the run over this text ended so
-pub record StopsIn (status : Status) (set : Settings) (h0 : List Beat) (ended : Bool) (text : List ℕ) (start new : List Event) (source_rose tell_rose disk_rose : Type 0) : Type 0 where
-  pub stops : Throughout (EveryStop (Keeps set h0 (history_with_text h0 text) (told start))) start new
-  pub ends : is_whole status ≡ true → EveryDisk (StandsForHistory set (history_with_text h0 text)) new
-  pub output : TellsRun status (run_output set h0 ended text) start new
-  pub told_for : status ≡ TellFault → run_output set h0 ended text ≡ [] → ⊥
-  pub stored_for : FailsAtBeat status set h0 ended text output.sent
-  pub cause : HasRunCause status ended (run_reading set h0 ended text).ending text source_rose tell_rose disk_rose
+pub record StopsIn (status : Status) (every : ℕ) (set : Settings) (h0 : List Beat) (ended : Bool) (text : List ℕ) (start new : List Event) (source_rose tell_rose disk_rose : Type 0) : Type 0 where
+  pub stores : Stores status every set h0 ended text start new
+  pub stored_for : FailsAtBeat status every set h0 ended text stores.output.sent
+  pub cause : HasRunCause status ended (run_reading every set h0 ended text).ending text source_rose tell_rose disk_rose
 
 -- ---- what is told
 
@@ -98,12 +92,12 @@ pub record IsFit (honest : Type 0) (running : Running) (host : Seen) : Type 0 wh
 
 -- the line was taken, or the run ends at it
 pub record TakesLine (honest : Type 0) (running : Running) (host : Seen) (number : ℕ) (bytes : List ℕ) (result : Result (Unit {0}) Status) (running' : Running) (host' : Seen) : Type 0 where
-  pub run : honest → (set : Settings) (h0 : List Beat) (front : List (List ℕ)) (start : List Event) → IsRunning host.past running set h0 front start → number ≡ length front + 1
-      → MatchResult result (λ _. IsRunning host'.past running' set h0 (front ++ bytes ∷ []) start)
-      (λ status. (ended : Bool) (text next : List ℕ) (more : List (List ℕ)) → parts text ≡ front ++ bytes ∷ next ∷ more → StopsIn status set h0 ended text start host'.past ⊥ (TellRose host host') (DiskRose host host'))
+  pub run : honest → (every : ℕ) (set : Settings) (h0 : List Beat) (front : List (List ℕ)) (start : List Event) → IsRunning host.past running every set h0 front start → number ≡ length front + 1
+      → MatchResult result (λ _. IsRunning host'.past running' every set h0 (front ++ bytes ∷ []) start)
+      (λ status. (ended : Bool) (text next : List ℕ) (more : List (List ℕ)) → parts text ≡ front ++ bytes ∷ next ∷ more → StopsIn status every set h0 ended text start host'.past ⊥ (TellRose host host') (DiskRose host host'))
   -- where the text closes no beat, nothing happens to any file
-  pub quiet : honest → (set : Settings) (h0 : List Beat) (front : List (List ℕ)) (start : List Event) → IsRunning host.past running set h0 front start
-      → (text next : List ℕ) (more : List (List ℕ)) → parts text ≡ front ++ bytes ∷ next ∷ more → history_with_text h0 text ≡ h0 → LeavesFiles host.past host'.past
+  pub quiet : honest → (every : ℕ) (set : Settings) (h0 : List Beat) (front : List (List ℕ)) (start : List Event) → IsRunning host.past running every set h0 front start
+      → (text next : List ℕ) (more : List (List ℕ)) → parts text ≡ front ++ bytes ∷ next ∷ more → history_with_text every h0 text ≡ h0 → LeavesFiles host.past host'.past
   pub statuses : IfErr result IsTakers
   pub counts : Counts host host' (IsErrOf result TellFault) (IsErrOf result DiskFault)
   pub others : LeavesOthers honest host host'
@@ -114,8 +108,8 @@ Pauses running host result running' host' = (result ≡ Ok tt) × (running' ≡ 
 
 -- the text has ended
 pub record EndsRun (honest : Type 0) (running : Running) (host : Seen) (count : ℕ) (left : List ℕ) (status : Status) (host' : Seen) : Type 0 where
-  pub run : honest → (set : Settings) (h0 : List Beat) (text : List ℕ) (start : List Event) → IsRunning host.past running set h0 (lines text) start → count ≡ length (lines text) → left ≡ rest text
-      → StopsIn status set h0 true text start host'.past ⊥ (TellRose host host') (DiskRose host host')
+  pub run : honest → (every : ℕ) (set : Settings) (h0 : List Beat) (text : List ℕ) (start : List Event) → IsRunning host.past running every set h0 (lines text) start → count ≡ length (lines text) → left ≡ rest text
+      → StopsIn status every set h0 true text start host'.past ⊥ (TellRose host host') (DiskRose host host')
   pub quiet : honest → LeavesFiles host.past host'.past
   pub statuses : IsTakers status
   pub counts : Counts host host' (status ≡ TellFault) (status ≡ DiskFault)
@@ -123,9 +117,9 @@ pub record EndsRun (honest : Type 0) (running : Running) (host : Seen) (count : 
 
 -- a line is too long
 pub record Overflows (honest : Type 0) (running : Running) (host : Seen) (number : ℕ) (status : Status) (host' : Seen) : Type 0 where
-  pub run : honest → (set : Settings) (h0 : List Beat) (front : List (List ℕ)) (start : List Event) → IsRunning host.past running set h0 front start → number ≡ length front + 1
+  pub run : honest → (every : ℕ) (set : Settings) (h0 : List Beat) (front : List (List ℕ)) (start : List Event) → IsRunning host.past running every set h0 front start → number ≡ length front + 1
       → (ended : Bool) (text long : List ℕ) (more : List (List ℕ)) → parts text ≡ front ++ long ∷ more → fits long ≡ false
-      → StopsIn status set h0 ended text start host'.past ⊥ (TellRose host host') (DiskRose host host')
+      → StopsIn status every set h0 ended text start host'.past ⊥ (TellRose host host') (DiskRose host host')
   pub quiet : honest → LeavesFiles host.past host'.past
   pub statuses : IsTakers status
   pub counts : Counts host host' (status ≡ TellFault) (status ≡ DiskFault)

@@ -1,19 +1,26 @@
-ghost use Rattle.std.specs.Prelude.{◌≡◌, ◌≤◌, ◌<◌, ◌^◌, true, false, Some, Ok, IfSome, IfOk, map, length};
+ghost use Rattle.std.specs.Prelude.{◌≡◌, ℕ, ◌≤◌, ◌<◌, ◌^◌, true, false, Some, Ok, IfSome, IfOk, map, length};
 ghost use Rattle.std.specs.List.{list_any};
 ghost use Rattle.std.specs.Option.{option_and_then};
 ghost use Rattle.clap.specs.Words.{found_of, rows_of, subcommand_rows_of};
 ghost use Rattle.entry_codec.specs.declared.entry.Settings.{Settings as ASettings};
 ghost use Rattle.fixed_num.specs.UnitsText.{is_numeral};
 ghost use Rattle.store_core.specs.FirstRecord.{is_tier, InLimits};
-ghost use Rattle.agent_app.specs.Command.{command_of, default_settings, form_named, form_of, has_leading_zero, is_option, number_of, settings_of, settings_with, tier_of, up_to};
-ghost use Rattle.agent_app.specs.Forms.{command_in, form_in, settings_in};
+ghost use Rattle.agent_app.specs.Command.{collect_of, command_of, default_settings, form_named, form_of, has_leading_zero, is_option, number_of, settings_of, settings_with, tier_of, up_to, IsCollector};
+ghost use Rattle.agent_app.specs.Forms.{collect_in, command_in, form_in, settings_in};
 
 use crate::forms::parse;
 use agent_core::{Settings, TierSettings};
 use clap::ArgMatches;
 use clap::error::ErrorKind;
 use fixed_num::{Text, WordsList};
+use history::UPDATE_EVERY_LIMIT;
 use std::alloc::{AllocError, Global};
+
+/// The most seconds that may lie between the beats of a collector.
+pub const EVERY_LIMIT: u32 = UPDATE_EVERY_LIMIT;
+
+/// How often a collector may be started at most.
+pub const STARTS_LIMIT: u32 = 1_000;
 
 /// In which form the log of alarms is told.
 #[derive(Clone, Copy, Debug, PartialEq, Eq)]
@@ -27,6 +34,13 @@ pub enum Form {
 /// What the words of a command line ask for.
 #[derive(Clone, Copy, Debug, PartialEq, Eq)]
 pub enum Command {
+    /// Runs a program, the words behind the first three, as a collector, and stores the beats of its text.
+    Collect {
+        /// How many seconds lie between its beats, 1 to `EVERY_LIMIT`.
+        every: u32,
+        /// How often it is started at most, 1 to `STARTS_LIMIT`.
+        starts: u32,
+    },
     /// Tells the points of the input's text.
     Convert,
     /// Stores the input as the configuration of alarms.
@@ -48,6 +62,9 @@ impl Command {
         ensures command { IfOk result (λ command. command ≡ command_of words.now) }
         ensures limits { (settings : ASettings) → result ≡ Ok (Some (Command.New settings))
             → InLimits settings }
+        ensures collector { (every starts : ℕ)
+            → result ≡ Ok (Some (Command.Collect every starts))
+            → IsCollector every starts words.now }
     {
         // A word that begins with `-` is in no form, and has a meaning of its own to `clap`.
         if has_option(words.as_slice()) {
@@ -95,12 +112,33 @@ fn command_in(matches: &ArgMatches<'_>) -> Option<Command>
 {
     let (name, found) = matches.subcommand()?;
     match name {
+        "collect" => collect_in(found),
         "convert" => Some(Command::Convert),
         "health" => Some(Command::Health),
         "log" => Some(Command::Log(form_in(found)?)),
         "new" => Some(Command::New(settings_in(found)?)),
         "query" => Some(Command::Query),
         "run" => Some(Command::Run),
+        _ => None,
+    }
+}
+
+/// The collector that the words behind `collect` give.
+fn collect_in(found: &ArgMatches<'_>) -> Option<Command>
+    ensures { result ≡ collect_in (rows_of (found_of found.now)) }
+{
+    read_collect(found.get_raw("words")?)
+}
+
+/// The seconds between beats and the number of starts, where a program stands behind them.
+fn read_collect(words: &[&str]) -> Option<Command>
+    ensures { result ≡ collect_of (map (λ word. word.now) words.now) }
+{
+    match words {
+        [every, starts, _program, ..] => Some(Command::Collect {
+            every: read_up_to(EVERY_LIMIT, every)?,
+            starts: read_up_to(STARTS_LIMIT, starts)?,
+        }),
         _ => None,
     }
 }

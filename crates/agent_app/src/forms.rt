@@ -42,6 +42,7 @@ fn forms<'a>(alloc: Global) -> Result<Command<'a>, AllocError>
     ensures { IfOk result (λ command. app_of command ≡ forms) }
 {
     program(alloc)
+        .subcommand(with_words(alloc, "collect", 3, usize::MAX)?)?
         .subcommand(Command::new(alloc, "convert"))?
         .subcommand(Command::new(alloc, "health"))?
         .subcommand(with_words(alloc, "log", 1, usize::MAX)?)?

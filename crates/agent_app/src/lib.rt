@@ -3,14 +3,16 @@
 //! `agent_main` is the top call. Over an honest host its contract says, for every input and whatever
 //! fails: what is told is a front of a stated function of the bytes taken, and all of it unless the
 //! output, the disk or memory failed. It says what a stop may leave of the database at any moment, and
-//! why the run ended with the status that it answers. Of `run`, `query`, `health` and `log` it says so where
-//! the disk reads as a database of a history.
+//! why the run ended with the status that it answers. Of `run`, `collect`, `query`, `health` and `log` it says
+//! so where the disk reads as a database of a history.
 //!
-//! It stands on `line_stream` for the lines of a stream, on `point_lines` for what the lines of a text
-//! tell, on `agent_core` for the agent whose beats are stored, and on `host_model` for the outside.
+//! It stands on `line_stream` for the lines of a stream, on `plugin_runner` for those of a program that is run as a
+//! collector, on `point_lines` for what the lines of a text tell, on `agent_core` for the agent whose beats are
+//! stored, and on `host_model` for the outside.
 #![tactic(auto)]
 
-ghost use Rattle.std.specs.Prelude.{◌≡◌, ◌⊎◌, None, Some};
+ghost use Rattle.std.specs.Prelude.{◌≡◌, ◌⊎◌, ℕ, None, Some};
+ghost use Rattle.agent_app.specs.Collect.{collector_of, outside_of, CollectsAll};
 ghost use Rattle.agent_app.specs.Command.{command_of};
 ghost use Rattle.agent_app.specs.Convert.{Converts, EndsAsText, LeavesDisk};
 ghost use Rattle.agent_app.specs.declared.command.Form.{Form as AForm};
@@ -21,17 +23,19 @@ ghost use Rattle.agent_app.specs.Query.{question_of, reply_for, Asks};
 ghost use Rattle.agent_app.specs.Run.{RunsAll};
 ghost use Rattle.entry_codec.specs.declared.entry.Settings.{Settings as ASettings};
 
+use collect::collect_words;
 use command::Command;
 use convert::convert;
 use fixed_num::WordsList;
 use health::health;
-use host_model::{Host, Source, Status};
+use host_model::{Clock, Host, Link, Source, Spawner, Status};
 use log::log;
 use new::new;
 use query::query;
 use run::run;
 use std::alloc::Global;
 
+mod collect;
 mod command;
 mod convert;
 mod converting;
@@ -75,6 +79,13 @@ pub use law::any_course;
 /// history there: with `ROWS`, how many windows there are and the ids of the dimensions, and then a line
 /// for each window, its start and its values; or with `ERROR` and a number, which ends nothing.
 ///
+/// `collect EVERY STARTS PROGRAM [ARG..]` starts a program and stores the beats of what it writes, as `run` does with
+/// its input. EVERY is how many seconds lie between beats, 1 to 86,400: the program is handed it before its own
+/// arguments, and the charts whose line leaves the update_every open have it. The program is started again each time
+/// that it ends with 0, until STARTS starts were made, 1 to 1,000. The MOMENT lines that close its beats are put
+/// between its lines, each above the database's last moment. `SpawnFault` where the program cannot be started or
+/// read, and `Disabled` where it ends with another status or prints DISABLE. All beats before are stored then.
+///
 /// `health` stores the input, at most 2^20 bytes, as the configuration of alarms, and tells `STORED`, its number
 /// in the history and a line for each alarm that goes. A text that is refused tells `REFUSED`, the number of
 /// the line and that of the refusal, and too many alarms or bytes tell `LIMIT` so; nothing is stored then.
@@ -84,11 +95,14 @@ pub use law::any_course;
 ///
 /// `query CHART AFTER BEFORE WINDOW GROUP [WORD..]` answers that question from the database, which
 /// nothing changes. The status is 0 where `ERROR` is told too. No word of it begins with `-`.
-pub fn agent_main<S: Source, H: Host>(
+pub fn agent_main<S: Source, H: Host, L: Link, P: Spawner, C: Clock>(
     alloc: Global,
     words: &WordsList,
     source: &mut S,
     host: &mut H,
+    link: &mut L,
+    spawner: &mut P,
+    clock: &mut C,
 ) -> Status
     // Words in no form are refused, or there was no memory to read them. Nothing is touched then.
     ensures usage { result ≡ Status.Usage → command_of words.now ≡ None }
@@ -127,6 +141,22 @@ pub fn agent_main<S: Source, H: Host>(
         RunsAll H.honest result (S.left source.old) (S.left source.new)
         (S.faults source.old) (S.faults source.new) (H.seen host.old) (H.seen host.new) }
 
+    // What a collector stores and tells, what stops leave, and why it ended. It takes nothing of the input.
+    ensures collects { (every starts : ℕ)
+        → command_of words.now ≡ Some (Command.Collect every starts)
+        → CollectsAll H.honest (collector_of every starts words.now) result
+        (outside_of (P.children spawner.old) (P.faults spawner.old) (C.readings clock.old))
+        (outside_of (P.children spawner.new) (P.faults spawner.new) (C.readings clock.new))
+        (H.seen host.old) (H.seen host.new) }
+    ensures collect_takes_nothing { (every starts : ℕ)
+        → command_of words.now ≡ Some (Command.Collect every starts) → source.new ≡ source.old }
+
+    // No other command starts a program or asks the time, and none talks to another agent.
+    ensures uncollected { ((every starts : ℕ)
+        → command_of words.now ≡ Some (Command.Collect every starts) → ⊥)
+        → (spawner.new ≡ spawner.old) × (clock.new ≡ clock.old) }
+    ensures unlinked { link.new ≡ link.old }
+
     // What a question is answered with, and why it was not.
     ensures asks { command_of words.now ≡ Some Command.Query →
         Asks H.honest (reply_for (question_of words.now)) result
@@ -148,6 +178,9 @@ pub fn agent_main<S: Source, H: Host>(
     match Command::read(alloc, words) {
         Err(_) => Status::Memory,
         Ok(None) => Status::Usage,
+        Ok(Some(Command::Collect { every, starts })) => {
+            collect_words(alloc, every, starts, words, spawner, clock, host)
+        }
         Ok(Some(Command::Convert)) => convert(alloc, source, host),
         Ok(Some(Command::Health)) => health(alloc, source, host),
         Ok(Some(Command::Log(form))) => log(alloc, form, host),

@@ -9,6 +9,9 @@ use host_model::{Host, Source, Status};
 use line_stream::take_text;
 use std::alloc::Global;
 
+/// The update_every of the charts whose line leaves it open, in seconds.
+const EVERY: u32 = 1;
+
 /// The status of a run whose database was not opened.
 pub(crate) fn opening_status(fault: AgentFault) -> Status
     ensures { result ≡ opening_status fault }
@@ -33,7 +36,7 @@ pub fn run<S: Source, H: Host>(alloc: Global, source: &mut S, host: &mut H) -> S
 {
     match Agent::open(alloc, host) {
         Ok(agent) => {
-            let mut running = Running::new(alloc, agent);
+            let mut running = Running::new(alloc, agent, EVERY);
             take_text(alloc, &mut running, source, host)
         }
         Err(fault) => opening_status(fault),

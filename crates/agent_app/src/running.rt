@@ -1,10 +1,11 @@
 //! A text whose beats are stored, line by line.
-ghost use Rattle.std.specs.Prelude.{◌≡◌, ◌∷◌, ℕ, List, [], take, true, IsErr, IsErrOf, IfErr, OnOk, OnErr};
+ghost use Rattle.std.specs.Prelude.{◌≡◌, ◌<◌, ◌≤◌, ◌∷◌, ℕ, List, [], take, true, IsErr, IsErrOf, IfErr, OnOk, OnErr};
 ghost use Rattle.host_model.specs.Cause.{HasCause, Rose};
 ghost use Rattle.host_model.specs.Past.{Told, MayAdd};
 ghost use Rattle.plugin_text.specs.Answer.{IsFaultFor};
 ghost use Rattle.plugin_text.specs.Line.{line as line_of};
 ghost use Rattle.plugin_text.specs.Lines.{fits};
+ghost use Rattle.history.specs.declared.limits.TheConstants.{UPDATE_EVERY_LIMIT};
 ghost use Rattle.history.specs.Limits.{keeps_limits};
 ghost use Rattle.history.specs.Registry.{Registry};
 ghost use Rattle.collect_block.specs.Feed.{CountsFor, IsFeedOf};
@@ -21,9 +22,6 @@ use line_stream::Taker;
 use plugin_text::{LineFault, read_line};
 use point_lines::Refusal;
 use std::alloc::Global;
-
-/// The update_every of the charts whose line leaves it open, in seconds.
-const EVERY: u32 = 1;
 
 /// What is kept of a text whose beats are stored: the agent that has them, and the open beat.
 #[derive(Drop)]
@@ -100,16 +98,20 @@ pub(crate) fn tell_stored<H: Host>(alloc: Global, host: &mut H, reply: &Reply) -
 }
 
 impl Running {
-    pub(crate) fn new(alloc: Global, agent: Agent) -> Running
+    /// A text of which nothing was taken. `every` is the update_every of the charts whose line leaves it open, in
+    /// seconds.
+    pub(crate) fn new(alloc: Global, agent: Agent, every: u32) -> Running
+        requires every { 0 < every }
+        requires limit { every ≤ UPDATE_EVERY_LIMIT }
         ensures agent { result.agent ≡ agent }
-        ensures feed { IsFeedOf result.feed 1 [] }
+        ensures feed { IsFeedOf result.feed every [] }
         ensures counts { (registry : Registry) → CountsFor result.feed registry }
         ensures fed { IsFed result.feed }
     {
         Running {
             alloc,
             agent,
-            feed: Feed::new(alloc, EVERY),
+            feed: Feed::new(alloc, every),
         }
     }
 

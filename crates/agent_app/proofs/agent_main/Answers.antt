@@ -1,8 +1,9 @@
 use Rattle.std.proofs.Common.{ℕ, List, Option, inr, refl}
 use Rattle.host_model.specs.Seen.{Seen}
+use Rattle.agent_app.specs.Collect.{collector_of, outside_of, Outside}
 use Rattle.agent_app.specs.Query.{question_of, reply_for}
 use Rattle.agent_app.specs.Log.{log_for}
-use Rattle.agent_app.proofs.WantLemmas.{no-usage, want-asks, want-complete, want-configures, want-converts, want-leaves, want-runs}
+use Rattle.agent_app.proofs.WantLemmas.{no-usage, want-asks, want-collects, want-complete, want-configures, want-converts, want-leaves, want-runs}
 use Rattle.agent_app.proofs.agent_main.Goals as goal
 
 pub returns-in-Err : goal.returns-in-Err
@@ -10,6 +11,7 @@ returns-in-Err g c =
     let host : Seen = g.H.Host.seen c.args.host.now in
     let left : Option (List ℕ) = g.S.Source.left c.args.source.now in
     let faults : ℕ = g.S.Source.faults c.args.source.now in
+    let outside : Outside = outside_of (g.P.Spawner.children c.args.spawner.now) (g.P.Spawner.faults c.args.spawner.now) (g.C.Clock.readings c.args.clock.now) in
     record {
       usage = λ is. absurd (no-usage is);
       no_form = λ none. inr refl;
@@ -20,6 +22,10 @@ returns-in-Err g c =
       makes = λ settings is. inr (refl, refl);
       new_takes_nothing = λ settings is. refl;
       runs = λ is. want-runs g.H.Host.honest host (λ h file. g.met.H.Host.reads_an_image c.args.host.now file h) left faults;
+      collects = λ every starts is. want-collects g.H.Host.honest host (λ h file. g.met.H.Host.reads_an_image c.args.host.now file h) (collector_of every starts c.args.words.now) outside;
+      collect_takes_nothing = λ every starts is. refl;
+      uncollected = λ other. (refl, refl);
+      unlinked = refl;
       asks = λ is. want-asks g.H.Host.honest host (λ h file. g.met.H.Host.reads_an_image c.args.host.now file h) (reply_for (question_of c.args.words.now));
       query_takes_nothing = λ is. refl;
       configures = λ is. want-configures g.H.Host.honest host (λ h file. g.met.H.Host.reads_an_image c.args.host.now file h) left faults;
