@@ -21,13 +21,13 @@ usage: nda COMMAND
   nda --help, nda --version
       prints this, or the version
 
-A database is the file nda.2 of the current folder, beside nda.lock. ID is below 2^64; of each tier P
-items, 1 to 262144, make a segment full, and Q segments, 1 to 1024, are kept. collect starts PROGRAM
-again while it ends with 0, STARTS times at most, 1 to 1000; its beats lie EVERY seconds apart, 1 to
-86400, and get their moments from the clock. run and collect print STORED and its number for each
-beat once it is stored; run answers a QUERY line at its place. AFTER and BEFORE are seconds since
-1970; GROUP is average, min, max, sum, count or anomaly-rate, of each dimension whose id or name the
-WORDs accept. No word of a command begins with -, nor does an ARG: put such words into a script.";
+A database is the file nda.2 of the current folder. ID is below 2^64; of each tier P items, 1 to
+262144, make a segment full, and Q segments, 1 to 1024, are kept. collect starts PROGRAM again while
+it ends with 0, STARTS times at most, 1 to 1000; its beats get their moments from the clock and lie
+EVERY seconds apart, 1 to 86400. run and collect print STORED and its number for each beat once it
+is stored, and answer a QUERY line at its place. AFTER and BEFORE are seconds since 1970; a line has
+the GROUP (average, min, max, sum, count or anomaly-rate) of WINDOW seconds of each dimension whose
+id or name the WORDs accept. No word begins with -, nor does an ARG: a script can add such words.";
 
 /// The program's name and version.
 pub const VERSION: &str = "nda 0.1.0";
