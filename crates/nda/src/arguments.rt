@@ -2,6 +2,7 @@
 ghost use Rattle.std.specs.Prelude.{◌≡◌};
 ghost use Rattle.nda.specs.Lock.{lock_of};
 ghost use Rattle.nda.specs.Notice.{notice_of};
+ghost use Rattle.nda.specs.TextKind.{text_kind_of};
 
 use fixed_num::{Text, WordsList};
 use host_files::LockKind;
@@ -14,6 +15,17 @@ use std::io::ErrorKind;
 pub enum Notice {
     Help,
     Version,
+}
+
+/// What text a command reads.
+#[derive(Clone, Copy, Debug, PartialEq, Eq)]
+pub enum TextKind {
+    /// Alarms, on standard input.
+    Alarms,
+    /// Beats, on standard input.
+    Beats,
+    /// Beats, as a program writes them that is run as a collector.
+    Collected,
 }
 
 /// What the words ask the program to say of itself, where they do: a sole `--help` or `--version`.
@@ -37,6 +49,17 @@ pub fn lock_of(words: &WordsList) -> LockKind
         [command, ..] if command.as_str() == "log" => LockKind::Shared,
         [command, ..] if command.as_str() == "query" => LockKind::Shared,
         _ => LockKind::Alone,
+    }
+}
+
+/// What text the command of these words reads, where it reads one.
+pub fn text_kind_of(words: &WordsList) -> TextKind
+    ensures { result ≡ text_kind_of words.now }
+{
+    match words.as_slice() {
+        [command, ..] if command.as_str() == "collect" => TextKind::Collected,
+        [command, ..] if command.as_str() == "health" => TextKind::Alarms,
+        _ => TextKind::Beats,
     }
 }
 

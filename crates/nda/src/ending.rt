@@ -1,4 +1,5 @@
 //! What the program says on standard error where it ends with another status than 0.
+use crate::arguments::TextKind;
 use crate::refusals::reason_of;
 use host_files::DiskError;
 use host_model::Status;
@@ -9,21 +10,28 @@ use std::{fmt, io};
 #[derive(Debug, Drop)]
 pub struct Ending {
     pub status: Status,
+    /// What its command reads.
+    pub text: TextKind,
     /// Of standard input.
     pub input: Option<io::Error>,
     /// Of standard output.
     pub output: Option<io::Error>,
     pub disk: Option<DiskError>,
+    /// Of the program that is run as a collector.
+    pub program: Option<io::Error>,
 }
 
 impl Ending {
-    /// An ending for which no call on the outside gave a reason.
+    /// An ending of a command that reads beats, if any text, for which no call on the outside gave a
+    /// reason.
     pub fn of(status: Status) -> Ending {
         Ending {
             status,
+            text: TextKind::Beats,
             input: None,
             output: None,
             disk: None,
+            program: None,
         }
     }
 
@@ -40,6 +48,11 @@ impl Ending {
                 &self.output,
             ),
             Status::DiskFault => write_disk(f, &self.disk),
+            Status::SpawnFault => write_failure(
+                f,
+                "the collector could not be started, read or waited for",
+                &self.program,
+            ),
             Status::Damaged(part) => {
                 write!(
                     f,
@@ -59,26 +72,24 @@ impl Ending {
             // No line is written then.
             Status::Ok => "there is nothing to do",
             Status::Usage => "use one of these forms",
-            Status::Refused(..) => {
-                "the beats before it stand; mend it; run takes the text again from behind the MOMENT before it, convert from its start"
-            }
-            Status::Limit(..) => "the beats before it stand; leave out what is too much",
-            Status::ReadFault => {
-                "the beats before stand; run takes the text again from behind the last MOMENT that came, convert from its start"
-            }
+            Status::Refused(..) => advice_on_refusal(self.text),
+            Status::Limit(..) => advice_on_limit(self.text),
+            Status::ReadFault => advice_on_input(self.text),
             Status::TellFault => "more may be stored than was told; mend it, and run again",
             Status::DiskFault => advice_on(&self.disk),
             Status::LinkFault => "see that the other agent can be reached, and run again",
             Status::NotADatabase => "make one by nda new, or go to its folder",
-            Status::Exists => "nothing was changed; nda run stores beats in it",
+            Status::Exists => "nothing was changed; nda run and nda collect store beats in it",
             Status::Damaged(_) => "nothing was changed; go on from a copy, or in another folder",
             Status::PeerRefused(_) => "nothing of that was taken; see which agent it is",
             Status::LinkEnded => "what came before is stored; run again to go on from there",
-            Status::SpawnFault => "see that its program is there and may be run",
-            Status::Disabled => "what came before is stored; see what it says of itself",
-            Status::InputLimit => {
-                "the beats before stand; another run takes the text from behind the last MOMENT that came"
+            Status::SpawnFault => {
+                "the beats before stand; see that its program is there and may be run"
             }
+            Status::Disabled => {
+                "the beats before stand; see what it says on standard error, where it may also be run alone"
+            }
+            Status::InputLimit => advice_on_length(self.text),
             Status::Memory => "what was told as stored is kept; free some, and run again",
         }
     }
@@ -92,11 +103,53 @@ fn event_of(status: Status) -> &'static str {
         Status::NotADatabase => "there is no database in this folder",
         Status::Exists => "there is a database in this folder already",
         Status::LinkEnded => "the link ended before the other agent was done",
-        Status::SpawnFault => "the collector could not be started, read or waited for",
-        Status::Disabled => "the collector failed, or asked not to be started again",
+        Status::Disabled => "the collector ended with another status than 0, or wrote DISABLE",
         Status::InputLimit => "2^40 bytes of input were taken, and no end had come",
         Status::Memory => "there was no memory",
         _ => "all was done",
+    }
+}
+
+/// What a text that is refused leaves, and what is to be done.
+fn advice_on_refusal(text: TextKind) -> &'static str {
+    match text {
+        TextKind::Alarms => "nothing of it is stored; mend it, and run again",
+        TextKind::Beats => {
+            "the beats before it stand; mend it; run takes the text again from behind the MOMENT before it, convert from its start"
+        }
+        TextKind::Collected => {
+            "the beats before it stand; it is counted with the MOMENT and FLUSH lines that were put in; mend the collector"
+        }
+    }
+}
+
+/// What a text that asks for too much leaves, and what is to be done.
+fn advice_on_limit(text: TextKind) -> &'static str {
+    match text {
+        TextKind::Alarms => "nothing of it is stored; leave out what is too much",
+        TextKind::Beats | TextKind::Collected => {
+            "the beats before it stand; leave out what is too much"
+        }
+    }
+}
+
+/// What an input that cannot be read leaves, and what is to be done.
+fn advice_on_input(text: TextKind) -> &'static str {
+    match text {
+        TextKind::Alarms => "nothing of it is stored; mend it, and run again",
+        TextKind::Beats | TextKind::Collected => {
+            "the beats before stand; run takes the text again from behind the last MOMENT that came, convert from its start"
+        }
+    }
+}
+
+/// What a text that is too long leaves, and what is to be done.
+fn advice_on_length(text: TextKind) -> &'static str {
+    match text {
+        TextKind::Collected => "the beats before stand; run it again",
+        TextKind::Alarms | TextKind::Beats => {
+            "the beats before stand; another run takes the text from behind the last MOMENT that came"
+        }
     }
 }
 

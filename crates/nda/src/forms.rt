@@ -4,25 +4,30 @@
 pub const FORMS: &str = "\
 usage: nda COMMAND
 
-  nda convert     reads collectors' text from standard input, and prints its points:
-                  a line MOMENT CHART DIMENSION VALUE for each
   nda new ID [P0 Q0 P1 Q1 P2 Q2]
-                  makes a database in this folder: ID is below 2^64; of each tier P items,
-                  1 to 262144, make a segment full, and Q segments, 1 to 1024, are kept
-  nda run         reads such text, stores its beats in the database of this folder, and
-                  prints STORED and its number for each once it is stored; a QUERY line is
-                  answered at its place
-  nda health      stores standard input, at most 2^20 bytes, as the alarms of the database of
-                  this folder, and prints STORED and its number, or why it is refused
-  nda log text, nda log json
-                  prints the log of alarms of the database of this folder: how many events are
-                  not shown, and the last 1,000, a line for each or all as a line of JSON
+      makes a database in this folder, as in: nda new 7
+  nda collect EVERY STARTS PROGRAM [ARG..]
+      runs PROGRAM EVERY ARG.. and stores its text's beats, as in: nda collect 1 1000 ./collector
+  nda run
+      stores the beats of the text on standard input, as in: ./collector 1 | nda run
   nda query CHART AFTER BEFORE WINDOW GROUP [WORD..]
-                  answers from the database of this folder: a line for each WINDOW seconds from
-                  AFTER to before BEFORE, with the GROUP (average, min, max, sum, count or
-                  anomaly-rate) of each dimension whose id or name the WORDs accept
-  nda --help      prints this
-  nda --version   prints the version";
+      prints a line for each window, as in: nda query system.cpu 1700006400 1700092800 3600 average
+  nda health
+      stores standard input as the configuration of alarms, as in: nda health < alarms.conf
+  nda log text, nda log json
+      prints the log of alarms: how many events are not shown, and the last 1,000
+  nda convert
+      prints the points of the text on standard input, a line MOMENT CHART DIMENSION VALUE for each
+  nda --help, nda --version
+      prints this, or the version
+
+A database is the file nda.2 of the current folder. ID is below 2^64; of each tier P items, 1 to
+262144, make a segment full, and Q segments, 1 to 1024, are kept. collect starts PROGRAM again while
+it ends with 0, STARTS times at most, 1 to 1000; its beats get their moments from the clock and lie
+EVERY seconds apart, 1 to 86400. run and collect print STORED and its number for each beat once it
+is stored, and answer a QUERY line at its place. AFTER and BEFORE are seconds since 1970; a line has
+the GROUP (average, min, max, sum, count or anomaly-rate) of WINDOW seconds of each dimension whose
+id or name the WORDs accept. No word begins with -, nor does an ARG: a script can add such words.";
 
 /// The program's name and version.
 pub const VERSION: &str = "nda 0.1.0";

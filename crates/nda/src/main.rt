@@ -1,8 +1,9 @@
 //! The program `nda`: the commands of the agent over the process's own words, input and output.
 //!
-//! It makes the list of words, and hands it with standard input, standard output and the files of the
-//! current folder to `agent_main`, whose contract says the rest. The status that comes back is the exit
-//! status; where it is not 0, a line on standard error says what happened and what is to be done.
+//! It makes the list of words, and hands it with standard input, standard output, the files of the
+//! current folder, what starts programs and the clock to `agent_main`, whose contract says the rest. The
+//! status that comes back is the exit status; where it is not 0, a line on standard error says what
+//! happened and what is to be done.
 #![tactic(auto)]
 
 mod arguments;
@@ -11,28 +12,45 @@ mod forms;
 mod refusals;
 
 use agent_app::agent_main;
-use arguments::{Notice, lock_of, notice_of, read_words};
+use arguments::{Notice, lock_of, notice_of, read_words, text_kind_of};
 use ending::Ending;
 use fixed_num::WordsList;
 use forms::{FORMS, VERSION};
-use host_files::{FileHost, StandIns, StdinSource};
+use host_files::{ChildSpawner, FileHost, StandIns, StdinSource, SystemClock, TcpLink};
 use host_model::Status;
 use std::io;
 use std::process::ExitCode;
 
-/// Runs the command over standard input and output, and the files of the current folder.
+/// Runs the command over standard input and output, the files of the current folder, and the programs
+/// that it starts. One that still runs at its end is killed and waited for.
 fn run_command(rt: &HostRuntime, words: &WordsList) -> Ending {
     let alloc = rt.alloc();
     let mut source = StdinSource::new(rt.reader());
     let Ok(mut host) = FileHost::new(alloc, *rt, lock_of(words), io::writer(rt)) else {
         return Ending::of(Status::Memory);
     };
-    let status = agent_main(alloc, words, &mut source, &mut host);
+    // No command has a link to another agent, and this one connects to nobody before its first call.
+    let Ok(mut link) = TcpLink::connecting(alloc, *rt, "") else {
+        return Ending::of(Status::Memory);
+    };
+    let mut spawner = ChildSpawner::new(alloc, *rt);
+    let mut clock = SystemClock::new(*rt);
+    let status = agent_main(
+        alloc,
+        words,
+        &mut source,
+        &mut host,
+        &mut link,
+        &mut spawner,
+        &mut clock,
+    );
     Ending {
         status,
+        text: text_kind_of(words),
         input: source.error(),
         output: host.tell_error(),
         disk: host.disk_error(),
+        program: spawner.error(),
     }
 }
 
@@ -45,10 +63,8 @@ fn inform(rt: &HostRuntime, wanted: Notice) -> Ending {
     match rt.println(text) {
         Ok(()) => Ending::of(Status::Ok),
         Err(error) => Ending {
-            status: Status::TellFault,
-            input: None,
             output: Some(error),
-            disk: None,
+            ..Ending::of(Status::TellFault)
         },
     }
 }

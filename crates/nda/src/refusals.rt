@@ -22,6 +22,12 @@ pub fn reason_of(number: u32) -> &'static str {
         31 => "the chart has another update_every",
         32 => "too many charts",
         33 => "too many dimensions",
+        41 => "a line that cannot be read",
+        42 => "an alarm that has no name",
+        43 => "an alarm that has no chart: a line on",
+        44 => "a duration that is none, is missing or is out of its limits",
+        45 => "too many alarms",
+        46 => "a text of more than 1,048,576 bytes",
         _ => "as the table of refusals says",
     }
 }

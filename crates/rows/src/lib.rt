@@ -6,6 +6,8 @@ mod alarms;
 #[cfg(test)]
 mod asked;
 #[cfg(test)]
+mod collect;
+#[cfg(test)]
 mod convert;
 #[cfg(test)]
 mod faults;

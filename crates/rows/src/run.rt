@@ -2,7 +2,9 @@
 
 use agent_app::agent_main;
 use fixed_num::{Text, WordsList};
-use host_model::{CallList, MemoryHost, MemorySource, Source, Status};
+use host_model::{
+    CallList, MemoryClock, MemoryHost, MemoryLink, MemorySource, MemorySpawner, Source, Status,
+};
 use std::alloc::Global;
 use std::test::Fail;
 
@@ -50,7 +52,8 @@ fn words_list(alloc: Global, words: &[&str]) -> Result<WordsList, Fail> {
     Ok(list)
 }
 
-fn calls(alloc: Global, numbers: &[u64]) -> Result<CallList, Fail> {
+/// The list of these calls.
+pub fn calls(alloc: Global, numbers: &[u64]) -> Result<CallList, Fail> {
     Ok(CallList::from_vec(numbers.to_vec(alloc)?))
 }
 
@@ -60,12 +63,26 @@ pub fn host_of(alloc: Global, fails: &[u64]) -> Result<MemoryHost, Fail> {
 }
 
 /// What was told past the first `count` bytes.
-fn told_since(host: &MemoryHost, count: usize) -> &[u8] {
+pub fn told_since(host: &MemoryHost, count: usize) -> &[u8] {
     host.told().get(count..).unwrap_or(&[])
 }
 
+/// Runs the top call, over a link on which nothing comes and a clock that always reads 100.
+pub fn call_main(
+    alloc: Global,
+    words: &[&str],
+    source: &mut MemorySource,
+    host: &mut MemoryHost,
+    spawner: &mut MemorySpawner,
+) -> Result<Status, Fail> {
+    let words = words_list(alloc, words)?;
+    let mut link = MemoryLink::new(alloc, b"", CallList::new(alloc))?;
+    let mut clock = MemoryClock::new(alloc, &[100])?;
+    Ok(agent_main(alloc, &words, source, host, &mut link, spawner, &mut clock))
+}
+
 /// Runs the top call over a host that may have been through others, and looks at what it left. The told is that of
-/// this call alone.
+/// this call alone. No program can be started.
 pub fn run_over(
     alloc: Global,
     host: &mut MemoryHost,
@@ -74,10 +91,9 @@ pub fn run_over(
     pull_fails: &[u64],
 ) -> Result<Ending, Fail> {
     let before = host.told().len();
-    let words = words_list(alloc, words)?;
-    let pull_fails = calls(alloc, pull_fails)?;
-    let mut source = MemorySource::new(alloc, input, pull_fails)?;
-    let status = agent_main(alloc, &words, &mut source, host);
+    let mut source = MemorySource::new(alloc, input, calls(alloc, pull_fails)?)?;
+    let mut spawner = MemorySpawner::new(alloc, CallList::new(alloc));
+    let status = call_main(alloc, words, &mut source, host, &mut spawner)?;
     let mut left = vec![in alloc; 0; input.len()]?;
     let count = source.pull(&mut left).unwrap_or(0);
     Ok(Ending {

@@ -166,6 +166,35 @@ static QUESTIONS: [Row; 20] = [
     ),
 ];
 
+/// Collectors.
+static COLLECTORS: [Row; 22] = [
+    (&["collect"], Status::Usage),
+    (&["collect", "1"], Status::Usage),
+    (&["collect", "1", "1"], Status::Usage),
+    (&["collect", "1", "1", "p"], Status::NotADatabase),
+    (&["collect", "86400", "1000", "p"], Status::NotADatabase),
+    (&["collect", "86401", "1", "p"], Status::Usage),
+    (&["collect", "1", "1001", "p"], Status::Usage),
+    (&["collect", "0", "1", "p"], Status::Usage),
+    (&["collect", "1", "0", "p"], Status::Usage),
+    (&["collect", "01", "1", "p"], Status::Usage),
+    (&["collect", "+1", "1", "p"], Status::Usage),
+    (&["collect", "1 ", "1", "p"], Status::Usage),
+    (&["collect", "1", "x", "p"], Status::Usage),
+    (&["collect", "4294967297", "1", "p"], Status::Usage),
+    (&["collect", "1", "1", ""], Status::NotADatabase),
+    (&["collect", "1", "1", "p", "", "b c"], Status::NotADatabase),
+    (
+        &["collect", "1", "1", "collect", "run"],
+        Status::NotADatabase,
+    ),
+    (&["collect", "1", "1", "-p"], Status::Usage),
+    (&["collect", "1", "1", "p", "-v"], Status::Usage),
+    (&["collect", "1", "1", "p", "--"], Status::Usage),
+    (&["collect", "--", "1", "1", "p"], Status::Usage),
+    (&["Collect", "1", "1", "p"], Status::Usage),
+];
+
 /// The first of the rows that does not end as it should, or tells something.
 fn first_misread(alloc: Global, rows: &[Row]) -> Result<Option<usize>, Fail> {
     for (index, (words, status)) in rows.iter().enumerate() {
@@ -198,5 +227,11 @@ fn numbers_have_their_limits(rt: HostRuntime) -> Result<(), Fail> {
 #[test]
 fn questions_have_five_words_or_more(rt: HostRuntime) -> Result<(), Fail> {
     assert_eq!(rt; first_misread(rt.alloc(), &QUESTIONS)?, None);
+    Ok(())
+}
+
+#[test]
+fn collectors_have_two_numbers_and_a_program(rt: HostRuntime) -> Result<(), Fail> {
+    assert_eq!(rt; first_misread(rt.alloc(), &COLLECTORS)?, None);
     Ok(())
 }

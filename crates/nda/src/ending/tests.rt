@@ -60,7 +60,7 @@ fn each_status_of_a_folder_has_its_line(rt: HostRuntime) -> Result<(), Fail> {
         ),
         (
             Status::Exists,
-            "there is a database in this folder already; nothing was changed; nda run stores beats in it",
+            "there is a database in this folder already; nothing was changed; nda run and nda collect store beats in it",
         ),
         (
             Status::Damaged(4),
@@ -90,15 +90,57 @@ fn each_status_of_a_peer_or_a_collector_has_its_line(rt: HostRuntime) -> Result<
         ),
         (
             Status::SpawnFault,
-            "the collector could not be started, read or waited for; see that its program is there and may be run",
+            "the collector could not be started, read or waited for; the beats before stand; see that its program is there and may be run",
         ),
         (
             Status::Disabled,
-            "the collector failed, or asked not to be started again; what came before is stored; see what it says of itself",
+            "the collector ended with another status than 0, or wrote DISABLE; the beats before stand; see what it says on standard error, where it may also be run alone",
         ),
     ];
     for (status, line) in table {
         assert_says(&rt, &Ending::of(status), line)?;
+    }
+    Ok(())
+}
+
+#[test]
+fn a_text_that_is_refused_leaves_what_its_command_says(rt: HostRuntime) -> Result<(), Fail> {
+    let table = [
+        (
+            TextKind::Alarms,
+            Status::Refused(3, 44),
+            "line 3 is refused with 44, a duration that is none, is missing or is out of its limits; nothing of it is stored; mend it, and run again",
+        ),
+        (
+            TextKind::Alarms,
+            Status::Limit(0, 46),
+            "line 0 is refused with 46, a text of more than 1,048,576 bytes; nothing of it is stored; leave out what is too much",
+        ),
+        (
+            TextKind::Alarms,
+            Status::ReadFault,
+            "standard input cannot be read; nothing of it is stored; mend it, and run again",
+        ),
+        (
+            TextKind::Collected,
+            Status::Refused(8, 26),
+            "line 8 is refused with 26, a moment that is no multiple of the update_every of a chart with a row; the beats before it stand; it is counted with the MOMENT and FLUSH lines that were put in; mend the collector",
+        ),
+        (
+            TextKind::Collected,
+            Status::Limit(7, 32),
+            "line 7 is refused with 32, too many charts; the beats before it stand; leave out what is too much",
+        ),
+        (
+            TextKind::Collected,
+            Status::InputLimit,
+            "2^40 bytes of input were taken, and no end had come; the beats before stand; run it again",
+        ),
+    ];
+    for (text, status, line) in table {
+        let mut ending = Ending::of(status);
+        ending.text = text;
+        assert_says(&rt, &ending, line)?;
     }
     Ok(())
 }
@@ -119,6 +161,13 @@ fn a_failure_has_the_reason_of_the_system(rt: HostRuntime) -> Result<(), Fail> {
         &rt,
         &ending,
         "standard output cannot be written: No space left on device (os error 28); more may be stored than was told; mend it, and run again",
+    )?;
+    ending.status = Status::SpawnFault;
+    ending.program = Some(io::Error::from_raw_os_error(13));
+    assert_says(
+        &rt,
+        &ending,
+        "the collector could not be started, read or waited for: Permission denied (os error 13); the beats before stand; see that its program is there and may be run",
     )
 }
 
