@@ -9,7 +9,7 @@ usage: nda COMMAND
   nda collect EVERY STARTS PROGRAM [ARG..]
       runs PROGRAM EVERY ARG.. and stores its text's beats, as in: nda collect 1 1000 ./collector
   nda run
-      stores the beats of the text on standard input, as in: ./collector 1 | nda run
+      stores the beats of the text on standard input, up to its last MOMENT: nda run < text
   nda query CHART AFTER BEFORE WINDOW GROUP [WORD..]
       prints a line for each window, as in: nda query system.cpu 1700006400 1700092800 3600 average
   nda health
