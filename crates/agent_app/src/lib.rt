@@ -45,16 +45,12 @@ mod health_text;
 mod law;
 mod log;
 mod log_json;
-#[cfg(test)]
-mod log_tests;
 mod log_text;
 mod new;
 mod query;
 mod refusals;
 mod run;
 mod running;
-#[cfg(test)]
-mod tests;
 
 pub use law::any_course;
 

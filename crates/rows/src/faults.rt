@@ -1,5 +1,6 @@
-use crate::run::{ONE_POINT, Outside, POINT, run};
+use crate::run::{ONE_POINT, Outside, POINT, host_of, run, run_over};
 use host_model::Status;
+use std::alloc::Global;
 use std::test::Fail;
 
 /// A text, the calls on the outside that fail, and what is told with which status.
@@ -170,6 +171,29 @@ fn a_refusal_that_is_not_told(rt: HostRuntime) -> Result<(), Fail> {
         let end = run(rt.alloc(), &["convert"], outside)?;
         assert_eq!(rt; end.status, status);
         assert_eq!(rt; end.told.as_str(), told);
+    }
+    Ok(())
+}
+
+/// How `new`, and then a run over no byte, end where this call of the host fails.
+fn ends_at(alloc: Global, fails: u64) -> Result<(Status, Status), Fail> {
+    let mut host = host_of(alloc, &[fails])?;
+    let made = run_over(alloc, &mut host, &["new", "7"], b"", &[])?.status;
+    let ended = run_over(alloc, &mut host, &["run"], b"", &[])?.status;
+    Ok((made, ended))
+}
+
+/// Such a run asks nothing of the output: no call that fails ends it as a failure of that.
+#[test]
+fn a_run_over_no_byte_tells_nothing(rt: HostRuntime) -> Result<(), Fail> {
+    for fails in 0..40 {
+        let ends = ends_at(rt.alloc(), fails)?;
+        let is_sound = matches!(
+            ends,
+            (Status::Ok, Status::Ok | Status::DiskFault)
+                | (Status::DiskFault, Status::Ok | Status::NotADatabase)
+        );
+        assert!(rt; is_sound, "{ends:?} at {fails}");
     }
     Ok(())
 }
