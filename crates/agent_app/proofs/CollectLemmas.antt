@@ -1,14 +1,13 @@
 -- What `collect` promises: where the database was opened, and where it was not.
-use Rattle.std.proofs.Common.{◌≡◌, ◌⊎◌, inl, inr, ℕ, ◌<◌, ◌≤◌, min, Bool, true, false, List, [], ◌∷◌, length, take, Option, Some, None, IfSome, Result, Ok, Err, refl, sym, ap, subst, ◌∙◌, arith, true≢false}
+use Rattle.std.proofs.Common.{◌≡◌, ◌⊎◌, inl, inr, ℕ, ◌≤◌, Bool, true, false, List, [], ◌∷◌, length, take, Option, Some, None, Result, Ok, Err, refl, sym, ap, subst, ◌∙◌, arith, true≢false}
 use Rattle.std.proofs.lemmas.List.{length-take, take_all}
 use Rattle.host_model.specs.Cause.{Rose}
 use Rattle.host_model.specs.declared.status.Status.{Status}
 use Rattle.host_model.specs.declared.status.Status.TheVariants as status
-use Rattle.host_model.specs.Disks.{EveryDisk, reads_as}
+use Rattle.host_model.specs.Disks.{reads_as}
 use Rattle.host_model.specs.Past.{Event, IsDisk}
 use Rattle.host_model.specs.Seen.{Seen}
-use Rattle.host_model.specs.Spawner.{Children}
-use Rattle.history.specs.History.{Beat}
+use Rattle.history.specs.History.{Beat, last}
 use Rattle.history.specs.Registry.{Registry}
 use Rattle.collect_block.specs.Feed.{CountsFor, IsFeedOf}
 use Rattle.point_lines.specs.declared.refusal.Refusal.{Refusal}
@@ -30,7 +29,7 @@ use Rattle.agent_core.specs.Calls.{Opens}
 use Rattle.agent_core.specs.Kept.{StandsForHistory}
 use Rattle.agent_app.specs.declared.collect.Collector.{Collector}
 use Rattle.agent_app.specs.declared.running.Running.{Running}
-use Rattle.agent_app.specs.Collect.{ends_a_collect, first_course, halt_status, Collects, CollectsAll, HasCollectCause, IsDisabling, Outside}
+use Rattle.agent_app.specs.Collect.{ends_a_collect, halt_status, Collects, CollectsAll, HasCollectCause, HasHeard, IsDisabling, Outside}
 use Rattle.agent_app.specs.Reading.{Ending}
 use Rattle.agent_app.specs.Run.{ends_a_run, finds_none, is_whole, run_reading, HasRunCause, Stores}
 use Rattle.agent_app.specs.Running.{opening_status, DiskRose, TellRose}
@@ -41,21 +40,28 @@ use Rattle.agent_app.proofs.RunLemmas.{is-by-end, run_acts, Over}
 -- ---- the database was not opened
 
 -- no turn was taken
-no-turn : (asked : Collector) (h0 : List Beat) (children : Option Children) (readings : Option (List ℕ)) → HasTurned (Ok turn.More) (first_course asked h0) (first_course asked h0) children children readings readings
-no-turn asked h0 children readings = record {
-  earlier = first_course asked h0;
-  now = children;
-  turns = no_turn;
-  event = None;
-  taken = [];
-  added = [];
-  faults = 0;
-  faults' = 0;
-  last = refl;
-  is = refl;
-  reads = refl;
-  tells = λ later. (refl, refl, refl);
-}
+pub heard-nothing : (asked : Collector) (last : ℕ) (outside : Outside) → HasHeard asked last outside outside []
+heard-nothing asked last outside =
+    let first : Course = new_course asked.words asked.every asked.starts last in
+    record {
+      course = first;
+      answer = Ok turn.More;
+      turned = record {
+        earlier = first;
+        now = outside.children;
+        turns = no_turn;
+        event = None;
+        taken = [];
+        added = [];
+        faults = 0;
+        faults' = 0;
+        last = refl;
+        is = refl;
+        reads = refl;
+        tells = λ later. (refl, refl, refl);
+      };
+      takes = sym (take_all input_limit [] (omega arith));
+    }
 
 opening-collects : (why : AgentFault) → (ends_a_collect (opening_status why) ≡ true) ⊎ (finds_none (opening_status why) ≡ true)
 opening-collects fault.NotADatabase = inr refl
@@ -76,18 +82,15 @@ pub uncollected : (honest : Type 0) (host host' : Seen) → (honest → IsDisk h
     → CollectsAll honest asked (opening_status why) outside outside host host'
 uncollected honest host host' first why opens asked outside = record {
   collects = λ h set h0 stands. record {
-    course = first_course asked h0;
-    answer = Ok turn.More;
-    turned = no-turn asked h0 outside.children outside.readings;
     taken = [];
-    takes = sym (take_all input_limit [] (omega arith));
+    heard = heard-nothing asked (last h0) outside;
     ended = false;
     at_end = λ e. absurd (true≢false (sym e));
     stores = unopened-stores honest host host' first why opens h asked.every set h0 stands;
     cause =
         by-fault honest host host' first
         (λ (f : AgentFault). why ≡ f
-        → HasCollectCause (opening_status f) (Ok turn.More) false (run_reading asked.every set h0 false []).ending [] (Rose outside.spawn_faults outside.spawn_faults) (TellRose host host') (DiskRose host host'))
+        → HasCollectCause (opening_status f) (heard-nothing asked (last h0) outside).answer false (run_reading asked.every set h0 false []).ending [] (Rose outside.spawn_faults outside.spawn_faults) (TellRose host host') (DiskRose host host'))
         why (opens.stands h set h0 (stands (reads_as host.past) (first h))) (λ is. opens.cause.failed (ap (λ (f : AgentFault). Err f) is)) (λ is. tt) refl;
   };
   resumes = λ h set h0 here. record {
@@ -235,7 +238,7 @@ module _ {H : Type 0} (honest : Type 0) (seen : H → Seen) (host : Seen) (agent
       (taken : List ℕ) (takes : taken ≡ take input_limit course.told) where
     -- the history of the disk is the one that the agent was opened with
     turned-by : honest → (set : Settings) (h0 : List Beat) → StandsForHistory set h0 (reads_as host.past)
-        → HasTurned answer (first_course asked h0) course outside.children outside'.children outside.readings outside'.readings
+        → HasTurned answer (new_course asked.words asked.every asked.starts (last h0)) course outside.children outside'.children outside.readings outside'.readings
     turned-by h set h0 here =
         subst (λ (n : ℕ). HasTurned answer (new_course asked.words asked.every asked.starts n) course outside.children outside'.children outside.readings outside'.readings) (opens.opened h set h0 here).last_is turned
 
@@ -252,11 +255,8 @@ module _ {H : Type 0} (honest : Type 0) (seen : H → Seen) (host : Seen) (agent
       abbrev collects-from : (h : honest) (set : Settings) (h0 : List Beat) → StandsForHistory set h0 (reads_as host.past) → (start : List Event)
           → Over honest seen h asked.every set h0 start s0 ended taken left (seen host').past source_rose Told Failing → Collects s asked set h0 outside outside' start (seen host').past Told Failing
       collects-from h set h0 here start over = record {
-        course = course;
-        answer = answer;
-        turned = turned-by h set h0 here;
         taken = taken;
-        takes = takes;
+        heard = record { course = course; answer = answer; turned = turned-by h set h0 here; takes = takes };
         ended = ended;
         at_end = λ is. (finished is, (over.at_end is).0);
         stores = stores-as set h0 start over.stops.stores;

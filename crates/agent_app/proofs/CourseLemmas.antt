@@ -15,17 +15,21 @@ use Rattle.host_model.specs.Cause.{Rose}
 use Rattle.host_model.proofs.CallLemmas.{unmoved}
 use Rattle.host_model.proofs.DiskLemmas.{untold}
 use Rattle.host_model.proofs.MomentLemmas.{at_end, full_text, joined, weakened}
-use Rattle.history.specs.History.{Beat}
+use Rattle.history.specs.History.{Beat, last}
 use Rattle.entry_codec.specs.declared.entry.Settings.{Settings}
 use Rattle.line_stream.proofs.RunLemmas.{Takes-none}
 use Rattle.store_core.specs.Stands.{is_made}
 use Rattle.store_core.proofs.StandLemmas.{stands_made}
 use Rattle.agent_core.specs.Kept.{StandsForHistory, StandsForNew}
-use Rattle.agent_app.specs.Course.{asked, begun, converted, made_again, no_run, none_found, now_made, one_run, ran, AreStored, Course, Database, HoldsDatabase, HoldsRuns, MayHaveMade, OneRun, WhereWhole}
+use Rattle.agent_core.specs.Notes.{HasNotes}
+use Rattle.agent_app.specs.declared.collect.Collector.{Collector}
+use Rattle.agent_app.specs.Collect.{CollectsAll, CollectsOn, HasHeard, Outside}
+use Rattle.agent_app.specs.Course.{asked, begun, collected, converted, every_of, made_again, no_run, none_found, now_made, one_run, ran, AreStored, Course, Database, Gives, HoldsDatabase, HoldsRuns, Input, MayHaveMade, OfCollector, OfSource, OneRun, WhereWhole}
 use Rattle.agent_app.specs.New.{Makes}
 use Rattle.agent_app.specs.Query.{Asks}
-use Rattle.agent_app.specs.Run.{history_with_text, is_opened, is_whole, no_more, run_every, IsAckedUpTo, IsAsFound, Keeps, Resumes, RunsAll, RunsOn}
+use Rattle.agent_app.specs.Run.{history_with_text, is_opened, is_whole, no_more, run_every, IsAckedUpTo, IsHostAsFound, Keeps, OnceRead, RunsAll, RunsOn, Stores}
 use Rattle.agent_app.proofs.AckLemmas.{acked-nothing, acked-since, acked-weaker, text-front, IsFront}
+use Rattle.agent_app.proofs.CollectLemmas.{heard-nothing}
 use Rattle.agent_app.proofs.ExtendsLemmas.{extends-length, extends-whole}
 
 -- a history is no database that is not there
@@ -44,12 +48,59 @@ some-same s t e = cc
 none-some : (t : Status) → not_ended ≡ ended_with t → ⊥
 none-some t e = cc
 
+-- ---- a run, whatever it has its text from
+
+-- on a database of this history it took a text of its input
+pub record StoresOn (s : Status) (input : Input) (set : Settings) (h0 : List Beat) (new read : List Event) : Type 0 where
+  pub taken : List ℕ
+  pub ended : Bool
+  pub gives : Gives input taken
+  pub stores : Stores s (every_of input) set h0 ended taken read new
+
+pub record IsRunOf (honest : Type 0) (s : Status) (input : Input) (host host' : Seen) : Type 0 where
+  pub found : honest → (HasNotes true (reads_as host.past) → ⊥) → IsHostAsFound honest host host' × Gives input []
+  pub unmade : honest → is_made (reads_as host.past) ≡ false → (s ≡ status.NotADatabase) ⊎ (s ≡ status.DiskFault) ⊎ (s ≡ status.Memory)
+  pub resumes : honest → (set : Settings) (h0 : List Beat) → StandsForHistory set h0 (reads_as host.past) → OnceRead (StoresOn s input set h0 host'.past) (Gives input []) s host.past host'.past
+
+module _ (honest : Type 0) (host host' : Seen) where
+  pub of-run : (s : Status) (left left' : Option (List ℕ)) (faults faults' : ℕ) → RunsAll honest s left left' faults faults' host host' → IsRunOf honest s (OfSource left left') host host'
+  of-run s left left' faults faults' all = record {
+    found = λ h none. let found = all.untaken h none in (found.host_is, nothing found.source.0);
+    unmade = all.finds.unmade;
+    resumes = λ h set h0 here. let run = all.resumes h set h0 here in record { read = run.read; before = run.before; silent = run.silent; after = by set h0 run.read run.after };
+  }
+    where
+      nothing : left' ≡ left → Takes left [] left'
+      nothing same = subst (Takes left []) (sym same) (Takes-none left)
+
+      by : (set : Settings) (h0 : List Beat) (read : List Event)
+          → RunsOn s run_every set h0 left left' read host'.past (Rose faults faults') (Rose host.tell_faults host'.tell_faults) (Rose host.disk_faults host'.disk_faults) ⊎ (((s ≡ status.DiskFault) ⊎ (s ≡ status.Memory)) × (host'.past ≡ read) × (left' ≡ left))
+          → StoresOn s (OfSource left left') set h0 host'.past read ⊎ (((s ≡ status.DiskFault) ⊎ (s ≡ status.Memory)) × (host'.past ≡ read) × Takes left [] left')
+      by set h0 read (inl on) = inl (record { taken = on.runs.taken; ended = on.runs.ended; gives = on.runs.takes; stores = on.runs.stores })
+      by set h0 read (inr (short, is, same)) = inr (short, is, nothing same)
+
+  pub of-collect : (collector : Collector) (s : Status) (outside outside' : Outside) → CollectsAll honest collector s outside outside' host host' → IsRunOf honest s (OfCollector collector outside outside') host host'
+  of-collect collector s outside outside' all = record {
+    found = λ h none. let found = all.untaken h none in (found.1, nothing found.0);
+    unmade = all.finds.unmade;
+    resumes = λ h set h0 here. let run = all.resumes h set h0 here in record { read = run.read; before = run.before; silent = run.silent; after = by set h0 run.read run.after };
+  }
+    where
+      nothing : outside' ≡ outside → Gives (OfCollector collector outside outside') []
+      nothing same = (0, subst (λ (o : Outside). HasHeard collector 0 outside o []) (sym same) (heard-nothing collector 0 outside))
+
+      by : (set : Settings) (h0 : List Beat) (read : List Event)
+          → CollectsOn s collector set h0 outside outside' read host'.past (Rose host.tell_faults host'.tell_faults) (Rose host.disk_faults host'.disk_faults) ⊎ (((s ≡ status.DiskFault) ⊎ (s ≡ status.Memory)) × (host'.past ≡ read) × (outside' ≡ outside))
+          → StoresOn s (OfCollector collector outside outside') set h0 host'.past read ⊎ (((s ≡ status.DiskFault) ⊎ (s ≡ status.Memory)) × (host'.past ≡ read) × Gives (OfCollector collector outside outside') [])
+      by set h0 read (inl on) = inl (record { taken = on.collects.taken; ended = on.collects.ended; gives = (last h0, on.collects.heard); stores = on.collects.stores })
+      by set h0 read (inr (short, is, same)) = inr (short, is, nothing same)
+
 module _ (starts : List (Option Database)) (tried : List Settings) (runs : List OneRun) (honest : Type 0) (h : honest) (host host' : Seen)
     (held : EveryDisk (HoldsRuns starts tried runs) host.past) (first : IsDisk host.past (reads_as host.past))
-    (s : Status) (left left' : Option (List ℕ)) (faults faults' : ℕ) (all : RunsAll honest s left left' faults faults' host host') where
+    (s : Status) (input : Input) (all : IsRunOf honest s input host host') where
   -- the run, which has ended so, or has not, when this may have been told
   abbrev run_as : Option Status → List ℕ → OneRun
-  run_as ended text = record { status = ended; left = left; left_after = left'; text = drop (length (told host.past)) text }
+  run_as ended text = record { status = ended; input = input; text = drop (length (told host.past)) text }
 
   -- a disk that holds what the runs stored
   abbrev Stored : Option Status → (File → List ℕ) → List ℕ → Type 0
@@ -59,7 +110,7 @@ module _ (starts : List (Option Database)) (tried : List Settings) (runs : List 
   read-as = held (reads_as host.past) first
 
   -- where the run has stored and told nothing
-  unchanged : (ended : Option Status) (taken : List ℕ) → Takes left taken left' → ((t : Status) → ended ≡ Some t → is_opened t ≡ false) → ((t : Status) → ended ≡ Some t → is_whole t ≡ true → taken ≡ [])
+  unchanged : (ended : Option Status) (taken : List ℕ) → Gives input taken → ((t : Status) → ended ≡ Some t → is_opened t ≡ false) → ((t : Status) → ended ≡ Some t → is_whole t ≡ true → taken ≡ [])
       → (disk : File → List ℕ) (text : List ℕ) → IsDisk host.past disk → IsFront text (told host.past) → Stored ended disk text
   unchanged ended taken takes unopened whole disk text images front = by here.stored here.are here.holds
     where
@@ -77,21 +128,18 @@ module _ (starts : List (Option Database)) (tried : List Settings) (runs : List 
             start = here.start;
             among = here.among;
             stored = Some (record { settings = base.settings; history = before });
-            are = one_run runs (run_as ended text) base before taken are takes no_more (extends-whole run_every before taken)
-                (λ t is all. sym (ap (history_with_text run_every before) (whole t is all))) acked;
+            are = one_run runs (run_as ended text) base before taken are takes no_more (extends-whole (every_of input) before taken)
+                (λ t is all. sym (ap (history_with_text (every_of input) before) (whole t is all))) acked;
             holds = holds;
           }
 
   -- ---- there was no database
   module _ (unmade : is_made (reads_as host.past) ≡ false) where
-    found : IsAsFound honest left left' faults faults' host host'
-    found = all.untaken h (λ notes. true≢false (sym (stands_made notes.settings notes.beats (reads_as host.past) notes.stands) ∙ unmade))
-
-    takes-none : Takes left [] left'
-    takes-none = subst (Takes left []) (sym found.source.0) (Takes-none left)
+    found : IsHostAsFound honest host host' × Gives input []
+    found = all.found h (λ notes. true≢false (sym (stands_made notes.settings notes.beats (reads_as host.past) notes.stands) ∙ unmade))
 
     not-opened : (t : Status) → Some s ≡ Some t → is_opened t ≡ false
-    not-opened t is = by (all.finds.unmade h unmade)
+    not-opened t is = by (all.unmade h unmade)
       where
         same : s ≡ t
         same = some-same s t is
@@ -103,13 +151,13 @@ module _ (starts : List (Option Database)) (tried : List Settings) (runs : List 
 
     moments-none : Throughout (EveryStop (Stored None)) host.past host'.past
     moments-none =
-        untold (found.host_is.output h)
-        (λ disk text images by_then. unchanged None [] takes-none (λ t is. absurd (none-some t is)) (λ t is. absurd (none-some t is)) disk text images (text-front host.past text by_then)) (found.host_is.any_moment h)
+        untold (found.0.output h)
+        (λ disk text images by_then. unchanged None [] found.1 (λ t is. absurd (none-some t is)) (λ t is. absurd (none-some t is)) disk text images (text-front host.past text by_then)) (found.0.any_moment h)
 
     end-none : EveryDisk (λ disk. Stored (Some s) disk (told host'.past)) host'.past
     end-none disk images =
-        unchanged (Some s) [] takes-none not-opened (λ t is whole. refl) disk (told host'.past) (at_end (found.host_is.any_moment h) disk images)
-        (record { more = []; whole = append-nil (told host'.past) ∙ found.host_is.output h })
+        unchanged (Some s) [] found.1 not-opened (λ t is whole. refl) disk (told host'.past) (at_end (found.0.any_moment h) disk images)
+        (record { more = []; whole = append-nil (told host'.past) ∙ found.0.output h })
 
   -- ---- there was one of this history
   module _ (start : Option Database) (among : Contains starts start) (base : Database) (are : AreStored tried start runs (Some base))
@@ -120,28 +168,19 @@ module _ (starts : List (Option Database)) (tried : List Settings) (runs : List 
     abbrev earlier : List Beat
     earlier = base.history
 
-    abbrev SourceRose : Type 0
-    SourceRose = Rose faults faults'
-
-    abbrev TellRose : Type 0
-    TellRose = Rose host.tell_faults host'.tell_faults
-
-    abbrev DiskRose : Type 0
-    DiskRose = Rose host.disk_faults host'.disk_faults
-
     abbrev OnIt : List Event → Type 0
-    OnIt read = RunsOn s run_every set earlier left left' read host'.past SourceRose TellRose DiskRose
+    OnIt = StoresOn s input set earlier host'.past
 
-    run : Resumes s run_every set earlier left left' host.past host'.past SourceRose TellRose DiskRose
+    run : OnceRead OnIt (Gives input []) s host.past host'.past
     run = all.resumes h set earlier stands
 
-    opening : (taken : List ℕ) → Takes left taken left' → Throughout (EveryStop (Stored None)) host.past run.read
+    opening : (taken : List ℕ) → Gives input taken → Throughout (EveryStop (Stored None)) host.past run.read
     opening taken takes =
         untold run.silent
         (λ disk text images by_then. unchanged None taken takes (λ t is. absurd (none-some t is)) (λ t is. absurd (none-some t is)) disk text images (text-front host.past text by_then)) run.before
 
-    once-read : (ended : Option Status) (taken : List ℕ) → Takes left taken left' → (disk : File → List ℕ) (text : List ℕ) → (keeps : Keeps set earlier (history_with_text run_every earlier taken) (told run.read) disk text)
-        → WhereWhole (run_as ended text) (keeps.stored ≡ history_with_text run_every earlier taken) → Stored ended disk text
+    once-read : (ended : Option Status) (taken : List ℕ) → Gives input taken → (disk : File → List ℕ) (text : List ℕ) → (keeps : Keeps set earlier (history_with_text (every_of input) earlier taken) (told run.read) disk text)
+        → WhereWhole (run_as ended text) (keeps.stored ≡ history_with_text (every_of input) earlier taken) → Stored ended disk text
     once-read ended taken takes disk text keeps whole =
         let acked = subst (λ (first : List ℕ). IsAckedUpTo (length keeps.stored) (drop (length first) text)) run.silent keeps.acked in
         record {
@@ -155,38 +194,38 @@ module _ (starts : List (Option Database)) (tried : List Settings) (runs : List 
     moments-some : Throughout (EveryStop (Stored None)) host.past host'.past
     moments-some = by run.after
       where
-        by : OnIt run.read ⊎ (((s ≡ status.DiskFault) ⊎ (s ≡ status.Memory)) × (host'.past ≡ run.read) × (left' ≡ left)) → Throughout (EveryStop (Stored None)) host.past host'.past
+        by : OnIt run.read ⊎ (((s ≡ status.DiskFault) ⊎ (s ≡ status.Memory)) × (host'.past ≡ run.read) × Gives input []) → Throughout (EveryStop (Stored None)) host.past host'.past
         by (inl on) =
-            joined (opening on.runs.taken on.runs.takes)
-            (weakened (λ now keeps disk text images told_by. once-read None on.runs.taken on.runs.takes disk text (keeps disk text images told_by) (λ t is. absurd (none-some t is))) on.runs.stores.stops)
-        by (inr (short, is, same)) = subst (Throughout (EveryStop (Stored None)) host.past) (sym is) (opening [] (subst (Takes left []) (sym same) (Takes-none left)))
+            joined (opening on.taken on.gives)
+            (weakened (λ now keeps disk text images told_by. once-read None on.taken on.gives disk text (keeps disk text images told_by) (λ t is. absurd (none-some t is))) on.stores.stops)
+        by (inr (short, is, none)) = subst (Throughout (EveryStop (Stored None)) host.past) (sym is) (opening [] none)
 
     -- the run on it ended
     end-on : OnIt run.read → EveryDisk (λ disk. Stored (Some s) disk (told host'.past)) host'.past
     end-on on disk images = by (is_whole s) refl
       where
-        keeps : Keeps set earlier (history_with_text run_every earlier on.runs.taken) (told run.read) disk (told host'.past)
-        keeps = at_end on.runs.stores.stops disk (told host'.past) images (full_text host'.past (told host'.past) refl)
+        keeps : Keeps set earlier (history_with_text (every_of input) earlier on.taken) (told run.read) disk (told host'.past)
+        keeps = at_end on.stores.stops disk (told host'.past) images (full_text host'.past (told host'.past) refl)
 
         by : (whole : Bool) → is_whole s ≡ whole → Stored (Some s) disk (told host'.past)
         by false part =
-            once-read (Some s) on.runs.taken on.runs.takes disk (told host'.past) keeps
+            once-read (Some s) on.taken on.gives disk (told host'.past) keeps
             (λ t is all. absurd (true≢false (sym all ∙ sym (ap is_whole (some-same s t is)) ∙ part)))
         by true all =
-            once-read (Some s) on.runs.taken on.runs.takes disk (told host'.past)
+            once-read (Some s) on.taken on.gives disk (told host'.past)
             (record {
-              stored = history_with_text run_every earlier on.runs.taken;
-              since = extends-whole run_every earlier on.runs.taken;
+              stored = history_with_text (every_of input) earlier on.taken;
+              since = extends-whole (every_of input) earlier on.taken;
               within = no_more;
-              stands = on.runs.stores.ends all disk images;
-              acked = acked-weaker (length keeps.stored) (length (history_with_text run_every earlier on.runs.taken)) (drop (length (told run.read)) (told host'.past))
-                  (extends-length keeps.stored (history_with_text run_every earlier on.runs.taken) keeps.within) keeps.acked;
+              stands = on.stores.ends all disk images;
+              acked = acked-weaker (length keeps.stored) (length (history_with_text (every_of input) earlier on.taken)) (drop (length (told run.read)) (told host'.past))
+                  (extends-length keeps.stored (history_with_text (every_of input) earlier on.taken) keeps.within) keeps.acked;
             }) (λ t is whole. refl)
 
     -- it ended before the database was read
-    end-unread : ((s ≡ status.DiskFault) ⊎ (s ≡ status.Memory)) → host'.past ≡ run.read → left' ≡ left → EveryDisk (λ disk. Stored (Some s) disk (told host'.past)) host'.past
-    end-unread short is same disk images =
-        unchanged (Some s) [] (subst (Takes left []) (sym same) (Takes-none left)) (λ t there. sym (ap is_opened (some-same s t there)) ∙ unopened short) (λ t there whole. refl) disk (told host'.past)
+    end-unread : ((s ≡ status.DiskFault) ⊎ (s ≡ status.Memory)) → host'.past ≡ run.read → Gives input [] → EveryDisk (λ disk. Stored (Some s) disk (told host'.past)) host'.past
+    end-unread short is none disk images =
+        unchanged (Some s) [] none (λ t there. sym (ap is_opened (some-same s t there)) ∙ unopened short) (λ t there whole. refl) disk (told host'.past)
         (at_end run.before disk (subst (λ (p : List Event). IsDisk p disk) is images))
         (record { more = []; whole = append-nil (told host'.past) ∙ ap told is ∙ run.silent })
       where
@@ -197,9 +236,9 @@ module _ (starts : List (Option Database)) (tried : List Settings) (runs : List 
     end-some : EveryDisk (λ disk. Stored (Some s) disk (told host'.past)) host'.past
     end-some = by run.after
       where
-        by : OnIt run.read ⊎ (((s ≡ status.DiskFault) ⊎ (s ≡ status.Memory)) × (host'.past ≡ run.read) × (left' ≡ left)) → EveryDisk (λ disk. Stored (Some s) disk (told host'.past)) host'.past
+        by : OnIt run.read ⊎ (((s ≡ status.DiskFault) ⊎ (s ≡ status.Memory)) × (host'.past ≡ run.read) × Gives input []) → EveryDisk (λ disk. Stored (Some s) disk (told host'.past)) host'.past
         by (inl on) = end-on on
-        by (inr (short, is, same)) = end-unread short is same
+        by (inr (short, is, none)) = end-unread short is none
 
   pub course-moments : Throughout (EveryStop (Stored None)) host.past host'.past
   course-moments = by read-as.stored read-as.are read-as.holds
@@ -277,7 +316,11 @@ module _ {H : Type 0} (honest : Type 0) (seen : H → Seen) (starts : List (Opti
       let here = holds disk images in
       record { start = here.start; among = here.among; stored = here.start; are = no_run; holds = here.holds }
   course-kept runs host (ran before begin end s left left' sf sf' course run) =
-      course-end starts tried before honest h (seen begin) (seen host) (course-kept before begin course) (first begin h) s left left' sf sf' run
+      course-end starts tried before honest h (seen begin) (seen host) (course-kept before begin course) (first begin h) s (OfSource left left')
+      (of-run honest (seen begin) (seen host) s left left' sf sf' run)
+  course-kept runs host (collected before begin end collector s outside outside' course run) =
+      course-end starts tried before honest h (seen begin) (seen host) (course-kept before begin course) (first begin h) s (OfCollector collector outside outside')
+      (of-collect honest (seen begin) (seen host) collector s outside outside' run)
   course-kept runs host (converted before begin end course leaves) = λ disk images.
       course-kept runs begin course disk (λ file. subst (λ (changes : List Change). IsImage changes (disk file)) (at_end (leaves.any_moment h) file) (images file))
   course-kept runs host (asked before begin end answer s course asks) =

@@ -46,9 +46,14 @@ pub record Outside : Type 0 where
 abbrev pub outside_of : Option Children → ℕ → Option (List ℕ) → Outside
 outside_of children faults readings = record { children = children; spawn_faults = faults; readings = readings }
 
--- the course of a collector behind this history, before its first turn
-abbrev pub first_course : Collector → List Beat → Course
-first_course asked h0 = new_course asked.words asked.every asked.starts (last h0)
+-- A collector whose database's last moment is this took turns, and the front of what they put was read as a text: the
+-- lines of its children, and the MOMENT lines that close their beats.
+pub record HasHeard (asked : Collector) (last : ℕ) (outside outside' : Outside) (taken : List ℕ) : Type 0 where
+  -- what it heard of its children and put, and the answer of its last turn
+  pub course : Course
+  pub answer : Result Turn RunFault
+  pub turned : HasTurned answer (new_course asked.words asked.every asked.starts last) course outside.children outside'.children outside.readings outside'.readings
+  pub takes : taken ≡ take input_limit course.told
 
 -- ---- why a collector's run ends
 
@@ -78,20 +83,15 @@ halt_status (Failed fault.Memory) = Memory
 
 -- ---- what `collect` promises
 
--- On a database of these settings and this history a collector took turns, and the front of what they put was read as
--- the text of a run: the lines of its children, and the MOMENT lines that close their beats.
+-- a collector's run on a database of these settings and this history
 pub record Collects (status : Status) (asked : Collector) (set : Settings) (h0 : List Beat) (outside outside' : Outside) (old new : List Event) (tell_rose disk_rose : Type 0) : Type 0 where
-  -- what it heard of its children and put, and the answer of its last turn
-  pub course : Course
-  pub answer : Result Turn RunFault
-  pub turned : HasTurned answer (first_course asked h0) course outside.children outside'.children outside.readings outside'.readings
   pub taken : List ℕ
-  pub takes : taken ≡ take input_limit course.told
+  pub heard : HasHeard asked (last h0) outside outside' taken
   -- whether the end of the text ended it: all starts were made, and each child ended with 0
   pub ended : Bool
-  pub at_end : ended ≡ true → (answer ≡ Ok turn.Ended) × (length taken < input_limit)
+  pub at_end : ended ≡ true → (heard.answer ≡ Ok turn.Ended) × (length taken < input_limit)
   pub stores : Stores status asked.every set h0 ended taken old new
-  pub cause : HasCollectCause status answer ended (run_reading asked.every set h0 ended taken).ending taken (Rose outside.spawn_faults outside'.spawn_faults) tell_rose disk_rose
+  pub cause : HasCollectCause status heard.answer ended (run_reading asked.every set h0 ended taken).ending taken (Rose outside.spawn_faults outside'.spawn_faults) tell_rose disk_rose
 
 -- from some moment on all that a stop might leave of the disk was a database of this history, and the run was one on it
 pub record CollectsOn (status : Status) (asked : Collector) (set : Settings) (h0 : List Beat) (outside outside' : Outside) (read new : List Event) (tell_rose disk_rose : Type 0) : Type 0 where

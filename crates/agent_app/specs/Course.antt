@@ -11,17 +11,33 @@ use Rattle.history.specs.History.{Beat}
 use Rattle.entry_codec.specs.declared.entry.Settings.{Settings}
 use Rattle.store_core.specs.Stands.{is_made}
 use Rattle.agent_core.specs.Kept.{StandsForHistory}
+use Rattle.agent_app.specs.declared.collect.Collector.{Collector}
+use Rattle.agent_app.specs.Collect.{CollectsAll, HasHeard, Outside}
 use Rattle.agent_app.specs.Convert.{LeavesDisk}
 use Rattle.agent_app.specs.New.{Makes}
 use Rattle.agent_app.specs.Query.{Asks}
 use Rattle.agent_app.specs.Run.{history_with_text, is_opened, is_whole, run_every, Extends, IsAckedUpTo, RunsAll}
 
--- one run: how it ended, where no stop came before; what its source had left, before it and after it, where the source
--- tells that; and what the run told
+-- where a run has its text from: a source, with what it had left before and after the run, where it tells that; or a
+-- collector, with what it met before and after
+pub data Input : Type 0 where
+  OfSource : (left left_after : Option (List ℕ)) → Input
+  OfCollector : (collector : Collector) (outside outside_after : Outside) → Input
+
+-- the update_every of the charts whose line leaves it open
+abbrev pub every_of : Input → ℕ
+every_of (OfSource left left_after) = run_every
+every_of (OfCollector collector outside outside_after) = collector.every
+
+-- these bytes were taken of it, by a collector above some last moment
+abbrev pub Gives : Input → List ℕ → Type 0
+Gives (OfSource left left_after) taken = Takes left taken left_after
+Gives (OfCollector collector outside outside_after) taken = (last : ℕ) × HasHeard collector last outside outside_after taken
+
+-- one run: how it ended, where no stop came before; where it has its text from; and what it told
 pub record OneRun : Type 0 where
   pub status : Option Status
-  pub left : Option (List ℕ)
-  pub left_after : Option (List ℕ)
+  pub input : Input
   pub text : List ℕ
 
 -- what was told since
@@ -49,14 +65,17 @@ abbrev pub MayHaveMade : Status → Seen → Type 0
 MayHaveMade status host = (status ≡ Done) ⊎ ((status ≡ DiskFault) × (is_made (reads_as host.past) ≡ false))
 
 -- Of a host whose disk held one of these databases whatever a stop left, or none where that is among them, and on which runs
--- were made one after the other, each with whatever input and whatever end: these are the runs, the latest first. Between
+-- were made one after the other, each of `run` or of `collect`, with whatever input and whatever end: these are the runs, the latest first. Between
 -- them texts may be converted, questions asked and `new` tried, whatever each ended with. `tried` has the settings of each
 -- `new` that may have made a database.
 pub data Course {H : Type 0} (honest : Type 0) (seen : H → Seen) (starts : List (Option Database)) (tried : List Settings) : List OneRun → H → Type 0 where
   begun : (host : H) → EveryDisk (HoldsOneOf starts) (seen host).past → Course honest seen starts tried [] host
   ran : (runs : List OneRun) (host host' : H) (status : Status) (left left' : Option (List ℕ)) (source_faults source_faults' : ℕ)
       → Course honest seen starts tried runs host → RunsAll honest status left left' source_faults source_faults' (seen host) (seen host')
-      → Course honest seen starts tried (record { status = Some status; left = left; left_after = left'; text = told_since (seen host) (seen host') } ∷ runs) host'
+      → Course honest seen starts tried (record { status = Some status; input = OfSource left left'; text = told_since (seen host) (seen host') } ∷ runs) host'
+  collected : (runs : List OneRun) (host host' : H) (collector : Collector) (status : Status) (outside outside' : Outside)
+      → Course honest seen starts tried runs host → CollectsAll honest collector status outside outside' (seen host) (seen host')
+      → Course honest seen starts tried (record { status = Some status; input = OfCollector collector outside outside'; text = told_since (seen host) (seen host') } ∷ runs) host'
   converted : (runs : List OneRun) (host host' : H) → Course honest seen starts tried runs host → LeavesDisk honest (seen host) (seen host') → Course honest seen starts tried runs host'
   asked : (runs : List OneRun) (host host' : H) (answer : Settings → List Beat → List ℕ) (status : Status) → Course honest seen starts tried runs host → Asks honest answer status (seen host) (seen host') → Course honest seen starts tried runs host'
   made_again : (runs : List OneRun) (host host' : H) (set : Settings) (status : Status) → Course honest seen starts tried runs host → (MayHaveMade status (seen host) → Contains tried set)
@@ -77,8 +96,8 @@ pub data AreStored (tried : List Settings) (start : Option Database) : List OneR
   no_run : AreStored tried start [] start
   none_found : (runs : List OneRun) (run : OneRun) → AreStored tried start runs None → MayHaveFoundNone run → run.text ≡ [] → AreStored tried start (run ∷ runs) None
   now_made : (runs : List OneRun) (set : Settings) → Contains tried set → AreStored tried start runs None → AreStored tried start runs (Some (record { settings = set; history = [] }))
-  one_run : (runs : List OneRun) (run : OneRun) (base : Database) (stored : List Beat) (taken : List ℕ) → AreStored tried start runs (Some base) → Takes run.left taken run.left_after
-      → Extends base.history stored → Extends stored (history_with_text run_every base.history taken) → WhereWhole run (stored ≡ history_with_text run_every base.history taken)
+  one_run : (runs : List OneRun) (run : OneRun) (base : Database) (stored : List Beat) (taken : List ℕ) → AreStored tried start runs (Some base) → Gives run.input taken
+      → Extends base.history stored → Extends stored (history_with_text (every_of run.input) base.history taken) → WhereWhole run (stored ≡ history_with_text (every_of run.input) base.history taken)
       → IsAckedUpTo (length stored) run.text → AreStored tried start (run ∷ runs) (Some (record { settings = base.settings; history = stored }))
 
 -- the disk holds what these runs stored from one of these starts

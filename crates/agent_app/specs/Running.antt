@@ -3,7 +3,6 @@ use Rattle.std.specs.Prelude.{◌≡◌, ℕ, ◌+◌, Bool, true, false, List, 
 use Rattle.host_model.specs.declared.status.Status.{Status}
 use Rattle.host_model.specs.declared.status.Status.TheVariants.{Ok as Done, Refused, Limit, TellFault, DiskFault, NotADatabase, Damaged, Memory}
 use Rattle.host_model.specs.Cause.{HasCause, Rose}
-use Rattle.host_model.specs.Disks.{EveryDisk}
 use Rattle.host_model.specs.Moments.{Throughout, EveryStop}
 use Rattle.host_model.specs.Past.{Event, Told, told, MayAdd}
 use Rattle.history.specs.declared.line.Line.{Line}
@@ -19,11 +18,10 @@ use Rattle.agent_core.specs.declared.fault.AgentFault.TheVariants as agent_fault
 use Rattle.agent_core.specs.Agent.{IsAgentOf, AgentIsReady}
 use Rattle.host_model.specs.Seen.{Seen}
 use Rattle.agent_core.specs.Fed.{IsFed}
-use Rattle.agent_core.specs.Kept.{StandsForHistory}
 use Rattle.agent_app.specs.declared.running.Running.{Running}
 use Rattle.agent_app.specs.Convert.{refusal_line, refusal_status, LeavesFiles}
 use Rattle.agent_app.specs.Reading.{HasRead}
-use Rattle.agent_app.specs.Run.{history_with_text, is_whole, run_output, run_reading, run_rules, FailsAtBeat, HasRunCause, IsAckedUpTo, Keeps, LeavesOthers, Stores}
+use Rattle.agent_app.specs.Run.{history_with_text, run_reading, run_rules, FailsAtBeat, HasRunCause, IsAckedUpTo, Keeps, LeavesOthers, Stores}
 
 -- ---- a run under way
 

@@ -6,19 +6,21 @@ ghost use Rattle.host_model.specs.Moments.{EveryStop, Throughout};
 ghost use Rattle.host_model.specs.Past.{told};
 ghost use Rattle.history.specs.History.{Beat};
 ghost use Rattle.entry_codec.specs.declared.entry.Settings.{Settings as ASettings};
-ghost use Rattle.agent_app.specs.Course.{Course, Database, HoldsRuns, MayHaveMade, OneRun};
+ghost use Rattle.agent_app.specs.declared.collect.Collector.{Collector as ACollector};
+ghost use Rattle.agent_app.specs.Collect.{CollectsAll, Outside};
+ghost use Rattle.agent_app.specs.Course.{Course, Database, HoldsRuns, MayHaveMade, OfCollector, OfSource, OneRun};
 ghost use Rattle.agent_app.specs.New.{Makes};
 ghost use Rattle.agent_app.specs.Query.{Asks};
 ghost use Rattle.agent_app.specs.Run.{RunsAll};
 
 use host_model::Host;
 
-/// The law of runs on one honest host, one after the other, whatever input each has and whatever it ends
-/// with. At the start a stop leaves one of the given databases, or none where that is among them. Between the
-/// runs `new` may be tried, also after a `new` that failed. Whatever a stop leaves at the end, or at any moment
-/// of one run, one question or one `new` more, is what these runs stored from one of those. Each goes on from
-/// what the one before left, by a front of the beats of the bytes that it took, and by all of them unless it
-/// ended with 4, 5 or 15. Every beat that it acknowledged is there. It does nothing.
+/// The law of runs on one honest host, of `run` and of `collect`, one after the other, whatever input each has
+/// and whatever it ends with. At the start a stop leaves one of the given databases, or none where that is among
+/// them. Between the runs `new` may be tried, also after a `new` that failed. Whatever a stop leaves at the end,
+/// or at any moment of one run, one question or one `new` more, is what these runs stored from one of those. Each
+/// goes on from what the one before left, by a front of the beats of the bytes that it took, and by all of them
+/// unless it ended with 4, 5 or 15. Every beat that it acknowledged is there. It does nothing.
 pub fn any_course<H: Host>()
     ensures kept { H.honest → (starts : List (Option Database)) (tried : List ASettings)
         (runs : List OneRun) (host : H)
@@ -32,13 +34,24 @@ pub fn any_course<H: Host>()
         (H.seen host')
         → Throughout (EveryStop (λ disk text. HoldsRuns starts tried (record {
           status = None;
-          left = left;
-          left_after = left';
+          input = OfSource left left';
+          text = drop (length (told (H.seen host).past)) text;
+        } ∷ runs) disk))
+        (H.seen host).past (H.seen host').past }
+    ensures collects_moments { H.honest → (starts : List (Option Database)) (tried : List ASettings)
+        (runs : List OneRun) (host host' : H)
+        (asked : ACollector) (status : AStatus) (outside outside' : Outside)
+        → Course H.honest H.seen starts tried runs host
+        → CollectsAll H.honest asked status outside outside' (H.seen host) (H.seen host')
+        → Throughout (EveryStop (λ disk text. HoldsRuns starts tried (record {
+          status = None;
+          input = OfCollector asked outside outside';
           text = drop (length (told (H.seen host).past)) text;
         } ∷ runs) disk))
         (H.seen host).past (H.seen host').past }
     ensures asks_moments { H.honest → (starts : List (Option Database)) (tried : List ASettings)
-        (runs : List OneRun) (host host' : H) (answer : ASettings → List Beat → List ℕ) (status : AStatus)
+        (runs : List OneRun) (host host' : H) (answer : ASettings → List Beat → List ℕ)
+        (status : AStatus)
         → Course H.honest H.seen starts tried runs host
         → Asks H.honest answer status (H.seen host) (H.seen host')
         → Throughout (EveryDisk (HoldsRuns starts tried runs))

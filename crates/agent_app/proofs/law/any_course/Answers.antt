@@ -1,4 +1,5 @@
-use Rattle.agent_app.proofs.CourseLemmas.{course-asked, course-kept, course-moments, course-new}
+use Rattle.agent_app.specs.Course.{OfCollector, OfSource}
+use Rattle.agent_app.proofs.CourseLemmas.{course-asked, course-kept, course-moments, course-new, of-collect, of-run}
 use Rattle.agent_app.proofs.law.any_course.Goals as goal
 
 pub returns-clause-kept : goal.returns-clause-kept
@@ -9,7 +10,15 @@ pub returns-clause-moments : goal.returns-clause-moments
 returns-clause-moments g c h starts tried runs host host' status left left' sf sf' course run =
     course-moments starts tried runs g.H.Host.honest h (g.H.Host.seen host) (g.H.Host.seen host')
     (course-kept g.H.Host.honest g.H.Host.seen starts tried (λ at h file. g.met.H.Host.reads_an_image at file h) h runs host course)
-    (λ file. g.met.H.Host.reads_an_image host file h) status left left' sf sf' run
+    (λ file. g.met.H.Host.reads_an_image host file h) status (OfSource left left')
+    (of-run g.H.Host.honest (g.H.Host.seen host) (g.H.Host.seen host') status left left' sf sf' run)
+
+pub returns-clause-collects_moments : goal.returns-clause-collects_moments
+returns-clause-collects_moments g c h starts tried runs host host' asked status outside outside' course run =
+    course-moments starts tried runs g.H.Host.honest h (g.H.Host.seen host) (g.H.Host.seen host')
+    (course-kept g.H.Host.honest g.H.Host.seen starts tried (λ at h file. g.met.H.Host.reads_an_image at file h) h runs host course)
+    (λ file. g.met.H.Host.reads_an_image host file h) status (OfCollector asked outside outside')
+    (of-collect g.H.Host.honest (g.H.Host.seen host) (g.H.Host.seen host') asked status outside outside' run)
 
 pub returns-clause-asks_moments : goal.returns-clause-asks_moments
 returns-clause-asks_moments g c h starts tried runs host host' answer status course asks =
