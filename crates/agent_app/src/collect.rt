@@ -61,7 +61,8 @@ fn halt_status(halt: Halt) -> Status
 /// database has. Tells each once it is stored.
 ///
 /// `SpawnFault` where the program cannot be started or read, and `Disabled` where it ends with another status
-/// than 0 or prints DISABLE. All beats that it wrote before are stored then. `Ok` where all starts were made.
+/// than 0 or prints DISABLE. The beats that were closed before are stored then. `Ok` where all starts were made and
+/// each ended with 0.
 pub fn collect<P: Spawner, C: Clock, H: Host>(
     alloc: Global,
     asked: Collector,

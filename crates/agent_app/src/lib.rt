@@ -80,7 +80,8 @@ pub use law::any_course;
 /// arguments, and the charts whose line leaves the update_every open have it. The program is started again each time
 /// that it ends with 0, until STARTS starts were made, 1 to 1,000. The MOMENT lines that close its beats are put
 /// between its lines, each above the database's last moment. `SpawnFault` where the program cannot be started or
-/// read, and `Disabled` where it ends with another status or prints DISABLE. All beats before are stored then.
+/// read, and `Disabled` where it ends with another status or prints DISABLE. The beats that were closed before are
+/// stored then.
 ///
 /// `health` stores the input, at most 2^20 bytes, as the configuration of alarms, and tells `STORED`, its number
 /// in the history and a line for each alarm that goes. A text that is refused tells `REFUSED`, the number of
