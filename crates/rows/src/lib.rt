@@ -2,13 +2,21 @@
 #![tactic(auto)]
 
 #[cfg(test)]
+mod alarm_stops;
+#[cfg(test)]
 mod alarms;
 #[cfg(test)]
 mod asked;
 #[cfg(test)]
+mod configurations;
+#[cfg(test)]
 mod convert;
 #[cfg(test)]
+mod delays;
+#[cfg(test)]
 mod faults;
+#[cfg(test)]
+mod health_examples;
 #[cfg(test)]
 mod logs;
 #[cfg(test)]
