@@ -22,6 +22,8 @@ mod logs;
 #[cfg(test)]
 mod random;
 #[cfg(test)]
+mod replaced_stops;
+#[cfg(test)]
 mod run;
 #[cfg(test)]
 mod stored;
