@@ -29,11 +29,12 @@ use Rattle.agent_core.specs.Calls.{Opens}
 use Rattle.agent_core.specs.Kept.{StandsForHistory}
 use Rattle.agent_app.specs.declared.collect.Collector.{Collector}
 use Rattle.agent_app.specs.declared.running.Running.{Running}
-use Rattle.agent_app.specs.Collect.{ends_a_collect, halt_status, Collects, CollectsAll, HasCollectCause, HasHeard, IsDisabling, Outside}
+use Rattle.agent_app.specs.Collect.{ends_a_collect, halt_status, Collects, CollectsAll, HasCollectCause, HasHeard, HasMadeAll, IsDisabling, Outside}
 use Rattle.agent_app.specs.Reading.{Ending}
 use Rattle.agent_app.specs.Run.{ends_a_run, finds_none, is_whole, run_reading, HasRunCause, Stores}
 use Rattle.agent_app.specs.Running.{opening_status, DiskRose, TellRose}
 use Rattle.agent_app.proofs.CauseLemmas.{cause-as, stayed}
+use Rattle.agent_app.proofs.MadeLemmas.{made-all}
 use Rattle.agent_app.proofs.OpeningLemmas.{by-fault, disk-failed, failed_by, fault-is, found-finds, ran-since, unopened-finds, unopened-host, unopened-stores, untold-yet, Since}
 use Rattle.agent_app.proofs.RunLemmas.{is-by-end, run_acts, Over}
 
@@ -243,7 +244,7 @@ module _ {H : Type 0} (honest : Type 0) (seen : H → Seen) (host : Seen) (agent
         subst (λ (n : ℕ). HasTurned answer (new_course asked.words asked.every asked.starts n) course outside.children outside'.children outside.readings outside'.readings) (opens.opened h set h0 here).last_is turned
 
     module _ (s0 s : Status) (ended : Bool) (left : Option (List ℕ)) (source_rose : Type 0) (since : Since honest seen s0 asked.every host middle ended taken left source_rose host')
-        (ends_as : EndsAs s0 s answer ended taken source_rose SpawnRose Told Failing) (finished : ended ≡ true → answer ≡ Ok turn.Ended) where
+        (ends_as : EndsAs s0 s answer ended taken source_rose SpawnRose Told Failing) (finished : ended ≡ true → (answer ≡ Ok turn.Ended) × HasMadeAll asked.starts course.children) where
       abbrev stores-as : (set : Settings) (h0 : List Beat) (start : List Event) → Stores s0 asked.every set h0 ended taken start (seen host').past → Stores s asked.every set h0 ended taken start (seen host').past
       stores-as set h0 start stores = record {
         stops = stores.stops;
@@ -258,7 +259,7 @@ module _ {H : Type 0} (honest : Type 0) (seen : H → Seen) (host : Seen) (agent
         taken = taken;
         heard = record { course = course; answer = answer; turned = turned-by h set h0 here; takes = takes };
         ended = ended;
-        at_end = λ is. (finished is, (over.at_end is).0);
+        at_end = λ is. let made = finished is in (made.0, made.1, (over.at_end is).0);
         stores = stores-as set h0 start over.stops.stores;
         cause = ends_as.cause (run_reading asked.every set h0 ended taken).ending over.stops.cause;
       }
@@ -337,7 +338,7 @@ module _ {H : Type 0} (honest : Type 0) (seen : H → Seen) (host : Seen) (agent
         let end = halted.1 in
         let how : Ended (run_acts honest seen) s running middle taken running' host' (Some []) ⊥ = at_end end.taker' end.host' end.below refl end.took end.ends in
         let since = since-by s (Some []) ⊥ how in
-        came s s true (Some []) ⊥ since (same-as answer taken SpawnRose Told Failing s true since.ends.ends (λ is. (since.ends.read is).0) (λ _. refl)) (λ _. halted.0)
+        came s s true (Some []) ⊥ since (same-as answer taken SpawnRose Told Failing s true since.ends.ends (λ is. (since.ends.read is).0) (λ _. refl)) (λ _. (halted.0, made-all asked agent.last outside outside' taken (record { course = course; answer = answer; turned = turned; takes = takes }) halted.0 end.below end.took.short))
     came-halted (Within s) halted rose = came-within s (halted some_left)
     came-halted (Failed why) halted rose =
         let whole = halted.1 in

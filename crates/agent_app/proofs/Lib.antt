@@ -14,6 +14,7 @@ mod FormLemmas
 mod HasReadLemmas
 mod HealthLemmas
 mod LeavesLemmas
+mod MadeLemmas
 mod NewLemmas
 mod NumberLemmas
 mod OpeningLemmas

@@ -79,7 +79,7 @@ module _ (every : ℕ) (set : Settings) (h0 : List Beat) where
       let all : take limit (text ++ more) ≡ text = take-append-le limit text more (omega arith) ∙ take_all limit text (omega arith) in
       λ i. ending_status (run_reading every set h0 (sym open_end i) (sym all i)).ending
 
-rest-fits : (text : List ℕ) → HasNoLongLine text → fits (rest text) ≡ true
+pub rest-fits : (text : List ℕ) → HasNoLongLine text → fits (rest text) ≡ true
 rest-fits text short =
     last-passes (lines text) (rest text) (recursion_from_All (λ (part : List ℕ). fits part ≡ true) (lines text ++ rest text ∷ []) (subst (AllPass fits) (parts_whole text) short))
   where

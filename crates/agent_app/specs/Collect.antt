@@ -1,5 +1,5 @@
 -- A program that is run as a collector, and whose beats are stored behind those of a history.
-use Rattle.std.specs.Prelude.{◌≡◌, ◌⊎◌, ◌<◌, ◌≤◌, ℕ, Bool, true, false, List, length, drop, take, Option, Result, Ok, Err}
+use Rattle.std.specs.Prelude.{◌≡◌, ◌⊎◌, ◌<◌, ◌≤◌, ℕ, Bool, true, false, List, length, drop, take, All, pos, Option, Some, Result, Ok, Err}
 use Rattle.host_model.specs.declared.status.Status.{Status}
 use Rattle.host_model.specs.declared.status.Status.TheVariants.{Ok as Done, Refused, Limit, TellFault, DiskFault, InputLimit, SpawnFault, Disabled, Memory}
 use Rattle.host_model.specs.Cause.{HasCause, Rose}
@@ -20,6 +20,7 @@ use Rattle.plugin_runner.specs.declared.fault.Turn.TheVariants as turn
 use Rattle.plugin_runner.specs.Collected.{HasTurned}
 use Rattle.plugin_runner.specs.Course.{Course, new_course}
 use Rattle.plugin_runner.specs.Runner.{IsFault}
+use Rattle.plugin_runner.specs.Text.{Heard}
 use Rattle.agent_core.specs.Kept.{StandsForHistory}
 use Rattle.agent_core.specs.Notes.{HasNotes}
 use Rattle.agent_app.specs.declared.collect.Collector.{Collector}
@@ -55,6 +56,11 @@ pub record HasHeard (asked : Collector) (last : ℕ) (outside outside' : Outside
   pub turned : HasTurned answer (new_course asked.words asked.every asked.starts last) course outside.children outside'.children outside.readings outside'.readings
   pub takes : taken ≡ take input_limit course.told
 
+-- all starts were made, and each child ended with 0
+pub record HasMadeAll (starts : ℕ) (children : List Heard) : Type 0 where
+  pub count : length children ≡ starts
+  pub each : All (λ (child : Heard). child.status ≡ Some (pos 0)) children
+
 -- ---- why a collector's run ends
 
 -- the answer of a turn at which the program is disabled
@@ -87,9 +93,9 @@ halt_status (Failed fault.Memory) = Memory
 pub record Collects (status : Status) (asked : Collector) (set : Settings) (h0 : List Beat) (outside outside' : Outside) (old new : List Event) (tell_rose disk_rose : Type 0) : Type 0 where
   pub taken : List ℕ
   pub heard : HasHeard asked (last h0) outside outside' taken
-  -- whether the end of the text ended it: all starts were made, and each child ended with 0
+  -- whether the end of the text ended it, behind the end of the last child
   pub ended : Bool
-  pub at_end : ended ≡ true → (heard.answer ≡ Ok turn.Ended) × (length taken < input_limit)
+  pub at_end : ended ≡ true → (heard.answer ≡ Ok turn.Ended) × HasMadeAll asked.starts heard.course.children × (length taken < input_limit)
   pub stores : Stores status asked.every set h0 ended taken old new
   pub cause : HasCollectCause status heard.answer ended (run_reading asked.every set h0 ended taken).ending taken (Rose outside.spawn_faults outside'.spawn_faults) tell_rose disk_rose
 
