@@ -224,6 +224,7 @@ impl Alarms {
     pub fn to_bytes(&self) -> Result<ByteList, AlarmFault>
         ensures bytes { IfOk result (λ bytes. bytes ≡ alarms_bytes (kept (held self.now))) }
         ensures written { OnOk result (HasSpelling (kept (held self.now))) }
+        ensures short { OnOk result (IsShort (kept (held self.now))) }
         ensures refused { IfErr result (λ fault. (fault ≡ Memory)
             ⊎ ((fault ≡ AlarmFault.TooLong) × (¬ (IsShort (kept (held self.now)))))) }
     {

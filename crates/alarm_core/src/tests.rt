@@ -17,6 +17,8 @@ mod alarms;
 mod delays;
 mod lookups;
 mod pairs;
+mod plain;
+mod random;
 mod rows;
 
 fn chart_def(alloc: Global, id: &str, name: &str, context: &str) -> Result<ChartDef, AllocError>

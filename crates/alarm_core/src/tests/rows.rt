@@ -310,3 +310,77 @@ fn names_are_worth_what_they_say(rt: HostRuntime) -> Result<(), Fail> {
     }
     Ok(())
 }
+
+/// The seconds of `every`, the moment before, a moment, and whether the alarm is stepped then.
+type Span = (u32, u32, u32, bool);
+
+static SPANS: [Span; 11] = [
+    (1, 4, 5, true),
+    (1, 5, 5, false),
+    (7, 0, 6, false),
+    (7, 6, 7, true),
+    (7, 7, 13, false),
+    (60, 0, 59, false),
+    (60, 59, 61, true),
+    (60, 60, 119, false),
+    (60, 60, 4_294_967_295, true),
+    (86_400, 0, 86_399, false),
+    (86_400, 86_399, 86_400, true),
+];
+
+/// Whether an alarm of the chart is stepped.
+fn is_stepped(
+    alloc: Global,
+    registry: &Registry,
+    latest: &Latest,
+    alarm: &Entity,
+    moment: u32,
+) -> Result<bool, Fail> {
+    let Some(chart) = registry.chart_of("test.one") else {
+        return Err(Fail::from("no chart"));
+    };
+    let series = chart_series(alloc, registry, chart)?;
+    let scene = Scene {
+        alarm,
+        registry,
+        latest,
+        chart,
+        series: series.as_slice(),
+        moment,
+        status: Status::Clear,
+    };
+    Ok(scene.is_stepped())
+}
+
+/// Compares whether an alarm is stepped.
+fn compare_span(
+    rt: &impl Abort,
+    alloc: Global,
+    registry: &Registry,
+    span: &Span,
+) -> Result<(), Fail> {
+    let (every, before, moment, want) = *span;
+    let text = format!(in alloc; "alarm: e\non: test.one\nevery: {every}s\n")?;
+    let config = Config::read(alloc, text.as_bytes())?;
+    let alarm = first_alarm(&config)?;
+    let mut latest = latest(alloc, moment, &[])?;
+    latest.before = before;
+    assert_eq!(rt;
+        is_stepped(alloc, registry, &latest, alarm, moment)?,
+        want,
+        "{every} {moment}"
+    );
+    Ok(())
+}
+
+// The first beat in each span of so many seconds, which are counted from 0.
+#[test]
+fn each_span_has_one_step(rt: HostRuntime) -> Result<(), Fail> {
+    let alloc = rt.alloc();
+    let mut registry = Registry::new(alloc);
+    define(alloc, &mut registry, "test.one", &[("a", "used", false)])?;
+    for span in &SPANS {
+        compare_span(&rt, alloc, &registry, span)?;
+    }
+    Ok(())
+}
