@@ -1,5 +1,5 @@
 -- Charts and alarms whose ids and names are short enough for bytes.
-use Rattle.std.specs.Prelude.{ℕ, ◌<◌, ◌^◌, List, length}
+use Rattle.std.specs.Prelude.{◌<◌, ◌^◌, List, length}
 use Rattle.std.specs.List.{AllByRecursion}
 use Rattle.health_config.specs.Entity.{Alarm}
 use Rattle.history.specs.Registry.{Registry}

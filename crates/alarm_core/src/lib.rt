@@ -10,6 +10,7 @@
 //! - `Beats.antt`: what a beat makes of the states
 //! - `Telling.antt`: how events get their numbers and come into the log
 //! - `Kept.antt`: what is kept as bytes, and read again
+//! - `Whole.antt`, `Short.antt`: which alarms are read again from their bytes, and which have bytes
 //!
 //! Of one alarm of a chart:
 //!
@@ -80,7 +81,7 @@ pub use alarm_events::{Delay, Event, EventList, Log, Status, write_event};
 pub use alarms::Alarms;
 pub use fault::AlarmFault;
 pub use latest::{Latest, SeriesPointList, SeriesValueList};
-pub use law::any_alarms;
+pub use law::{any_alarms, short_alarms};
 pub use pairs::{MOST_PAIRS, Pair, PairList, wanted_pairs};
 pub use scene::Scene;
 pub use series::chart_series;

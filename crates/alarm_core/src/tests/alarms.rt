@@ -54,7 +54,7 @@ pub fn bytes_of(alarms: &Alarms) -> Result<ByteList, Fail> {
     Ok(alarms.to_bytes()?)
 }
 
-fn alarms_of(alloc: Global, bytes: &[u8], registry: &Registry) -> Result<Alarms, Fail> {
+pub fn alarms_of(alloc: Global, bytes: &[u8], registry: &Registry) -> Result<Alarms, Fail> {
     Ok(Alarms::from_bytes(alloc, bytes, registry)?)
 }
 
@@ -127,7 +127,7 @@ fn take(
 }
 
 /// The alarms of the bytes of others: they have the same bytes and show the same log.
-pub fn again(
+fn again(
     rt: &impl Abort,
     alloc: Global,
     alarms: &Alarms,
