@@ -181,6 +181,7 @@ impl Alarms {
             → P.tells points.new told }
         ensures cause { HasCause (P.faults points.old) (P.faults points.new)
             (IsErrOf result AlarmFault.Disk) }
+        ensures faults { IfErr result (λ fault. (fault ≡ AlarmFault.Disk) ⊎ (fault ≡ Memory)) }
     {
         self.pair(registry, moment)?;
         let series = all_series(self.alloc, registry)?;

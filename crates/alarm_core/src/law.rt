@@ -15,8 +15,8 @@ ghost use Rattle.alarm_core.specs.Whole.{IsTextOf, IsWhole};
 /// The laws of alarms. The log after any calls shows all events that they told, in their order, and these
 /// are numbered from 1; at 2^64 - 1 numbers stand still. Two alarms say the same exactly where they have
 /// the same fields, with expressions as trees. Behind a configuration that was read, and behind each beat
-/// after it, alarms are whole with the charts of that call; and whole alarms are read again from their bytes.
-/// The call does nothing.
+/// after it, alarms are whole with the charts of that call; and whole alarms that have bytes are read again
+/// from them. The call does nothing.
 pub fn any_alarms()
     ensures log { (calls : List Call)
         → (held_after nothing calls).log ≡ shown (events_of nothing calls) }

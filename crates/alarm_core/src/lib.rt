@@ -23,8 +23,8 @@
 //! The definitions speak of the points of each series as a function, and of a floor. The code reads them
 //! from an object that is `Points`, which may also be silent.
 //!
-//! A `Scene` is what an alarm of a chart sees when it is computed. Its `is_stepped` says whether the alarm
-//! is stepped on this beat, and its `step` gives the next value, status and `Delay`.
+//! A `Scene` is what an alarm of a chart sees when it is computed. Its `step` gives the next value, status and
+//! `Delay`.
 //!
 //! A lookup reads tier 0 alone: the points of its window, of one dimension after the other.
 //! A window has at most 2,592,000 seconds and a chart 1,024 dimensions. So no number
@@ -71,8 +71,6 @@ mod sight;
 mod state;
 mod step;
 mod telling;
-#[cfg(test)]
-mod tests;
 mod variable;
 mod verdict;
 mod window;
@@ -83,6 +81,3 @@ pub use fault::AlarmFault;
 pub use latest::{Latest, SeriesPointList, SeriesValueList};
 pub use law::{any_alarms, short_alarms};
 pub use pairs::{MOST_PAIRS, Pair, PairList, wanted_pairs};
-pub use scene::Scene;
-pub use series::chart_series;
-pub use step::Step;

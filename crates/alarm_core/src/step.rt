@@ -74,13 +74,6 @@ pub fn is_in_new_span(every: u32, before: u32, moment: u32) -> bool
 }
 
 impl<'a> Scene<'a> {
-    /// Whether the alarm is stepped on this beat: on the first in each span of its `every` seconds.
-    pub fn is_stepped(&self) -> bool
-        ensures { result ≡ spec.is_stepped (seen self.now) }
-    {
-        is_in_new_span(self.alarm.every, self.latest.before, self.moment)
-    }
-
     /// The step of the alarm, which had this value and this delay, and looked up what was found, if it
     /// looks something up.
     pub(crate) fn step_by(&self, found: Option<Value>, value: Value, delay: Option<Delay>) -> Step

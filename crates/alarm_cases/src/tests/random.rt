@@ -11,9 +11,7 @@ use super::plain::{
     state_line, take_beat,
 };
 use super::*;
-use alarm_events::{EventList, KeptState, read_alarms, value_text};
-use query_engine::{ListPoints, PointList, SeriesPointsList};
-use std::process::Abort;
+use alarm_events::{KeptState, read_alarms, value_text};
 
 /// Numbers that follow from a seed.
 #[derive(Drop)]

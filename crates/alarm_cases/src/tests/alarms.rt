@@ -1,12 +1,7 @@
 use super::*;
-use alarm_events::{EventList, Log, write_event};
-use fixed_num::ByteList;
-use query_engine::{ListPoints, PointList, SeriesPointsList};
-use std::process::Abort;
-use std::test::Fail;
 
 /// Points of one series from moment 1 on, each of the word of 10.
-fn source(alloc: Global, moments: u32) -> Result<ListPoints, Fail> {
+pub fn source(alloc: Global, moments: u32) -> Result<ListPoints, Fail> {
     let mut points = PointList::new(alloc);
     if moments > 0 {
         points.push(Point {
@@ -60,6 +55,29 @@ pub fn alarms_of(alloc: Global, bytes: &[u8], registry: &Registry) -> Result<Ala
 
 pub fn log_of(alarms: &Alarms) -> Result<Log, Fail> {
     Ok(alarms.log()?)
+}
+
+/// The events of alarms that are configured, and stepped once.
+pub fn first_events(
+    alloc: Global,
+    registry: &Registry,
+    latest: &Latest,
+    points: &mut ListPoints,
+    moment: u32,
+    text: &str,
+) -> Result<EventList, Fail> {
+    let mut alarms = new_alarms(alloc)?;
+    let config = read_config(alloc, text)?;
+    configured(&mut alarms, config, registry, 0)?;
+    stepped(&mut alarms, moment, registry, latest, points)
+}
+
+/// What the first event says an alarm is worth.
+pub fn first_value(events: &[Event]) -> Result<Value, Fail> {
+    match events.first() {
+        Some(event) => Ok(event.value),
+        None => Err(Fail::from("no event")),
+    }
 }
 
 /// The lines of events.
@@ -228,9 +246,9 @@ fn delays_grow_over_beats(rt: HostRuntime) -> Result<(), Fail> {
     run(&rt, rt.alloc(), DELAYED, DELAYED_BEATS.as_slice())
 }
 
-const QUOTIENT: &str = "alarm: q\non: test.one\ncalc: $a / $b\nevery: 1s\n";
+const QUOTIENT: &str = "alarm: q\non: test.one\ncalc: $a / $b\nevery: 1s\nwarn: $this > 1\n";
 
-static QUOTIENT_BEATS: [Beat; 2] = [
+static QUOTIENT_BEATS: [Beat; 4] = [
     (
         0,
         1,
@@ -238,6 +256,13 @@ static QUOTIENT_BEATS: [Beat; 2] = [
         "EVENT 1 1 test.one q UNINITIALIZED UNDEFINED inf -\n",
     ),
     (1, 2, [Some(5), Some(0)], ""),
+    (2, 3, [None, Some(0)], ""),
+    (
+        3,
+        4,
+        [Some(6), Some(2)],
+        "EVENT 2 4 test.one q UNDEFINED WARNING 3 4\n",
+    ),
 ];
 
 #[test]
@@ -248,7 +273,7 @@ fn an_infinite_value_is_told_once(rt: HostRuntime) -> Result<(), Fail> {
 const DISK: &str =
     "template: disk_space_usage\non: test\nclass: Utilization\ncalc: $used * 100 / ($avail + $used)\nunits: %\nevery: 1m\nwarn: $this > (($status >= $WARNING ) ? (80) : (90))\ncrit: ($this > (($status == $CRITICAL) ? (90) : (98))) && $avail < 5\ndelay: up 1m down 15m multiplier 1.5 max 1h\nto: sysadmin\n";
 
-static DISK_BEATS: [Beat; 3] = [
+static DISK_BEATS: [Beat; 4] = [
     (
         0,
         60,
@@ -262,11 +287,51 @@ static DISK_BEATS: [Beat; 3] = [
         [Some(99), Some(1)],
         "EVENT 2 120 test.one disk_space_usage WARNING CRITICAL 99 210\n",
     ),
+    (
+        120,
+        180,
+        [Some(85), Some(15)],
+        "EVENT 3 180 test.one disk_space_usage CRITICAL WARNING 85 2205\n",
+    ),
 ];
 
 #[test]
 fn a_template_is_stepped_once_a_minute(rt: HostRuntime) -> Result<(), Fail> {
     run(&rt, rt.alloc(), DISK, DISK_BEATS.as_slice())
+}
+
+const CONDITIONS: &str = "alarm: n\non: test.one\ncalc: $a\nevery: 1s\nwarn: $b\ncrit: $b - 5\n";
+
+static CONDITIONS_BEATS: [Beat; 4] = [
+    (
+        0,
+        1,
+        [Some(1), None],
+        "EVENT 1 1 test.one n UNINITIALIZED UNDEFINED 1 -\n",
+    ),
+    (
+        1,
+        2,
+        [Some(1), Some(0)],
+        "EVENT 2 2 test.one n UNDEFINED CRITICAL 1 2\n",
+    ),
+    (
+        2,
+        3,
+        [Some(1), Some(5)],
+        "EVENT 3 3 test.one n CRITICAL WARNING 1 3\n",
+    ),
+    (
+        3,
+        4,
+        [None, Some(5)],
+        "EVENT 4 4 test.one n WARNING UNDEFINED nan -\n",
+    ),
+];
+
+#[test]
+fn conditions_that_are_nan_are_undefined(rt: HostRuntime) -> Result<(), Fail> {
+    run(&rt, rt.alloc(), CONDITIONS, CONDITIONS_BEATS.as_slice())
 }
 
 /// A call, and what is told.
