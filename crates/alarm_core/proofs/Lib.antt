@@ -12,3 +12,4 @@ pub mod TableLemmas
 mod WantedLemmas
 mod ChartLemmas
 mod AgainLemmas
+mod ShortLemmas

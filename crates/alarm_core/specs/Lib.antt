@@ -19,3 +19,4 @@ pub mod Rows
 pub mod Faults
 pub mod Kept
 pub mod Whole
+pub mod Short

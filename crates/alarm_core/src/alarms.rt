@@ -181,6 +181,7 @@ impl Alarms {
             → P.tells points.new told }
         ensures cause { HasCause (P.faults points.old) (P.faults points.new)
             (IsErrOf result AlarmFault.Disk) }
+        ensures faults { IfErr result (λ fault. (fault ≡ AlarmFault.Disk) ⊎ (fault ≡ Memory)) }
     {
         self.pair(registry, moment)?;
         let series = all_series(self.alloc, registry)?;
@@ -224,6 +225,7 @@ impl Alarms {
     pub fn to_bytes(&self) -> Result<ByteList, AlarmFault>
         ensures bytes { IfOk result (λ bytes. bytes ≡ alarms_bytes (kept (held self.now))) }
         ensures written { OnOk result (HasSpelling (kept (held self.now))) }
+        ensures short { OnOk result (IsShort (kept (held self.now))) }
         ensures refused { IfErr result (λ fault. (fault ≡ Memory)
             ⊎ ((fault ≡ AlarmFault.TooLong) × (¬ (IsShort (kept (held self.now)))))) }
     {

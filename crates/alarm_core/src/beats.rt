@@ -150,7 +150,8 @@ fn take_step(
 ) -> Result<(), AllocError>
     ensures states { OnOk result (after.new ≡ after.old ++ spec.after_step state step ∷ []) }
     ensures told { OnOk result (told.new ≡ tell_some told.old
-        (spec.change_of (map alarm_of alarms.now) sight.now.registry.now sight.now.moment state step)) }
+        (spec.change_of (map alarm_of alarms.now) sight.now.registry.now sight.now.moment state
+        step)) }
 {
     let event = change_of(alloc, alarms, sight.registry, sight.moment, state, step)?;
     telling::tell_some(told, event)?;

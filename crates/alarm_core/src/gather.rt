@@ -93,7 +93,8 @@ fn gather_one<P: Points>(
         → (P.tiers points.old).floor 0 ≤ window.start
         → let number = number lookup.now window.start window.stop (told series) in
         HasRoomFor lookup.now.percentage number before
-        → Adds (is_taken registry.now lookup.now series) lookup.now.percentage number before after) }
+        → Adds (is_taken registry.now lookup.now series) lookup.now.percentage number before
+        after) }
     ensures tiers { P.tiers points.new ≡ P.tiers points.old }
     ensures held { P.held points.new ≡ P.held points.old }
     ensures told { (told : ℕ → List APoint) → P.tells points.old told → P.tells points.new told }

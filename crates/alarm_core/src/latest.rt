@@ -16,6 +16,8 @@ pub struct Latest {
     pub before: u32,
     /// The last moment with a row or a copied point of each chart, and 0 where it has none.
     pub charts: MomentList,
+    /// The last point of each series, in the order of the series.
     pub points: SeriesPointList,
+    /// The last collected value of each series, in the order of the series.
     pub raws: SeriesValueList,
 }

@@ -1,21 +1,22 @@
 //! What is said of all alarms and of all calls.
-ghost use Rattle.std.specs.Prelude.{◌≡◌, ◌↔◌, ℕ, List, length, map, IsTrue, Some};
+ghost use Rattle.std.specs.Prelude.{◌≡◌, ◌↔◌, ◌<◌, ◌^◌, ℕ, List, length, map, IsTrue, Some};
 ghost use Rattle.alarm_events.specs.Log.{shown, counted};
 ghost use Rattle.std.specs.List.{range_with_len};
 ghost use Rattle.health_config.specs.Entity.{Alarm};
 ghost use Rattle.history.specs.Registry.{Registry};
-ghost use Rattle.alarm_events.specs.Alarms.{alarms_bytes, HasSpelling};
+ghost use Rattle.alarm_events.specs.Alarms.{alarms_bytes, HasSpelling, IsShort};
 ghost use Rattle.alarm_core.specs.Beats.{Beat};
 ghost use Rattle.alarm_core.specs.Course.{Call, Held, nothing, held_after, events_of, configured, stepped_by};
 ghost use Rattle.alarm_core.specs.Kept.{kept, restored};
 ghost use Rattle.alarm_core.specs.Same.{is_same};
+ghost use Rattle.alarm_core.specs.Short.{HaveShortIds, HaveShortNames};
 ghost use Rattle.alarm_core.specs.Whole.{IsTextOf, IsWhole};
 
 /// The laws of alarms. The log after any calls shows all events that they told, in their order, and these
 /// are numbered from 1; at 2^64 - 1 numbers stand still. Two alarms say the same exactly where they have
 /// the same fields, with expressions as trees. Behind a configuration that was read, and behind each beat
-/// after it, alarms are whole with the charts of that call; and whole alarms are read again from their bytes.
-/// The call does nothing.
+/// after it, alarms are whole with the charts of that call; and whole alarms that have bytes are read again
+/// from them. The call does nothing.
 pub fn any_alarms()
     ensures log { (calls : List Call)
         → (held_after nothing calls).log ≡ shown (events_of nothing calls) }
@@ -29,4 +30,18 @@ pub fn any_alarms()
         → IsWhole (stepped_by held beat).held beat.registry }
     ensures again { (held : Held) (registry : Registry) → IsWhole held registry
         → HasSpelling (kept held) → restored (alarms_bytes (kept held)) registry ≡ Some held }
+{}
+
+/// The law of alarms that have bytes. Without a call what is kept of alarms is short enough for bytes. So it
+/// is behind a configuration and behind a beat, where it was before, the names of the alarms and the ids of
+/// the charts have at most 65,535 bytes, and the text of the configuration fewer than 2^32. Then `to_bytes`
+/// does not answer `TooLong`. The call does nothing.
+pub fn short_alarms()
+    ensures nothing { IsShort (kept nothing) }
+    ensures configured { (held : Held) (text : List ℕ) (alarms : List Alarm) (registry : Registry)
+        (moment : ℕ) → IsShort (kept held) → length text < 2 ^ 32 → HaveShortNames alarms
+        → HaveShortIds registry → IsShort (kept (configured held text alarms registry moment).held) }
+    ensures stepped { (held : Held) (beat : Beat) → IsShort (kept held)
+        → HaveShortNames held.alarms → HaveShortIds beat.registry
+        → IsShort (kept (stepped_by held beat).held) }
 {}

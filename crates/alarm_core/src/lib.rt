@@ -1,38 +1,50 @@
 //! The alarms of charts: which are computed, how they stand, and what is told of them.
 //!
 //! `Alarms` has the alarms of a configuration, the state of each for each chart that it is computed for,
-//! and the log of events. `configure` takes another configuration, and `step` a beat; what they leave and
+//! and the log of events. `configure` takes another configuration, and `step` a beat. What they leave and
 //! what they tell is proved to be what the definitions in `specs/` say of the alarms before:
-//! `Course.antt` one call and all calls, `Pairs.antt` which alarms are computed for which charts,
-//! `Same.antt` and `Pairing.antt` which states stay, go and come, `Beats.antt` what a beat makes of the
-//! states, `Telling.antt` how events get their numbers and come into the log. Of one alarm of a chart,
-//! `Lookups.antt` says what a lookup finds in a list of points for each series, `Variables.antt` what each
-//! name of an expression is worth, `Verdict.antt` the value and the status, `Delay.antt` how long telling a
-//! change waits, `Step.antt` the step.
+//!
+//! - `Course.antt`: one call, and all calls
+//! - `Pairs.antt`: which alarms are computed for which charts
+//! - `Same.antt`, `Pairing.antt`: which states stay, go and come
+//! - `Beats.antt`: what a beat makes of the states
+//! - `Telling.antt`: how events get their numbers and come into the log
+//! - `Kept.antt`: what is kept as bytes, and read again
+//! - `Whole.antt`, `Short.antt`: which alarms are read again from their bytes, and which have bytes
+//!
+//! Of one alarm of a chart:
+//!
+//! - `Lookups.antt`: what a lookup finds in a list of points for each series
+//! - `Variables.antt`: what each name of an expression is worth
+//! - `Verdict.antt`: the value and the status
+//! - `Delay.antt`: how long telling a change waits
+//! - `Step.antt`: the step
 //!
 //! The definitions speak of the points of each series as a function, and of a floor. The code reads them
 //! from an object that is `Points`, which may also be silent.
 //!
-//! A `Scene` is what an alarm of a chart sees when it is computed. Its `is_stepped` says whether the alarm
-//! is stepped on this beat, and its `step` gives the next value, status and `Delay`.
+//! A `Scene` is what an alarm of a chart sees when it is computed. Its `step` gives the next value, status and
+//! `Delay`.
 //!
-//! A lookup reads tier 0 alone, for each dimension that counts the points of its window, those of one
-//! dimension at a time. A window has at most 2,592,000 seconds and a chart 1,024 dimensions. So no number
+//! A lookup reads tier 0 alone: the points of its window, of one dimension after the other.
+//! A window has at most 2,592,000 seconds and a chart 1,024 dimensions. So no number
 //! of a dimension is past 2,592,000 times the greatest value of a word, 1.68 * 10^21; all sums of them are
 //! exact in 128 bits, and so is a percentage, whose parts are at most 10^22.
 //!
 //! What it costs: a configuration compares each alarm with each chart, and where an alarm is on a chart, its
-//! name with those of the others. So does a beat whose charts have another id, name or context than at the
-//! call before, or are more; any other beat compares these three texts of each chart with what they were.
-//! Then states go and come where they are not those of the pairs: that compares each state with each pair,
-//! by the number of the chart, and where that is the same by all that the alarms say. A beat goes once
-//! through all states, and once through all dimensions, for those of each chart. A state that is due costs
-//! what its expressions cost, and reads the points of its lookup. A name that is no dimension's id goes
-//! through the names of the chart's dimensions.
+//! name with those of the others. So does a beat behind which there are more charts, or one has another
+//! name or context. Any other beat compares the three texts of each chart with what they were.
+//!
+//! Where the states are not those of the pairs, states go and come. That compares each state with each
+//! pair, by the number of the chart, and of one chart by all that the alarms say.
+//!
+//! A beat goes once through all states, and once through all dimensions. A state that is due costs what its
+//! expressions cost, and reads the points of its lookup. A name that is no dimension's id goes through the
+//! names of the chart's dimensions.
 //!
 //! It stands on `health_config` for alarms, on `health_expr` for expressions and values, on
-//! `alarm_events` for events, their log and what is kept, on `chart_registry` for charts and dimensions, and on the
-//! points of `query_engine` and the words of `storage_number`.
+//! `alarm_events` for events, their log and what is kept, and on `chart_registry` for charts and dimensions.
+//! Points are those of `query_engine`, and their words those of `storage_number`.
 #![tactic(auto)]
 
 mod alarms;
@@ -59,8 +71,6 @@ mod sight;
 mod state;
 mod step;
 mod telling;
-#[cfg(test)]
-mod tests;
 mod variable;
 mod verdict;
 mod window;
@@ -69,8 +79,5 @@ pub use alarm_events::{Delay, Event, EventList, Log, Status, write_event};
 pub use alarms::Alarms;
 pub use fault::AlarmFault;
 pub use latest::{Latest, SeriesPointList, SeriesValueList};
-pub use law::any_alarms;
+pub use law::{any_alarms, short_alarms};
 pub use pairs::{MOST_PAIRS, Pair, PairList, wanted_pairs};
-pub use scene::Scene;
-pub use series::chart_series;
-pub use step::Step;

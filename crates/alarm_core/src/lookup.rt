@@ -1,6 +1,7 @@
 //! What an alarm looks up.
-ghost use Rattle.std.specs.Prelude.{◌≡◌, ◌≢◌, ℕ, ◌<◌, ◌^◌, List, pos, unsigned_abs, ◌||◌, IfOk, IfSome, IsErrOf};
+ghost use Rattle.std.specs.Prelude.{◌≡◌, ◌≢◌, ℕ, ◌<◌, ◌^◌, List, None, pos, unsigned_abs, ◌||◌, IfOk, IfSome, IsOk, IsErrOf};
 ghost use Rattle.fixed_num.specs.Rounding.{nearest};
+ghost use Rattle.health_expr.specs.Value.{IsWithin};
 ghost use Rattle.host_model.specs.Cause.{HasCause};
 ghost use Rattle.tier_rollup.specs.declared.point.Point.{Point as APoint};
 ghost use Rattle.alarm_core.specs.Lookups as spec;
@@ -61,7 +62,8 @@ fn quotient(num: Units, den: Units) -> Units
 
 /// A number as the share of another, in percent.
 fn percent(number: Units, all: Units) -> Value
-    ensures { result ≡ spec.percent number all }
+    ensures percent { result ≡ spec.percent number all }
+    ensures within { IsWithin result }
 {
     if all == 0 {
         Value::Fixed(0)
@@ -84,9 +86,10 @@ fn sum_of(numbers: Option<Record>) -> Units
 
 /// The result, by the numbers of the dimensions that are taken and of all.
 fn result_of(lookup: &Lookup, taken: Option<Record>, all: Option<Record>) -> Value
-    ensures { IfSome taken (λ numbers. unsigned_abs
+    ensures result { IfSome taken (λ numbers. unsigned_abs
         (spec.together lookup.now.min2max numbers) < 2 ^ 127)
         → result ≡ spec.result lookup.now taken all }
+    ensures within { IsWithin result }
 {
     let Some(numbers) = taken else {
         return Value::Nan;
@@ -109,6 +112,7 @@ fn look_up<P: Points>(
     ensures found { IfOk result (λ found. (told : ℕ → List APoint) → P.tells points.old told
         → found ≡ spec.looked_up scene.now.registry.now scene.now.chart lookup.now scene.now.moment
         ((P.tiers points.old).floor 0) told) }
+    ensures within { IfOk result IsWithin }
     ensures tiers { P.tiers points.new ≡ P.tiers points.old }
     ensures held { P.held points.new ≡ P.held points.old }
     ensures told { (told : ℕ → List APoint) → P.tells points.old told → P.tells points.new told }
@@ -132,6 +136,8 @@ impl<'a> Scene<'a> {
     ) -> Result<Option<Value>, PointFault>
         ensures found { IfOk result (λ found. (told : ℕ → List APoint) → P.tells points.old told
             → found ≡ found_by (seen self.now) ((P.tiers points.old).floor 0) told) }
+        ensures within { IfOk result (λ found. IfSome found IsWithin) }
+        ensures unread { self.now.alarm.now.lookup ≡ None → IsOk result }
         ensures tiers { P.tiers points.new ≡ P.tiers points.old }
         ensures held { P.held points.new ≡ P.held points.old }
         ensures told { (told : ℕ → List APoint) → P.tells points.old told

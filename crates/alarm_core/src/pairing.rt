@@ -50,7 +50,8 @@ fn is_same_at(alloc: Global, turn: &Turn, holder: Holder, f: usize) -> Result<bo
 /// Whether a state is that of a pair.
 fn is_of(alloc: Global, turn: &Turn, pair: Pair, state: State) -> Result<bool, AllocError>
     ensures { IfOk result
-        (λ is. is ≡ spec.is_of (map alarm_of turn.now.before.now) (map alarm_of turn.now.after.now) pair state) }
+        (λ is. is ≡ spec.is_of (map alarm_of turn.now.before.now)
+        (map alarm_of turn.now.after.now) pair state) }
 {
     if state.chart == pair.chart {
         is_same_at(alloc, turn, state.alarm, pair.alarm)
@@ -62,7 +63,8 @@ fn is_of(alloc: Global, turn: &Turn, pair: Pair, state: State) -> Result<bool, A
 /// Whether a state is that of one of these pairs.
 fn stays(alloc: Global, turn: &Turn, pairs: &[Pair], state: State) -> Result<bool, AllocError>
     ensures { IfOk result
-        (λ stays. stays ≡ spec.stays (map alarm_of turn.now.before.now) (map alarm_of turn.now.after.now) pairs.now state) }
+        (λ stays. stays ≡ spec.stays (map alarm_of turn.now.before.now)
+        (map alarm_of turn.now.after.now) pairs.now state) }
 {
     for pair in pairs {
         if is_of(alloc, turn, *pair, state)? {
@@ -172,8 +174,9 @@ fn tell_removal(
     moment: u32,
     state: State,
 ) -> Result<(), AllocError>
-    ensures { OnOk result (told.new ≡ tell_some told.old (spec.removal_of (map alarm_of turn.now.before.now)
-        turn.now.lost.now (map alarm_of turn.now.after.now) pairs.now registry.now moment state)) }
+    ensures { OnOk result (told.new ≡ tell_some told.old
+        (spec.removal_of (map alarm_of turn.now.before.now) turn.now.lost.now
+        (map alarm_of turn.now.after.now) pairs.now registry.now moment state)) }
 {
     let event = removal_of(alloc, turn, pairs, registry, moment, state)?;
     telling::tell_some(told, event)
@@ -189,8 +192,9 @@ fn tell_removals(
     moment: u32,
     states: &[State],
 ) -> Result<(), AllocError>
-    ensures { OnOk result (told.new ≡ tell_all told.old (spec.removals (map alarm_of turn.now.before.now)
-        turn.now.lost.now (map alarm_of turn.now.after.now) pairs.now registry.now moment states.now)) }
+    ensures { OnOk result (told.new ≡ tell_all told.old
+        (spec.removals (map alarm_of turn.now.before.now) turn.now.lost.now
+        (map alarm_of turn.now.after.now) pairs.now registry.now moment states.now)) }
 {
     for state in states {
         tell_removal(alloc, told, turn, pairs, registry, moment, *state)?;
@@ -206,7 +210,8 @@ fn state_before(
     pair: Pair,
 ) -> Result<Option<State>, AllocError>
     ensures { IfOk result (λ state. state
-        ≡ find (spec.is_of (map alarm_of turn.now.before.now) (map alarm_of turn.now.after.now) pair) states.now) }
+        ≡ find (spec.is_of (map alarm_of turn.now.before.now)
+        (map alarm_of turn.now.after.now) pair) states.now) }
 {
     for state in states {
         if is_of(alloc, turn, pair, *state)? {
@@ -232,7 +237,8 @@ fn fresh(pair: Pair) -> State
 /// The state of a pair: as it was, or a new one.
 fn state_of(alloc: Global, turn: &Turn, states: &[State], pair: Pair) -> Result<State, AllocError>
     ensures { IfOk result (λ state. state
-        ≡ spec.state_of (map alarm_of turn.now.before.now) (map alarm_of turn.now.after.now) states.now pair) }
+        ≡ spec.state_of (map alarm_of turn.now.before.now)
+        (map alarm_of turn.now.after.now) states.now pair) }
 {
     match state_before(alloc, turn, states, pair)? {
         Some(state) => Ok(State {
@@ -258,7 +264,8 @@ fn states_of(
     pairs: &[Pair],
 ) -> Result<StateList, AllocError>
     ensures { IfOk result (λ made. made
-        ≡ spec.states_of (map alarm_of turn.now.before.now) (map alarm_of turn.now.after.now) states.now pairs.now) }
+        ≡ spec.states_of (map alarm_of turn.now.before.now)
+        (map alarm_of turn.now.after.now) states.now pairs.now) }
 {
     let mut made = StateList::new(alloc);
     for pair in pairs {
@@ -280,8 +287,9 @@ pub fn pair_states(
 ) -> Result<StateList, AllocError>
     ensures states { IfOk result (λ made. made ≡ spec.states_of (map alarm_of turn.now.before.now)
         (map alarm_of turn.now.after.now) states.now pairs.now) }
-    ensures told { OnOk result (told.new ≡ tell_all told.old (spec.removals (map alarm_of turn.now.before.now)
-        turn.now.lost.now (map alarm_of turn.now.after.now) pairs.now registry.now moment states.now)) }
+    ensures told { OnOk result (told.new ≡ tell_all told.old
+        (spec.removals (map alarm_of turn.now.before.now) turn.now.lost.now
+        (map alarm_of turn.now.after.now) pairs.now registry.now moment states.now)) }
 {
     tell_removals(alloc, told, turn, pairs, registry, moment, states)?;
     states_of(alloc, turn, states, pairs)

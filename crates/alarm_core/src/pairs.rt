@@ -111,7 +111,8 @@ fn goes_before_at(entities: &[Entity], f: usize, e: usize) -> bool
 /// Whether an alarm counts on a chart in place of another.
 fn counts_before(entities: &[Entity], def: &ChartDef, f: usize, e: usize) -> bool
     ensures { result
-        ≡ (spec.goes_before_at (map alarm_of entities.now) f e && spec.is_on_at (map alarm_of entities.now) def.now f) }
+        ≡ (spec.goes_before_at (map alarm_of entities.now) f e
+        && spec.is_on_at (map alarm_of entities.now) def.now f) }
 {
     goes_before_at(entities, f, e) && is_on_at(entities, def, f)
 }
@@ -119,7 +120,8 @@ fn counts_before(entities: &[Entity], def: &ChartDef, f: usize, e: usize) -> boo
 /// Whether some alarm counts on a chart in place of this one.
 fn is_replaced(entities: &[Entity], def: &ChartDef, e: usize) -> bool
     ensures { result ≡ list_any
-        (λ f. spec.goes_before_at (map alarm_of entities.now) f e && spec.is_on_at (map alarm_of entities.now) def.now f)
+        (λ f. spec.goes_before_at (map alarm_of entities.now) f e
+        && spec.is_on_at (map alarm_of entities.now) def.now f)
         (range_with_len 0 (length (map alarm_of entities.now))) }
 {
     for f in 0..entities.len() {
@@ -168,7 +170,8 @@ fn push_pairs(
 ) -> Result<(), AllocError>
     requires { length pairs.old ≤ MOST_PAIRS }
     ensures { OnOk result (pairs.new
-        ≡ spec.first_pairs (pairs.old ++ spec.pairs_of (map alarm_of entities.now) registry.now.charts alarm)) }
+        ≡ spec.first_pairs (pairs.old
+        ++ spec.pairs_of (map alarm_of entities.now) registry.now.charts alarm)) }
 {
     for chart in 0..registry.charts() {
         let wanted = is_computed(entities, registry.chart(chart), alarm);
@@ -185,7 +188,8 @@ pub fn wanted_pairs(
     entities: &[Entity],
     registry: &Registry,
 ) -> Result<PairList, AllocError>
-    ensures { IfOk result (λ pairs. pairs ≡ spec.wanted (map alarm_of entities.now) registry.now.charts) }
+    ensures { IfOk result (λ pairs. pairs
+        ≡ spec.wanted (map alarm_of entities.now) registry.now.charts) }
 {
     let mut pairs = PairList::new(alloc);
     for alarm in 0..entities.len() {

@@ -10,8 +10,11 @@ use health_config::Entity;
 /// What an alarm of a chart sees when it is computed.
 #[derive(Drop)]
 pub struct Scene<'a> {
+    /// The alarm that is computed.
     pub alarm: &'a Entity,
+    /// The charts as they are now.
     pub registry: &'a Registry,
+    /// What was last seen of the charts.
     pub latest: &'a Latest,
     /// The number of the chart.
     pub chart: u32,

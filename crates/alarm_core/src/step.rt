@@ -1,9 +1,11 @@
 //! One step of an alarm of a chart.
-ghost use Rattle.std.specs.Prelude.{◌≡◌, ℕ, List, option_map, IfOk, IsErrOf};
+ghost use Rattle.std.specs.Prelude.{◌≡◌, ℕ, List, None, option_map, IfOk, IfSome, IsOk, IsErrOf};
+ghost use Rattle.health_expr.specs.Value.{IsWithin};
 ghost use Rattle.host_model.specs.Cause.{HasCause};
 ghost use Rattle.tier_rollup.specs.declared.point.Point.{Point as APoint};
 ghost use Rattle.alarm_core.specs.Seen.{seen};
 ghost use Rattle.alarm_core.specs.Step as spec;
+ghost use Rattle.alarm_core.specs.Verdict.{status_at};
 
 use crate::delay::new_delay;
 use crate::scene::Scene;
@@ -16,7 +18,9 @@ use std::alloc::Global;
 /// What a step makes of an alarm of a chart.
 #[derive(Clone, Copy, Debug, PartialEq, Eq)]
 pub struct Step {
+    /// What the alarm is worth: a number is within the limit of expressions.
     pub value: Value,
+    /// The status of that value.
     pub status: Status,
     /// How long its changes wait from now on. None before the first that is told.
     pub delay: Option<Delay>,
@@ -70,17 +74,13 @@ pub fn is_in_new_span(every: u32, before: u32, moment: u32) -> bool
 }
 
 impl<'a> Scene<'a> {
-    /// Whether the alarm is stepped on this beat: on the first in each span of its `every` seconds.
-    pub fn is_stepped(&self) -> bool
-        ensures { result ≡ spec.is_stepped (seen self.now) }
-    {
-        is_in_new_span(self.alarm.every, self.latest.before, self.moment)
-    }
-
     /// The step of the alarm, which had this value and this delay, and looked up what was found, if it
     /// looks something up.
     pub(crate) fn step_by(&self, found: Option<Value>, value: Value, delay: Option<Delay>) -> Step
-        ensures { result ≡ spec.stepped (seen self.now) found value delay }
+        ensures step { result ≡ spec.stepped (seen self.now) found value delay }
+        ensures by_value { result ≡ spec.step_to (seen self.now) delay result.value
+            (status_at (seen self.now) result.value) }
+        ensures within { IfSome found IsWithin → IsWithin result.value }
     {
         let now = value_at(self, found, value);
         let status = status_at(self, now);
@@ -88,8 +88,9 @@ impl<'a> Scene<'a> {
     }
 
     /// The step of the alarm, which had this value and this delay. Its lookup reads the points of one
-    /// series at a time, of a window of at most 2,592,000 seconds. `Disk` comes only where the count of
-    /// failures of `points` rose. Whatever the answer, `points` stands for the same as before.
+    /// series at a time, of a window of at most 2,592,000 seconds. Without a lookup nothing is read, and
+    /// the answer is `Ok`. `Disk` comes only where the count of failures of `points` rose. Whatever the
+    /// answer, `points` stands for the same as before.
     pub fn step<P: Points>(
         &self,
         alloc: Global,
@@ -100,6 +101,10 @@ impl<'a> Scene<'a> {
         ensures step { IfOk result (λ step. (told : ℕ → List APoint) → P.tells points.old told
             → let found = spec.found_by (seen self.now) ((P.tiers points.old).floor 0) told in
             step ≡ spec.stepped (seen self.now) found value delay) }
+        ensures by_value { IfOk result (λ step. step ≡ spec.step_to (seen self.now) delay
+            step.value (status_at (seen self.now) step.value)) }
+        ensures within { IfOk result (λ step. IsWithin step.value) }
+        ensures unread { self.now.alarm.now.lookup ≡ None → IsOk result }
         ensures tiers { P.tiers points.new ≡ P.tiers points.old }
         ensures held { P.held points.new ≡ P.held points.old }
         ensures told { (told : ℕ → List APoint) → P.tells points.old told

@@ -148,7 +148,8 @@ fn raw_named(scene: &Scene, name: &str) -> Value
 /// What the name of a dimension is worth.
 fn dimension_worth(scene: &Scene, name: &str) -> Value
     ensures { result
-        ≡ spec.dimension_worth scene.now.registry.now scene.now.latest.now scene.now.chart name.now }
+        ≡ spec.dimension_worth scene.now.registry.now scene.now.latest.now scene.now.chart
+        name.now }
 {
     match meant(scene, name) {
         Some(series) => last_value(scene.latest, series),

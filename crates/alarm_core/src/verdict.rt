@@ -1,5 +1,5 @@
 //! What an alarm is worth, and its status.
-ghost use Rattle.std.specs.Prelude.{◌≡◌, option_map};
+ghost use Rattle.std.specs.Prelude.{◌≡◌, option_map, IfSome};
 ghost use Rattle.health_expr.specs.TreeOf.{tree_of};
 ghost use Rattle.health_expr.specs.Value.{IsWithin};
 ghost use Rattle.alarm_core.specs.Seen.{seen};
@@ -13,7 +13,8 @@ use health_expr::{Expr, Value};
 
 /// What an expression is worth, where `$this` is worth so much.
 fn worth_at(scene: &Scene, this: Value, expr: &Expr) -> Value
-    ensures { result ≡ spec.worth_at (seen scene.now) this (tree_of expr.now) }
+    ensures worth { result ≡ spec.worth_at (seen scene.now) this (tree_of expr.now) }
+    ensures within { IsWithin result }
 {
     expr.eval(&Variables { scene, this })
 }
@@ -31,7 +32,8 @@ fn condition_at(scene: &Scene, this: Value, condition: &Option<Expr>) -> Option<
 
 /// What an alarm is worth, where it looked something up or did not, and was worth so much before.
 pub fn value_at(scene: &Scene, found: Option<Value>, before: Value) -> Value
-    ensures { result ≡ spec.value_at (seen scene.now) found before }
+    ensures value { result ≡ spec.value_at (seen scene.now) found before }
+    ensures within { IfSome found IsWithin → IsWithin result }
 {
     match &scene.alarm.calc {
         Some(calc) => worth_at(scene, found.unwrap_or(before), calc),

@@ -50,8 +50,9 @@ impl Clone for Event {
 /// Events, the earliest first.
 pub type EventList = ListOf<Event>;
 
-/// The text of a value.
-fn value_text(alloc: Global, value: Value) -> Result<Text, AlarmFault>
+/// The text of a value as in the line of an event: `nan`, `inf`, `-inf`, or the shortest text of its
+/// number. `Memory` where none is left.
+pub fn value_text(alloc: Global, value: Value) -> Result<Text, AlarmFault>
     ensures { IfOk result (λ text. text ≡ spec.value_text value) }
 {
     let mut text = Text::new(alloc);

@@ -35,7 +35,7 @@ mod value;
 mod writing;
 
 pub use delay::Delay;
-pub use event::{Event, EventList, write_event};
+pub use event::{Event, EventList, value_text, write_event};
 pub use fault::AlarmFault;
 pub use kept::{KeptAlarms, MOST_STATES};
 pub use kept_fault::KeptFault;

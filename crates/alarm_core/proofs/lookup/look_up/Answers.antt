@@ -11,4 +11,4 @@ returns-clause-found g c = λ told tells.
     c.window_of-window.ensures.start c.window_of-window.ensures.stop (omega (arith, c.if-window-from.false, c.from.ensures, c.floor.ensures)) scene.whole
     (found_in scene.registry.now c.args.lookup.now window.start window.stop told scene.series.now c.in_ok-gathered.gathered _
     (λ one. g.met.P.Points.rising_series c.args.points.now told tells one) window.short scene.few
-    (c.in_ok-gathered.ensures.gathered told tells (omega (arith, c.if-window-from.false, c.from.ensures, c.floor.ensures))) c.result_of.ensures)
+    (c.in_ok-gathered.ensures.gathered told tells (omega (arith, c.if-window-from.false, c.from.ensures, c.floor.ensures))) c.result_of.ensures.result)

@@ -6,8 +6,8 @@ use Rattle.alarm_core.specs.Lookups.{is_past}
 use Rattle.alarm_core.proofs.LookupLemmas.{product_fits, not_zero, percent_is}
 use Rattle.alarm_core.proofs.lookup.percent.Goals as goal
 
-pub returns-else-is_far : goal.returns-else-is_far
-returns-else-is_far c =
+pub returns-else-is_far-clause-percent : goal.returns-else-is_far-clause-percent
+returns-else-is_far-clause-percent c =
     let number : ℤ = c.args.number in
     let all : ℤ = c.args.all in
     let same_number : to_z w128 (of_z w128 number) ≡ number = to_z-of_z c.ranges.number in

@@ -1,6 +1,8 @@
+//! How long telling a change of status waits. Each alarm begins with the bytes of a state, so that it has any
+//! status and any delay before.
+use super::alarms::{alarms_of, bytes_of, source, stepped};
 use super::*;
-use std::process::Abort;
-use std::test::Fail;
+use alarm_events::{KeptAlarms, KeptState, KeptStateList, is_short, read_alarms, write_alarms};
 
 /// The words of `delay`, the delay before, a moment, the statuses before and after, and the delay that
 /// comes. A delay is how long a rise waits, how long a fall waits, and the due moment.
@@ -24,7 +26,7 @@ const OPEN: &str = "delay: up 10s down 1s multiplier 2";
 const LONG: &str = "delay: up 2592000s multiplier 1000";
 
 // Worked by hand.
-static CASES: [Case; 30] = [
+static CASES: [Case; 29] = [
     (
         USUAL,
         None,
@@ -104,14 +106,6 @@ static CASES: [Case; 30] = [
         105,
         Status::Warning,
         Status::Undefined,
-        None,
-    ),
-    (
-        USUAL,
-        Some((10, 60, 110)),
-        105,
-        Status::Warning,
-        Status::Removed,
         None,
     ),
     (
@@ -258,21 +252,91 @@ fn delay_of(parts: Option<(u32, u32, u32)>) -> Option<Delay> {
     Some(Delay { up, down, due })
 }
 
-/// Compares a delay that comes.
-fn compare(rt: &impl Abort, alloc: Global, case: &Case) -> Result<(), Fail> {
+/// The check by which an alarm comes to a status.
+fn check_of(status: Status) -> &'static str {
+    match status {
+        Status::Critical => "crit: 1\n",
+        Status::Warning => "warn: 1\n",
+        Status::Clear => "warn: 0\n",
+        _ => "",
+    }
+}
+
+/// The bytes of alarms with one state.
+fn bytes_with(
+    alloc: Global,
+    text: &str,
+    status: Status,
+    delay: Option<Delay>,
+) -> Result<ByteList, Fail> {
+    let mut states = KeptStateList::new(alloc);
+    states.push(KeptState {
+        alarm: Text::from_str(alloc, "a")?,
+        chart: 0,
+        status,
+        value: Value::Nan,
+        delay,
+    })?;
+    let kept = KeptAlarms {
+        text: ByteList::from_slice(alloc, text.as_bytes())?,
+        states,
+        dropped: 0,
+        events: EventList::new(alloc),
+    };
+    if !is_short(&kept) {
+        return Err(Fail::from("too long"));
+    }
+    Ok(write_alarms(alloc, &kept)?)
+}
+
+/// The delay of the only state.
+fn delay_behind(alloc: Global, alarms: &Alarms) -> Result<Option<Delay>, Fail> {
+    let bytes = bytes_of(alarms)?;
+    let kept = read_alarms(alloc, bytes.as_slice())?;
+    match kept.states.as_slice().first() {
+        Some(state) => Ok(state.delay),
+        None => Err(Fail::from("no state")),
+    }
+}
+
+/// What a beat tells, and the delay behind it.
+fn take(
+    alloc: Global,
+    registry: &Registry,
+    moment: u32,
+    bytes: &[u8],
+) -> Result<(EventList, Option<Delay>), Fail> {
+    let mut alarms = alarms_of(alloc, bytes, registry)?;
+    let mut latest = latest(alloc, moment, &[])?;
+    latest.before = moment.saturating_sub(1);
+    let mut points = source(alloc, 0)?;
+    let events = stepped(&mut alarms, moment, registry, &latest, &mut points)?;
+    Ok((events, delay_behind(alloc, &alarms)?))
+}
+
+/// Compares the status, the due moment and the delay that come. A delay stays where the change is not told.
+fn compare(rt: &impl Abort, alloc: Global, registry: &Registry, case: &Case) -> Result<(), Fail> {
     let (words, before, moment, old, new, want) = *case;
-    let text = format!(in alloc; "alarm: a\non: b.c\nevery: 1s\n{words}\n")?;
-    let config = Config::read(alloc, text.as_bytes())?;
-    let alarm = first_alarm(&config)?;
-    let found = new_delay(alarm, delay_of(before), moment, old, new);
-    assert_eq!(rt; found, delay_of(want), "{words} {moment}");
+    let check = check_of(new);
+    let text = format!(in alloc; "alarm: a\non: b.c\ncalc: 1\nevery: 1s\n{check}{words}\n")?;
+    let before = delay_of(before);
+    let bytes = bytes_with(alloc, text.as_str(), old, before)?;
+    let (events, delay) = take(alloc, registry, moment, bytes.as_slice())?;
+    let want = delay_of(want);
+    assert_eq!(rt; delay, want.or(before), "{words} {moment}");
+    let event = events.as_slice().first().ok_or("no event")?;
+    assert_eq!(rt; event.new, new, "{words} {moment}");
+    assert_eq!(rt; event.due, want.map(|delay| delay.due), "{words} {moment}");
     Ok(())
 }
 
 #[test]
-fn thirty_delays(rt: HostRuntime) -> Result<(), Fail> {
+fn delays_by_hand(rt: HostRuntime) -> Result<(), Fail> {
+    let alloc = rt.alloc();
+    let mut registry = Registry::new(alloc);
+    define(alloc, &mut registry, "b.c", &[])?;
     for case in &CASES {
-        compare(&rt, rt.alloc(), case)?;
+        compare(&rt, alloc, &registry, case)?;
     }
     Ok(())
 }

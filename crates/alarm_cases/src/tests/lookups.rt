@@ -2,10 +2,8 @@ ghost use Rattle.std.specs.Prelude.{IfOk, IsTrue};
 ghost use Rattle.std.specs.List.{list_all};
 ghost use Rattle.query_engine.specs.Points.{are_series};
 
+use super::alarms::{first_events, first_value};
 use super::*;
-use query_engine::{ListPoints, PointList, SeriesPointsList};
-use std::process::Abort;
-use std::test::Fail;
 
 /// Points by their moments and words.
 macro_rules! points {
@@ -135,31 +133,6 @@ static CASES: [Case; 48] = [
     (0, 12, "sum 1s percentage of b", Value::Inf(true)),
 ];
 
-/// What an alarm of the chart is worth that has a lookup alone.
-fn found(
-    alloc: Global,
-    registry: &Registry,
-    latest: &Latest,
-    alarm: &Entity,
-    moment: u32,
-    points: &mut ListPoints,
-) -> Result<Value, Fail> {
-    let Some(chart) = registry.chart_of("test.one") else {
-        return Err(Fail::from("no chart"));
-    };
-    let series = chart_series(alloc, registry, chart)?;
-    let scene = Scene {
-        alarm,
-        registry,
-        latest,
-        chart,
-        series: series.as_slice(),
-        moment,
-        status: Status::Clear,
-    };
-    Ok(scene.step(alloc, points, Value::Nan, None)?.value)
-}
-
 /// Compares what a lookup finds.
 fn compare(
     rt: &impl Abort,
@@ -169,12 +142,10 @@ fn compare(
     case: &Case,
 ) -> Result<(), Fail> {
     let (floor, moment, lookup, want) = *case;
-    let text = format!(in alloc; "alarm: l\non: test.one\nlookup: {lookup}\n")?;
-    let config = Config::read(alloc, text.as_bytes())?;
-    let alarm = first_alarm(&config)?;
+    let text = format!(in alloc; "alarm: l\non: test.one\nlookup: {lookup}\nevery: 1s\n")?;
     let mut points = source(alloc, floor)?;
-    let found = found(alloc, registry, latest, alarm, moment, &mut points)?;
-    assert_eq!(rt; found, want, "{lookup} {moment}");
+    let events = first_events(alloc, registry, latest, &mut points, moment, text.as_str())?;
+    assert_eq!(rt; first_value(events.as_slice())?, want, "{lookup} {moment}");
     Ok(())
 }
 

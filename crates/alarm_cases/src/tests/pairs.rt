@@ -1,5 +1,4 @@
 use super::*;
-use std::test::Fail;
 
 /// Alarms of one name on charts that they share, one of another name, and one on no chart.
 const SHARED: &str =

@@ -1,12 +1,7 @@
 use super::*;
-use alarm_events::{EventList, Log, write_event};
-use fixed_num::ByteList;
-use query_engine::{ListPoints, PointList, SeriesPointsList};
-use std::process::Abort;
-use std::test::Fail;
 
 /// Points of one series from moment 1 on, each of the word of 10.
-fn source(alloc: Global, moments: u32) -> Result<ListPoints, Fail> {
+pub fn source(alloc: Global, moments: u32) -> Result<ListPoints, Fail> {
     let mut points = PointList::new(alloc);
     if moments > 0 {
         points.push(Point {
@@ -23,15 +18,15 @@ fn source(alloc: Global, moments: u32) -> Result<ListPoints, Fail> {
 
 // Each call stands in a function of its own that promises nothing, so that a test's proof carries little.
 
-fn new_alarms(alloc: Global) -> Result<Alarms, Fail> {
+pub fn new_alarms(alloc: Global) -> Result<Alarms, Fail> {
     Ok(Alarms::new(alloc)?)
 }
 
-fn read_config(alloc: Global, text: &str) -> Result<Config, Fail> {
+pub fn read_config(alloc: Global, text: &str) -> Result<Config, Fail> {
     Ok(Config::read(alloc, text.as_bytes())?)
 }
 
-fn configured(
+pub fn configured(
     alarms: &mut Alarms,
     config: Config,
     registry: &Registry,
@@ -40,7 +35,7 @@ fn configured(
     Ok(alarms.configure(config, registry, moment)?)
 }
 
-fn stepped(
+pub fn stepped(
     alarms: &mut Alarms,
     moment: u32,
     registry: &Registry,
@@ -50,20 +45,43 @@ fn stepped(
     Ok(alarms.step(moment, registry, latest, points)?)
 }
 
-fn bytes_of(alarms: &Alarms) -> Result<ByteList, Fail> {
+pub fn bytes_of(alarms: &Alarms) -> Result<ByteList, Fail> {
     Ok(alarms.to_bytes()?)
 }
 
-fn alarms_of(alloc: Global, bytes: &[u8], registry: &Registry) -> Result<Alarms, Fail> {
+pub fn alarms_of(alloc: Global, bytes: &[u8], registry: &Registry) -> Result<Alarms, Fail> {
     Ok(Alarms::from_bytes(alloc, bytes, registry)?)
 }
 
-fn log_of(alarms: &Alarms) -> Result<Log, Fail> {
+pub fn log_of(alarms: &Alarms) -> Result<Log, Fail> {
     Ok(alarms.log()?)
 }
 
+/// The events of alarms that are configured, and stepped once.
+pub fn first_events(
+    alloc: Global,
+    registry: &Registry,
+    latest: &Latest,
+    points: &mut ListPoints,
+    moment: u32,
+    text: &str,
+) -> Result<EventList, Fail> {
+    let mut alarms = new_alarms(alloc)?;
+    let config = read_config(alloc, text)?;
+    configured(&mut alarms, config, registry, 0)?;
+    stepped(&mut alarms, moment, registry, latest, points)
+}
+
+/// What the first event says an alarm is worth.
+pub fn first_value(events: &[Event]) -> Result<Value, Fail> {
+    match events.first() {
+        Some(event) => Ok(event.value),
+        None => Err(Fail::from("no event")),
+    }
+}
+
 /// The lines of events.
-fn lines(alloc: Global, events: &EventList) -> Result<String, Fail> {
+pub fn lines(alloc: Global, events: &EventList) -> Result<String, Fail> {
     let mut text = String::new(alloc);
     for event in events.as_slice() {
         text.push_str(write_event(alloc, event)?.as_str())?;
@@ -228,9 +246,9 @@ fn delays_grow_over_beats(rt: HostRuntime) -> Result<(), Fail> {
     run(&rt, rt.alloc(), DELAYED, DELAYED_BEATS.as_slice())
 }
 
-const QUOTIENT: &str = "alarm: q\non: test.one\ncalc: $a / $b\nevery: 1s\n";
+const QUOTIENT: &str = "alarm: q\non: test.one\ncalc: $a / $b\nevery: 1s\nwarn: $this > 1\n";
 
-static QUOTIENT_BEATS: [Beat; 2] = [
+static QUOTIENT_BEATS: [Beat; 4] = [
     (
         0,
         1,
@@ -238,6 +256,13 @@ static QUOTIENT_BEATS: [Beat; 2] = [
         "EVENT 1 1 test.one q UNINITIALIZED UNDEFINED inf -\n",
     ),
     (1, 2, [Some(5), Some(0)], ""),
+    (2, 3, [None, Some(0)], ""),
+    (
+        3,
+        4,
+        [Some(6), Some(2)],
+        "EVENT 2 4 test.one q UNDEFINED WARNING 3 4\n",
+    ),
 ];
 
 #[test]
@@ -248,7 +273,7 @@ fn an_infinite_value_is_told_once(rt: HostRuntime) -> Result<(), Fail> {
 const DISK: &str =
     "template: disk_space_usage\non: test\nclass: Utilization\ncalc: $used * 100 / ($avail + $used)\nunits: %\nevery: 1m\nwarn: $this > (($status >= $WARNING ) ? (80) : (90))\ncrit: ($this > (($status == $CRITICAL) ? (90) : (98))) && $avail < 5\ndelay: up 1m down 15m multiplier 1.5 max 1h\nto: sysadmin\n";
 
-static DISK_BEATS: [Beat; 3] = [
+static DISK_BEATS: [Beat; 4] = [
     (
         0,
         60,
@@ -262,11 +287,51 @@ static DISK_BEATS: [Beat; 3] = [
         [Some(99), Some(1)],
         "EVENT 2 120 test.one disk_space_usage WARNING CRITICAL 99 210\n",
     ),
+    (
+        120,
+        180,
+        [Some(85), Some(15)],
+        "EVENT 3 180 test.one disk_space_usage CRITICAL WARNING 85 2205\n",
+    ),
 ];
 
 #[test]
 fn a_template_is_stepped_once_a_minute(rt: HostRuntime) -> Result<(), Fail> {
     run(&rt, rt.alloc(), DISK, DISK_BEATS.as_slice())
+}
+
+const CONDITIONS: &str = "alarm: n\non: test.one\ncalc: $a\nevery: 1s\nwarn: $b\ncrit: $b - 5\n";
+
+static CONDITIONS_BEATS: [Beat; 4] = [
+    (
+        0,
+        1,
+        [Some(1), None],
+        "EVENT 1 1 test.one n UNINITIALIZED UNDEFINED 1 -\n",
+    ),
+    (
+        1,
+        2,
+        [Some(1), Some(0)],
+        "EVENT 2 2 test.one n UNDEFINED CRITICAL 1 2\n",
+    ),
+    (
+        2,
+        3,
+        [Some(1), Some(5)],
+        "EVENT 3 3 test.one n CRITICAL WARNING 1 3\n",
+    ),
+    (
+        3,
+        4,
+        [None, Some(5)],
+        "EVENT 4 4 test.one n WARNING UNDEFINED nan -\n",
+    ),
+];
+
+#[test]
+fn conditions_that_are_nan_are_undefined(rt: HostRuntime) -> Result<(), Fail> {
+    run(&rt, rt.alloc(), CONDITIONS, CONDITIONS_BEATS.as_slice())
 }
 
 /// A call, and what is told.
@@ -352,6 +417,89 @@ fn another_configuration_removes_what_differs(rt: HostRuntime) -> Result<(), Fai
     )
 }
 
+static COUNTING: [Call; 5] = [
+    Call::Configure(
+        0,
+        "alarm: c\non: test.one\ncalc: ($this == nan) ? (1) : ($this + 1)\nevery: 1s\nwarn: $this > 2\n",
+        "",
+    ),
+    Call::Beat((
+        0,
+        1,
+        [None, None],
+        "EVENT 1 1 test.one c UNINITIALIZED CLEAR 1 -\n",
+    )),
+    Call::Beat((1, 2, [None, None], "")),
+    Call::Configure(
+        2,
+        "alarm: z\non: test.one\ncalc: 1\nevery: 1s\nalarm: c\non: test.one\ncalc: $this == nan ? 1 : $this + 1\nevery: 1s\nwarn: $this > 2\n",
+        "",
+    ),
+    Call::Beat((
+        2,
+        3,
+        [None, None],
+        "EVENT 2 3 test.one z UNINITIALIZED UNDEFINED 1 -\nEVENT 3 3 test.one c CLEAR WARNING 3 3\n",
+    )),
+];
+
+#[test]
+fn an_alarm_that_stays_keeps_its_value(rt: HostRuntime) -> Result<(), Fail> {
+    let alloc = rt.alloc();
+    let registry = one_chart(alloc)?;
+    let mut alarms = new_alarms(alloc)?;
+    make_all(&rt, alloc, &mut alarms, &registry, COUNTING.as_slice())
+}
+
+const BOTH_CHARTS: &str = "template: t\non: test\ncalc: $a\nevery: 1s\nwarn: $this > 5\n";
+
+/// A moment, the values of a and b of the first chart and of a of the second, and what is told.
+type PairBeat = (u32, [Option<i32>; 3], &'static str);
+
+static PAIR_BEATS: [PairBeat; 2] = [
+    (
+        1,
+        [Some(1), None, Some(9)],
+        "EVENT 1 1 test.one t UNINITIALIZED CLEAR 1 -\nEVENT 2 1 test.two t UNINITIALIZED WARNING 9 1\n",
+    ),
+    (
+        2,
+        [Some(7), None, Some(2)],
+        "EVENT 3 2 test.one t CLEAR WARNING 7 2\nEVENT 4 2 test.two t WARNING CLEAR 2 2\n",
+    ),
+];
+
+/// Takes a beat of two charts, and compares what is told.
+fn take_pair(
+    rt: &impl Abort,
+    alloc: Global,
+    alarms: &mut Alarms,
+    registry: &Registry,
+    beat: &PairBeat,
+) -> Result<(), Fail> {
+    let (moment, values, want) = *beat;
+    let before = moment.saturating_sub(1);
+    let latest = latest_behind(alloc, before, moment, values.as_slice())?;
+    let mut points = source(alloc, 0)?;
+    let events = stepped(alarms, moment, registry, &latest, &mut points)?;
+    assert_eq!(rt; lines(alloc, &events)?.as_str(), want, "{moment}");
+    Ok(())
+}
+
+// Each chart has a state of its own.
+#[test]
+fn a_template_is_on_two_charts(rt: HostRuntime) -> Result<(), Fail> {
+    let alloc = rt.alloc();
+    let mut registry = one_chart(alloc)?;
+    define(alloc, &mut registry, "test.two", &[("a", "used", false)])?;
+    let mut alarms = new_alarms(alloc)?;
+    configure(&rt, alloc, &mut alarms, &registry, 0, BOTH_CHARTS, "")?;
+    for beat in &PAIR_BEATS {
+        take_pair(&rt, alloc, &mut alarms, &registry, beat)?;
+    }
+    Ok(())
+}
+
 static BEFORE_THE_CHANGE: [Call; 2] = [
     Call::Configure(
         0,
@@ -425,16 +573,35 @@ fn take_points(
     Ok(())
 }
 
-#[test]
-fn a_lookup_reads_the_points(rt: HostRuntime) -> Result<(), Fail> {
-    let alloc = rt.alloc();
+/// Configures alarms, and takes beats with the points of a source.
+fn run_points(rt: &impl Abort, alloc: Global, text: &str, beats: &[PointBeat]) -> Result<(), Fail> {
     let registry = one_chart(alloc)?;
     let mut alarms = new_alarms(alloc)?;
-    configure(&rt, alloc, &mut alarms, &registry, 0, LOOKUP, "")?;
-    for beat in &LOOKUP_BEATS {
-        take_points(&rt, alloc, &mut alarms, &registry, beat)?;
+    configure(rt, alloc, &mut alarms, &registry, 0, text, "")?;
+    for beat in beats {
+        take_points(rt, alloc, &mut alarms, &registry, beat)?;
     }
     Ok(())
+}
+
+#[test]
+fn a_lookup_reads_the_points(rt: HostRuntime) -> Result<(), Fail> {
+    run_points(&rt, rt.alloc(), LOOKUP, LOOKUP_BEATS.as_slice())
+}
+
+const LOOKUP_AND_CALC: &str =
+    "alarm: l\non: test.one\nlookup: sum 2s\ncalc: $this * 3\nwarn: $this > 29\n";
+
+static LOOKUP_AND_CALC_BEATS: [PointBeat; 3] = [
+    (3, 4, "EVENT 1 4 test.one l UNINITIALIZED WARNING 30 4\n"),
+    (4, 5, ""),
+    (5, 6, "EVENT 2 6 test.one l WARNING UNDEFINED nan -\n"),
+];
+
+#[test]
+fn what_is_looked_up_is_what_calc_begins_with(rt: HostRuntime) -> Result<(), Fail> {
+    let beats = LOOKUP_AND_CALC_BEATS.as_slice();
+    run_points(&rt, rt.alloc(), LOOKUP_AND_CALC, beats)
 }
 
 const EACH_BEAT: &str =

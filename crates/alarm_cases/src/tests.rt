@@ -1,23 +1,27 @@
-ghost use Rattle.std.specs.Prelude.{◌<◌, length, IfOk};
+ghost use Rattle.std.specs.Prelude.{◌<◌, IfOk};
 
-use super::*;
-use crate::delay::new_delay;
-use alarm_events::Status;
+use alarm_core::{
+    AlarmFault, Alarms, Delay, Event, EventList, Latest, Log, MOST_PAIRS, Pair, SeriesPointList,
+    SeriesValueList, Status, wanted_pairs, write_event,
+};
 use chart_registry::Registry;
-use fixed_num::{Frac, Text, Units};
-use health_config::{Config, Entity};
+use fixed_num::{ByteList, Frac, Text, Units};
+use health_config::Config;
 use health_expr::Value;
 use history::{Algorithm, ChartDef, ChartKind, DimDef};
-use query_engine::{MomentList, Point};
+use query_engine::{ListPoints, MomentList, Point, PointList, SeriesPointsList};
 use std::alloc::{AllocError, Global};
+use std::process::Abort;
 use std::test::Fail;
 use storage_number::pack;
 
 mod alarms;
 mod delays;
 mod lookups;
+mod names;
 mod pairs;
-mod rows;
+mod plain;
+mod random;
 
 fn chart_def(alloc: Global, id: &str, name: &str, context: &str) -> Result<ChartDef, AllocError>
     ensures { IfOk result (λ def. 0 < def.update_every) }
@@ -95,44 +99,3 @@ fn latest(alloc: Global, moment: u32, values: &[Option<i32>]) -> Result<Latest, 
         raws,
     })
 }
-
-/// The first alarm of a health text.
-fn first_alarm(config: &Config) -> Result<&Entity, Fail> {
-    match config.alarms().as_slice().first() {
-        Some(alarm) => Ok(alarm),
-        None => Err(Fail::from("no alarm")),
-    }
-}
-
-/// A step of an alarm of the chart with this id, after a step.
-fn step_after(
-    alloc: Global,
-    registry: &Registry,
-    latest: &Latest,
-    alarm: &Entity,
-    moment: u32,
-    before: &Step,
-) -> Result<Step, Fail> {
-    let Some(chart) = registry.chart_of("test.one") else {
-        return Err(Fail::from("no chart"));
-    };
-    let series = chart_series(alloc, registry, chart)?;
-    let scene = Scene {
-        alarm,
-        registry,
-        latest,
-        chart,
-        series: series.as_slice(),
-        moment,
-        status: before.status,
-    };
-    Ok(scene.step_by(None, before.value, before.delay))
-}
-
-/// How an alarm stands before its first step.
-const FRESH: Step = Step {
-    value: Value::Nan,
-    status: Status::Uninitialized,
-    delay: None,
-    due: None,
-};

@@ -1,0 +1,6 @@
+//! The tests of `alarm_core` over its public calls, and tests only: what configurations and beats tell, how the
+//! alarms stand behind them, and that they are read again from their bytes.
+#![tactic(auto)]
+
+#[cfg(test)]
+mod tests;
