@@ -158,7 +158,7 @@ module _ (honest : Type 0) (agent : AgentState) (answer : Settings → List Beat
         → HasCause middle.tell_faults host'.tell_faults (s ≡ status.TellFault) → Answering honest agent answer s host host'
     tell-by bytes same s tells cause = by-reply s (subst (TellsBy s) same tells) cause
 
--- an agent that was of use fails to read for want of memory alone
+-- an agent that was of use fails to read only where it was out of memory
 reading-memory : (before : Option Why) → before ≡ None → (why : AgentFault) → IsReading why → ReopensWith before why → why ≡ fault.Memory
 reading-memory before going fault.Memory faults reopens = refl
 reading-memory before going (fault.Reopen cause) faults reopens = absurd (apart (sym going ∙ reopens))
@@ -189,7 +189,7 @@ module _ (honest : Type 0) (agent : AgentState) (text : List ℕ) (host : Seen) 
       apart : unanswered fault.Memory ≡ unanswered fault.DiskFault → ⊥
       apart e = cc
 
-  -- an agent that was of use does not answer for want of memory alone
+  -- an agent that was of use does not answer only where it was out of memory
   pub memory-asking : agent.fault ≡ None → (why : AgentFault) → result ≡ Err why → why ≡ fault.Memory
   memory-asking going why is =
       reading-memory agent.fault going why (subst (λ (r : Result (List ℕ) AgentFault). IfErr r IsReading) is queries.reads.faults)

@@ -34,7 +34,7 @@ is_limit (TooManyAlarms line) = true
 is_limit TextTooLong = true
 is_limit why = false
 
--- the line of a refusal with this line and this number: out of memory has neither, and is told by nothing
+-- the line of a refusal with this line and this number: the fault of memory has neither, and is told by nothing
 abbrev pub line_by : Bool → Option ℕ → Option ℕ → List ℕ
 line_by limit (Some line) (Some number) = (if limit then codes "LIMIT " else codes "REFUSED ") ++ decimal line ++ codes " " ++ decimal number ++ codes "\n"
 line_by limit line number = []

@@ -74,10 +74,11 @@ pub use law::any_course;
 /// where there is one.
 ///
 /// `run` stores the beats of such a text behind those of the database. As soon as a beat is stored it tells
-/// `STORED` and the beat's number in the history, and then a line for each event of an alarm that the beat makes:
-/// no crash loses the beat then. A refusal is told as by `convert`, and the beats before it stay. A QUERY line is answered at its place, over the
-/// history there: with `ROWS`, how many windows there are and the ids of the dimensions, and then a line
-/// for each window, its start and its values; or with `ERROR` and a number, which ends nothing.
+/// `STORED` and the beat's number in the history, and then a line for each event of an alarm that the beat
+/// makes: no crash loses the beat then. A refusal is told as by `convert`, and the beats before it stay. A
+/// QUERY line is answered at its place, over the history there: with `ROWS`, how many windows there are and
+/// the ids of the dimensions, and then a line for each window, its start and its values; or with `ERROR` and
+/// a number, which ends nothing.
 ///
 /// `collect EVERY STARTS PROGRAM [ARG..]` starts a program and stores the beats of what it writes, as `run` does with
 /// its input. EVERY is how many seconds lie between beats, 1 to 86,400: the program is handed it before its own

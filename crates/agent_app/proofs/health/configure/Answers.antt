@@ -1,4 +1,4 @@
-use Rattle.std.proofs.Common.{ℕ, List, true, subst}
+use Rattle.std.proofs.Common.{ℕ, List, subst}
 use Rattle.host_model.specs.Seen.{Seen}
 use Rattle.agent_app.specs.Health.{StoresHealth}
 use Rattle.agent_app.proofs.ConfigureLemmas.{failed-handled, long-handled, no-fault-then, text-handled, want-handled}
