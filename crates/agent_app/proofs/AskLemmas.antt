@@ -1,5 +1,5 @@
 -- What `query` and `log` promise: what an agent is asked, and where none was opened.
-use Rattle.std.proofs.Common.{◌≡◌, ◌⊎◌, inl, inr, ℕ, true, false, List, [], ◌∷◌, ◌++◌, length, take, drop, Result, Ok, Err, IfOk, refl, sym, ap, ap₂, subst, ◌∙◌, append-nil, length-append, arith, true≢false}
+use Rattle.std.proofs.Common.{◌≡◌, ◌⊎◌, inl, inr, ℕ, true, false, List, [], ◌∷◌, ◌++◌, length, take, drop, Option, Some, None, Result, Ok, Err, IfErr, IfOk, refl, sym, ap, ap₂, subst, ◌∙◌, append-nil, length-append, arith, true≢false}
 use Rattle.std.proofs.lemmas.List.{take-append-drop}
 use Rattle.host_model.specs.Cause.{HasCause}
 use Rattle.host_model.specs.declared.file.File.{File}
@@ -22,7 +22,9 @@ use Rattle.agent_core.specs.declared.fault.AgentFault.TheVariants as fault
 use Rattle.agent_core.specs.Agent.{AgentState, IsAgentOf}
 use Rattle.agent_core.specs.Answers.{reply_of}
 use Rattle.agent_core.specs.Calls.{Logs, Opens, Queries}
+use Rattle.agent_core.specs.Faults.{IsLogging, IsReading, Reopens, ReopensWith}
 use Rattle.agent_core.specs.Kept.{StandsForHistory}
+use Rattle.store_core.specs.declared.fault.Why.{Why}
 use Rattle.agent_app.specs.Convert.{LeavesDisk}
 use Rattle.agent_app.specs.declared.command.Form.{Form}
 use Rattle.agent_app.specs.Log.{log_as, log_for}
@@ -39,6 +41,9 @@ use Rattle.agent_app.proofs.RunningLemmas.{stands-all}
 -- nothing was told of an output
 told-none : (s : Status) (output : List ℕ) (past : List Event) → is_whole s ≡ false → TellsRun s output past past
 told-none s output past part = record { sent = []; unsent = output; whole = refl; tells = sym (append-nil (told past)); all = λ all. absurd (true≢false (sym all ∙ part)) }
+
+abbrev none_before : Option Why
+none_before = None
 
 abbrev answered : List ℕ → Result (List ℕ) AgentFault
 answered reply = Ok reply
@@ -153,22 +158,42 @@ module _ (honest : Type 0) (agent : AgentState) (answer : Settings → List Beat
         → HasCause middle.tell_faults host'.tell_faults (s ≡ status.TellFault) → Answering honest agent answer s host host'
     tell-by bytes same s tells cause = by-reply s (subst (TellsBy s) same tells) cause
 
+-- an agent that was of use fails to read only where it was out of memory
+reading-memory : (before : Option Why) → before ≡ None → (why : AgentFault) → IsReading why → ReopensWith before why → why ≡ fault.Memory
+reading-memory before going fault.Memory faults reopens = refl
+reading-memory before going (fault.Reopen cause) faults reopens = absurd (apart (sym going ∙ reopens))
+  where
+    apart : none_before ≡ Some cause → ⊥
+    apart e = cc
+reading-memory before going other faults reopens = absurd faults
+
+logging-memory : (before : Option Why) → before ≡ None → (why : AgentFault) → IsLogging why → ReopensWith before why → why ≡ fault.Memory
+logging-memory before going fault.Memory faults reopens = refl
+logging-memory before going (fault.Reopen cause) faults reopens = absurd (apart (sym going ∙ reopens))
+  where
+    apart : none_before ≡ Some cause → ⊥
+    apart e = cc
+logging-memory before going other faults reopens = absurd faults
+
 -- it was asked a question
 module _ (honest : Type 0) (agent : AgentState) (text : List ℕ) (host : Seen) (result : Result (List ℕ) AgentFault) (middle : Seen) (agent' : AgentState) (queries : Queries honest host agent text result middle agent') where
   abbrev answer : Settings → List Beat → List ℕ
   answer = reply_for text
 
-  -- the disk failed
-  pub disk-failed-asking : result ≡ Err fault.DiskFault → Answering honest agent answer status.DiskFault host middle
-  disk-failed-asking is =
-      failed honest agent answer host status.DiskFault middle refl (inr (inr (inl refl))) (λ e. cc) queries.reads.quiet queries.reads.tells
-      (cause-as host.disk_faults middle.disk_faults (result ≡ Err fault.DiskFault) (status.DiskFault ≡ status.DiskFault) (λ e. is) (λ e. refl) queries.reads.cause)
-
   -- there was no memory
-  pub want-asking : (result ≡ Err fault.DiskFault → ⊥) → Answering honest agent answer status.Memory host middle
-  want-asking other =
+  pub want-asking : result ≡ Err fault.Memory → Answering honest agent answer status.Memory host middle
+  want-asking is =
       failed honest agent answer host status.Memory middle refl (inr (inr (inr refl))) (λ e. cc) queries.reads.quiet queries.reads.tells
-      (cause-as host.disk_faults middle.disk_faults (result ≡ Err fault.DiskFault) (status.Memory ≡ status.DiskFault) (λ e. cc) (λ e. absurd (other e)) queries.reads.cause)
+      (cause-as host.disk_faults middle.disk_faults (result ≡ Err fault.DiskFault) (status.Memory ≡ status.DiskFault) (λ e. cc) (λ e. absurd (apart (sym is ∙ e))) queries.reads.cause)
+    where
+      apart : unanswered fault.Memory ≡ unanswered fault.DiskFault → ⊥
+      apart e = cc
+
+  -- an agent that was of use does not answer only where it was out of memory
+  pub memory-asking : agent.fault ≡ None → (why : AgentFault) → result ≡ Err why → why ≡ fault.Memory
+  memory-asking going why is =
+      reading-memory agent.fault going why (subst (λ (r : Result (List ℕ) AgentFault). IfErr r IsReading) is queries.reads.faults)
+      (subst (λ (r : Result (List ℕ) AgentFault). Reopens agent.fault r) is queries.reads.reopens)
 
   module _ (reply : List ℕ) (ok : result ≡ Ok reply) where
     is-reply : (set : Settings) (g : List Beat) → IsAgentOf host.past agent set g → reply ≡ reply_of set g text
@@ -184,6 +209,11 @@ module _ (honest : Type 0) (agent : AgentState) (text : List ℕ) (host : Seen) 
         → ((s ≡ status.Ok) × (honest → host'.past ≡ Told bytes ∷ middle.past)) ⊎ ((s ≡ status.TellFault) × (honest → MayAdd (λ (n : ℕ). Told (take n bytes)) middle.past host'.past))
         → HasCause middle.tell_faults host'.tell_faults (s ≡ status.TellFault) → Answering honest agent answer s host host'
     answer-by host' disk = tell-by honest agent answer host middle queries.reads.quiet queries.reads.tells same-disk reply is-reply host' disk
+
+pub memory-logging : (agent : AgentState) → agent.fault ≡ None → (result : Result Log AgentFault) → Logs agent result → (why : AgentFault) → result ≡ Err why → why ≡ fault.Memory
+memory-logging agent going result logs why is =
+    logging-memory agent.fault going why (subst (λ (r : Result Log AgentFault). IfErr r IsLogging) is logs.faults)
+    (subst (λ (r : Result Log AgentFault). Reopens agent.fault r) is logs.reopens)
 
 -- it was asked for its log
 module _ (honest : Type 0) (agent : AgentState) (form : Form) (host : Seen) (log : Log) (logs : Logs agent (Ok log)) where

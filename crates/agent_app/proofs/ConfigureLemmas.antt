@@ -12,6 +12,7 @@ use Rattle.host_model.specs.Seen.{Seen}
 use Rattle.host_model.proofs.MomentLemmas.{joined}
 use Rattle.health_config.specs.declared.fault.ConfigFault.{ConfigFault}
 use Rattle.health_config.specs.declared.fault.ConfigFault.TheVariants.{TextTooLong}
+use Rattle.health_config.specs.declared.config.TheConstants.{TEXT_LIMIT}
 use Rattle.health_config.specs.Config.{config_read}
 use Rattle.history.specs.History.{Beat, health}
 use Rattle.line_stream.proofs.RunLemmas.{rose-later, Takes-none}
@@ -22,15 +23,16 @@ use Rattle.agent_core.specs.Agent.{AgentState}
 use Rattle.agent_core.specs.Calls.{Opens}
 use Rattle.agent_core.specs.Health.{health_refusal}
 use Rattle.agent_core.specs.Kept.{StandsForHistory}
-use Rattle.agent_app.specs.Health.{ends_health, health_output, health_status, history_by, history_with_health, is_over, status_of, told_by, Configures, ConfiguresAll, ConfiguresOn, Handled, HasHealthCause, StopsAt, StoresHealth, TellsFault}
+use Rattle.agent_app.specs.Health.{ends_health, fault_text, health_output, health_status, history_by, history_with_health, is_over, status_of, told_by, Configures, ConfiguresAll, ConfiguresOn, Handled, HasHealthCause, StopsAt, StoresHealth, TellsFault}
 use Rattle.agent_app.specs.declared.health_text.HealthEnd.{HealthEnd}
 use Rattle.agent_app.specs.declared.health_text.HealthEnd.TheVariants.{ReadFault, TooLong, Memory as WantMemory}
-use Rattle.agent_app.specs.HealthText.{most_bytes, TakesText}
+use Rattle.agent_app.specs.HealthText.{TakesText}
 use Rattle.agent_app.specs.Run.{ends_a_run, finds_none, is_whole, Extends, no_more, one_more, Keeps}
 use Rattle.agent_app.specs.Running.{opening_status, Counts, DiskRose, IsTakers, TellRose}
 use Rattle.agent_app.proofs.CauseLemmas.{both-counts, cause-as, same-counts, stayed}
 use Rattle.agent_app.proofs.OpeningLemmas.{by-fault, complete-by, disk-failed, failed_by, fault-is, opened-finds, opened_with, opening-stops, some-each, unopened-finds, unopened-leaves, unread, untold-yet}
-use Rattle.agent_app.proofs.HealthLemmas.{fault-ends, fault-stays, fault-told-files, fault-told-never, fault-told-takers}
+use Rattle.agent_app.proofs.HealthLemmas.{fault-ends, fault-stays, fault-told-files, fault-told-leaves, fault-told-never, fault-told-takers, refused-by}
+use Rattle.agent_app.proofs.LeavesLemmas.{leaves-nothing}
 use Rattle.agent_app.proofs.RunLemmas.{both-others}
 use Rattle.agent_app.proofs.RunningLemmas.{keeps-more, stands-all}
 
@@ -45,6 +47,18 @@ no-fault-then end is read = apart (sym is ∙ read)
   where
     apart : WantMemory ≡ ReadFault → ⊥
     apart e = cc
+
+read-tell : status.ReadFault ≡ status.TellFault → ⊥
+read-tell e = cc
+
+read-disk : status.ReadFault ≡ status.DiskFault → ⊥
+read-disk e = cc
+
+memory-tell : status.Memory ≡ status.TellFault → ⊥
+memory-tell e = cc
+
+memory-disk : status.Memory ≡ status.DiskFault → ⊥
+memory-disk e = cc
 
 -- ---- causes
 
@@ -87,22 +101,22 @@ extends-health h0 true taken = by (health_refusal taken)
     by None = one_more (health taken) h0 no_more
     by (Some why) = no_more
 
-module _ (taken more : List ℕ) (ended : Bool) (within : length taken ≤ most_bytes + 1) (at_end : ended ≡ true → more ≡ []) where
+module _ (taken more : List ℕ) (ended : Bool) (within : length taken ≤ TEXT_LIMIT + 1) (at_end : ended ≡ true → more ≡ []) where
   -- of a source that had these bytes more, the text is what was taken, where it is over
-  front-is : is_over ended taken ≡ true → take (most_bytes + 1) (taken ++ more) ≡ taken
+  front-is : is_over ended taken ≡ true → take (TEXT_LIMIT + 1) (taken ++ more) ≡ taken
   front-is over = by ended refl over
     where
-      by : (b : Bool) → ended ≡ b → (b || nat_lt most_bytes (length taken)) ≡ true → take (most_bytes + 1) (taken ++ more) ≡ taken
-      by true e h = ap (λ (m : List ℕ). take (most_bytes + 1) (taken ++ m)) (at_end e) ∙ ap (take (most_bytes + 1)) (append-nil taken) ∙ take_all (most_bytes + 1) taken within
+      by : (b : Bool) → ended ≡ b → (b || nat_lt TEXT_LIMIT (length taken)) ≡ true → take (TEXT_LIMIT + 1) (taken ++ more) ≡ taken
+      by true e h = ap (λ (m : List ℕ). take (TEXT_LIMIT + 1) (taken ++ m)) (at_end e) ∙ ap (take (TEXT_LIMIT + 1)) (append-nil taken) ∙ take_all (TEXT_LIMIT + 1) taken within
       by false e h =
-          let long : most_bytes < length taken = grind (arith, nat_tests) in
-          take-append-le (most_bytes + 1) taken more (omega (arith, long)) ∙ take_all (most_bytes + 1) taken within
+          let long : TEXT_LIMIT < length taken = grind (arith, nat_tests) in
+          take-append-le (TEXT_LIMIT + 1) taken more (omega (arith, long)) ∙ take_all (TEXT_LIMIT + 1) taken within
 
   status-is : (why : Option ConfigFault) → is_over ended taken ≡ true → health_refusal taken ≡ why → health_status (taken ++ more) ≡ status_of why
   status-is why over is = ap (λ (t : List ℕ). status_of (health_refusal t)) (front-is over) ∙ ap status_of is
 
   ends-as : (s : Status) (source tell disk : Type 0) → HasHealthCause s ended taken source tell disk → (source → ⊥) → (tell → ⊥) → (disk → ⊥) → (s ≡ health_status (taken ++ more)) ⊎ (s ≡ status.Memory)
-  ends-as status.Ok source tell disk (over, is) a b c = inl (sym (status-is None (ap (λ (b : Bool). b || nat_lt most_bytes (length taken)) over) is))
+  ends-as status.Ok source tell disk (over, is) a b c = inl (sym (status-is None (ap (λ (b : Bool). b || nat_lt TEXT_LIMIT (length taken)) over) is))
   ends-as (status.Refused line number) source tell disk (why, over, is, same) a b c = inl (same ∙ sym (status-is (Some why) over is))
   ends-as (status.Limit line number) source tell disk (why, over, is, same) a b c = inl (same ∙ sym (status-is (Some why) over is))
   ends-as status.ReadFault source tell disk (over, rose) a b c = absurd (a rose)
@@ -114,12 +128,14 @@ module _ (taken more : List ℕ) (ended : Bool) (within : length taken ≤ most_
 -- ---- an agent was handed what was taken
 module _ (set : Settings) (h0 : List Beat) (past : List Event) (here : EveryDisk (StandsForHistory set h0) past) where
   -- nothing happened
-  idle-at : (s : Status) (ended : Bool) (taken : List ℕ) (source tell disk : Type 0) → history_with_health h0 ended taken ≡ h0 → health_output set h0 ended taken ≡ [] ⊎ (is_whole s ≡ false)
+  idle-at : (s : Status) (ended : Bool) (taken : List ℕ) (source tell disk : Type 0) → (s ≡ status.TellFault → ⊥) → history_with_health h0 ended taken ≡ h0 → health_output set h0 ended taken ≡ [] ⊎ (is_whole s ≡ false)
       → HasHealthCause s ended taken source tell disk → StopsAt s set h0 ended taken past past source tell disk
-  idle-at s ended taken source tell disk same none cause = record {
+  idle-at s ended taken source tell disk untold same none cause = record {
     stops = keeps-more set h0 h0 (history_with_health h0 ended taken) (told past) (extends-health h0 ended taken) past past (opening-stops set h0 past past here refl (begins (λ disk images. images)));
     ends = λ all. subst (λ (g : List Beat). EveryDisk (StandsForHistory set g) past) (sym same) here;
     output = record { sent = []; unsent = health_output set h0 ended taken; whole = refl; tells = sym (append-nil (told past)); all = λ all. by all none };
+    told_for = λ is. absurd (untold is);
+    unspent = λ is. refl;
     cause = cause;
   }
     where
@@ -128,16 +144,16 @@ module _ (set : Settings) (h0 : List Beat) (past : List Event) (here : EveryDisk
       by all (inr part) = absurd (true≢false (sym all ∙ part))
 
 -- more bytes came than a text has
-too-long : (taken : List ℕ) → length taken ≡ most_bytes + 1 → health_refusal taken ≡ Some TextTooLong
+too-long : (taken : List ℕ) → length taken ≡ TEXT_LIMIT + 1 → health_refusal taken ≡ Some TextTooLong
 unfolding config_read
 too-long taken long =
     let over : nat_lt (2 ^ 20) (length taken) ≡ true = grind (arith, nat_tests) in
     rw over refl
 
-over-long : (taken : List ℕ) → length taken ≡ most_bytes + 1 → is_over false taken ≡ true
+over-long : (taken : List ℕ) → length taken ≡ TEXT_LIMIT + 1 → is_over false taken ≡ true
 over-long taken long = grind (arith, nat_tests)
 
-not-over : (taken : List ℕ) → length taken ≤ most_bytes → is_over false taken ≡ false
+not-over : (taken : List ℕ) → length taken ≤ TEXT_LIMIT → is_over false taken ≡ false
 not-over taken within = grind (arith, nat_tests)
 
 no-read : (text : List ℕ) → taken_as text ≡ untaken_for ReadFault → ⊥
@@ -145,7 +161,7 @@ no-read text e = cc
 
 module _ (honest : Type 0) (agent : AgentState) (host : Seen) (left left' : Option (List ℕ)) (faults faults' : ℕ) where
   -- a text that has ended was handed in
-  pub text-handled : (text : List ℕ) → TakesText (Ok text) left left' → HasCause faults faults' (taken_as text ≡ untaken_for ReadFault) → (s : Status) (host' : Seen) → StoresHealth honest agent true text s host host'
+  pub text-handled : (text : List ℕ) → TakesText (Ok text) left left' → HasCause faults faults' (taken_as text ≡ untaken_for ReadFault) → (s : Status) (host' : Seen) → StoresHealth honest agent text s host host'
       → Handled honest agent s left left' faults faults' host host'
   text-handled text takes cause s host' stores = record {
     taken = takes.taken;
@@ -161,8 +177,12 @@ module _ (honest : Type 0) (agent : AgentState) (host : Seen) (left left' : Opti
           stops = at.stops;
           ends = at.ends;
           output = at.output;
+          told_for = at.told_for;
+          unspent = at.unspent;
           cause = wider s true text ⊥ (TellRose host host') (DiskRose host host') (Rose faults faults') (TellRose host host') (DiskRose host host') (λ never. absurd never) (λ rose. rose) (λ rose. rose) at.cause;
         });
+    quiet = λ h h0 same other. let refused = refused-by h0 takes.taken same in stores.quiet h refused.0 (ap health_refusal takes.ended.all ∙ refused.1) other;
+    stored_for = λ is. (refl, ap health_refusal (sym takes.ended.all) ∙ stores.stored_for is);
     ends = takers-end s stores.statuses;
     counts = stores.counts;
     others = stores.others;
@@ -175,9 +195,9 @@ module _ (honest : Type 0) (agent : AgentState) (host : Seen) (left left' : Opti
   -- no text came
   module _ (end : HealthEnd) (takes : TakesText (Err end) left left') (cause : HasCause faults faults' (untaken_for end ≡ untaken_for ReadFault)) where
     pub long-handled : end ≡ TooLong → (s : Status) (host' : Seen) → TellsFault s honest TextTooLong host.past host'.past (TellRose host host')
-        → HasCause host.tell_faults host'.tell_faults (s ≡ status.TellFault) → host'.disk_faults ≡ host.disk_faults → Handled honest agent s left left' faults faults' host host'
-    long-handled is s host' telling tells stays =
-        let long : length takes.taken ≡ most_bytes + 1 = takes.ended.too_long is in
+        → HasCause host.tell_faults host'.tell_faults (s ≡ status.TellFault) → host'.disk_faults ≡ host.disk_faults → (s ≡ status.TellFault → fault_text TextTooLong ≡ [] → ⊥) → Handled honest agent s left left' faults faults' host host'
+    long-handled is s host' telling tells stays some =
+        let long : length takes.taken ≡ TEXT_LIMIT + 1 = takes.ended.too_long is in
         record {
           taken = takes.taken;
           ended = false;
@@ -187,7 +207,9 @@ module _ (honest : Type 0) (agent : AgentState) (host : Seen) (left left' : Opti
           short = λ e. absurd (fault-stays s honest TextTooLong host.past host'.past (TellRose host host') telling e);
           at = λ h set h0 is_of.
               fault-ends set h0 false takes.taken host.past (stands-all host.past agent set h0 is_of) (Rose faults faults') (TellRose host host') (DiskRose host host') TextTooLong refl
-              (over-long takes.taken long) (too-long takes.taken long) honest s host'.past h telling;
+              (over-long takes.taken long) (too-long takes.taken long) honest s host'.past h some telling;
+          quiet = λ h h0 same other. fault-told-leaves s honest TextTooLong host.past host'.past (TellRose host host') telling h;
+          stored_for = λ e. absurd (fault-told-never s honest TextTooLong host.past host'.past (TellRose host host') telling e);
           ends = takers-end s (fault-told-takers s honest TextTooLong host.past host'.past (TellRose host host') telling);
           counts = record { tells = tells; disk = stayed host.disk_faults host'.disk_faults (s ≡ status.DiskFault) stays (fault-told-never s honest TextTooLong host.past host'.past (TellRose host host') telling) };
           others = λ h file other. fault-told-files s honest TextTooLong host.past host'.past (TellRose host host') telling h file;
@@ -213,8 +235,10 @@ module _ (honest : Type 0) (agent : AgentState) (host : Seen) (left left' : Opti
           at_end = λ e. absurd (true≢false (sym e));
           short = λ e. within;
           at = λ h set h0 is_of.
-              idle-at set h0 host.past (stands-all host.past agent set h0 is_of) status.ReadFault false takes.taken (Rose faults faults') (TellRose host host) (DiskRose host host) refl
+              idle-at set h0 host.past (stands-all host.past agent set h0 is_of) status.ReadFault false takes.taken (Rose faults faults') (TellRose host host) (DiskRose host host) read-tell refl
               (inl (silent set h0 (not-over takes.taken within))) (not-over takes.taken within, cause.failed (ap untaken_for is));
+          quiet = λ h h0 same other. leaves-nothing host.past;
+          stored_for = λ e. absurd (read-disk e);
           ends = refl;
           counts = same-counts host (status.ReadFault ≡ status.TellFault) (status.ReadFault ≡ status.DiskFault) (λ e. cc) (λ e. cc);
           others = λ h file other. refl;
@@ -233,7 +257,9 @@ module _ (honest : Type 0) (agent : AgentState) (host : Seen) (left left' : Opti
       at_end = λ e. absurd (true≢false (sym e));
       short = λ e. absurd (apart e);
       at = λ h set h0 is_of.
-          idle-at set h0 host.past (stands-all host.past agent set h0 is_of) status.Memory false takes.taken (Rose faults faults') (TellRose host host) (DiskRose host host) refl (inr refl) tt;
+          idle-at set h0 host.past (stands-all host.past agent set h0 is_of) status.Memory false takes.taken (Rose faults faults') (TellRose host host) (DiskRose host host) memory-tell refl (inr refl) tt;
+      quiet = λ h h0 same other. leaves-nothing host.past;
+      stored_for = λ e. absurd (memory-disk e);
       ends = refl;
       counts = same-counts host (status.Memory ≡ status.TellFault) (status.Memory ≡ status.DiskFault) (λ e. cc) (λ e. cc);
       others = λ h file other. refl;
@@ -296,6 +322,8 @@ module _ (honest : Type 0) (host : Seen) (agent : AgentState) (middle : Seen) (o
             (subst (λ (t : List ℕ). Throughout (EveryStop (Keeps set h0 whole t)) middle.past host'.past) silent at.stops);
         ends = at.ends;
         output = record { sent = at.output.sent; unsent = at.output.unsent; whole = at.output.whole; tells = at.output.tells ∙ ap (λ (t : List ℕ). t ++ at.output.sent) silent; all = at.output.all };
+        told_for = at.told_for;
+        unspent = λ is. at.unspent is ∙ silent;
         cause = caused at.cause;
       };
     }
@@ -304,11 +332,17 @@ module _ (honest : Type 0) (host : Seen) (agent : AgentState) (middle : Seen) (o
     stands-now = stands-all middle.past agent set h0 (opens.opened h set h0 here)
 
     resumed : ConfiguresOn s set h0 left left' host.past host'.past (Rose faults faults') (TellRose host host') (DiskRose host host')
+    unfolding since
     resumed = record {
       read = middle.past;
       before = opens.any_moment h;
       silent = (opens.only_here h).output;
-      after = inl (stands-now, since middle.past refl (opening-stops set h0 middle.past middle.past stands-now refl (begins (λ disk images. images))));
+      after = inl (record {
+        stands = stands-now;
+        configures = since middle.past refl (opening-stops set h0 middle.past middle.past stands-now refl (begins (λ disk images. images)));
+        quiet = λ same other. handled.quiet h h0 same other;
+        stored_for = handled.stored_for;
+      });
     }
 
   pub configured : ConfiguresAll honest s left left' faults faults' host host'
@@ -354,6 +388,8 @@ module _ (honest : Type 0) (host host' : Seen) (first : honest → IsDisk host.p
           stops = opening-stops set h0 host.past host'.past stands (opens.only_here h).output (opens.any_moment h);
           ends = λ all. absurd (true≢false (sym all ∙ part));
           output = record { sent = []; unsent = health_output set h0 false []; whole = refl; tells = (opens.only_here h).output ∙ sym (append-nil (told host.past)); all = λ all. absurd (true≢false (sym all ∙ part)) };
+          told_for = λ is. absurd (untold-yet honest host host' first why is);
+          unspent = λ is. (opens.only_here h).output;
           cause =
               by-fault honest host host' first (λ (f : AgentFault). why ≡ f → HasHealthCause (opening_status f) false [] source (TellRose host host') (DiskRose host host')) why which
               (λ is. opens.cause.failed (ap (λ (f : AgentFault). Err f) is)) (λ is. tt) refl;

@@ -1,11 +1,11 @@
 -- What `health` stores and tells, and what stops leave of it.
-use Rattle.std.proofs.Common.{◌≡◌, inl, inr, ℕ, ◌+◌, Bool, true, false, List, [], ◌∷◌, ◌++◌, length, take, drop, codes, Option, Some, None, Result, Ok, Err, IfOk, IfErr, OnOk, refl, sym, ap, ap₂, subst, ◌∙◌, append_assoc, append-nil, arith, true≢false, if◌then◌else◌}
+use Rattle.std.proofs.Common.{◌≡◌, ◌⊎◌, inl, inr, ℕ, ◌+◌, Bool, true, false, List, [], ◌∷◌, ◌++◌, length, take, drop, codes, Option, Some, None, Result, Ok, Err, IfOk, IfErr, OnOk, refl, sym, ap, ap₂, subst, ◌∙◌, append_assoc, append-nil, arith, true≢false, if◌then◌else◌}
 use Rattle.std.specs.Fmt.{decimal}
 use Rattle.std.proofs.lemmas.List.{take-append-drop}
 use Rattle.host_model.specs.Cause.{HasCause, Rose}
 use Rattle.host_model.specs.declared.file.File.{File}
 use Rattle.host_model.specs.declared.status.Status.{Status}
-use Rattle.host_model.specs.declared.status.Status.TheVariants.{Ok as Done, TellFault, DiskFault, ReadFault, Memory}
+use Rattle.host_model.specs.declared.status.Status.TheVariants.{Ok as Done, Refused, Limit, TellFault, DiskFault, ReadFault, Memory}
 use Rattle.host_model.specs.Disks.{EveryDisk}
 use Rattle.host_model.specs.Moments.{Throughout, EveryStop, begins}
 use Rattle.host_model.specs.Past.{Event, Told, of, told, IsText, MayAdd}
@@ -26,17 +26,18 @@ use Rattle.agent_core.specs.declared.reply.Reply.{Reply}
 use Rattle.agent_core.specs.Agent.{AgentState, IsAgentOf}
 use Rattle.agent_core.specs.Alarms.{events_at}
 use Rattle.agent_core.specs.Calls.{SetsHealth}
-use Rattle.agent_core.specs.Faults.{HealthRefusedBy, LeavesAll}
+use Rattle.agent_core.specs.Faults.{HealthRefusedBy, IsHealthRefusal, LeavesAll}
 use Rattle.agent_core.specs.Health.{health_refusal}
 use Rattle.agent_core.specs.Kept.{StandsForHealth, StandsForHistory}
 use Rattle.agent_core.specs.Replies.{reply_text}
+use Rattle.agent_app.specs.Convert.{LeavesFiles}
 use Rattle.agent_app.specs.Health.{fault_status, fault_text, health_output, history_by, history_with_health, is_limit, is_over, line_by, status_by, told_by, HasHealthCause, StopsAt, StoresHealth, TellsFault}
 use Rattle.agent_app.specs.Run.{Extends, no_more, one_more, is_whole, IsAckedUpTo, Keeps, LeavesOthers}
 use Rattle.agent_app.specs.Running.{DiskRose, IsCutShort, IsTakers, TellRose}
-use Rattle.agent_app.proofs.AckLemmas.{acked-nothing, acked-one, acked-since, decimal-free, first-free, first_word, no-stored, text-front}
+use Rattle.agent_app.proofs.AckLemmas.{acked-nothing, acked-one, acked-since, decimal-free, first-free, first_word, no-stored, stored-some, text-front}
 use Rattle.agent_app.proofs.CauseLemmas.{apart, cause-as, ended-as, ended_so, is_outside, stayed, stayed-before, stayed-behind}
 use Rattle.agent_app.proofs.EventLemmas.{acked-told}
-use Rattle.agent_app.proofs.LeavesLemmas.{may-told}
+use Rattle.agent_app.proofs.LeavesLemmas.{leaves-nothing, may-told, one-told}
 use Rattle.agent_app.proofs.RunningLemmas.{stands-all}
 
 -- ---- the line of a refusal
@@ -86,6 +87,41 @@ fault-cause why ended text source_rose tell_rose disk_rose over is = by (is_limi
     by false (Some line) (Some number) e = (why, over, is, sym e)
     by limit (Some line) None e = tt
     by limit None number e = tt
+
+-- a refusal that ends as if memory were short is told by nothing
+fault-none : (why : ConfigFault) → fault_status why ≡ Memory → fault_text why ≡ []
+fault-none why = by (is_limit why) (fault_line why) (fault_number why)
+  where
+    limit-apart : (line number : ℕ) → Limit line number ≡ Memory → ⊥
+    limit-apart line number e = cc
+
+    refused-apart : (line number : ℕ) → Refused line number ≡ Memory → ⊥
+    refused-apart line number e = cc
+
+    by : (limit : Bool) (line number : Option ℕ) → status_by limit line number ≡ Memory → line_by limit line number ≡ []
+    by true (Some line) (Some number) e = absurd (limit-apart line number e)
+    by false (Some line) (Some number) e = absurd (refused-apart line number e)
+    by limit (Some line) None e = refl
+    by limit None number e = refl
+
+tell-apart : (TellFault ≡ DiskFault) ⊎ (TellFault ≡ Memory) → ⊥
+tell-apart (inl e) = cc
+tell-apart (inr e) = cc
+
+done-apart : (Done ≡ DiskFault) ⊎ (Done ≡ Memory) → ⊥
+done-apart (inl e) = cc
+done-apart (inr e) = cc
+
+-- a text that leaves the history is refused
+pub refused-by : (h0 : List Beat) (text : List ℕ) → history_by h0 text (health_refusal text) ≡ h0 → (why : ConfigFault) × (health_refusal text ≡ Some why)
+refused-by h0 text = by (health_refusal text) refl
+  where
+    longer : health text ∷ h0 ≡ h0 → ⊥
+    longer e = omega (arith, ap length e)
+
+    by : (reason : Option ConfigFault) → health_refusal text ≡ reason → history_by h0 text reason ≡ h0 → (why : ConfigFault) × (health_refusal text ≡ Some why)
+    by None is e = absurd (longer e)
+    by (Some why) is e = (why, is)
 
 -- how telling a text ends
 module _ (status : Status) (honest : Type 0) (text : List ℕ) (old new : List Event) (tell_rose : Type 0) where
@@ -175,17 +211,20 @@ module _ (set : Settings) (h0 : List Beat) (text : List ℕ) (start : List Event
   output = told_by set h0 text (health_refusal text)
 
   short-end : (status : Status) (new : List Event) (sent unsent : List ℕ) → is_whole status ≡ false → Kept new → output ≡ sent ++ unsent → told new ≡ told start ++ sent
-      → HasHealthCause status true text ⊥ tell_rose disk_rose → Ends status new
-  short-end status new sent unsent short kept whole_is tells cause = record {
+      → (status ≡ TellFault → output ≡ [] → ⊥) → ((status ≡ DiskFault) ⊎ (status ≡ Memory) → told new ≡ told start) → HasHealthCause status true text ⊥ tell_rose disk_rose → Ends status new
+  short-end status new sent unsent short kept whole_is tells told_for unspent cause = record {
     stops = kept;
     ends = λ all. absurd (true≢false (sym all ∙ short));
     output = record { sent = sent; unsent = unsent; whole = whole_is; tells = tells; all = λ all. absurd (true≢false (sym all ∙ short)) };
+    told_for = told_for;
+    unspent = unspent;
     cause = cause;
   }
 
   -- nothing was told
-  silent-end : (status : Status) (new : List Event) → is_whole status ≡ false → Kept new → told new ≡ told start → HasHealthCause status true text ⊥ tell_rose disk_rose → Ends status new
-  silent-end status new short kept silent cause = short-end status new [] output short kept refl (silent ∙ sym (append-nil (told start))) cause
+  silent-end : (status : Status) (new : List Event) → is_whole status ≡ false → (status ≡ TellFault → ⊥) → Kept new → told new ≡ told start → HasHealthCause status true text ⊥ tell_rose disk_rose → Ends status new
+  silent-end status new short untold kept silent cause =
+      short-end status new [] output short kept refl (silent ∙ sym (append-nil (told start))) (λ is none. untold is) (λ is. silent) cause
 
   -- this is what is to be told, of this history
   module _ (stored : List Beat) (since : Extends h0 stored) (stored-is : history_by h0 text (health_refusal text) ≡ stored) (next : List ℕ) (next-is : output ≡ next) (acked : IsAckedUpTo (length stored) next)
@@ -193,26 +232,34 @@ module _ (set : Settings) (h0 : List Beat) (text : List ℕ) (start : List Event
     within : Extends stored (history_by h0 text (health_refusal text))
     within = subst (Extends stored) (sym stored-is) no_more
 
-    whole-end : (status : Status) (new : List Event) → new ≡ Told next ∷ past → HasHealthCause status true text ⊥ tell_rose disk_rose → Ends status new
-    whole-end status new is cause = record {
+    whole-end : (new : List Event) → new ≡ Told next ∷ past → HasHealthCause Done true text ⊥ tell_rose disk_rose → Ends Done new
+    whole-end new is cause = record {
       stops = joined kept (told-after set h0 stored (history_by h0 text (health_refusal text)) since within start past silent here next acked new is);
       ends = λ all. subst (λ (g : List Beat). EveryDisk (StandsForHistory set g) new) (sym stored-is) (subst (λ (p : List Event). EveryDisk (StandsForHistory set stored) p) (sym is) here);
       output = record { sent = next; unsent = []; whole = next-is ∙ sym (append-nil next); tells = ap told is ∙ ap (λ (t : List ℕ). t ++ next) silent; all = λ all. refl };
+      told_for = λ is. absurd (apart Done TellFault refl refl is);
+      unspent = λ is. absurd (done-apart is);
       cause = cause;
     }
 
-    cut-end : (honest : Type 0) (status : Status) (new : List Event) → honest → IsCutShort status honest next past new tell_rose → Ends status new
-    cut-end honest status new h (inl (is, rose, torn)) = subst (λ (s : Status). Ends s new) (sym is) (by (torn h))
+    cut-end : (honest : Type 0) (status : Status) (new : List Event) → honest → (next ≡ [] → ⊥) → IsCutShort status honest next past new tell_rose → Ends status new
+    cut-end honest status new h some (inl (is, rose, torn)) = subst (λ (s : Status). Ends s new) (sym is) (by (torn h))
       where
         after : Kept new
         after = joined kept (torn-after set h0 stored (history_by h0 text (health_refusal text)) since within start past silent here next acked new (torn h))
 
+        told_for : TellFault ≡ TellFault → output ≡ [] → ⊥
+        told_for _ none = some (sym next-is ∙ none)
+
+        unspent : (TellFault ≡ DiskFault) ⊎ (TellFault ≡ Memory) → told new ≡ told start
+        unspent e = absurd (tell-apart e)
+
         by : MayAdd (λ (n : ℕ). Told (take n next)) past new → Ends TellFault new
-        by (inl same) = short-end TellFault new [] output refl after refl (ap told same ∙ silent ∙ sym (append-nil (told start))) rose
+        by (inl same) = short-end TellFault new [] output refl after refl (ap told same ∙ silent ∙ sym (append-nil (told start))) told_for unspent rose
         by (inr (n, added)) =
-            short-end TellFault new (take n next) (drop n next) refl after (next-is ∙ sym (take-append-drop n next)) (ap told added ∙ ap (λ (t : List ℕ). t ++ take n next) silent) rose
-    cut-end honest status new h (inr (is, same)) =
-        subst (λ (s : Status). Ends s new) (sym is) (silent-end Memory new refl (subst (λ (p : List Event). Kept p) (sym same) kept) (ap told same ∙ silent) tt)
+            short-end TellFault new (take n next) (drop n next) refl after (next-is ∙ sym (take-append-drop n next)) (ap told added ∙ ap (λ (t : List ℕ). t ++ take n next) silent) told_for unspent rose
+    cut-end honest status new h some (inr (is, same)) =
+        subst (λ (s : Status). Ends s new) (sym is) (silent-end Memory new refl (apart Memory TellFault refl refl) (subst (λ (p : List Event). Kept p) (sym same) kept) (ap told same ∙ silent) tt)
 
 -- ---- why a text is refused was told
 module _ (s : Status) (honest : Type 0) (why : ConfigFault) (old new : List Event) (rose : Type 0) where
@@ -227,9 +274,13 @@ module _ (s : Status) (honest : Type 0) (why : ConfigFault) (old new : List Even
   pub fault-stays : TellsFault s honest why old new rose → s ≡ ReadFault → ⊥
   fault-stays telling e = subst IsTakers e (fault-told-takers telling)
 
+  pub fault-told-leaves : TellsFault s honest why old new rose → honest → LeavesFiles old new
+  fault-told-leaves (inl (status-is, done)) h = subst (LeavesFiles old) (sym (done h)) (one-told old (fault_text why))
+  fault-told-leaves (inr (inl (is, counted_so, torn))) h = may-told old new (fault_text why) (torn h)
+  fault-told-leaves (inr (inr (is, same))) h = subst (LeavesFiles old) (sym same) (leaves-nothing old)
+
   pub fault-told-files : TellsFault s honest why old new rose → honest → (file : File) → of file new ≡ of file old
-  fault-told-files (inl (status-is, done)) h file = ap (of file) (done h)
-  fault-told-files (inr cut) h file = cut-leaves s honest (fault_text why) old new rose cut h file
+  fault-told-files telling h = at_end (fault-told-leaves telling h)
 
 -- on a database of this history, which the text leaves
 module _ (set : Settings) (h0 : List Beat) (ended : Bool) (taken : List ℕ) (start : List Event) (here : EveryDisk (StandsForHistory set h0) start) (source tell disk : Type 0) (why : ConfigFault)
@@ -246,15 +297,21 @@ module _ (set : Settings) (h0 : List Beat) (ended : Bool) (taken : List ℕ) (st
   stays-left : EveryDisk (StandsForHistory set left) start
   stays-left = subst (λ (g : List Beat). EveryDisk (StandsForHistory set g) start) (sym same) here
 
-  pub fault-ends : (honest : Type 0) (s : Status) (new : List Event) → honest → TellsFault s honest why start new tell → StopsAt s set h0 ended taken start new source tell disk
-  fault-ends honest s new h (inl (status-is, done)) =
+  pub fault-ends : (honest : Type 0) (s : Status) (new : List Event) → honest → (s ≡ TellFault → fault_text why ≡ [] → ⊥) → TellsFault s honest why start new tell → StopsAt s set h0 ended taken start new source tell disk
+  fault-ends honest s new h some (inl (status-is, done)) =
       subst (λ (t : Status). StopsAt t set h0 ended taken start new source tell disk) (sym status-is) (record {
         stops = told-after set h0 h0 left no_more within-left start start refl here (fault_text why) (acked-fault (length h0) why) new (done h);
         ends = λ all. subst (λ (p : List Event). EveryDisk (StandsForHistory set left) p) (sym (done h)) stays-left;
         output = record { sent = fault_text why; unsent = []; whole = output-why ∙ sym (append-nil (fault_text why)); tells = ap told (done h); all = λ all. refl };
+        told_for = λ untold. absurd (apart (fault_status why) TellFault (fault-inside why) refl untold);
+        unspent = silent-why;
         cause = fault-cause why ended taken source tell disk over is;
       })
-  fault-ends honest s new h (inr (inl (status-is, rose, torn))) = subst (λ (t : Status). StopsAt t set h0 ended taken start new source tell disk) (sym status-is) (by (torn h))
+    where
+      silent-why : (fault_status why ≡ DiskFault) ⊎ (fault_status why ≡ Memory) → told new ≡ told start
+      silent-why (inl e) = absurd (apart (fault_status why) DiskFault (fault-inside why) refl e)
+      silent-why (inr e) = ap told (done h) ∙ ap (λ (t : List ℕ). told start ++ t) (fault-none why e) ∙ append-nil (told start)
+  fault-ends honest s new h some (inr (inl (status-is, rose, torn))) = subst (λ (t : Status). StopsAt t set h0 ended taken start new source tell disk) (sym status-is) (by (torn h))
     where
       after : Throughout (EveryStop (Keeps set h0 left (told start))) start new
       after = torn-after set h0 h0 left no_more within-left start start refl here (fault_text why) (acked-fault (length h0) why) new (torn h)
@@ -264,18 +321,22 @@ module _ (set : Settings) (h0 : List Beat) (ended : Bool) (taken : List ℕ) (st
         stops = after;
         ends = λ all. absurd (true≢false (sym all));
         output = record { sent = sent; unsent = unsent; whole = output-why ∙ whole_is; tells = tells; all = λ all. absurd (true≢false (sym all)) };
+        told_for = λ untold none. some status-is (sym output-why ∙ none);
+        unspent = λ e. absurd (tell-apart e);
         cause = rose;
       }
 
       by : MayAdd (λ (n : ℕ). Told (take n (fault_text why))) start new → StopsAt TellFault set h0 ended taken start new source tell disk
       by (inl unmoved) = short [] (fault_text why) refl (ap told unmoved ∙ sym (append-nil (told start)))
       by (inr (n, added)) = short (take n (fault_text why)) (drop n (fault_text why)) (sym (take-append-drop n (fault_text why))) (ap told added)
-  fault-ends honest s new h (inr (inr (status-is, unmoved))) =
+  fault-ends honest s new h some (inr (inr (status-is, unmoved))) =
       subst (λ (t : Status). StopsAt t set h0 ended taken start new source tell disk) (sym status-is)
       (subst (λ (p : List Event). StopsAt Memory set h0 ended taken start p source tell disk) (sym unmoved) (record {
         stops = begins (here-stop set h0 h0 left no_more within-left start start refl here (fault_text why) (acked-fault (length h0) why));
         ends = λ all. absurd (true≢false (sym all));
         output = record { sent = []; unsent = health_output set h0 ended taken; whole = refl; tells = sym (append-nil (told start)); all = λ all. absurd (true≢false (sym all)) };
+        told_for = λ untold. absurd (apart Memory TellFault refl refl untold);
+        unspent = λ e. refl;
         cause = tt;
       }))
 
@@ -289,10 +350,19 @@ other-fault why e = cc
 abbrev stored : Reply → Result Reply AgentFault
 stored reply = Ok reply
 
+short-fault : unstored fault.Memory ≡ unstored fault.DiskFault → ⊥
+short-fault e = cc
+
+abbrev unrefused : Option ConfigFault
+unrefused = None
+
+free-none : (why : ConfigFault) → unrefused ≡ Some why → ⊥
+free-none why e = cc
+
 no-fault : (reply : Reply) → stored reply ≡ unstored fault.DiskFault → ⊥
 no-fault reply e = cc
 
-module _ (honest : Type 0) (agent : AgentState) (text : List ℕ) (host : Seen) (result : Result Reply AgentFault) (middle : Seen) (agent' : AgentState) (sets : SetsHealth honest host agent text result middle agent') where
+module _ (honest : Type 0) (agent : AgentState) (text : List ℕ) (host : Seen) (result : Result Reply AgentFault) (middle : Seen) (agent' : AgentState) (sets : SetsHealth honest host agent text result middle agent') (going : agent.fault ≡ None) where
   silent : honest → told middle.past ≡ told host.past
   silent h = (sets.only_here h).output
 
@@ -313,44 +383,69 @@ module _ (honest : Type 0) (agent : AgentState) (text : List ℕ) (host : Seen) 
   tells-by s host' cause = stayed-before host.tell_faults middle.tell_faults host'.tell_faults (s ≡ TellFault) sets.tells cause
 
   -- the disk failed
-  pub disk-failed-storing : result ≡ Err fault.DiskFault → StoresHealth honest agent true text DiskFault host middle
+  pub disk-failed-storing : result ≡ Err fault.DiskFault → StoresHealth honest agent text DiskFault host middle
   disk-failed-storing is = record {
     at = λ h set h0 is_of.
-        silent-end set h0 text host.past (TellRose host middle) (DiskRose host middle) DiskFault middle.past refl (kept h set h0 is_of) (silent h) (sets.cause.failed is);
+        silent-end set h0 text host.past (TellRose host middle) (DiskRose host middle) DiskFault middle.past refl disk-apart (kept h set h0 is_of) (silent h) (sets.cause.failed is);
+    quiet = λ h why refused other. absurd (free-none why (sym free ∙ refused));
+    stored_for = λ e. free;
     statuses = tt;
     counts = record { tells = stayed host.tell_faults middle.tell_faults (DiskFault ≡ TellFault) sets.tells (λ e. cc); disk = disk-by DiskFault middle refl (λ e. is) (λ e. refl) };
     others = others-by middle (λ h file. refl);
   }
+    where
+      disk-apart : DiskFault ≡ TellFault → ⊥
+      disk-apart e = cc
+
+      free : health_refusal text ≡ None
+      free = subst (λ (r : Result Reply AgentFault). HealthRefusedBy (health_refusal text) r) is (sets.refused going)
 
   -- there was no memory
-  pub want-storing : (result ≡ Err fault.DiskFault → ⊥) → StoresHealth honest agent true text Memory host middle
-  want-storing other = record {
-    at = λ h set h0 is_of. silent-end set h0 text host.past (TellRose host middle) (DiskRose host middle) Memory middle.past refl (kept h set h0 is_of) (silent h) tt;
+  pub want-storing : result ≡ Err fault.Memory → StoresHealth honest agent text Memory host middle
+  want-storing is = record {
+    at = λ h set h0 is_of. silent-end set h0 text host.past (TellRose host middle) (DiskRose host middle) Memory middle.past refl (apart Memory TellFault refl refl) (kept h set h0 is_of) (silent h) tt;
+    quiet = λ h why refused other. absurd (other refl);
+    stored_for = λ e. absurd (memory-apart e);
     statuses = tt;
     counts = record {
       tells = stayed host.tell_faults middle.tell_faults (Memory ≡ TellFault) sets.tells (λ e. cc);
-      disk = disk-by Memory middle refl (λ e. cc) (λ e. absurd (other e));
+      disk = disk-by Memory middle refl (λ e. cc) (λ failed. absurd (short-fault (sym is ∙ failed)));
     };
     others = others-by middle (λ h file. refl);
   }
+    where
+      memory-apart : Memory ≡ DiskFault → ⊥
+      memory-apart e = cc
+
+  -- what was answered is no fault but that of memory, where it is neither a refusal nor one of the disk
+  pub memory-storing : (why : AgentFault) → result ≡ Err why → ((refused : ConfigFault) → why ≡ fault.Health refused → ⊥) → (why ≡ fault.DiskFault → ⊥) → why ≡ fault.Memory
+  memory-storing why is unrefused undisk = by why refl (subst (λ (r : Result Reply AgentFault). HealthRefusedBy (health_refusal text) r) is (sets.refused going))
+    where
+      by : (f : AgentFault) → why ≡ f → IsHealthRefusal (health_refusal text) f → why ≡ fault.Memory
+      by (fault.Health refused) e reason = absurd (unrefused refused e)
+      by fault.DiskFault e reason = absurd (undisk e)
+      by fault.Memory e reason = e
+      by other e reason = absurd reason
 
   -- it is refused
   module _ (why : ConfigFault) (err : result ≡ Err (fault.Health why)) (s : Status) (host' : Seen)
-      (telling : TellsFault s honest why middle.past host'.past (Rose middle.tell_faults host'.tell_faults)) (cause : HasCause middle.tell_faults host'.tell_faults (s ≡ TellFault)) (stays : host'.disk_faults ≡ middle.disk_faults) where
+      (telling : TellsFault s honest why middle.past host'.past (Rose middle.tell_faults host'.tell_faults)) (cause : HasCause middle.tell_faults host'.tell_faults (s ≡ TellFault)) (stays : host'.disk_faults ≡ middle.disk_faults)
+      (some : s ≡ TellFault → fault_text why ≡ [] → ⊥) where
     same : middle ≡ host
     same = (subst (λ (r : Result Reply AgentFault). IfErr r (λ (f : AgentFault). LeavesAll f → (agent' ≡ agent) × (middle ≡ host))) err sets.unchanged tt).1
 
-    refusal-is : agent.fault ≡ None → health_refusal text ≡ Some why
-    refusal-is going = subst (λ (r : Result Reply AgentFault). HealthRefusedBy (health_refusal text) r) err (sets.refused going)
+    refusal-is : health_refusal text ≡ Some why
+    refusal-is = subst (λ (r : Result Reply AgentFault). HealthRefusedBy (health_refusal text) r) err (sets.refused going)
 
     telling-here : TellsFault s honest why host.past host'.past (TellRose host host')
     telling-here = subst (λ (seen : Seen). TellsFault s honest why seen.past host'.past (Rose seen.tell_faults host'.tell_faults)) same telling
 
-    pub refused-storing : StoresHealth honest agent true text s host host'
+    pub refused-storing : StoresHealth honest agent text s host host'
     refused-storing = record {
       at = λ h set h0 is_of.
-          let is = refusal-is is_of.going in
-          fault-ends set h0 true text host.past (stands-all host.past agent set h0 is_of) ⊥ (TellRose host host') (DiskRose host host') why (ap (history_by h0 text) is) refl is honest s host'.past h telling-here;
+          fault-ends set h0 true text host.past (stands-all host.past agent set h0 is_of) ⊥ (TellRose host host') (DiskRose host host') why (ap (history_by h0 text) refusal-is) refl refusal-is honest s host'.past h some telling-here;
+      quiet = λ h reason refused other. fault-told-leaves s honest why host.past host'.past (TellRose host host') telling-here h;
+      stored_for = λ e. absurd (fault-told-never s honest why host.past host'.past (TellRose host host') telling-here e);
       statuses = fault-told-takers s honest why host.past host'.past (TellRose host host') telling-here;
       counts = record {
         tells = tells-by s host' cause;
@@ -364,8 +459,8 @@ module _ (honest : Type 0) (agent : AgentState) (text : List ℕ) (host : Seen) 
     abbrev longer : List Beat → List Beat
     longer h0 = health text ∷ h0
 
-    free : agent.fault ≡ None → health_refusal text ≡ None
-    free going = subst (λ (r : Result Reply AgentFault). HealthRefusedBy (health_refusal text) r) ok (sets.refused going)
+    free : health_refusal text ≡ None
+    free = subst (λ (r : Result Reply AgentFault). HealthRefusedBy (health_refusal text) r) ok (sets.refused going)
 
     module _ (h : honest) (set : Settings) (h0 : List Beat) (is_of : IsAgentOf host.past agent set h0) where
       after : IsAgentOf middle.past agent' set (longer h0)
@@ -389,7 +484,7 @@ module _ (honest : Type 0) (agent : AgentState) (text : List ℕ) (host : Seen) 
 
       output-is : told_by set h0 text (health_refusal text) ≡ reply_text reply
       output-is =
-          ap (told_by set h0 text) (free is_of.going)
+          ap (told_by set h0 text) free
           ∙ sym (told-is ∙ ap (λ (n : ℕ). reply_text (reply-with n (events_at set (longer h0)))) (after.count ∙ ap counted one-more))
 
       acked : IsAckedUpTo (length (longer h0)) (reply_text reply)
@@ -397,23 +492,27 @@ module _ (honest : Type 0) (agent : AgentState) (text : List ℕ) (host : Seen) 
           subst (IsAckedUpTo (length (longer h0))) (sym told-is)
           (acked-told (length (longer h0)) agent'.count set (longer h0) after.holds.beats after.holds.are (omega (arith, after.count)) (omega (arith, after.count)))
 
-    pub told-storing : (honest → host'.past ≡ Told (reply_text reply) ∷ middle.past) → HasCause middle.tell_faults host'.tell_faults (Done ≡ TellFault) → StoresHealth honest agent true text Done host host'
+    pub told-storing : (honest → host'.past ≡ Told (reply_text reply) ∷ middle.past) → HasCause middle.tell_faults host'.tell_faults (Done ≡ TellFault) → StoresHealth honest agent text Done host host'
     told-storing done cause = record {
       at = λ h set h0 is_of.
-          whole-end set h0 text host.past (TellRose host host') (DiskRose host host') (longer h0) (one_more (health text) h0 no_more) (ap (history_by h0 text) (free is_of.going)) (reply_text reply) (output-is h set h0 is_of)
-          (acked h set h0 is_of) middle.past (kept h set h0 is_of) (silent h) (stands-all middle.past agent' set (longer h0) (after h set h0 is_of)) Done host'.past (done h) (refl, free is_of.going);
+          whole-end set h0 text host.past (TellRose host host') (DiskRose host host') (longer h0) (one_more (health text) h0 no_more) (ap (history_by h0 text) free) (reply_text reply) (output-is h set h0 is_of)
+          (acked h set h0 is_of) middle.past (kept h set h0 is_of) (silent h) (stands-all middle.past agent' set (longer h0) (after h set h0 is_of)) host'.past (done h) (refl, free);
+      quiet = λ h why refused other. absurd (free-none why (sym free ∙ refused));
+      stored_for = λ e. free;
       statuses = tt;
       counts = record { tells = tells-by Done host' cause; disk = disk-by Done host' stays (λ e. cc) (λ failed. absurd (no-fault reply (sym ok ∙ failed))) };
       others = others-by host' (λ h file. ap (of file) (done h));
     }
 
     pub cut-storing : (s : Status) → IsCutShort s honest (reply_text reply) middle.past host'.past (Rose middle.tell_faults host'.tell_faults)
-        → HasCause middle.tell_faults host'.tell_faults (s ≡ TellFault) → StoresHealth honest agent true text s host host'
+        → HasCause middle.tell_faults host'.tell_faults (s ≡ TellFault) → StoresHealth honest agent text s host host'
     cut-storing s cut cause = record {
       at = λ h set h0 is_of.
-          cut-end set h0 text host.past (TellRose host host') (DiskRose host host') (longer h0) (one_more (health text) h0 no_more) (ap (history_by h0 text) (free is_of.going)) (reply_text reply) (output-is h set h0 is_of)
-          (acked h set h0 is_of) middle.past (kept h set h0 is_of) (silent h) (stands-all middle.past agent' set (longer h0) (after h set h0 is_of)) honest s host'.past h
+          cut-end set h0 text host.past (TellRose host host') (DiskRose host host') (longer h0) (one_more (health text) h0 no_more) (ap (history_by h0 text) free) (reply_text reply) (output-is h set h0 is_of)
+          (acked h set h0 is_of) middle.past (kept h set h0 is_of) (silent h) (stands-all middle.past agent' set (longer h0) (after h set h0 is_of)) honest s host'.past h (stored-some reply)
           (subst (λ (n : ℕ). IsCutShort s honest (reply_text reply) middle.past host'.past (Rose n host'.tell_faults)) sets.tells cut);
+      quiet = λ h why refused other. absurd (free-none why (sym free ∙ refused));
+      stored_for = λ e. free;
       statuses = cut-takers s honest (reply_text reply) middle.past host'.past (Rose middle.tell_faults host'.tell_faults) cut;
       counts = record {
         tells = tells-by s host' cause;

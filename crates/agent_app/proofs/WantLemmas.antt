@@ -1,5 +1,5 @@
 -- What holds of each command where there was no memory to read its words: nothing was touched.
-use Rattle.std.proofs.Common.{◌≡◌, ℕ, false, List, [], Option, Some, None, inr, refl, sym, arith, append-nil, true≢false}
+use Rattle.std.proofs.Common.{◌≡◌, ℕ, false, List, [], Option, Some, None, inl, inr, refl, sym, arith, append-nil, true≢false}
 use Rattle.host_model.specs.declared.status.Status.TheVariants as status
 use Rattle.host_model.specs.Disks.{reads_as}
 use Rattle.host_model.specs.Moments.{begins}
@@ -14,6 +14,7 @@ use Rattle.agent_app.specs.declared.collect.Collector.{Collector}
 use Rattle.agent_app.specs.Collect.{CollectsAll, Outside}
 use Rattle.agent_app.specs.Convert.{output_of, Converts, EndsAsText, LeavesDisk}
 use Rattle.agent_app.specs.Health.{ConfiguresAll}
+use Rattle.agent_app.specs.New.{Makes}
 use Rattle.agent_app.specs.Query.{Asks}
 use Rattle.agent_app.specs.Run.{RunsAll}
 use Rattle.agent_app.proofs.AskLemmas.{unopened-asked}
@@ -30,6 +31,15 @@ no-read e = cc
 
 no-tell : status.Memory ≡ status.TellFault → ⊥
 no-tell e = cc
+
+no-done : status.Memory ≡ status.Ok → ⊥
+no-done e = cc
+
+no-exists : status.Memory ≡ status.Exists → ⊥
+no-exists e = cc
+
+no-failed : status.Memory ≡ status.DiskFault → ⊥
+no-failed e = cc
 
 no-none : fault.Memory ≡ fault.NotADatabase → ⊥
 no-none e = cc
@@ -71,6 +81,20 @@ module _ (honest : Type 0) (host : Seen) (first : honest → IsDisk host.past (r
 
   pub want-configures : (left : Option (List ℕ)) (faults : ℕ) → ConfiguresAll honest status.Memory left left faults faults host host
   want-configures left faults = unopened-configured honest host host first fault.Memory unopened-want left faults
+
+  pub want-makes : (set : Settings) → Makes honest set status.Memory host host
+  want-makes set = record {
+    any_moment = λ h. begins (λ disk is. inl is);
+    created = λ e. absurd (no-done e);
+    none = λ e. absurd (no-done e);
+    memory = λ e h. refl;
+    exists = λ e. absurd (no-exists e);
+    made = λ h made. (inr (inr refl), refl);
+    statuses = inr (inr (inr refl));
+    disk_cause = stayed host.disk_faults host.disk_faults (status.Memory ≡ status.DiskFault) refl no-failed;
+    only_here = λ h. record { others = λ other apart. refl; output = refl };
+    tells = refl;
+  }
 
   pub want-asks : (answer : Settings → List Beat → List ℕ) → Asks honest answer status.Memory host host
   want-asks answer = unopened-asked honest answer host host first fault.Memory unopened-want

@@ -6,11 +6,12 @@ use Rattle.host_model.specs.declared.status.Status.TheVariants.{Ok as Done, Refu
 use Rattle.host_model.specs.Cause.{HasCause, Rose}
 use Rattle.host_model.specs.Disks.{EveryDisk, reads_as}
 use Rattle.host_model.specs.Moments.{Throughout, EveryStop}
-use Rattle.host_model.specs.Past.{Event, Told, told, IsDisk}
+use Rattle.host_model.specs.Past.{Event, Told, told}
 use Rattle.host_model.specs.Seen.{Seen}
 use Rattle.host_model.specs.Source.{Takes}
 use Rattle.health_config.specs.declared.fault.ConfigFault.{ConfigFault}
 use Rattle.health_config.specs.declared.fault.ConfigFault.TheVariants.{TooManyAlarms, TextTooLong}
+use Rattle.health_config.specs.declared.config.TheConstants.{TEXT_LIMIT}
 use Rattle.health_config.specs.Fault.{fault_line, fault_number}
 use Rattle.history.specs.History.{Beat, health}
 use Rattle.entry_codec.specs.declared.entry.Settings.{Settings}
@@ -21,8 +22,8 @@ use Rattle.agent_core.specs.Health.{health_refusal}
 use Rattle.agent_core.specs.Kept.{StandsForHistory}
 use Rattle.agent_core.specs.Notes.{HasNotes}
 use Rattle.agent_core.specs.Replies.{reply_text}
-use Rattle.agent_app.specs.HealthText.{most_bytes}
-use Rattle.agent_app.specs.Run.{finds_none, is_whole, Finds, IsAsFound, Keeps, LeavesOthers, TellsRun}
+use Rattle.agent_app.specs.Convert.{LeavesFiles}
+use Rattle.agent_app.specs.Run.{finds_none, is_whole, Finds, IsAsFound, Keeps, LeavesOthers, OnceRead, TellsRun}
 use Rattle.agent_app.specs.Running.{Counts, DiskRose, IsCutShort, IsTakers, TellRose}
 
 -- ---- refusals
@@ -33,7 +34,7 @@ is_limit (TooManyAlarms line) = true
 is_limit TextTooLong = true
 is_limit why = false
 
--- the line of a refusal with this line and this number: want of memory has neither, and is told by nothing
+-- the line of a refusal with this line and this number: the fault of memory has neither, and is told by nothing
 abbrev pub line_by : Bool → Option ℕ → Option ℕ → List ℕ
 line_by limit (Some line) (Some number) = (if limit then codes "LIMIT " else codes "REFUSED ") ++ decimal line ++ codes " " ++ decimal number ++ codes "\n"
 line_by limit line number = []
@@ -54,7 +55,7 @@ fault_status why = status_by (is_limit why) (fault_line why) (fault_number why)
 
 -- the text has ended, or more bytes came than a text has
 abbrev pub is_over : Bool → List ℕ → Bool
-is_over ended taken = ended || nat_lt most_bytes (length taken)
+is_over ended taken = ended || nat_lt TEXT_LIMIT (length taken)
 
 abbrev pub history_by : List Beat → List ℕ → Option ConfigFault → List Beat
 history_by h0 text None = health text ∷ h0
@@ -78,7 +79,7 @@ status_of (Some why) = fault_status why
 
 -- the status over the text of a source, when nothing fails
 abbrev pub health_status : List ℕ → Status
-health_status text = status_of (health_refusal (take (most_bytes + 1) text))
+health_status text = status_of (health_refusal (take (TEXT_LIMIT + 1) text))
 
 -- ---- what `health` promises
 
@@ -95,11 +96,15 @@ HasHealthCause status ended taken source_rose tell_rose disk_rose = ⊥
 
 -- a text that was taken, and the database of this history, ended so
 pub record StopsAt (status : Status) (set : Settings) (h0 : List Beat) (ended : Bool) (taken : List ℕ) (old new : List Event) (source_rose tell_rose disk_rose : Type 0) : Type 0 where
-  -- at every moment a stop leaves the history, or the one with the configuration, and with it where that was acknowledged
+  -- at every moment a crash leaves the history, or the one with the configuration, and with it where that was acknowledged
   pub stops : Throughout (EveryStop (Keeps set h0 (history_with_health h0 ended taken) (told old))) old new
   -- at the end the one with the configuration, unless the output, the disk or memory failed
   pub ends : is_whole status ≡ true → EveryDisk (StandsForHistory set (history_with_health h0 ended taken)) new
   pub output : TellsRun status (health_output set h0 ended taken) old new
+  -- no failure of the output ends it where nothing is to be told
+  pub told_for : status ≡ TellFault → health_output set h0 ended taken ≡ [] → ⊥
+  -- the disk fails, and memory is short, before anything is told
+  pub unspent : (status ≡ DiskFault) ⊎ (status ≡ Memory) → told new ≡ told old
   pub cause : HasHealthCause status ended taken source_rose tell_rose disk_rose
 
 -- `health` on a database of these settings and this history took these bytes of the source
@@ -108,20 +113,23 @@ pub record Configures (status : Status) (set : Settings) (h0 : List Beat) (left 
   -- whether the source said that the input had ended
   pub ended : Bool
   pub takes : Takes left taken left'
-  pub within : length taken ≤ most_bytes + 1
-  pub at_end : ended ≡ true → (length taken ≤ most_bytes) × IfSome left' (λ bytes. bytes ≡ [])
+  pub within : length taken ≤ TEXT_LIMIT + 1
+  pub at_end : ended ≡ true → (length taken ≤ TEXT_LIMIT) × IfSome left' (λ bytes. bytes ≡ [])
   pub at : StopsAt status set h0 ended taken old new source_rose tell_rose disk_rose
 
--- on a database that reads as this history, whatever else a stop might have left of it
-pub record ConfiguresOn (status : Status) (set : Settings) (h0 : List Beat) (left left' : Option (List ℕ)) (old new : List Event) (source_rose tell_rose disk_rose : Type 0) : Type 0 where
-  -- what had happened once the database was read
-  pub read : List Event
-  -- until then a stop leaves what it might have left before, and nothing is told
-  pub before : Throughout (EveryDisk (IsDisk old)) old read
-  pub silent : told read ≡ told old
-  -- from then on it is that history that a stop leaves and that the text follows, unless the disk or memory failed before
-  pub after : (EveryDisk (StandsForHistory set h0) read × Configures status set h0 left left' read new source_rose tell_rose disk_rose)
-      ⊎ (((status ≡ DiskFault) ⊎ (status ≡ Memory)) × (new ≡ read) × (left' ≡ left))
+-- from some moment on all that a crash might leave of the disk was a database of this history, and `health` was one on it
+pub record ConfiguresFrom (status : Status) (set : Settings) (h0 : List Beat) (left left' : Option (List ℕ)) (read new : List Event) (source_rose tell_rose disk_rose : Type 0) : Type 0 where
+  pub stands : EveryDisk (StandsForHistory set h0) read
+  pub configures : Configures status set h0 left left' read new source_rose tell_rose disk_rose
+  -- where the history stays, as for a text that is refused, nothing is written, unless memory was short
+  pub quiet : history_with_health h0 configures.ended configures.taken ≡ h0 → (status ≡ Memory → ⊥) → LeavesFiles read new
+  -- the disk fails only for a text that has ended and that nothing refuses
+  pub stored_for : status ≡ DiskFault → (configures.ended ≡ true) × (health_refusal configures.taken ≡ None)
+
+-- on a database that reads as this history, whatever else a crash might have left of it
+abbrev pub ConfiguresOn : Status → Settings → List Beat → (left left' : Option (List ℕ)) → (old new : List Event) → (source_rose tell_rose disk_rose : Type 0) → Type 0
+ConfiguresOn status set h0 left left' old new source_rose tell_rose disk_rose =
+    OnceRead (λ read. ConfiguresFrom status set h0 left left' read new source_rose tell_rose disk_rose) (left' ≡ left) status old new
 
 -- the statuses of `health`, but those of one that found no database that can be opened
 abbrev pub ends_health : Status → Bool
@@ -138,9 +146,9 @@ ends_health status = false
 pub record TakesHealth (status : Status) (left left' : Option (List ℕ)) : Type 0 where
   pub taken : List ℕ
   pub takes : Takes left taken left'
-  pub within : length taken ≤ most_bytes + 1
+  pub within : length taken ≤ TEXT_LIMIT + 1
   -- where that many came, no failure of the source ends it
-  pub read : status ≡ ReadFault → length taken ≤ most_bytes
+  pub read : status ≡ ReadFault → length taken ≤ TEXT_LIMIT
 
 -- `health` ended with this status, and left the source and the host so
 pub record ConfiguresAll (honest : Type 0) (status : Status) (left left' : Option (List ℕ)) (source_faults source_faults' : ℕ) (host host' : Seen) : Type 0 where
@@ -149,7 +157,7 @@ pub record ConfiguresAll (honest : Type 0) (status : Status) (left left' : Optio
   -- where the images differ, that history counts which the files read as
   pub resumes : honest → (set : Settings) (h0 : List Beat) → StandsForHistory set h0 (reads_as host.past)
       → ConfiguresOn status set h0 left left' host.past host'.past (Rose source_faults source_faults') (TellRose host host') (DiskRose host host')
-  -- where no call on the outside fails, the status is that of the text, or there was no memory
+  -- where no call on the outside fails, the status is that of the text, or memory was short
   pub complete : honest → (set : Settings) (h0 : List Beat) → EveryDisk (StandsForHistory set h0) host.past
       → IfSome left (λ text. (Rose source_faults source_faults' → ⊥) → (TellRose host host' → ⊥) → (DiskRose host host' → ⊥) → (status ≡ health_status text) ⊎ (status ≡ Memory))
   pub finds : Finds honest status host
@@ -171,9 +179,12 @@ abbrev pub TellsFault : Status → (honest : Type 0) → ConfigFault → (old ne
 TellsFault status honest why old new tell_rose =
     ((status ≡ fault_status why) × (honest → new ≡ Told (fault_text why) ∷ old)) ⊎ IsCutShort status honest (fault_text why) old new tell_rose
 
--- an agent was handed a text that has ended, or one that is too long
-pub record StoresHealth (honest : Type 0) (agent : AgentState) (ended : Bool) (taken : List ℕ) (status : Status) (host host' : Seen) : Type 0 where
-  pub at : honest → (set : Settings) (h0 : List Beat) → IsAgentOf host.past agent set h0 → StopsAt status set h0 ended taken host.past host'.past ⊥ (TellRose host host') (DiskRose host host')
+-- an agent was handed a text that has ended
+pub record StoresHealth (honest : Type 0) (agent : AgentState) (text : List ℕ) (status : Status) (host host' : Seen) : Type 0 where
+  pub at : honest → (set : Settings) (h0 : List Beat) → IsAgentOf host.past agent set h0 → StopsAt status set h0 true text host.past host'.past ⊥ (TellRose host host') (DiskRose host host')
+  -- for a text that is refused nothing is written, unless memory was short
+  pub quiet : honest → (why : ConfigFault) → health_refusal text ≡ Some why → (status ≡ Memory → ⊥) → LeavesFiles host.past host'.past
+  pub stored_for : status ≡ DiskFault → health_refusal text ≡ None
   pub statuses : IsTakers status
   pub counts : Counts host host' (status ≡ TellFault) (status ≡ DiskFault)
   pub others : LeavesOthers honest host host'
@@ -183,11 +194,13 @@ pub record Handled (honest : Type 0) (agent : AgentState) (status : Status) (lef
   pub taken : List ℕ
   pub ended : Bool
   pub takes : Takes left taken left'
-  pub within : length taken ≤ most_bytes + 1
-  pub at_end : ended ≡ true → (length taken ≤ most_bytes) × IfSome left' (λ bytes. bytes ≡ [])
-  pub short : status ≡ ReadFault → length taken ≤ most_bytes
+  pub within : length taken ≤ TEXT_LIMIT + 1
+  pub at_end : ended ≡ true → (length taken ≤ TEXT_LIMIT) × IfSome left' (λ bytes. bytes ≡ [])
+  pub short : status ≡ ReadFault → length taken ≤ TEXT_LIMIT
   pub at : honest → (set : Settings) (h0 : List Beat) → IsAgentOf host.past agent set h0
       → StopsAt status set h0 ended taken host.past host'.past (Rose source_faults source_faults') (TellRose host host') (DiskRose host host')
+  pub quiet : honest → (h0 : List Beat) → history_with_health h0 ended taken ≡ h0 → (status ≡ Memory → ⊥) → LeavesFiles host.past host'.past
+  pub stored_for : status ≡ DiskFault → (ended ≡ true) × (health_refusal taken ≡ None)
   pub ends : ends_health status ≡ true
   pub counts : Counts host host' (status ≡ TellFault) (status ≡ DiskFault)
   pub others : LeavesOthers honest host host'

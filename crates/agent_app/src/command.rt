@@ -25,7 +25,7 @@ pub const STARTS_LIMIT: u32 = 1_000;
 /// In which form the log of alarms is told.
 #[derive(Clone, Copy, Debug, PartialEq, Eq)]
 pub enum Form {
-    /// A line for each event.
+    /// DROPPED and how many events are not shown, and then a line for each event that is.
     Text,
     /// One line of JSON.
     Json,

@@ -1,10 +1,12 @@
 //! The command `health`: a text is stored as the configuration of alarms.
-ghost use Rattle.std.specs.Prelude.{◌≡◌, ◌++◌, string_bytes, true, OnOk};
+ghost use Rattle.std.specs.Prelude.{◌≡◌, ◌++◌, [], string_bytes, None, Some, OnOk};
 ghost use Rattle.host_model.specs.Cause.{HasCause, Rose};
+ghost use Rattle.health_config.specs.Fault.{fault_line, fault_number};
 ghost use Rattle.agent_core.specs.Agent.{AgentIsReady};
 ghost use Rattle.agent_app.specs.Health.{fault_status, fault_text, is_limit, ConfiguresAll, Handled, StoresHealth, TellsFault};
 
 use crate::health_text::{HealthEnd, read_health};
+use crate::query::memory_status;
 use crate::run::opening_status;
 use crate::running::{tell_stored, tell_text};
 use agent_core::{Agent, AgentFault, ConfigFault};
@@ -22,13 +24,17 @@ fn is_limit(fault: ConfigFault) -> bool
     )
 }
 
-/// Adds the line of a refusal to `out`: nothing where it is want of memory.
-fn push_fault(out: &mut String, fault: ConfigFault) -> Result<(), AllocError>
+/// Adds the line of a refusal to `out`.
+fn push_fault(
+    out: &mut String,
+    fault: ConfigFault,
+    line: u64,
+    number: u32,
+) -> Result<(), AllocError>
+    requires line { fault_line fault ≡ Some line }
+    requires number { fault_number fault ≡ Some number }
     ensures { OnOk result (string_bytes out.new ≡ string_bytes out.old ++ fault_text fault) }
 {
-    let (Some(line), Some(number)) = (fault.line(), fault.number()) else {
-        return Ok(());
-    };
     if is_limit(fault) {
         writeln!(out, "LIMIT {line} {number}")
     } else {
@@ -37,12 +43,11 @@ fn push_fault(out: &mut String, fault: ConfigFault) -> Result<(), AllocError>
 }
 
 /// The status of a text that is refused so.
-fn fault_status(fault: ConfigFault) -> Status
+fn fault_status(fault: ConfigFault, line: u64, number: u32) -> Status
+    requires line { fault_line fault ≡ Some line }
+    requires number { fault_number fault ≡ Some number }
     ensures { result ≡ fault_status fault }
 {
-    let (Some(line), Some(number)) = (fault.line(), fault.number()) else {
-        return Status::Memory;
-    };
     if is_limit(fault) {
         Status::Limit(line, number)
     } else {
@@ -57,24 +62,26 @@ fn tell_fault<H: Host>(alloc: Global, host: &mut H, fault: ConfigFault) -> Statu
     ensures cause { HasCause (H.seen host.old).tell_faults (H.seen host.new).tell_faults
         (result ≡ Status.TellFault) }
     ensures disk { (H.seen host.new).disk_faults ≡ (H.seen host.old).disk_faults }
+    ensures told_for { result ≡ Status.TellFault → fault_text fault ≡ [] → ⊥ }
 {
-    if let ConfigFault::Memory = fault {
+    let (Some(line), Some(number)) = (fault.line(), fault.number()) else {
         return Status::Memory;
-    }
+    };
     let mut out = String::new(alloc);
-    if push_fault(&mut out, fault).is_err() {
+    if push_fault(&mut out, fault, line, number).is_err() {
         return Status::Memory;
     }
     match tell_text(host, out.as_str()) {
-        Ok(()) => fault_status(fault),
+        Ok(()) => fault_status(fault, line, number),
         Err(_) => Status::TellFault,
     }
 }
 
 /// Stores a text that has ended, and tells that, or why it is refused.
 fn store<H: Host>(alloc: Global, agent: &mut Agent, text: &[u8], host: &mut H) -> Status
-    requires { AgentIsReady H.honest (H.seen host.old).past agent.old }
-    ensures { StoresHealth H.honest agent.old true text.now result
+    requires ready { AgentIsReady H.honest (H.seen host.old).past agent.old }
+    requires going { agent.old.fault ≡ None }
+    ensures { StoresHealth H.honest agent.old text.now result
         (H.seen host.old) (H.seen host.new) }
 {
     match agent.set_health(host, text) {
@@ -84,7 +91,7 @@ fn store<H: Host>(alloc: Global, agent: &mut Agent, text: &[u8], host: &mut H) -
         },
         Err(AgentFault::Health(fault)) => tell_fault(alloc, host, fault),
         Err(AgentFault::DiskFault) => Status::DiskFault,
-        Err(_) => Status::Memory,
+        Err(fault) => memory_status(fault),
     }
 }
 
@@ -95,7 +102,8 @@ fn configure<S: Source, H: Host>(
     source: &mut S,
     host: &mut H,
 ) -> Status
-    requires { AgentIsReady H.honest (H.seen host.old).past agent.old }
+    requires ready { AgentIsReady H.honest (H.seen host.old).past agent.old }
+    requires going { agent.old.fault ≡ None }
     ensures { Handled H.honest agent.old result (S.left source.old) (S.left source.new)
         (S.faults source.old) (S.faults source.new) (H.seen host.old) (H.seen host.new) }
 {

@@ -5,11 +5,9 @@ ghost use Rattle.host_model.specs.Source.{Takes};
 ghost use Rattle.agent_app.specs.HealthText.{Stops, TakesText};
 
 use fixed_num::ByteList;
+use health_config::TEXT_LIMIT;
 use host_model::Source;
 use std::alloc::Global;
-
-/// The most bytes that the text of a configuration has.
-const TEXT_LIMIT: usize = 1 << 20;
 
 /// How many bytes are asked of the source at once.
 const PIECE_SIZE: usize = 1 << 16;
@@ -19,7 +17,7 @@ const PIECE_SIZE: usize = 1 << 16;
 pub(crate) enum HealthEnd {
     /// The source failed.
     ReadFault,
-    /// More than 2^20 bytes came.
+    /// More than `TEXT_LIMIT` bytes came.
     TooLong,
     /// There was no memory.
     Memory,
@@ -77,8 +75,8 @@ fn take_pieces<S: Source>(
 
 /// Takes the text of a configuration from a source, to its end.
 ///
-/// No more than 2^20 + 1 bytes are taken: where that many came, the answer is `TooLong`, also where the source
-/// would fail next. `ReadFault` comes where the source failed before that. Want of memory may come at any place.
+/// No more than `TEXT_LIMIT` + 1 bytes are taken: where that many came, the answer is `TooLong`, also where the source
+/// would fail next. `ReadFault` comes where the source failed before that. It may run out of memory at any place.
 pub(crate) fn read_health<S: Source>(alloc: Global, source: &mut S) -> Result<ByteList, HealthEnd>
     ensures takes { TakesText result (S.left source.old) (S.left source.new) }
     ensures cause { HasCause (S.faults source.old) (S.faults source.new)

@@ -15,12 +15,13 @@ ghost use Rattle.agent_app.specs.Run.{RunsAll};
 
 use host_model::Host;
 
-/// The law of runs on one honest host, of `run` and of `collect`, one after the other, whatever input each has
-/// and whatever it ends with. At the start a stop leaves one of the given databases, or none where that is among
-/// them. Between the runs `new` may be tried, also after a `new` that failed. Whatever a stop leaves at the end,
-/// or at any moment of one run, one question or one `new` more, is what these runs stored from one of those. Each
-/// goes on from what the one before left, by a front of the beats of the bytes that it took, and by all of them
-/// unless it ended with 4, 5 or 15. Every beat that it acknowledged is there. It does nothing.
+/// The law of runs on one honest host, of `run` and of `collect`, one after the other, whatever input each has and
+/// whatever it ends with. At the start a crash leaves one of the given databases, or none where that is among
+/// them. Between the runs `new` may be tried, also after a `new` that failed. `health` is no step of such a course:
+/// of a database that it configures a course begins anew. Whatever a crash leaves at the end, or at any moment
+/// of one run, one question or one `new` more, is what these runs stored from one of those. Each goes on from
+/// what the one before left, by a prefix of the beats of the bytes that it took, and by all of them unless it
+/// ended with 4, 5 or 15. Every beat that it acknowledged is there. It does nothing.
 pub fn any_course<H: Host>()
     ensures kept { H.honest → (starts : List (Option Database)) (tried : List ASettings)
         (runs : List OneRun) (host : H)

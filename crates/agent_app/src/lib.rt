@@ -1,8 +1,8 @@
 //! The commands of the program, over an outside that may fail at any call.
 //!
 //! `agent_main` is the top call. Over an honest host its contract says, for every input and whatever
-//! fails: what is told is a front of a stated function of the bytes taken, and all of it unless the
-//! output, the disk or memory failed. It says what a stop may leave of the database at any moment, and
+//! fails: what is told is a prefix of a stated function of the bytes taken, and all of it unless the
+//! output, the disk or memory failed. It says what a crash may leave of the database at any moment, and
 //! why the run ended with the status that it answers. Of `run`, `collect`, `query`, `health` and `log` it says
 //! so where the disk reads as a database of a history.
 //!
@@ -62,18 +62,19 @@ pub use law::any_course;
 /// many lines were skipped, if any were. A text that is refused tells `REFUSED`, the number of the
 /// line and the number of the refusal, after the points of the beats before. Where a moment is not
 /// above the last one, that is told behind the two numbers. A text that asks for too many charts or
-/// dimensions tells `LIMIT` so. No more than 2^40 bytes are taken of the input. Want of memory may
-/// end a run at any place, with `Status::Memory`.
+/// dimensions tells `LIMIT` so. No more than 2^40 bytes are taken of the input. Any command may
+/// run out of memory at any place, and ends with `Status::Memory` then.
 ///
 /// `new ID`, or `new ID P0 Q0 P1 Q1 P2 Q2`, makes a database on the host's disk: its id below 2^64,
 /// and for each tier how many items make a segment full and how many segments are kept. `Exists`
 /// where there is one.
 ///
-/// `run` stores the beats of such a text behind those of the database, and tells `STORED` and a
-/// beat's number in the history as soon as the beat is stored: no stop loses it then. A refusal is
-/// told as by `convert`, and the beats before it stay. A QUERY line is answered at its place, over the
-/// history there: with `ROWS`, how many windows there are and the ids of the dimensions, and then a line
-/// for each window, its start and its values; or with `ERROR` and a number, which ends nothing.
+/// `run` stores the beats of such a text behind those of the database. As soon as a beat is stored it tells
+/// `STORED` and the beat's number in the history, and then a line for each event of an alarm that the beat
+/// makes: no crash loses the beat then. A refusal is told as by `convert`, and the beats before it stay. A
+/// QUERY line is answered at its place, over the history there: with `ROWS`, how many windows there are and
+/// the ids of the dimensions, and then a line for each window, its start and its values; or with `ERROR` and
+/// a number, which ends nothing.
 ///
 /// `collect EVERY STARTS PROGRAM [ARG..]` starts a program and stores the beats of what it writes, as `run` does with
 /// its input. EVERY is how many seconds lie between beats, 1 to 86,400: the program is handed it before its own
@@ -123,22 +124,20 @@ pub fn agent_main<S: Source, H: Host, L: Link, P: Spawner, C: Clock>(
         EndsAsText result (S.left source.old) (S.faults source.old) (S.faults source.new)
         (H.seen host.old).tell_faults (H.seen host.new).tell_faults }
 
-    // What a new database is, and what stops leave of it. Nothing is touched where there was no memory
-    // to read the words.
+    // What a new database is, and what crashes leave of it.
     ensures makes { (settings : ASettings) → command_of words.now ≡ Some (Command.New settings) →
-        Makes H.honest settings result (H.seen host.old) (H.seen host.new)
-        ⊎ ((result ≡ Status.Memory) × (host.new ≡ host.old)) }
+        Makes H.honest settings result (H.seen host.old) (H.seen host.new) }
 
     // It takes nothing of the input.
     ensures new_takes_nothing { (settings : ASettings) →
         command_of words.now ≡ Some (Command.New settings) → source.new ≡ source.old }
 
-    // What a run stores and tells, what stops leave, and why it ended.
+    // What a run stores and tells, what crashes leave, and why it ended.
     ensures runs { command_of words.now ≡ Some Command.Run →
         RunsAll H.honest result (S.left source.old) (S.left source.new)
         (S.faults source.old) (S.faults source.new) (H.seen host.old) (H.seen host.new) }
 
-    // What a collector stores and tells, what stops leave, and why it ended. It takes nothing of the input.
+    // What a collector stores and tells, what crashes leave, and why it ended. It takes nothing of the input.
     ensures collects { (every starts : ℕ)
         → command_of words.now ≡ Some (Command.Collect every starts)
         → CollectsAll H.honest (collector_of every starts words.now) result
@@ -161,7 +160,7 @@ pub fn agent_main<S: Source, H: Host, L: Link, P: Spawner, C: Clock>(
     ensures query_takes_nothing { command_of words.now ≡ Some Command.Query →
         source.new ≡ source.old }
 
-    // What a configuration of alarms stores and tells, what stops leave, and why it ended.
+    // What a configuration of alarms stores and tells, what crashes leave, and why it ended.
     ensures configures { command_of words.now ≡ Some Command.Health →
         ConfiguresAll H.honest result (S.left source.old) (S.left source.new)
         (S.faults source.old) (S.faults source.new) (H.seen host.old) (H.seen host.new) }

@@ -1,6 +1,5 @@
 //! The command `log`: the log of alarms is told from a database, in which nothing changes.
-ghost use Rattle.std.specs.Prelude.{◌≡◌, IfOk};
-ghost use Rattle.agent_core.specs.Agent.{AgentIsReady};
+ghost use Rattle.std.specs.Prelude.{◌≡◌, None, IfOk};
 ghost use Rattle.agent_app.specs.Log.{log_as, log_for};
 ghost use Rattle.agent_app.specs.LogText.{shown_by};
 ghost use Rattle.agent_app.specs.Query.{Answering, Asks};
@@ -8,7 +7,7 @@ ghost use Rattle.agent_app.specs.Query.{Answering, Asks};
 use crate::command::Form;
 use crate::log_json::write_log_json;
 use crate::log_text::write_log;
-use crate::query::tell_reply;
+use crate::query::{memory_status, tell_reply};
 use crate::run::opening_status;
 use agent_core::{Agent, Log};
 use fixed_num::Text;
@@ -27,11 +26,13 @@ fn write_as(alloc: Global, form: Form, log: &Log) -> Result<Text, AllocError>
 
 /// Tells the log of an agent.
 fn tell_log<H: Host>(alloc: Global, agent: &Agent, form: Form, host: &mut H) -> Status
+    requires { agent.now.fault ≡ None }
     ensures { Answering H.honest agent.now (log_for form) result
         (H.seen host.old) (H.seen host.new) }
 {
-    let Ok(log) = agent.log() else {
-        return Status::Memory;
+    let log = match agent.log() {
+        Ok(log) => log,
+        Err(fault) => return memory_status(fault),
     };
     match write_as(alloc, form, &log) {
         Ok(text) => tell_reply(host, text.as_str()),

@@ -1,5 +1,5 @@
 //! The log of alarms as one line of JSON.
-ghost use Rattle.std.specs.Prelude.{◌≡◌, map, Some, IfOk, OnOk};
+ghost use Rattle.std.specs.Prelude.{◌≡◌, ℕ, List, ◌++◌, codes, map, Some, IfOk, OnOk};
 ghost use Rattle.serde_json.specs.Data.{string, put as with_member};
 ghost use Rattle.serde_json.specs.Read.{read};
 ghost use Rattle.serde_json.specs.View.{view, members_view};
@@ -92,9 +92,9 @@ fn log_object(alloc: Global, log: &Log) -> Result<Json, AllocError>
 pub(crate) fn write_log_json(alloc: Global, log: &Log) -> Result<Text, AllocError>
     ensures text { IfOk result (λ text. text ≡ spec.log_json (shown_by log.now)) }
 
-    // A reader of JSON gets just what the log shows.
-    ensures reads_back { IfOk result (λ _. read (spec.log_line (shown_by log.now))
-        ≡ Some (spec.log_data (shown_by log.now))) }
+    // Of what stands before its line feed a reader of JSON gets just what the log shows.
+    ensures reads_back { IfOk result (λ text. (line : List ℕ) → text ≡ line ++ codes "\n"
+        → read line ≡ Some (spec.log_data (shown_by log.now))) }
 {
     let mut line = log_object(alloc, log)?.to_string(alloc)?;
     line.push('\n')?;

@@ -1,5 +1,5 @@
 //! The command `query`: a question is answered from a database, in which nothing changes.
-ghost use Rattle.std.specs.Prelude.{◌≡◌, ◌⊎◌, ◌∷◌, ◌++◌, take, codes, IfOk, OnOk};
+ghost use Rattle.std.specs.Prelude.{◌≡◌, ◌⊎◌, ◌∷◌, ◌++◌, take, codes, None, IfOk, OnOk};
 ghost use Rattle.std.specs.List.{flat_map};
 ghost use Rattle.host_model.specs.Cause.{HasCause};
 ghost use Rattle.host_model.specs.Past.{Told, MayAdd};
@@ -69,22 +69,40 @@ pub(crate) fn tell_reply<H: Host>(host: &mut H, text: &str) -> Status
     }
 }
 
+/// How a command ends whose agent, which was still of use, could not do what it was asked: memory was short.
+pub(crate) fn memory_status(fault: AgentFault) -> Status
+    requires { fault ≡ AgentFault.Memory }
+    ensures { result ≡ Status.Memory }
+{
+    match fault {
+        AgentFault::Memory => Status::Memory,
+        AgentFault::Refused(_)
+        | AgentFault::Health(_)
+        | AgentFault::DiskFault
+        | AgentFault::NotADatabase
+        | AgentFault::Damaged(_)
+        | AgentFault::Reopen(_)
+        | AgentFault::Exists => unreachable!(),
+    }
+}
+
 /// Tells the reply of an agent to a question.
 fn answer<H: Host>(agent: &mut Agent, text: &str, host: &mut H) -> Status
-    requires { AgentIsReady H.honest (H.seen host.old).past agent.old }
+    requires ready { AgentIsReady H.honest (H.seen host.old).past agent.old }
+    requires going { agent.old.fault ≡ None }
     ensures { Answering H.honest agent.old (reply_for text.now) result
         (H.seen host.old) (H.seen host.new) }
 {
     match agent.query(host, text) {
         Ok(reply) => tell_reply(host, reply.as_str()),
-        Err(AgentFault::DiskFault) => Status::DiskFault,
-        Err(_) => Status::Memory,
+        Err(fault) => memory_status(fault),
     }
 }
 
 /// Tells the reply of an agent to the question of these words.
 fn ask<H: Host>(alloc: Global, agent: &mut Agent, words: &WordsList, host: &mut H) -> Status
-    requires { AgentIsReady H.honest (H.seen host.old).past agent.old }
+    requires ready { AgentIsReady H.honest (H.seen host.old).past agent.old }
+    requires going { agent.old.fault ≡ None }
     ensures { Answering H.honest agent.old (reply_for (question_of words.now)) result
         (H.seen host.old) (H.seen host.new) }
 {

@@ -1,4 +1,5 @@
 use Rattle.std.proofs.Common.{◌≡◌, ◌≤◌, ℕ, List, [], ◌∷◌, ◌++◌, map, codes, false, Option, Some, None, string_bytes, refl, sym, ap, subst, ◌∙◌, arith}
+use Rattle.std.proofs.lemmas.List.{append_cancel_right}
 use lib.Utf8.{encode}
 use Rattle.serde_json.specs.Data.{Data, depth, items_depth}
 use Rattle.serde_json.specs.Read.{max_depth, read}
@@ -51,6 +52,11 @@ reads : (log : Shown) (made : Data) (line : List ℕ) → made ≡ log_data log 
 reads log made line is line_is by = ap read (sym line_is) ∙ by (subst (λ (d : Data). depth d ≤ max_depth) (sym is) (log_data-depth log)) ∙ ap Some is
 
 pub returns-clause-reads_back : goal.returns-clause-reads_back
-returns-clause-reads_back c =
+unfolding encode
+returns-clause-reads_back c line is =
     let log = shown_by c.args.log.now in
-    reads log _ (string_bytes c.in_ok-line.line) c.in_ok-log_object.ensures (line-is log _ _ c.in_ok-log_object.ensures c.in_ok-line.ensures.text) c.in_ok-line.ensures.reads_back
+    let made-is = line-is log _ (string_bytes c.in_ok-line.line) c.in_ok-log_object.ensures c.in_ok-line.ensures.text in
+    let whole : line ++ codes "\n" ≡ log_line log ++ codes "\n" =
+    sym is ∙ c.from_string.ensures ∙ c.in_ok-push.ensures.bytes ∙ ap (λ (t : List ℕ). t ++ codes "\n") made-is in
+    subst (λ (t : List ℕ). read t ≡ Some (log_data log)) (sym (append_cancel_right line (log_line log) (codes "\n") whole))
+    (reads log _ (string_bytes c.in_ok-line.line) c.in_ok-log_object.ensures made-is c.in_ok-line.ensures.reads_back)

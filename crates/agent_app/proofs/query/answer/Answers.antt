@@ -1,9 +1,9 @@
-use Rattle.std.proofs.Common.{◌≡◌, ap, refl, sym, Err, IsErrOf, ◌∙◌, arith}
-use Rattle.std.proofs.lemmas.Result.{IfErr-at_err}
+use Rattle.std.proofs.Common.{ap, subst, sym, Err, ◌∙◌}
+use Rattle.host_model.specs.declared.status.Status.{Status}
 use Rattle.host_model.specs.Seen.{Seen}
 use Rattle.agent_core.specs.declared.fault.AgentFault.{AgentFault}
-use Rattle.agent_core.specs.declared.fault.AgentFault.TheVariants as agent_fault
-use Rattle.agent_app.proofs.AskLemmas.{answer-by, disk-failed-asking, want-asking}
+use Rattle.agent_app.specs.Query.{reply_for, Answering}
+use Rattle.agent_app.proofs.AskLemmas.{answer-by, memory-asking, want-asking}
 use Rattle.agent_app.proofs.query.answer.Goals as goal
 
 pub returns-in-Ok : goal.returns-in-Ok
@@ -13,18 +13,16 @@ returns-in-Ok g c =
     answer-by g.H.Host.honest c.args.agent.now c.args.text.now host c.query.result middle c.query.new.self c.query.ensures c.in-Ok.reply c.in-Ok.is
     (g.H.Host.seen c.tell_reply.new.host) c.tell_reply.ensures.disk c.as_str.result.now c.as_str.ensures c.tell_reply.result c.tell_reply.ensures.told c.tell_reply.ensures.cause
 
-pub returns-in-Err-DiskFault : goal.returns-in-Err-DiskFault
-returns-in-Err-DiskFault g c =
-    let host : Seen = g.H.Host.seen c.args.host.now in
-    let middle : Seen = g.H.Host.seen c.query.new.host in
-    disk-failed-asking g.H.Host.honest c.args.agent.now c.args.text.now host c.query.result middle c.query.new.self c.query.ensures
-    (c.in-Err-DiskFault.is ∙ ap (λ (f : AgentFault). Err f) c.in-Err-DiskFault.field-0-is)
+pub memory_status-requires : goal.memory_status-requires
+memory_status-requires g c =
+    memory-asking g.H.Host.honest c.args.agent.now c.args.text.now (g.H.Host.seen c.args.host.now) c.query.result (g.H.Host.seen c.query.new.host) c.query.new.self c.query.ensures
+    c.requires.going c.in-Err.fault c.in-Err.is
 
 pub returns-in-Err : goal.returns-in-Err
 returns-in-Err g c =
     let host : Seen = g.H.Host.seen c.args.host.now in
     let middle : Seen = g.H.Host.seen c.query.new.host in
-    let is_disk : IsErrOf c.query.result agent_fault.DiskFault → c.in-Err.field-0 ≡ agent_fault.DiskFault
-    = λ failed. IfErr-at_err (λ (f : AgentFault). f ≡ agent_fault.DiskFault) (sym failed ∙ c.in-Err.is) refl in
-    let other : IsErrOf c.query.result agent_fault.DiskFault → ⊥ = λ failed. let same = is_disk failed in grind (arith, same) in
-    want-asking g.H.Host.honest c.args.agent.now c.args.text.now host c.query.result middle c.query.new.self c.query.ensures other
+    subst (λ (s : Status). Answering g.H.Host.honest c.args.agent.now (reply_for c.args.text.now) s host middle) (sym c.memory_status.ensures)
+    (want-asking g.H.Host.honest c.args.agent.now c.args.text.now host c.query.result middle c.query.new.self c.query.ensures
+    (c.in-Err.is ∙ ap (λ (f : AgentFault). Err f)
+    (memory-asking g.H.Host.honest c.args.agent.now c.args.text.now host c.query.result middle c.query.new.self c.query.ensures c.requires.going c.in-Err.fault c.in-Err.is)))
