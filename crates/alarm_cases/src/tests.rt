@@ -20,8 +20,6 @@ mod delays;
 mod lookups;
 mod names;
 mod pairs;
-mod plain;
-mod random;
 
 fn chart_def(alloc: Global, id: &str, name: &str, context: &str) -> Result<ChartDef, AllocError>
     ensures { IfOk result (λ def. 0 < def.update_every) }

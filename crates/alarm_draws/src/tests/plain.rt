@@ -4,7 +4,7 @@ use super::*;
 use std::mem::replace;
 
 /// What an alarm is worth.
-#[derive(Clone, Copy, Debug, PartialEq, Eq)]
+#[derive(Clone, Copy)]
 pub enum Plain {
     Nan,
     /// An infinity, which may be negative.
@@ -13,7 +13,7 @@ pub enum Plain {
 }
 
 /// How an alarm finds what it is worth.
-#[derive(Clone, Copy, Debug)]
+#[derive(Clone, Copy)]
 pub enum Worth {
     /// The last value of a dimension.
     Last(&'static str),
@@ -32,7 +32,7 @@ pub enum Worth {
 }
 
 /// What makes a status.
-#[derive(Clone, Copy, Debug)]
+#[derive(Clone, Copy)]
 pub enum Check {
     /// The alarm is worth more than a number.
     Above(i64),
@@ -43,7 +43,7 @@ pub enum Check {
 }
 
 /// An alarm: its text, that in other words, and what both say.
-#[derive(Clone, Copy, Debug)]
+#[derive(Clone, Copy)]
 pub struct Rule {
     /// Which of the alarms it is.
     pub number: u32,
@@ -66,7 +66,7 @@ pub struct Rule {
 }
 
 /// A chart: its id, what its type and its name say, and whether its context is `even` or `odd`.
-#[derive(Clone, Copy, Debug)]
+#[derive(Clone, Copy)]
 pub struct PlainChart {
     pub id: &'static str,
     pub said: &'static str,
@@ -74,7 +74,7 @@ pub struct PlainChart {
 }
 
 /// A dimension of a chart.
-#[derive(Clone, Copy, Debug)]
+#[derive(Clone, Copy)]
 pub struct PlainSeries {
     pub chart: u32,
     pub id: &'static str,
@@ -82,7 +82,7 @@ pub struct PlainSeries {
 }
 
 /// A point, and its series by number and by what it is.
-#[derive(Clone, Copy, Debug)]
+#[derive(Clone, Copy)]
 pub struct PlainPoint {
     pub series: u32,
     pub of: PlainSeries,
@@ -91,7 +91,7 @@ pub struct PlainPoint {
 }
 
 /// How an alarm of a chart stands.
-#[derive(Clone, Copy, Debug)]
+#[derive(Clone, Copy)]
 pub struct PlainState {
     pub rule: Rule,
     pub chart: u32,

@@ -3,9 +3,6 @@
 ghost use Rattle.std.specs.Prelude.{◌≡◌, ◌+◌, ◌^◌, ◌&&◌, nat_le, nat_lt};
 ghost use Rattle.query_engine.specs.Points.{are_rising_from};
 
-use super::alarms::{
-    alarms_of, bytes_of, configured, lines, log_of, new_alarms, read_config, stepped,
-};
 use super::plain::{
     Check, PlainChart, PlainPoint, PlainSeries, Rule, World, Worth, last_moment, pair, plain_lines,
     state_line, take_beat,
