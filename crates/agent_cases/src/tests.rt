@@ -3,8 +3,7 @@ ghost use Rattle.history.specs.Limits.{chart_keeps_limits, dimension_keeps_limit
 ghost use Rattle.history.specs.Looking.{same_value};
 ghost use Rattle.history.specs.Registry.{same_chart, same_dimension};
 ghost use Rattle.history.specs.Regular.{AreApart, same_row};
-ghost use Rattle.agent_core.specs.Agent.{AgentIsReady};
-ghost use Rattle.agent_core.specs.Fed.{IsFed};
+ghost use Rattle.agent_cases.specs.Ready.{AreReady};
 ghost use Rattle.agent_core.specs.Rules.{IsOpenBeat};
 
 use agent_core::{
@@ -120,11 +119,11 @@ fn take<H: Host>(
     host: &mut H,
     line: Result<Line, AllocError>,
 ) -> Result<Said, AgentFault>
-    requires ready { AgentIsReady H.honest (H.seen host.old).past taking.old.agent }
-    requires fed { IsFed taking.old.feed }
+    requires ready { AreReady
+        H.honest (H.seen host.old).past taking.old.agent taking.old.feed }
     requires limits { IfOk line (λ line. keeps_limits line ≡ true) }
-    ensures ready { AgentIsReady H.honest (H.seen host.new).past taking.new.agent }
-    ensures fed { IsFed taking.new.feed }
+    ensures ready { AreReady
+        H.honest (H.seen host.new).past taking.new.agent taking.new.feed }
 {
     match line {
         Ok(line) => taking.agent.line(host, &mut taking.feed, &line),
@@ -139,10 +138,10 @@ fn define<H: Host>(
     host: &mut H,
     title: &str,
 ) -> Result<(), AgentFault>
-    requires ready { AgentIsReady H.honest (H.seen host.old).past taking.old.agent }
-    requires fed { IsFed taking.old.feed }
-    ensures ready { AgentIsReady H.honest (H.seen host.new).past taking.new.agent }
-    ensures fed { IsFed taking.new.feed }
+    requires ready { AreReady
+        H.honest (H.seen host.old).past taking.old.agent taking.old.feed }
+    ensures ready { AreReady
+        H.honest (H.seen host.new).past taking.new.agent taking.new.feed }
 {
     take(taking, host, chart_line(alloc, title))?;
     take(
@@ -165,10 +164,10 @@ fn collect<H: Host>(
     host: &mut H,
     moment: u32,
 ) -> Result<Said, AgentFault>
-    requires ready { AgentIsReady H.honest (H.seen host.old).past taking.old.agent }
-    requires fed { IsFed taking.old.feed }
-    ensures ready { AgentIsReady H.honest (H.seen host.new).past taking.new.agent }
-    ensures fed { IsFed taking.new.feed }
+    requires ready { AreReady
+        H.honest (H.seen host.old).past taking.old.agent taking.old.feed }
+    ensures ready { AreReady
+        H.honest (H.seen host.new).past taking.new.agent taking.new.feed }
 {
     take(taking, host, begin_line(alloc))?;
     take(taking, host, set_line(alloc, "b", i64::from(moment) * 10))?;
@@ -184,10 +183,10 @@ fn define_for<H: Host>(
     host: &mut H,
     number: u32,
 ) -> Result<(), AgentFault>
-    requires ready { AgentIsReady H.honest (H.seen host.old).past taking.old.agent }
-    requires fed { IsFed taking.old.feed }
-    ensures ready { AgentIsReady H.honest (H.seen host.new).past taking.new.agent }
-    ensures fed { IsFed taking.new.feed }
+    requires ready { AreReady
+        H.honest (H.seen host.old).past taking.old.agent taking.old.feed }
+    ensures ready { AreReady
+        H.honest (H.seen host.new).past taking.new.agent taking.new.feed }
 {
     match number {
         1 => define(alloc, taking, host, "One"),
@@ -206,10 +205,10 @@ fn store<H: Host>(
     host: &mut H,
     number: u32,
 ) -> Result<Said, AgentFault>
-    requires ready { AgentIsReady H.honest (H.seen host.old).past taking.old.agent }
-    requires fed { IsFed taking.old.feed }
-    ensures ready { AgentIsReady H.honest (H.seen host.new).past taking.new.agent }
-    ensures fed { IsFed taking.new.feed }
+    requires ready { AreReady
+        H.honest (H.seen host.old).past taking.old.agent taking.old.feed }
+    ensures ready { AreReady
+        H.honest (H.seen host.new).past taking.new.agent taking.new.feed }
 {
     define_for(alloc, taking, host, number)?;
     collect(alloc, taking, host, number.saturating_add(59))
@@ -223,10 +222,10 @@ fn store_unless<H: Host>(
     is_there: bool,
     number: u32,
 ) -> Result<(), AgentFault>
-    requires ready { AgentIsReady H.honest (H.seen host.old).past taking.old.agent }
-    requires fed { IsFed taking.old.feed }
-    ensures ready { AgentIsReady H.honest (H.seen host.new).past taking.new.agent }
-    ensures fed { IsFed taking.new.feed }
+    requires ready { AreReady
+        H.honest (H.seen host.old).past taking.old.agent taking.old.feed }
+    ensures ready { AreReady
+        H.honest (H.seen host.new).past taking.new.agent taking.new.feed }
 {
     if is_there {
         return Ok(());
@@ -236,9 +235,8 @@ fn store_unless<H: Host>(
 }
 
 fn make<H: Host>(alloc: Global, host: &mut H) -> Result<Taking, AgentFault>
-    ensures ready { IfOk result
-        (λ taking. AgentIsReady H.honest (H.seen host.new).past taking.agent) }
-    ensures fed { IfOk result (λ taking. IsFed taking.feed) }
+    ensures { IfOk result
+        (λ taking. AreReady H.honest (H.seen host.new).past taking.agent taking.feed) }
 {
     make_with(alloc, host, &SETTINGS)
 }
@@ -249,9 +247,8 @@ fn make_with<H: Host>(
     host: &mut H,
     settings: &Settings,
 ) -> Result<Taking, AgentFault>
-    ensures ready { IfOk result
-        (λ taking. AgentIsReady H.honest (H.seen host.new).past taking.agent) }
-    ensures fed { IfOk result (λ taking. IsFed taking.feed) }
+    ensures { IfOk result
+        (λ taking. AreReady H.honest (H.seen host.new).past taking.agent taking.feed) }
 {
     if !is_in_limits(settings) {
         return Err(AgentFault::Memory);
@@ -266,9 +263,8 @@ fn make_with<H: Host>(
 }
 
 fn open<H: Host>(alloc: Global, host: &mut H) -> Result<Taking, AgentFault>
-    ensures ready { IfOk result
-        (λ taking. AgentIsReady H.honest (H.seen host.new).past taking.agent) }
-    ensures fed { IfOk result (λ taking. IsFed taking.feed) }
+    ensures { IfOk result
+        (λ taking. AreReady H.honest (H.seen host.new).past taking.agent taking.feed) }
 {
     match Agent::open(alloc, host) {
         Ok(agent) => Ok(Taking {
@@ -279,21 +275,40 @@ fn open<H: Host>(alloc: Global, host: &mut H) -> Result<Taking, AgentFault>
     }
 }
 
+/// Whether beat `number` was stored.
+fn is_stored<H: Host>(alloc: Global, taking: &mut Taking, host: &mut H, number: u32) -> bool
+    requires ready { AreReady
+        H.honest (H.seen host.old).past taking.old.agent taking.old.feed }
+    ensures ready { AreReady
+        H.honest (H.seen host.new).past taking.new.agent taking.new.feed }
+{
+    store(alloc, taking, host, number).is_ok()
+}
+
+/// Stores three beats, and says how many were stored.
+fn store_some<H: Host>(alloc: Global, taking: &mut Taking, host: &mut H) -> u64
+    requires ready { AreReady
+        H.honest (H.seen host.old).past taking.old.agent taking.old.feed }
+{
+    if !is_stored(alloc, taking, host, 1) {
+        return 0;
+    }
+    if !is_stored(alloc, taking, host, 2) {
+        return 1;
+    }
+    if is_stored(alloc, taking, host, 3) {
+        3
+    } else {
+        2
+    }
+}
+
 /// Makes a database and stores three beats. It says whether it was made, and how many were stored.
 fn store_three<H: Host>(alloc: Global, host: &mut H) -> (bool, u64) {
     let Ok(mut taking) = make(alloc, host) else {
         return (false, 0);
     };
-    if store(alloc, &mut taking, host, 1).is_err() {
-        return (true, 0);
-    }
-    if store(alloc, &mut taking, host, 2).is_err() {
-        return (true, 1);
-    }
-    if store(alloc, &mut taking, host, 3).is_err() {
-        return (true, 2);
-    }
-    (true, 3)
+    (true, store_some(alloc, &mut taking, host))
 }
 
 /// Stores those of four beats that are not among the first `count`.
@@ -303,8 +318,8 @@ fn store_missing<H: Host>(
     host: &mut H,
     count: u64,
 ) -> Result<(), AgentFault>
-    requires ready { AgentIsReady H.honest (H.seen host.old).past taking.old.agent }
-    requires fed { IsFed taking.old.feed }
+    requires ready { AreReady
+        H.honest (H.seen host.old).past taking.old.agent taking.old.feed }
 {
     store_unless(alloc, taking, host, count >= 1, 1)?;
     store_unless(alloc, taking, host, count >= 2, 2)?;
@@ -312,14 +327,20 @@ fn store_missing<H: Host>(
     store_unless(alloc, taking, host, count >= 4, 4)
 }
 
+/// Stores those of four beats that are not there, and says how many were.
+fn complete<H: Host>(alloc: Global, taking: &mut Taking, host: &mut H) -> Result<u64, AgentFault>
+    requires ready { AreReady
+        H.honest (H.seen host.old).past taking.old.agent taking.old.feed }
+{
+    let count = taking.agent.count();
+    store_missing(alloc, taking, host, count)?;
+    Ok(count)
+}
+
 /// Opens the database, stores those of four beats that it lacks, and says how many it had.
 fn store_rest<H: Host>(alloc: Global, host: &mut H) -> Result<u64, AgentFault> {
     let mut taking = open(alloc, host)?;
-    let count = taking.agent.count();
-    match store_missing(alloc, &mut taking, host, count) {
-        Ok(()) => Ok(count),
-        Err(fault) => Err(fault),
-    }
+    complete(alloc, &mut taking, host)
 }
 
 /// What an agent tells of itself.
@@ -437,10 +458,10 @@ fn store_first<H: Host>(
     taking: &mut Taking,
     host: &mut H,
 ) -> Result<Said, AgentFault>
-    requires ready { AgentIsReady H.honest (H.seen host.old).past taking.old.agent }
-    requires fed { IsFed taking.old.feed }
-    ensures ready { AgentIsReady H.honest (H.seen host.new).past taking.new.agent }
-    ensures fed { IsFed taking.new.feed }
+    requires ready { AreReady
+        H.honest (H.seen host.old).past taking.old.agent taking.old.feed }
+    ensures ready { AreReady
+        H.honest (H.seen host.new).past taking.new.agent taking.new.feed }
 {
     take(taking, host, chart_line(alloc, "One"))?;
     take(
@@ -454,14 +475,22 @@ fn store_first<H: Host>(
     take(taking, host, Ok(Line::Moment(60)))
 }
 
-/// Makes a database and stores the text's beat.
-fn make_first<H: Host>(alloc: Global, host: &mut H) -> Result<Seen, AgentFault> {
-    let mut taking = make(alloc, host)?;
-    match store_first(alloc, &mut taking, host) {
-        Ok(Said::Stored(_)) => Ok(view_of(&taking)),
+/// Stores the text's beat, and says what the agent tells of itself then.
+fn see_first<H: Host>(alloc: Global, taking: &mut Taking, host: &mut H) -> Result<Seen, AgentFault>
+    requires ready { AreReady
+        H.honest (H.seen host.old).past taking.old.agent taking.old.feed }
+{
+    match store_first(alloc, taking, host) {
+        Ok(Said::Stored(_)) => Ok(view_of(taking)),
         Ok(_) => Err(AgentFault::Memory),
         Err(fault) => Err(fault),
     }
+}
+
+/// Makes a database and stores the text's beat.
+fn make_first<H: Host>(alloc: Global, host: &mut H) -> Result<Seen, AgentFault> {
+    let mut taking = make(alloc, host)?;
+    see_first(alloc, &mut taking, host)
 }
 
 /// Opens the database and stores the text's beat.
@@ -512,12 +541,30 @@ fn a_text_run_twice_is_refused_by_its_moment(rt: HostRuntime) -> Result<(), Fail
     Ok(())
 }
 
-/// What is answered where the text is taken twice, the second time after a fault.
+/// Why the text's beat is not stored, where it is not.
+fn refuse_first<H: Host>(alloc: Global, taking: &mut Taking, host: &mut H) -> Option<AgentFault>
+    requires ready { AreReady
+        H.honest (H.seen host.old).past taking.old.agent taking.old.feed }
+    ensures ready { AreReady
+        H.honest (H.seen host.new).past taking.new.agent taking.new.feed }
+{
+    store_first(alloc, taking, host).err()
+}
+
+/// What is answered where the text is taken twice.
+fn store_twice<H: Host>(alloc: Global, taking: &mut Taking, host: &mut H) -> [Option<AgentFault>; 2]
+    requires ready { AreReady
+        H.honest (H.seen host.old).past taking.old.agent taking.old.feed }
+{
+    let first = refuse_first(alloc, taking, host);
+    let again = refuse_first(alloc, taking, host);
+    [first, again]
+}
+
+/// The same on a new database, the second time after a fault.
 fn twice<H: Host>(alloc: Global, host: &mut H) -> Result<[Option<AgentFault>; 2], AgentFault> {
     let mut taking = make(alloc, host)?;
-    let first = store_first(alloc, &mut taking, host).err();
-    let again = store_first(alloc, &mut taking, host).err();
-    Ok([first, again])
+    Ok(store_twice(alloc, &mut taking, host))
 }
 
 #[test]
@@ -601,26 +648,34 @@ fn beat_of(alloc: Global, id: &str) -> Result<OpenBeat, AllocError>
 /// Hands in the beat that sets this dimension.
 fn hand_in<H: Host>(
     alloc: Global,
-    agent: &mut Agent,
+    taking: &mut Taking,
     host: &mut H,
     id: &str,
     moment: u32,
 ) -> Result<Reply, AgentFault>
-    requires { AgentIsReady H.honest (H.seen host.old).past agent.old }
-    ensures { AgentIsReady H.honest (H.seen host.new).past agent.new }
+    requires { AreReady H.honest (H.seen host.old).past taking.old.agent taking.old.feed }
+    ensures { AreReady H.honest (H.seen host.new).past taking.new.agent taking.new.feed }
 {
     match beat_of(alloc, id) {
-        Ok(beat) => agent.beat(host, &beat, moment),
+        Ok(beat) => taking.agent.beat(host, &beat, moment),
         Err(_) => Err(AgentFault::Memory),
     }
 }
 
 /// What is answered to a beat that sets a dimension which it defines, and to one that sets another.
+fn hand_in_two<H: Host>(alloc: Global, taking: &mut Taking, host: &mut H) -> [Option<AgentFault>; 2]
+    requires ready { AreReady
+        H.honest (H.seen host.old).past taking.old.agent taking.old.feed }
+{
+    let first = hand_in(alloc, taking, host, "b", 60).err();
+    let other = hand_in(alloc, taking, host, "c", 61).err();
+    [first, other]
+}
+
+/// The same on a new database.
 fn two_beats<H: Host>(alloc: Global, host: &mut H) -> Result<[Option<AgentFault>; 2], AgentFault> {
     let mut taking = make(alloc, host)?;
-    let first = hand_in(alloc, &mut taking.agent, host, "b", 60).err();
-    let other = hand_in(alloc, &mut taking.agent, host, "c", 61).err();
-    Ok([first, other])
+    Ok(hand_in_two(alloc, &mut taking, host))
 }
 
 #[test]
@@ -632,23 +687,34 @@ fn a_beat_may_set_what_it_defines_and_nothing_else(rt: HostRuntime) -> Result<()
     Ok(())
 }
 
-/// What a question and the end of a text are answered with.
-fn asked<H: Host>(alloc: Global, host: &mut H) -> Result<String, AgentFault> {
+/// What a line is answered with on a new database, as it prints.
+fn said_of<H: Host>(
+    alloc: Global,
+    host: &mut H,
+    line: Result<Line, AllocError>,
+) -> Result<String, AgentFault>
+    requires { IfOk line (λ line. keeps_limits line ≡ true) }
+{
     let mut taking = make(alloc, host)?;
-    let question = Text::from_str(alloc, "a b").map(Line::Query);
-    let first = take(&mut taking, host, question);
-    let last = take(&mut taking, host, Ok(Line::Disable));
-    format!(in alloc; "{first:?} {last:?}").map_err(|_| AgentFault::Memory)
+    let said = take(&mut taking, host, line);
+    format!(in alloc; "{said:?}").map_err(|_| AgentFault::Memory)
 }
 
 #[test]
-fn says_what_is_asked_and_that_a_text_is_over(rt: HostRuntime) -> Result<(), Fail> {
+fn a_question_is_answered_at_its_line(rt: HostRuntime) -> Result<(), Fail> {
+    let alloc = rt.alloc();
+    let mut host = host_of(alloc, &[])?;
+    let question = Text::from_str(alloc, "a b").map(Line::Query);
+    let said = said_of(alloc, &mut host, question)?;
+    assert_eq!(rt; said.as_str(), "Ok(Table(Text { string: \"ERROR 1\\n\" }))");
+    Ok(())
+}
+
+#[test]
+fn a_disable_is_said(rt: HostRuntime) -> Result<(), Fail> {
     let mut host = host_of(rt.alloc(), &[])?;
-    let text = asked(rt.alloc(), &mut host)?;
-    assert_eq!(rt;
-        text.as_str(),
-        "Ok(Table(Text { string: \"ERROR 1\\n\" })) Ok(Disabled)"
-    );
+    let said = said_of(rt.alloc(), &mut host, Ok(Line::Disable))?;
+    assert_eq!(rt; said.as_str(), "Ok(Disabled)");
     Ok(())
 }
 

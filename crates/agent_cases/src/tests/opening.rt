@@ -128,7 +128,8 @@ fn copying(alloc: Global, copy: &[u8], points: &[BeatPoint]) -> Result<MemoryHos
 /// What the agent that copies answers to a beat that is handed in.
 fn mixed<H: Host>(alloc: Global, host: &mut H) -> Result<Option<AgentFault>, AgentFault> {
     let mut taking = open(alloc, host)?;
-    Ok(hand_in(alloc, &mut taking.agent, host, "a", 62).err())
+    let answer = hand_in(alloc, &mut taking, host, "a", 62);
+    Ok(answer.err())
 }
 
 #[test]
