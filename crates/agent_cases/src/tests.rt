@@ -271,16 +271,26 @@ fn a_first_beat_takes_the_journal_to_219_bytes(rt: HostRuntime) -> Result<(), Fa
     Ok(())
 }
 
+/// Whether a database was made.
+fn is_made(alloc: Global, host: &mut MemoryHost) -> bool {
+    make(alloc, host).is_ok()
+}
+
 #[test]
 fn a_new_database_has_68_bytes(rt: HostRuntime) -> Result<(), Fail> {
     let alloc = rt.alloc();
     let mut host = host_of(alloc, &[])?;
     assert_eq!(rt; opened(alloc, &mut host), Err(AgentFault::NotADatabase));
-    assert!(rt; make(alloc, &mut host).is_ok());
+    assert!(rt; is_made(alloc, &mut host));
     assert_eq!(rt; host.len(File::JournalA)?, 68);
     assert_eq!(rt; make_first(alloc, &mut host), Err(AgentFault::Exists));
     assert_eq!(rt; opened(alloc, &mut host)?.id, 7);
     Ok(())
+}
+
+/// Why the text's beat is not stored in the database that is opened, where it is not.
+fn refused_at_opening(alloc: Global, host: &mut MemoryHost) -> Option<AgentFault> {
+    open_first(alloc, host).err()
 }
 
 #[test]
@@ -289,7 +299,7 @@ fn a_text_run_twice_is_refused_by_its_moment(rt: HostRuntime) -> Result<(), Fail
     let mut host = host_of(alloc, &[])?;
     make_first(alloc, &mut host)?;
     let order = AgentFault::Refused(BlockFault::MomentOrder(60));
-    assert_eq!(rt; open_first(alloc, &mut host).err(), Some(order));
+    assert_eq!(rt; refused_at_opening(alloc, &mut host), Some(order));
     assert_eq!(rt; host.len(File::JournalA)?, 219);
     Ok(())
 }
