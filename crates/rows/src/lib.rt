@@ -10,6 +10,8 @@ mod asked;
 #[cfg(test)]
 mod collect;
 #[cfg(test)]
+mod collect_stops;
+#[cfg(test)]
 mod configurations;
 #[cfg(test)]
 mod convert;

@@ -1,0 +1,176 @@
+//! What a crash leaves of a collector's beats, with each call on the host refused in turn, and how a collector goes on
+//! behind it. The calls of the spawner are refused in turn too.
+
+use crate::run::{Ending, call_main, calls, host_of, run_over, told_since};
+use host_model::{CallList, Keep, MemoryHost, MemorySource, MemorySpawner, Status};
+use std::alloc::{AllocError, Global};
+use std::fmt::Write;
+use std::test::Fail;
+
+/// What each child writes.
+const TEXT: &str =
+    "CHART test.one '' 'One' 'units'\nDIMENSION a\nBEGIN test.one\nSET a = 42\nEND\n";
+
+/// More calls on the host than the commands before the crash make.
+const CALLS: u64 = 48;
+
+/// More calls on the spawner than three children take.
+const SPAWNER_CALLS: u64 = 16;
+
+/// How many children there are, and so how many beats: at the moments 100, 101 and 102.
+const CHILDREN: usize = 3;
+
+/// Runs so many children as collectors, where these calls of the spawner fail.
+fn collect(
+    alloc: Global,
+    host: &mut MemoryHost,
+    children: usize,
+    fails: &[u64],
+) -> Result<Ending, Fail> {
+    let before = host.told().len();
+    let mut source = MemorySource::new(alloc, b"", CallList::new(alloc))?;
+    let mut spawner = MemorySpawner::new(alloc, calls(alloc, fails)?);
+    for _ in 0..children {
+        spawner.add(TEXT.as_bytes(), 0)?;
+    }
+    let starts = if children == CHILDREN { "3" } else { "1" };
+    let words = ["collect", "1", starts, "p"];
+    let status = call_main(alloc, &words, &mut source, host, &mut spawner)?;
+    Ok(Ending {
+        status,
+        told: String::from_utf8(told_since(host, before).to_vec(alloc)?)?,
+        has_taken: false,
+    })
+}
+
+/// What is told where beats are stored behind the first `skipped`, up to the `last`.
+fn stored(alloc: Global, skipped: usize, last: usize) -> Result<String, AllocError> {
+    let mut told = String::new(alloc);
+    for number in skipped..last {
+        let number = number.saturating_add(1);
+        writeln!(told, "STORED {number}")?;
+    }
+    Ok(told)
+}
+
+/// What is told of the points of four moments, where so many beats are there.
+fn points(alloc: Global, beats: usize) -> Result<String, AllocError> {
+    if beats == 0 {
+        return String::from_str(alloc, "ERROR 3\n");
+    }
+    let mut told = String::from_str(alloc, "ROWS 4 a\n")?;
+    for index in 0..4usize {
+        let moment = index.saturating_add(100);
+        let value = if index < beats { "42" } else { "null" };
+        writeln!(told, "{moment} {value}")?;
+    }
+    Ok(told)
+}
+
+/// How many beats are there, where the points are those of just so many.
+fn beats_there(alloc: Global, host: &mut MemoryHost) -> Result<Option<usize>, Fail> {
+    let words: &[&str] = &["query", "test.one", "100", "104", "1", "sum"];
+    let told = run_over(alloc, host, words, b"", &[])?.told;
+    for beats in 0..4usize {
+        if points(alloc, beats)?.as_str() == told.as_str() {
+            return Ok(Some(beats));
+        }
+    }
+    Ok(None)
+}
+
+/// Whether all beats that were told of are there, and at most one more.
+fn is_told(alloc: Global, beats: usize, told: &str) -> Result<bool, AllocError> {
+    let all = stored(alloc, 0, beats)?;
+    let but_one = stored(alloc, 0, beats.saturating_sub(1))?;
+    Ok(told == all.as_str() || told == but_one.as_str())
+}
+
+/// Whether one child more is collected behind so many beats.
+fn goes_on(alloc: Global, host: &mut MemoryHost, beats: usize) -> Result<bool, Fail> {
+    let end = collect(alloc, host, 1, &[])?;
+    let told = stored(alloc, beats, beats.saturating_add(1))?;
+    Ok(end.status == Status::Ok && end.told.as_str() == told.as_str())
+}
+
+/// Whether a collector that ended so may have left this, where the database had been made.
+fn is_left(alloc: Global, host: &mut MemoryHost, end: &Ending) -> Result<bool, Fail> {
+    match beats_there(alloc, host)? {
+        Some(beats) => Ok(
+            is_told(alloc, beats, end.told.as_str())? && goes_on(alloc, host, beats)?,
+        ),
+        None => Ok(false),
+    }
+}
+
+/// Whether the call with this number, refused before a crash, leaves what it may.
+fn is_sound_at(alloc: Global, fails: u64, keep: Keep) -> Result<bool, Fail> {
+    let mut host = host_of(alloc, &[fails])?;
+    let made = run_over(alloc, &mut host, &["new", "7"], b"", &[])?.status;
+    let end = collect(alloc, &mut host, CHILDREN, &[])?;
+    let mut host = host.stop(keep)?;
+    match (made, end.status) {
+        (Status::Ok, Status::Ok | Status::DiskFault | Status::TellFault) => {
+            is_left(alloc, &mut host, &end)
+        }
+        (Status::DiskFault, Status::NotADatabase) => Ok(end.told.as_str() == ""),
+        (Status::DiskFault, Status::Ok) => is_left(alloc, &mut host, &end),
+        _ => Ok(false),
+    }
+}
+
+/// The first of the calls whose refusal and a crash leave what they may not.
+fn first_unsound(alloc: Global, keep: Keep) -> Result<Option<u64>, Fail> {
+    for fails in 0..CALLS {
+        if !is_sound_at(alloc, fails, keep)? {
+            return Ok(Some(fails));
+        }
+    }
+    Ok(None)
+}
+
+#[test]
+fn collected_beats_after_a_crash_that_keeps_all(rt: HostRuntime) -> Result<(), Fail> {
+    assert_eq!(rt; first_unsound(rt.alloc(), Keep::All)?, None);
+    Ok(())
+}
+
+#[test]
+fn collected_beats_after_a_crash_that_keeps_none(rt: HostRuntime) -> Result<(), Fail> {
+    assert_eq!(rt; first_unsound(rt.alloc(), Keep::None)?, None);
+    Ok(())
+}
+
+#[test]
+fn collected_beats_after_a_crash_that_fills(rt: HostRuntime) -> Result<(), Fail> {
+    assert_eq!(rt; first_unsound(rt.alloc(), Keep::Fill(255))?, None);
+    Ok(())
+}
+
+/// How a collector of a new database ends where this call of the spawner fails, and whether it left what it told of.
+fn spawner_fails_at(alloc: Global, fails: u64) -> Result<(Status, bool), Fail> {
+    let mut host = host_of(alloc, &[])?;
+    run_over(alloc, &mut host, &["new", "7"], b"", &[])?;
+    let end = collect(alloc, &mut host, CHILDREN, &[fails])?;
+    let beats = beats_there(alloc, &mut host)?.unwrap_or(9);
+    let told = stored(alloc, 0, beats)?;
+    Ok((end.status, end.told.as_str() == told.as_str()))
+}
+
+/// A start, two pulls and a wait are made for each child.
+#[test]
+fn a_spawner_that_fails_loses_no_beat(rt: HostRuntime) -> Result<(), Fail> {
+    for fails in 0..SPAWNER_CALLS {
+        let status = if fails < 12 {
+            Status::SpawnFault
+        } else {
+            Status::Ok
+        };
+        assert_eq!(rt;
+            spawner_fails_at(rt.alloc(), fails)?,
+            (status, true),
+            "call {fails}"
+        );
+    }
+    Ok(())
+}
