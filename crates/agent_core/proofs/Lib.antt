@@ -6,12 +6,12 @@ pub mod DefinedLemmas
 pub mod FedLemmas
 pub mod FollowLemmas
 pub mod FormLemmas
-pub mod GridLemmas
 pub mod HealthLemmas
 pub mod HistoryLemmas
 pub mod IndexLemmas
 pub mod KeptLemmas
 pub mod LastSeenLemmas
+pub mod LimitLemmas
 pub mod Lists
 pub mod NewLemmas
 pub mod NoteLemmas
