@@ -2,6 +2,7 @@ pub mod AlarmLemmas
 pub mod AnswerLemmas
 pub mod CallLemmas
 pub mod ClosedLemmas
+pub mod CopyCalls
 pub mod DefinedLemmas
 pub mod FedLemmas
 pub mod FollowLemmas
