@@ -1,4 +1,4 @@
-ghost use Rattle.std.specs.Prelude.{◌≡◌, ℕ, Bool, true, false, List, [], ◌∷◌, None, is_some, reverse, Result};
+ghost use Rattle.std.specs.Prelude.{◌≡◌, ℕ, Bool, true, false, List, [], ◌∷◌, Option, None, is_some, reverse, Result};
 ghost use Rattle.host_model.specs.declared.file.File.{File as AFile};
 ghost use Rattle.history.specs.declared.line.Line.{Line};
 ghost use Rattle.history.specs.declared.line.Line.TheVariants.{Moment};
@@ -19,7 +19,11 @@ ghost use Rattle.agent_core.specs.declared.reply.Reply.{Reply};
 ghost use Rattle.agent_core.specs.declared.reply.Said.{Said};
 ghost use Rattle.agent_core.specs.Agent.{AgentState, IsSoundBy};
 ghost use Rattle.agent_core.specs.Alarms.{all_events, log_at};
-ghost use Rattle.agent_core.specs.Calls.{Beats, Keeps, Lines, Queries, SetsHealth};
+ghost use Rattle.agent_core.specs.Calls.{AnswersAsk, Beats, Keeps, Lines, Queries, SetsHealth, TakesData};
+ghost use Rattle.agent_core.specs.Copying.{added_to};
+ghost use Rattle.replication.specs.declared.ask.Ask.{Ask};
+ghost use Rattle.replication.specs.declared.message.Data.{Data};
+ghost use Rattle.replication.specs.declared.verdict.Verdict.{Verdict};
 ghost use Rattle.host_model.specs.Seen.{Seen};
 ghost use Rattle.agent_core.specs.Kept.{StandsForHistory};
 ghost use Rattle.agent_core.specs.Answers.{points_of_history, tier_beats};
@@ -97,6 +101,17 @@ pub fn any_call<H: Host>()
         → IsSoundBy host.past agent set h tried
         → IsSoundBy host'.past agent' set (history_after result (health text ∷ []) h)
         (tried_after result (health text ∷ []) tried) }
+    ensures take { H.honest → (host host' : Seen) (agent agent' : AgentState) (message : Data)
+        (result : Result (Verdict × Reply) AgentFault) (set : ASettings) (h tried : List Beat)
+        → TakesData H.honest host agent message result host' agent'
+        → IsSoundBy host.past agent set h tried
+        → IsSoundBy host'.past agent' set (history_after result (added_to h message) h)
+        (tried_after result (added_to h message) tried) }
+    ensures data { H.honest → (host host' : Seen) (agent agent' : AgentState) (ask : Ask)
+        (result : Result (Option Data) AgentFault) (set : ASettings) (h tried : List Beat)
+        → AnswersAsk H.honest host agent ask result host' agent'
+        → IsSoundBy host.past agent set h tried
+        → IsSoundBy host'.past agent' set h (tried_after result [] tried) }
 {}
 
 /// The law of what is answered of a history: the points that its tiers see of a series are its points, so that
