@@ -25,5 +25,6 @@ pub mod ReplyLemmas
 pub mod SeenLemmas
 pub mod Sound
 pub mod StepLemmas
+pub mod TakenLemmas
 pub mod UnseenLemmas
 pub mod Within
