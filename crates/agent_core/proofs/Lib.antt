@@ -2,6 +2,7 @@ pub mod AlarmLemmas
 pub mod AnswerLemmas
 pub mod CallLemmas
 pub mod ClosedLemmas
+pub mod CopyLemmas
 pub mod DefinedLemmas
 pub mod FedLemmas
 pub mod FollowLemmas
@@ -13,6 +14,7 @@ pub mod IndexLemmas
 pub mod KeptLemmas
 pub mod LastSeenLemmas
 pub mod Lists
+pub mod NamedLemmas
 pub mod NewLemmas
 pub mod NoteLemmas
 pub mod OpenFaults
