@@ -1,5 +1,6 @@
 pub mod AlarmLemmas
 pub mod AnswerLemmas
+pub mod AnswerTruth
 pub mod CallLemmas
 pub mod ClosedLemmas
 pub mod CopyLemmas

@@ -121,7 +121,7 @@ place-there {X} p (x ∷ xs) any = by (p x) refl (place-there p xs)
         let next : 1 + position_or_len p xs ≡ suc (position_or_len p xs) = omega arith in
         (later.0, (ap (λ (b : Bool). slice_get (x ∷ xs) (cond (not b) (1 + position_or_len p xs) 0)) not_here ∙ ap (slice_get (x ∷ xs)) next ∙ later.1.0, later.1.1))
 
-abbrev sent : Word → SeriesWord
+abbrev pub sent : Word → SeriesWord
 sent word = record { series = word.series; word = word.word }
 
 module _ (registry : Registry) (apart : AreApart same_dimension registry.dimensions) (owners : AllByRecursion (λ (dimension : OpenDim). list_any (is_chart dimension.chart) registry.charts ≡ true) registry.dimensions) where
