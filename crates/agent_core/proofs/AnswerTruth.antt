@@ -1,12 +1,12 @@
 -- What a history answers to an Ask is true of the beats that are seen of it, and it answers nothing only where it has
--- nothing above what was asked for. What is true of a child stays true as the child goes on.
+-- nothing above what was asked for.
 use Rattle.std.proofs.Common.{◌≡◌, ℕ, ◌==◌, ◌+◌, ◌-◌, ◌<◌, ◌≤◌, Bool, true, false, cond, not, ◌&&◌, nat_le, nat_lt, List, [], ◌∷◌, ◌++◌, length, map, reverse, slice_get, Option, Some, None, inl, inr, refl, sym, ap, subst, ◌∙◌, arith, true≢false}
 use Rattle.std.specs.List.{filter, list_any, AllByRecursion}
 use Rattle.std.specs.Option.{option_map}
-use Rattle.std.proofs.lemmas.Bool.{cases_Bool, and_from, cond-true, cond-false, eq-eqb, false_from_ne_true, le-leb, lt-leb, ltb-true, or_cases, or_left, or_right}
-use Rattle.std.proofs.lemmas.List.{append-nil, append_assoc, map-append, reverse-append}
+use Rattle.std.proofs.lemmas.Bool.{cases_Bool, and_from, cond-true, cond-false, eq-eqb, false_from_ne_true, le-leb, lt-leb, ltb-true}
+use Rattle.std.proofs.lemmas.List.{append-nil, map-append, reverse-append}
 use Rattle.std.proofs.lemmas.List.Elements.{filter-append, recursion_from_All}
-use Rattle.std.proofs.lemmas.List.Folds.{list_any-append}
+use Rattle.std.proofs.lemmas.Simd.{map-map}
 use Rattle.std.proofs.lemmas.Option.{none-some, same_Some, slice_get_within}
 use Rattle.algorithms.specs.Words.{packed}
 use Rattle.history.specs.declared.beat.OpenBeat.{OpenBeat}
@@ -28,9 +28,8 @@ use Rattle.replication.specs.declared.message.Data.{Data}
 use Rattle.replication.specs.declared.named.NamedBeat.{NamedBeat}
 use Rattle.replication.specs.declared.names.Names.{Names}
 use Rattle.replication.specs.Answer.{data_of, data_with, from_of, front, with_front}
-use Rattle.replication.specs.Copies.{above, between, had_floor, latest, Message, IsTrueOf, RisesFrom}
+use Rattle.replication.specs.Copies.{above, between, had_floor, Message, IsTrueOf, RisesFrom}
 use Rattle.replication.specs.Names.{beat_moment, message_of, named_beat, named_beats, named_moment}
-use Rattle.replication.proofs.Copies.{ends-within, true-later}
 use Rattle.replication.proofs.NamesLaws.{above-map, answer-true, latest-map}
 use Rattle.entry_codec.specs.declared.entry.Settings.{Settings}
 use Rattle.store_core.specs.declared.beat.Beat.{Beat as StoreBeat}
@@ -49,10 +48,6 @@ filter-of-map {X} {Y} p f (x ∷ xs) = by (p (f x)) (filter-of-map p f xs)
     by : (b : Bool) → filter p (map f xs) ≡ map f (filter (λ x. p (f x)) xs) → cond b (f x ∷ filter p (map f xs)) (filter p (map f xs)) ≡ map f (cond b (x ∷ filter (λ x. p (f x)) xs) (filter (λ x. p (f x)) xs))
     by true rest = ap (λ more. f x ∷ more) rest
     by false rest = rest
-
-map-twice : {X Y Z : Type 0} (g : Y → Z) (f : X → Y) (xs : List X) → map g (map f xs) ≡ map (λ x. g (f x)) xs
-map-twice g f [] = refl
-map-twice g f (x ∷ xs) = ap (λ more. g (f x) ∷ more) (map-twice g f xs)
 
 -- what passes one test passes the other, so that the other takes nothing from it
 filter-within : {X : Type 0} (p q : X → Bool) → ((x : X) → p x ≡ true → q x ≡ true) → (xs : List X) → filter p (filter q xs) ≡ filter p xs
@@ -82,14 +77,6 @@ module _ {B : Type 0} (moment : B → ℕ) where
         | inl stays ↦ subst (RisesFrom moment low) (sym (cond-true (test x) (x ∷ filter test xs) (filter test xs) stays)) (rises.0, rest)
         | inr leaves ↦ subst (RisesFrom moment low) (sym (cond-false (test x) (x ∷ filter test xs) (filter test xs) leaves)) (rises-lower low (moment x) (filter test xs) (omega (arith, rises.0)) rest)
       ]
-
-  rises-front : (low : ℕ) (xs ys : List B) → RisesFrom moment low (xs ++ ys) → RisesFrom moment low xs
-  rises-front low [] ys rises = tt
-  rises-front low (x ∷ xs) ys rises = (rises.0, rises-front (moment x) xs ys rises.1)
-
-  rises-next : (low : ℕ) (xs : List B) (y : B) (ys : List B) → RisesFrom moment low (xs ++ y ∷ ys) → latest moment low xs < moment y
-  rises-next low [] y ys rises = rises.0
-  rises-next low (x ∷ xs) y ys rises = rises-next (moment x) xs y ys rises.1
 
 -- ---- beats by name as they are seen
 abbrev seen_named : NamedBeat → SeenBeat
@@ -145,7 +132,7 @@ module _ (registry : Registry) (apart : AreApart same_dimension registry.dimensi
       → kept_seen (record { moment = Some moment; points = map (copied_point old) words }) ≡ record { moment = moment; word = words_by_name old words }
   same-seen moment old words grows below =
       let sent_are : map sent_word (map kept_point_of (map (copied_point old) words)) ≡ map sent words =
-      ap (map sent_word) (map-twice kept_point_of (copied_point old) words) ∙ map-twice sent_word (λ (word : Word). kept_point_of (copied_point old word)) words in
+      ap (map sent_word) (map-map kept_point_of (copied_point old) words) ∙ map-map sent_word (λ (word : Word). kept_point_of (copied_point old word)) words in
       let says : (chart id : List ℕ) → (kept_seen (record { moment = Some moment; points = map (copied_point old) words })).word chart id ≡ words_by_name old words chart id =
       λ chart id.
       ap (λ words. named_word (named_beat (names_of registry) (record { moment = moment; words = words })).points chart id) sent_are
@@ -183,9 +170,9 @@ module _ (registry : Registry) (apart : AreApart same_dimension registry.dimensi
   kept-is_seen (collected moment beat ∷ h) [] are grows = absurd are
   kept-is_seen (collected moment beat ∷ h) (stored ∷ beats) are grows =
       let old = registry_of (collected moment beat ∷ h) in
-      ap (λ points. kept (record { moment = Some moment; points = points } ∷ tier_beats h)) (sym (map-twice (copied_point old) word_of_point (beat_points old h moment beat)))
+      ap (λ points. kept (record { moment = Some moment; points = points } ∷ tier_beats h)) (sym (map-map (copied_point old) word_of_point (beat_points old h moment beat)))
       ∙ one-more (tier_beats h) (seen h) moment old (map word_of_point (beat_points old h moment beat)) grows (points-below old h moment beat)
-        (kept-is_seen h beats are.1 (grows-with (registry_of h) beat.charts beat.dimensions registry.dimensions grows))
+      (kept-is_seen h beats are.1 (grows-with (registry_of h) beat.charts beat.dimensions registry.dimensions grows))
   kept-is_seen (copied copy ∷ h) [] are grows = absurd are
   kept-is_seen (copied copy ∷ h) (stored ∷ beats) are grows =
       let old = registry_of (copied copy ∷ h) in
@@ -233,8 +220,8 @@ module _ (set : Settings) (h : List Beat) (beats : List StoreBeat) (are : AreBea
   sent-seen : map (seen_sent names) sent_beats ≡ filter from_now (seen h)
   unfolding kept_of_history floor_of_history
   sent-seen =
-      ap (map (seen_sent names)) (map-twice sent_beat kept_beat_of (kept_list (registry_of h)))
-      ∙ map-twice (seen_sent names) (λ (beat : TierBeat). sent_beat (kept_beat_of beat)) (kept_list (registry_of h))
+      ap (map (seen_sent names)) (map-map sent_beat kept_beat_of (kept_list (registry_of h)))
+      ∙ map-map (seen_sent names) (λ (beat : TierBeat). sent_beat (kept_beat_of beat)) (kept_list (registry_of h))
       ∙ kept-is_seen (registry_of h) (apart-registry h) (only-defined h beats are).owners floor_now h beats are (grows-same (registry_of h).dimensions)
     where
       kept_list : Registry → List TierBeat
@@ -252,9 +239,9 @@ module _ (set : Settings) (h : List Beat) (beats : List StoreBeat) (are : AreBea
   answer-is_true floors message had is =
       let floor = answer-floor set.id floor_now names sent_beats ask message is in
       let named = answer-true set.id floor_now names sent_beats ask floors message sent-rises had is in
-      let beats_are : map seen_named (named_beats names sent_beats) ≡ filter from_now (seen h) = map-twice seen_named (named_beat names) sent_beats ∙ sent-seen in
+      let beats_are : map seen_named (named_beats names sent_beats) ≡ filter from_now (seen h) = map-map seen_named (named_beat names) sent_beats ∙ sent-seen in
       let message_is : message_as_seen (message_of message) ≡ message_seen message =
-      λ i. record { prev = message.prev; from = message.from; upto = message.upto; floor = message.floor; beats = map-twice seen_named (named_beat message.names) message.beats i } in
+      λ i. record { prev = message.prev; from = message.from; upto = message.upto; floor = message.floor; beats = map-map seen_named (named_beat message.names) message.beats i } in
       let truth = subst (IsTrueOf seen_moment floors (map seen_named (named_beats names sent_beats))) message_is (true-as-seen floors (named_beats names sent_beats) (message_of message) named) in
       record {
         floor = truth.floor;
@@ -263,7 +250,7 @@ module _ (set : Settings) (h : List Beat) (beats : List StoreBeat) (are : AreBea
         upto = truth.upto;
         beats = truth.beats ∙ ap (between seen_moment message.from message.upto) beats_are
             ∙ filter-within (λ beat. nat_le (seen_moment beat) message.upto && nat_lt message.from (seen_moment beat)) from_now
-              (λ beat passes. above-floor message.from (seen_moment beat) (omega (arith, truth.from, floor)) (second (nat_le (seen_moment beat) message.upto) (nat_lt message.from (seen_moment beat)) passes)) (seen h);
+            (λ beat passes. above-floor message.from (seen_moment beat) (omega (arith, truth.from, floor)) (second (nat_le (seen_moment beat) message.upto) (nat_lt message.from (seen_moment beat)) passes)) (seen h);
       }
     where
       second : (a b : Bool) → (a && b) ≡ true → b ≡ true
@@ -278,33 +265,3 @@ module _ (set : Settings) (h : List Beat) (beats : List StoreBeat) (are : AreBea
       ∙ ap (above seen_moment (from_of floor_now ask.last)) (sym sent-seen)
       ∙ above-map beat_moment seen_moment (seen_sent names) (λ beat. refl) (from_of floor_now ask.last) sent_beats
       ∙ ap (map (seen_sent names)) (answer-none set.id floor_now names sent_beats ask (sym same) is)
-
--- ---- a child that goes on
-had-more : (floors more : List ℕ) (floor : ℕ) → had_floor floors floor ≡ true → had_floor (floors ++ more) floor ≡ true
-had-more floors more floor had =
-    elim (or_cases (floor == 0) (list_any (λ set. floor == set) floors) had) [
-      | inl none ↦ or_left (floor == 0) (list_any (λ set. floor == set) (floors ++ more)) none
-      | inr some ↦ or_right (floor == 0) (list_any (λ set. floor == set) (floors ++ more))
-          (list_any-append (λ set. floor == set) floors more ∙ or_left (list_any (λ set. floor == set) floors) (list_any (λ set. floor == set) more) some)
-    ]
-
--- with some floors
-goes-on : (floors : List ℕ) (kid later : List SeenBeat) (message : Message SeenBeat) → RisesFrom seen_moment 0 (kid ++ later) → IsTrueOf seen_moment floors kid message
-    → (some : List ℕ) × IsTrueOf seen_moment some (kid ++ later) message
-goes-on floors kid [] message rises truth = (floors, subst (λ all. IsTrueOf seen_moment floors all message) (sym (append-nil kid)) truth)
-goes-on floors kid (beat ∷ later) message rises truth =
-    let next = rises-next seen_moment 0 kid beat later rises in
-    let within = ends-within seen_moment 0 floors kid message (rises-front seen_moment 0 kid (beat ∷ later) rises) truth in
-    let step = true-later seen_moment floors kid 0 beat message (omega (arith, next, within)) truth in
-    let same = append_assoc kid (beat ∷ []) later in
-    let rest = goes-on (floors ++ 0 ∷ []) (kid ++ beat ∷ []) later message (subst (RisesFrom seen_moment 0) (sym same) rises) step in
-    (rest.0, subst (λ all. IsTrueOf seen_moment rest.0 all message) same rest.1)
-
-pub stays-true : (floors more : List ℕ) (kid later : List SeenBeat) (message : Data) → RisesFrom seen_moment 0 (kid ++ later) → IsTrueOfChild floors kid message → IsTrueOfChild (floors ++ more) (kid ++ later) message
-stays-true floors more kid later message rises truth = record {
-  floor = had-more floors more message.floor truth.floor;
-  from = truth.from;
-  some = truth.some;
-  upto = truth.upto;
-  beats = (goes-on floors kid later (message_seen message) rises truth).1.beats;
-}

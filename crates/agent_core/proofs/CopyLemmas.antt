@@ -9,9 +9,10 @@ use Rattle.std.proofs.lemmas.Bool.{cases_Bool, and_from, and_parts, cond-true, c
 use Rattle.std.proofs.lemmas.List.{append-nil, append_assoc, length-map, map-append, take-map}
 use Rattle.std.proofs.lemmas.Option.{none-some, same_Some}
 use Rattle.history.specs.declared.beat.OpenBeat.{OpenBeat}
-use Rattle.history.specs.History.{Beat, collected, copied, health, missing, child, gaps, last, registry_of, Word}
+use Rattle.history.specs.History.{Beat, collected, copied, health, missing, child as child_of, gaps, last, registry_of, Word}
 use Rattle.history.specs.Registry.{Registry, is_dimension, same_dimension, series_of, with_definitions}
 use Rattle.beat_points.specs.Points.{beat_points}
+use Rattle.beat_entries.proofs.Gathering.{all-gathered}
 use Rattle.chart_registry.proofs.Applying.{any-put_all}
 use Rattle.chart_registry.proofs.Growing.{same_dimension-alike}
 use Rattle.chart_registry.proofs.RowsLemmas.{bytes_eq_same}
@@ -28,7 +29,7 @@ use Rattle.replication.specs.Copies.{end_of, first_beats, first_gaps, gap_betwee
 use Rattle.replication.specs.Names.{named_beat, named_beats, named_point}
 use Rattle.replication.specs.Verdict.{is_stored}
 use Rattle.replication.proofs.AboveLaws.{all-take}
-use Rattle.replication.proofs.Copies.{all-append, all-map, keeps-copy, latest-later, rises-later}
+use Rattle.replication.proofs.Copies.{all-append, all-map, keeps-copy, keeps-within, latest-later, rises-later}
 use Rattle.replication.proofs.Verdicts.{stored-begins}
 use Rattle.link_frames.specs.DataForm.{IsData}
 use Rattle.store_core.specs.declared.beat.Beat.{Beat as StoreBeat}
@@ -39,7 +40,6 @@ use Rattle.agent_core.specs.Replay.{onto}
 use Rattle.agent_core.specs.Roles.{role_of}
 use Rattle.agent_core.proofs.HistoryLemmas.{follows-passed}
 use Rattle.agent_core.proofs.NamedLemmas.{item-there, named_word, numbered-named, word_of, AreKnown}
-use Rattle.agent_core.proofs.TakenLemmas.{all-made}
 
 -- ---- beats in order
 seen-more : (xs : List SeenBeat) (before moment : ℕ) (registry : Registry) (words : List Word) → RisesFrom seen_moment 0 xs → latest seen_moment 0 xs ≤ before → before < moment
@@ -85,9 +85,9 @@ gaps-end (missing gap ∷ h) [] are = absurd are
 gaps-end (missing gap ∷ h) (kept ∷ beats) are =
     let later = are.0.later in
     subst (AllByRecursion (EndsBy gap.to)) (sym (map-append span_of (gaps h) (gap ∷ []))) (
-      all-append (EndsBy gap.to) (map span_of (gaps h)) (span_of gap ∷ []) (
-        all-map (EndsBy (last h)) (EndsBy gap.to) (map span_of (gaps h)) (λ gap by. omega (arith, by, later)) (gaps-end h beats are.1)
-      ) (omega arith, tt)
+    all-append (EndsBy gap.to) (map span_of (gaps h)) (span_of gap ∷ []) (
+    all-map (EndsBy (last h)) (EndsBy gap.to) (map span_of (gaps h)) (λ gap by. omega (arith, by, later)) (gaps-end h beats are.1)
+    ) (omega arith, tt)
     )
 
 -- ---- what a beat of a Data is by number
@@ -144,11 +144,7 @@ module _ (registry : Registry) (names : Names) where
       subst (λ (point : NamedPoint). list_any (is_dimension point.chart point.dimension) after.dimensions ≡ true) of.is there
 
   all-known : (beat : SentBeat) → AreKnown after (points beat)
-  all-known beat = all-made (named_point names) (λ (word : SeriesWord). Unit {0}) (λ (point : NamedPoint). list_any (is_dimension point.chart point.dimension) after.dimensions ≡ true) (λ word point none made. defined-there word point made) beat.words (units beat.words)
-    where
-      units : (words : List SeriesWord) → AllByRecursion (λ (word : SeriesWord). Unit {0}) words
-      units [] = tt
-      units (word ∷ words) = (tt, units words)
+  all-known beat = all-gathered (named_point names) (λ (point : NamedPoint). list_any (is_dimension point.chart point.dimension) after.dimensions ≡ true) defined-there beat.words
 
   -- a beat with a word of a series has a point, and so a word by number
   record HasPoint (beat : SentBeat) : Type 0 where
@@ -179,12 +175,12 @@ module _ (registry : Registry) (names : Names) where
 
   some-words : (beat : SentBeat) → HasPoint beat → numbered_words after (points beat) ≡ [] → ⊥
   some-words beat has none = none-some has.point.word (
-    sym (nobody (series_of after has.point.chart has.point.dimension)) ∙ ap (λ words. words_by_name after words has.point.chart has.point.dimension) (sym none)
-    ∙ numbered-named after (points beat) (all-known beat) has.point.chart has.point.dimension
-    ∙ ap (λ all. named_word all has.point.chart has.point.dimension) has.is
-    ∙ ap (option_map (λ (point : NamedPoint). point.word)) (cond-true (is_named has.point.chart has.point.dimension has.point) (Some has.point) (find (is_named has.point.chart has.point.dimension) has.rest)
-        (and_from (bytes_eq has.point.chart has.point.chart) (bytes_eq has.point.dimension has.point.dimension) (bytes_eq_same has.point.chart has.point.chart refl) (bytes_eq_same has.point.dimension has.point.dimension refl)))
-  )
+      sym (nobody (series_of after has.point.chart has.point.dimension)) ∙ ap (λ words. words_by_name after words has.point.chart has.point.dimension) (sym none)
+      ∙ numbered-named after (points beat) (all-known beat) has.point.chart has.point.dimension
+      ∙ ap (λ all. named_word all has.point.chart has.point.dimension) has.is
+      ∙ ap (option_map (λ (point : NamedPoint). point.word)) (cond-true (is_named has.point.chart has.point.dimension has.point) (Some has.point) (find (is_named has.point.chart has.point.dimension) has.rest)
+      (and_from (bytes_eq has.point.chart has.point.chart) (bytes_eq has.point.dimension has.point.dimension) (bytes_eq_same has.point.chart has.point.chart refl) (bytes_eq_same has.point.dimension has.point.dimension refl)))
+      )
     where
       nobody : (series : Option ℕ) → option_and_then (word_of []) series ≡ None
       nobody None = refl
@@ -303,9 +299,9 @@ module _ (h : List Beat) (message : Data) (data_is : IsData message) where
       let copies = copied_beats message.child (made message.child before message.names) (definitions_in message.names) (named_beats message.names message.beats) in
       let least : n - length (map (gap_beat message.child) gap) ≡ n - length gap = ap (λ m. n - m) (length-map gap (gap_beat message.child)) in
       ap (onto h) (
-        take-both n (map (gap_beat message.child) gap) copies
-        ∙ (λ i. take-map (gap_beat message.child) n gap i ++ take (least i) copies)
-        ∙ ap (λ later. map (gap_beat message.child) (take n gap) ++ later) (front-copies message.child before message.names (n - length gap) message.beats)
+      take-both n (map (gap_beat message.child) gap) copies
+      ∙ (λ i. take-map (gap_beat message.child) n gap i ++ take (least i) copies)
+      ∙ ap (λ later. map (gap_beat message.child) (take n gap) ++ later) (front-copies message.child before message.names (n - length gap) message.beats)
       ) ∙ onto-append h (map (gap_beat message.child) (take n gap)) _
 
   record Takes (n : ℕ) : Type 0 where
@@ -327,28 +323,37 @@ module _ (h : List Beat) (message : Data) (data_is : IsData message) where
         last_is = ap last (parts-are n) ∙ copies.last_is ∙ (λ i. latest seen_moment (gapped.last_is i) (sym beats i));
       }
 
-  module _ (floors : List ℕ) (kid : List SeenBeat) (rises : RisesFrom seen_moment 0 kid) (ends : AllByRecursion (EndsBy (last h)) (map span_of (gaps h))) (copies : IsCopyOfChild floors kid h)
-      (truth : IsTrueOfChild floors kid message) where
+  -- what the history with the first of its beats is, it is with the first of what it adds
+  added-so : (P : List Beat → Type 0) → (message.prev ≡ last h → (n : ℕ) → P (new n)) → P h → (n : ℕ) → P (onto h (take n (added_to h message)))
+  added-so P holds now n =
+      let adds = is_stored (verdict_of h message) && is_none (copy_refusal before (role_of h) message) in
+      elim (cases_Bool adds) [
+        | inl adds_it ↦
+            let stored = (and_parts (is_stored (verdict_of h message)) (is_none (copy_refusal before (role_of h) message)) adds_it).0 in
+            subst (λ more. P (onto h (take n more))) (sym (cond-true adds (beats_of before message) [] adds_it)) (holds (stored-begins (child_of h) (last h) message.child message.prev stored) n)
+        | inr adds_none ↦
+            subst (λ more. P (onto h (take n more))) (sym (cond-false adds (beats_of before message) [] adds_none)) (subst (λ more. P (onto h more)) (sym (take-nil n)) now)
+      ]
+
+  -- it does not get ahead of the child
+  pub added-behind : (floors : List ℕ) (child : List SeenBeat) → RisesFrom seen_moment 0 child → last h ≤ latest seen_moment 0 child → IsTrueOfChild floors child message
+      → (n : ℕ) → last (onto h (take n (added_to h message))) ≤ latest seen_moment 0 child
+  added-behind floors child rises behind truth =
+      added-so (λ (g : List Beat). last g ≤ latest seen_moment 0 child)
+      (λ prev n. subst (λ at. at ≤ latest seen_moment 0 child) (sym (takes n).last_is) (keeps-within seen_moment 0 floors child (last h) (message_seen message) n rises behind truth prev)) behind
+
+  module _ (floors : List ℕ) (child : List SeenBeat) (rises : RisesFrom seen_moment 0 child) (ends : AllByRecursion (EndsBy (last h)) (map span_of (gaps h))) (copies : IsCopyOfChild floors child h)
+      (truth : IsTrueOfChild floors child message) where
     -- the copy with the first of the beats that it makes of the Data
-    pub front-copy : message.prev ≡ last h → (n : ℕ) → IsCopyOfChild floors kid (onto h (take n (beats_of before message)))
+    pub front-copy : message.prev ≡ last h → (n : ℕ) → IsCopyOfChild floors child (new n)
     front-copy prev n =
         let new_is = takes n in
-        let kept = keeps-copy seen_moment 0 floors kid (seen h) (map span_of (gaps h)) (last h) (message_seen message) n rises ends copies truth prev in
-        let same : IsCopy seen_moment floors kid (seen h ++ first_beats n (message_seen message)) (map span_of (gaps h) ++ first_gaps n (message_seen message))
-            (last_with seen_moment (last h) (first_gaps n (message_seen message)) (first_beats n (message_seen message))) ≡ IsCopyOfChild floors kid (new n)
-            = λ i. IsCopy seen_moment floors kid (sym new_is.seen_is i) (sym new_is.gaps_are i) (sym new_is.last_is i) in
+        let kept = keeps-copy seen_moment 0 floors child (seen h) (map span_of (gaps h)) (last h) (message_seen message) n rises ends copies truth prev in
+        let same : IsCopy seen_moment floors child (seen h ++ first_beats n (message_seen message)) (map span_of (gaps h) ++ first_gaps n (message_seen message))
+        (last_with seen_moment (last h) (first_gaps n (message_seen message)) (first_beats n (message_seen message))) ≡ IsCopyOfChild floors child (new n) =
+        λ i. IsCopy seen_moment floors child (sym new_is.seen_is i) (sym new_is.gaps_are i) (sym new_is.last_is i) in
         subst (λ (T : Type 0). T) same kept
 
     -- with the first of what it adds
-    pub added-copy : (n : ℕ) → IsCopyOfChild floors kid (onto h (take n (added_to h message)))
-    added-copy n =
-        let adds = is_stored (verdict_of h message) && is_none (copy_refusal before (role_of h) message) in
-        elim (cases_Bool adds) [
-          | inl adds_it ↦
-              let parts = and_parts (is_stored (verdict_of h message)) (is_none (copy_refusal before (role_of h) message)) adds_it in
-              subst (λ more. IsCopyOfChild floors kid (onto h (take n more))) (sym (cond-true adds (beats_of before message) [] adds_it))
-              (front-copy (stored-begins (child h) (last h) message.child message.prev parts.0) n)
-          | inr adds_none ↦
-              subst (λ more. IsCopyOfChild floors kid (onto h (take n more))) (sym (cond-false adds (beats_of before message) [] adds_none))
-              (subst (λ more. IsCopyOfChild floors kid (onto h more)) (sym (take-nil n)) copies)
-        ]
+    pub added-copy : (n : ℕ) → IsCopyOfChild floors child (onto h (take n (added_to h message)))
+    added-copy = added-so (IsCopyOfChild floors child) front-copy copies

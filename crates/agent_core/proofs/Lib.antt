@@ -8,6 +8,7 @@ pub mod DefinedLemmas
 pub mod FedLemmas
 pub mod FollowLemmas
 pub mod FormLemmas
+pub mod GoingOnLemmas
 pub mod GridLemmas
 pub mod HealthLemmas
 pub mod HistoryLemmas

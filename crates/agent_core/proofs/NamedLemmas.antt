@@ -142,7 +142,7 @@ module _ (registry : Registry) (apart : AreApart same_dimension registry.dimensi
       let id : dimension.chart ≡ owner.0.id = same_text dimension.chart owner.0.id owner.1.1 in
       ap (option_and_then (point_of (names_of registry) word.word)) (slice_get-map (dimension_name registry) registry.dimensions word.series ∙ ap (option_map (dimension_name registry)) at)
       ∙ ap (option_map (λ (chart : ChartName). record { chart = chart.id; dimension = dimension.def.id; word = word.word }))
-          (slice_get-map chart_name registry.charts (position_or_len (is_chart dimension.chart) registry.charts) ∙ ap (option_map chart_name) owner.1.0)
+      (slice_get-map chart_name registry.charts (position_or_len (is_chart dimension.chart) registry.charts) ∙ ap (option_map chart_name) owner.1.0)
       ∙ ap (λ (id : List ℕ). Some (record { chart = id; dimension = dimension.def.id; word = word.word })) (sym id)
 
   -- a dimension has a name just where it stands at its number

@@ -25,6 +25,7 @@ use Rattle.chart_registry.proofs.RowsLemmas.{bytes_eq_same, same_text}
 use Rattle.beat_entries.specs.Copied.{usual_dimension, IsUsualChart, IsUsualDimension, MayCopy}
 use Rattle.beat_entries.specs.Following.{AreOwned, MayFollow}
 use Rattle.beat_entries.proofs.FollowLemmas.{all-places}
+use Rattle.beat_entries.proofs.Gathering.{all-gathered}
 use Rattle.beat_entries.proofs.Slots.{none-all}
 use Rattle.replication.specs.declared.gap.Gap.{Gap as Span}
 use Rattle.replication.specs.declared.message.Data.{Data}
@@ -37,6 +38,7 @@ use Rattle.replication.specs.Answer.{AreNames}
 use Rattle.replication.specs.Copies.{RisesFrom}
 use Rattle.replication.specs.Names.{beat_moment, named_beat, named_beats, named_moment}
 use Rattle.replication.proofs.NamesLaws.{RisesFrom-map}
+use Rattle.link_frames.proofs.PlacesLaw.{all-of}
 use Rattle.link_frames.specs.DataForm.{has_id, IsData}
 use Rattle.link_frames.specs.DataForm.{is_chart as names_chart, same_chart as same_name, same_dimension as same_series, AreApart as AreNamesApart}
 use Rattle.agent_core.specs.Copying.{beats_of, copied_beats, copied_of, copy_refusal, defined_chart, defined_dimension, definitions_in, gap_beat, is_point_of, names_refusal, nothing_defined, numbered_word, numbered_words}
@@ -48,10 +50,6 @@ use Rattle.agent_core.proofs.FollowLemmas.{keeps, KeepsGrid}
 use Rattle.agent_core.proofs.Within.{within-after}
 
 -- ---- lists
-all-passed : {X : Type 0} (p : X → Bool) (xs : List X) → list_all p xs ≡ true → AllByRecursion (λ x. p x ≡ true) xs
-all-passed p [] passes = tt
-all-passed p (x ∷ xs) passes = let parts = and_parts (p x) (list_all p xs) passes in (parts.0, all-passed p xs parts.1)
-
 any-at : {X : Type 0} (p : X → Bool) (xs : List X) (i : ℕ) (x : X) → slice_get xs i ≡ Some x → p x ≡ true → list_any p xs ≡ true
 any-at p [] i x is passes = absurd (none-some x is)
 any-at p (y ∷ ys) zero x is passes = or_left (p y) (list_any p ys) (ap p (same_Some y x is) ∙ passes)
@@ -70,7 +68,7 @@ apart-map {X} {Y} same f (x ∷ xs) apart = (
 )
 
 module _ {X Y : Type 0} (f : X → Option Y) where
-  pub all-made : (Q : X → Type 0) (P : Y → Type 0) → ((x : X) (y : Y) → Q x → f x ≡ Some y → P y) → (xs : List X) → AllByRecursion Q xs → AllByRecursion P (filter_map f xs)
+  all-made : (Q : X → Type 0) (P : Y → Type 0) → ((x : X) (y : Y) → Q x → f x ≡ Some y → P y) → (xs : List X) → AllByRecursion Q xs → AllByRecursion P (filter_map f xs)
   all-made Q P each [] all = tt
   all-made Q P each (x ∷ xs) all = by (f x) refl (all-made Q P each xs all.1)
     where
@@ -88,9 +86,9 @@ module _ {X Y : Type 0} (f : X → Option Y) where
       by None is differ rest = rest
       by (Some y) is differ rest = (
         list_any_none (alike y) (filter_map f xs) (
-          All-from_recursion (λ (d : Y). alike y d ≡ false) (filter_map f xs)
-          (all-made (λ (b : X). same x b ≡ false) (λ (d : Y). alike y d ≡ false) (λ b d other made. each x b y d is made other) xs differ)
-        ),
+            All-from_recursion (λ (d : Y). alike y d ≡ false) (filter_map f xs)
+            (all-made (λ (b : X). same x b ≡ false) (λ (d : Y). alike y d ≡ false) (λ b d other made. each x b y d is made other) xs differ)
+            ),
         rest,
       )
 
@@ -193,20 +191,13 @@ module _ (names : Names) (charts : list_all names_chart names.charts ≡ true) (
 
   defined-usual : All IsUsualDimension defines.dimensions
   defined-usual = All-from_recursion IsUsualDimension defines.dimensions
-      (all-made (defined_dimension names) (λ (dimension : DimName). Unit {0}) IsUsualDimension usual names.dimensions (all-units names.dimensions))
-    where
-      all-units : (xs : List DimName) → AllByRecursion (λ (dimension : DimName). Unit {0}) xs
-      all-units [] = tt
-      all-units (x ∷ xs) = (tt, all-units xs)
-
-      usual : (dimension : DimName) (made : OpenDim) → Unit {0} → defined_dimension names dimension ≡ Some made → IsUsualDimension made
-      usual dimension made none is = subst IsUsualDimension (made-of dimension made is).is refl
+      (all-gathered (defined_dimension names) IsUsualDimension (λ dimension made is. subst IsUsualDimension (made-of dimension made is).is refl) names.dimensions)
 
   charts-usual : All IsUsualChart defines.charts
   charts-usual = All-map IsUsualChart defined_chart names.charts (λ k d lt. refl)
 
   limited : AllByRecursion (λ (chart : ChartName). IsLimited (defined_chart chart)) names.charts
-  limited = all-weaker (λ (chart : ChartName). names_chart chart ≡ true) (λ (chart : ChartName). IsLimited (defined_chart chart)) chart-limited names.charts (all-passed names_chart names.charts charts)
+  limited = all-weaker (λ (chart : ChartName). names_chart chart ≡ true) (λ (chart : ChartName). IsLimited (defined_chart chart)) chart-limited names.charts (all-of names_chart names.charts charts)
 
   module _ (registry : Registry) (within : IsWithin registry) (free : names_refusal registry defines ≡ None) where
     abbrev after : Registry
@@ -233,7 +224,7 @@ module _ (names : Names) (charts : list_all names_chart names.charts ≡ true) (
       dimension_limits = All-from_recursion (λ (dimension : OpenDim). dimension_keeps_limits dimension.def ≡ true) defines.dimensions
           (all-made (defined_dimension names) (λ (dimension : DimName). has_id dimension ≡ true) (λ (dimension : OpenDim). dimension_keeps_limits dimension.def ≡ true)
           (λ dimension made is at. subst (λ (made : OpenDim). dimension_keeps_limits made.def ≡ true) (made-of dimension made at).is (dimension-limited dimension.id dimension.hidden is))
-          names.dimensions (all-passed has_id names.dimensions ids));
+          names.dimensions (all-of has_id names.dimensions ids));
       charts = defined-within.charts;
       dimensions = defined-within.dimensions;
       each = defined-within.each;
@@ -325,8 +316,8 @@ module _ (h : List Beat) (message : Data) (within : IsWithin (registry_of h)) (d
       };
     },
     later-follow message.child (with_definitions registry all.charts all.dimensions) (copied_of message.child (with_definitions registry all.charts all.dimensions) all beat ∷ g) beats
-    (defined-within message.names data_is.charts data_is.ids data_is.apart data_is.whole.names registry within roles.1)
-    (ap (λ (s : Registry). with_definitions s all.charts all.dimensions) is) refl rises.1,
+        (defined-within message.names data_is.charts data_is.ids data_is.apart data_is.whole.names registry within roles.1)
+        (ap (λ (s : Registry). with_definitions s all.charts all.dimensions) is) refl rises.1,
   )
 
   abbrev copies : List Beat

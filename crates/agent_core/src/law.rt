@@ -127,10 +127,11 @@ pub fn any_log()
 /// The laws of copies, of any history whose beats a store keeps. What is seen of it rises and ends with it, and
 /// so do its gaps. A copy of a child stays a copy with the first of the beats that it makes of a `Data`, however
 /// many of them a stop leaves, where the `Data` is true of the child and begins where the copy ends; with what it
-/// adds of a `Data` it does so wherever that begins. What it answers to an `Ask` is true of what is seen of it, and
-/// it answers nothing only where nothing is seen above the moment from which it would answer. A `Data` that is true
-/// of a child stays true as the child goes on. Each copied beat and each gap that is made of a `Data` which is not
-/// refused may follow those before it. It does nothing.
+/// adds of a `Data` it does so wherever that begins, and does not get ahead of the child. A history without beats
+/// is a copy. What a history answers to an `Ask` is true of what is seen of it, and it answers nothing only where
+/// nothing is seen above the moment from which it would answer. As a child goes on, a `Data` that was true of it
+/// stays true, and a copy that is not ahead of it stays a copy. Each copied beat and each gap that is made of a
+/// `Data` which is not refused may follow those before it. It does nothing.
 pub fn any_copy()
     ensures rises { (h : List Beat) (beats : List StoreBeat) → AreBeatsOf h beats
         → RisesFrom seen_moment 0 (seen h) }
@@ -138,31 +139,42 @@ pub fn any_copy()
         → latest seen_moment 0 (seen h) ≤ last h }
     ensures ends { (h : List Beat) (beats : List StoreBeat) → AreBeatsOf h beats
         → AllByRecursion (EndsBy (last h)) (map span_of (gaps h)) }
+    ensures none { (floors : List ℕ) (child : List SeenBeat) → RisesFrom seen_moment 0 child
+        → IsCopyOfChild floors child [] }
     ensures keeps { (h : List Beat) (beats : List StoreBeat) (floors : List ℕ)
-        (kid : List SeenBeat) (message : Data) (n : ℕ)
-        → AreBeatsOf h beats → IsData message → RisesFrom seen_moment 0 kid
-        → IsCopyOfChild floors kid h → IsTrueOfChild floors kid message → message.prev ≡ last h
-        → IsCopyOfChild floors kid (onto h (take n (beats_of (registry_of h) message))) }
+        (child : List SeenBeat) (message : Data) (n : ℕ)
+        → AreBeatsOf h beats → IsData message → RisesFrom seen_moment 0 child
+        → IsCopyOfChild floors child h → IsTrueOfChild floors child message
+        → message.prev ≡ last h
+        → IsCopyOfChild floors child (onto h (take n (beats_of (registry_of h) message))) }
     ensures front { (h : List Beat) (beats : List StoreBeat) (floors : List ℕ)
-        (kid : List SeenBeat) (message : Data) (n : ℕ)
-        → AreBeatsOf h beats → IsData message → RisesFrom seen_moment 0 kid
-        → IsCopyOfChild floors kid h → IsTrueOfChild floors kid message
-        → IsCopyOfChild floors kid (onto h (take n (added_to h message))) }
+        (child : List SeenBeat) (message : Data) (n : ℕ)
+        → AreBeatsOf h beats → IsData message → RisesFrom seen_moment 0 child
+        → IsCopyOfChild floors child h → IsTrueOfChild floors child message
+        → IsCopyOfChild floors child (onto h (take n (added_to h message))) }
     ensures added { (h : List Beat) (beats : List StoreBeat) (floors : List ℕ)
-        (kid : List SeenBeat) (message : Data)
-        → AreBeatsOf h beats → IsData message → RisesFrom seen_moment 0 kid
-        → IsCopyOfChild floors kid h → IsTrueOfChild floors kid message
-        → IsCopyOfChild floors kid (onto h (added_to h message)) }
+        (child : List SeenBeat) (message : Data)
+        → AreBeatsOf h beats → IsData message → RisesFrom seen_moment 0 child
+        → IsCopyOfChild floors child h → IsTrueOfChild floors child message
+        → IsCopyOfChild floors child (onto h (added_to h message)) }
+    ensures behind { (h : List Beat) (floors : List ℕ) (child : List SeenBeat) (message : Data)
+        (n : ℕ)
+        → IsData message → RisesFrom seen_moment 0 child → IsTrueOfChild floors child message
+        → last h ≤ latest seen_moment 0 child
+        → last (onto h (take n (added_to h message))) ≤ latest seen_moment 0 child }
     ensures answer { (set : ASettings) (h : List Beat) (beats : List StoreBeat) (ask : AnAsk)
         (floors : List ℕ) (message : Data)
         → AreBeatsOf h beats → had_floor floors (floor_of_history set h 0) ≡ true
         → data_of_history set h ask ≡ Some message → IsTrueOfChild floors (seen h) message }
-    ensures none { (set : ASettings) (h : List Beat) (beats : List StoreBeat) (ask : AnAsk)
+    ensures all { (set : ASettings) (h : List Beat) (beats : List StoreBeat) (ask : AnAsk)
         → AreBeatsOf h beats → ask.child ≡ set.id → data_of_history set h ask ≡ None
         → above seen_moment (from_of (floor_of_history set h 0) ask.last) (seen h) ≡ [] }
-    ensures stays { (floors more : List ℕ) (kid later : List SeenBeat) (message : Data)
-        → RisesFrom seen_moment 0 (kid ++ later) → IsTrueOfChild floors kid message
-        → IsTrueOfChild (floors ++ more) (kid ++ later) message }
+    ensures stays_true { (floors more : List ℕ) (child later : List SeenBeat) (message : Data)
+        → RisesFrom seen_moment 0 (child ++ later) → IsTrueOfChild floors child message
+        → IsTrueOfChild (floors ++ more) (child ++ later) message }
+    ensures stays_copy { (floors more : List ℕ) (child later : List SeenBeat) (h : List Beat)
+        → RisesFrom seen_moment 0 (child ++ later) → last h ≤ latest seen_moment 0 child
+        → IsCopyOfChild floors child h → IsCopyOfChild (floors ++ more) (child ++ later) h }
     ensures copies { (h before rest : List Beat) (beats : List StoreBeat) (message : Data)
         (copy : Copy)
         → AreBeatsOf h beats → IsData message
