@@ -9,12 +9,12 @@ pub mod FedLemmas
 pub mod FollowLemmas
 pub mod FormLemmas
 pub mod GoingOnLemmas
-pub mod GridLemmas
 pub mod HealthLemmas
 pub mod HistoryLemmas
 pub mod IndexLemmas
 pub mod KeptLemmas
 pub mod LastSeenLemmas
+pub mod LimitLemmas
 pub mod Lists
 pub mod NamedLemmas
 pub mod NewLemmas

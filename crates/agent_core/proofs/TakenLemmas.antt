@@ -42,8 +42,7 @@ use Rattle.link_frames.proofs.PlacesLaw.{all-of}
 use Rattle.link_frames.specs.DataForm.{has_id, IsData}
 use Rattle.link_frames.specs.DataForm.{is_chart as names_chart, same_chart as same_name, same_dimension as same_series, AreApart as AreNamesApart}
 use Rattle.agent_core.specs.Copying.{beats_of, copied_beats, copied_of, copy_refusal, defined_chart, defined_dimension, definitions_in, gap_beat, is_point_of, names_refusal, nothing_defined, numbered_word, numbered_words}
-use Rattle.agent_core.specs.Kept.{CopyFollows}
-use Rattle.agent_core.specs.Replay.{onto}
+use Rattle.agent_core.specs.Kept.{onto, CopyFollows}
 use Rattle.agent_core.specs.Roles.{may_copy, role_of}
 use Rattle.agent_core.specs.Rules.{changes_grid, changes_grid_of, too_many_charts, too_many_dimensions}
 use Rattle.agent_core.proofs.FollowLemmas.{keeps, KeepsGrid}

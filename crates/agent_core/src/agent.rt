@@ -23,6 +23,7 @@ ghost use Rattle.agent_core.specs.Health.{health_refusal};
 ghost use Rattle.agent_core.specs.Kept.{StandsForHealth, StandsForHistory, StandsForNew, StandsForOneOf};
 ghost use Rattle.agent_core.specs.Notes.{beats_go_on, HasNotes};
 ghost use Rattle.agent_core.specs.Replay.{HasReplayed, IsOpenedFor};
+ghost use Rattle.agent_core.specs.Roles.{copies};
 ghost use Rattle.agent_core.specs.Rules.{beat_refusal, IsOpenBeat};
 ghost use Rattle.agent_core.specs.Steps.{IsOpenStep, Takes};
 
@@ -62,8 +63,8 @@ pub struct Agent {
     last: u32,
     /// How many beats there are.
     count: u64,
-    /// Whether the history has copied beats or gaps.
-    copies: bool,
+    /// What the history does: it collects, or it copies a child.
+    role: Role,
     /// The first cause for which the agent must be opened again.
     fault: Option<Why>,
 }
@@ -85,7 +86,7 @@ impl Model for Agent {
       alarms = agent.alarms;
       last = agent.last;
       count = agent.count;
-      copies = agent.copies;
+      role = agent.role;
       fault = agent.fault;
     } };
 }
@@ -157,7 +158,7 @@ impl Agent {
                 alarms,
                 last: 0,
                 count: 0,
-                copies: false,
+                role: Role::Undecided,
                 fault: None,
             }),
             Err(fault) => Err(store_fault(fault)),
@@ -267,7 +268,6 @@ impl Agent {
             &mut latest,
             &mut alarms,
         )?;
-        let copies = !left.role.may_collect();
         Ok(Agent {
             alloc,
             last: store.last(),
@@ -277,7 +277,7 @@ impl Agent {
             last_rows,
             latest,
             alarms,
-            copies,
+            role: left.role,
             fault: None,
         })
     }
@@ -306,7 +306,7 @@ impl Agent {
         if let Some(earlier) = self.fault {
             return Err(AgentFault::Reopen(earlier));
         }
-        match feed.line(&self.registry, self.last, self.copies, line) {
+        match feed.line(&self.registry, self.last, self.role.copies(), line) {
             Ok(step) => self.take_step(host, step),
             Err(fault) => match fault {
                 BlockFault::Memory => {
@@ -334,7 +334,7 @@ impl Agent {
         if let Some(earlier) = self.fault {
             return Err(AgentFault::Reopen(earlier));
         }
-        match feed.take_line(&self.registry, self.last, self.copies, line) {
+        match feed.take_line(&self.registry, self.last, self.role.copies(), line) {
             Ok(step) => self.take_step(host, step),
             Err(fault) => match fault {
                 BlockFault::Memory => {
@@ -397,7 +397,7 @@ impl Agent {
         ensures any_moment { H.honest → (set : ASettings) (h : List HistoryBeat)
             → IsAgentOf (H.seen host.old).past self.old set h
             → Throughout (EveryDisk (StandsForOneOf set h
-            (beat_refusal self.old.registry self.old.copies self.old.last moment beat.now)
+            (beat_refusal self.old.registry (copies self.old.role) self.old.last moment beat.now)
             (collected moment beat.now ∷ h))) (H.seen host.old).past (H.seen host.new).past }
         ensures done { OnOk result
             (H.honest → (set : ASettings) (h : List HistoryBeat)
@@ -412,7 +412,7 @@ impl Agent {
         ensures last { OnOk result (self.new.last ≡ moment) }
         ensures refused { self.old.fault ≡ None
             → RefusedBy
-            (beat_refusal self.old.registry self.old.copies self.old.last moment beat.now) result }
+            (beat_refusal self.old.registry (copies self.old.role) self.old.last moment beat.now) result }
         ensures unchanged { IfErr result
             (λ fault. LeavesAll fault → (self.new ≡ self.old) × (host.new ≡ host.old)) }
         ensures fault { self.new.fault ≡ fault_after self.old.fault result }
@@ -433,7 +433,7 @@ impl Agent {
         let reason = refusal(
             self.alloc,
             &self.registry,
-            self.copies,
+            self.role.copies(),
             self.last,
             moment,
             beat,
@@ -451,7 +451,7 @@ impl Agent {
             beat,
             moment,
         ) {
-            Ok(()) => self.tell(host, Stepping::Beat(moment), moment),
+            Ok(()) => self.tell(host, Stepping::Beat(moment), moment, Role::Collects),
             Err(fault) => {
                 self.fault = fault.cause();
                 Err(fault)
@@ -459,12 +459,13 @@ impl Agent {
         }
     }
 
-    /// Has the alarms follow a beat that is stored, and counts it. The last moment is then this one.
+    /// Has the alarms follow a beat that is stored, and counts it. The last moment and the role are then these.
     fn tell<H: Host>(
         &mut self,
         host: &mut H,
         stepping: Stepping,
         last: u32,
+        role: Role,
     ) -> Result<Reply, AgentFault>
         requires going { self.old.fault ≡ None }
         requires store_going { self.old.store.fault ≡ None }
@@ -479,6 +480,7 @@ impl Agent {
         ensures told { OnOk result (self.new ≡ record self.old {
           alarms = self.new.alarms;
           last = last;
+          role = role;
           count = raised self.old.count;
         }) }
         ensures spent { OnErr result (self.new ≡ record self.old {
@@ -501,6 +503,7 @@ impl Agent {
         match followed {
             Ok(events) => {
                 self.last = last;
+                self.role = role;
                 self.count = raised(self.count);
                 Ok(Reply {
                     count: self.count,
@@ -574,8 +577,9 @@ impl Agent {
         match add_health(self.alloc, &mut self.store, host, text) {
             Ok(()) => {
                 let last = self.last;
+                let role = self.role;
                 self.latest.before = last;
-                self.tell(host, Stepping::Configuration(config), last)
+                self.tell(host, Stepping::Configuration(config), last, role)
             }
             Err(fault) => {
                 self.fault = fault.cause();

@@ -3,7 +3,7 @@ use Rattle.std.proofs.Math.Seq.{take-length}
 use Rattle.history.specs.History.{copied, missing}
 use Rattle.agent_core.specs.Copies.{IsCopyOfChild}
 use Rattle.agent_core.specs.Copying.{added_to}
-use Rattle.agent_core.specs.Replay.{onto}
+use Rattle.agent_core.specs.Kept.{onto}
 use Rattle.agent_core.proofs.AnswerTruth.{answer-is_all, answer-is_true}
 use Rattle.agent_core.proofs.CopyLemmas.{added-behind, added-copy, front-copy, gaps-end, seen-rises}
 use Rattle.agent_core.proofs.GoingOnLemmas.{none-copy, stays-copy, stays-true}
