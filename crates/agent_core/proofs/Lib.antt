@@ -6,6 +6,7 @@ pub mod ClosedLemmas
 pub mod CopyCalls
 pub mod CopyLemmas
 pub mod DefinedLemmas
+pub mod EntryLengths
 pub mod FedLemmas
 pub mod FollowLemmas
 pub mod FormLemmas
@@ -33,3 +34,4 @@ pub mod StepLemmas
 pub mod TakenLemmas
 pub mod UnseenLemmas
 pub mod Within
+pub mod WordLemmas

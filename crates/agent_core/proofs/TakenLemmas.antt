@@ -75,7 +75,7 @@ module _ {X Y : Type 0} (f : X → Option Y) where
       by None is rest = rest
       by (Some y) is rest = (each x y all.0 is, rest)
 
-  apart-made : (same : X → X → Bool) (alike : Y → Y → Bool) → ((a b : X) (c d : Y) → f a ≡ Some c → f b ≡ Some d → same a b ≡ false → alike c d ≡ false)
+  pub apart-made : (same : X → X → Bool) (alike : Y → Y → Bool) → ((a b : X) (c d : Y) → f a ≡ Some c → f b ≡ Some d → same a b ≡ false → alike c d ≡ false)
       → (xs : List X) → IsDistinct same xs → AreApart alike (filter_map f xs)
   unfolding IsDistinct
   apart-made same alike each [] apart = tt
@@ -98,7 +98,7 @@ module _ {X : Type 0} (same : X → X → Bool) (turned : (a b : X) → same a b
   differs x (y ∷ ys) zero b all is alike = true≢false (sym alike ∙ ap (same x) (sym (same_Some y b is)) ∙ all.0)
   differs x (y ∷ ys) (suc j) b all is alike = differs x ys j b all.1 is alike
 
-  one-place : (xs : List X) (i j : ℕ) (a b : X) → IsDistinct same xs → slice_get xs i ≡ Some a → slice_get xs j ≡ Some b → same a b ≡ true → i ≡ j
+  pub one-place : (xs : List X) (i j : ℕ) (a b : X) → IsDistinct same xs → slice_get xs i ≡ Some a → slice_get xs j ≡ Some b → same a b ≡ true → i ≡ j
   unfolding IsDistinct
   one-place [] i j a b apart at_i at_j alike = absurd (none-some a at_i)
   one-place (x ∷ xs) zero zero a b apart at_i at_j alike = refl

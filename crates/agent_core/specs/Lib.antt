@@ -18,3 +18,4 @@ pub mod Rules
 pub mod Said
 pub mod Sound
 pub mod Steps
+pub mod Storing

@@ -1,9 +1,37 @@
-//! How a history takes the message of a child.
+//! What the message of a child defines, and what a store keeps of its beats.
 
-ghost use Rattle.std.specs.Prelude.{◌≡◌};
+ghost use Rattle.std.specs.Prelude.{◌≡◌, [], ◌++◌, ◌<◌, ◌≤◌, ◌^◌, true, length, map, filter_map, All, Some, IfOk, OnOk};
+ghost use Rattle.std.specs.List.{cons_option, AllByRecursion};
+ghost use Rattle.std.specs.List.Sorted.{IsNonDecreasingBy, IsPermutation};
+ghost use Rattle.std.specs.Option.{option_and_then};
+ghost use Rattle.history.specs.Limits.{chart_keeps_limits, dimension_keeps_limits};
+ghost use Rattle.history.specs.Registry.{same_dimension, series_of};
+ghost use Rattle.history.specs.Regular.{AreApart};
+ghost use Rattle.beat_points.specs.Points.{ArePointsIn, AreRising};
+ghost use Rattle.entry_codec.specs.Charts.{IsCopiedChart};
+ghost use Rattle.entry_codec.specs.Dimensions.{IsCopiedDimension};
+ghost use Rattle.entry_codec.specs.Words.{IsCopiedWord};
+ghost use Rattle.beat_entries.specs.Copied.{told_chart, told_dimension};
+ghost use Rattle.replication.specs.Names.{named_beat, named_point};
 ghost use Rattle.replication.specs.Verdict.{is_stored};
+ghost use Rattle.link_frames.specs.DataForm.{has_rising_places, has_storage_numbers};
+ghost use Rattle.link_frames.specs.DataForm.{AreApart as AreNamesApart};
+ghost use Rattle.agent_core.specs.Copying.{defined_chart, defined_dimension, definitions_in, numbered_words};
+ghost use Rattle.agent_core.specs.Storing.{entry_word, numbered_point, point_word};
 
-use replication::Verdict;
+use beat_entries::{usual_chart, usual_dimension};
+use beat_points::SeriesWord;
+use chart_registry::Registry;
+use entry_codec::{
+    CopiedChart, CopiedChartList, CopiedDimension, CopiedDimensionList, CopiedWord, CopiedWordList,
+};
+use fixed_num::Text;
+use history::{
+    ChartDef, ChartDefList, NumberedChart, NumberedDimension, OpenBeat, OpenDim, OpenDimList,
+    OpenRowList,
+};
+use replication::{Beat as SentBeat, ChartName, DimName, Names, SeriesWord as SentWord, Verdict};
+use std::alloc::{AllocError, Global};
 
 /// Whether a message with this verdict is stored.
 pub(crate) fn is_stored(verdict: Verdict) -> bool
@@ -13,4 +41,246 @@ pub(crate) fn is_stored(verdict: Verdict) -> bool
         Verdict::Stored => true,
         Verdict::Old | Verdict::Ahead | Verdict::WrongChild { kept: _, came: _ } => false,
     }
+}
+
+// ---- what its names define
+
+fn defined_chart(alloc: Global, chart: &ChartName) -> Result<ChartDef, AllocError>
+    ensures { IfOk result (λ def. def ≡ defined_chart chart.now) }
+{
+    usual_chart(alloc, &chart.id, &chart.context, chart.update_every)
+}
+
+fn defined_charts(alloc: Global, charts: &[ChartName]) -> Result<ChartDefList, AllocError>
+    ensures { IfOk result (λ defs. defs ≡ map defined_chart charts.now) }
+{
+    let mut defs = ChartDefList::new(alloc);
+    for chart in charts {
+        defs.push(defined_chart(alloc, chart)?)?;
+    }
+    Ok(defs)
+}
+
+/// A dimension by the id of its chart, if that has a name.
+fn defined_dimension(names: &Names, dimension: &DimName) -> Result<Option<OpenDim>, AllocError>
+    ensures { IfOk result (λ made. made ≡ defined_dimension names.now dimension.now) }
+{
+    match names.charts.as_slice().get(dimension.chart as usize) {
+        Some(chart) => Ok(Some(OpenDim {
+            chart: chart.id.clone()?,
+            def: usual_dimension(&dimension.id, dimension.hidden)?,
+        })),
+        None => Ok(None),
+    }
+}
+
+/// Adds a dimension, if its chart has a name.
+fn push_dimension(
+    dimensions: &mut Vec<OpenDim>,
+    names: &Names,
+    dimension: &DimName,
+) -> Result<(), AllocError>
+    ensures { OnOk result (dimensions.new.items ≡ dimensions.old.items
+        ++ cons_option (defined_dimension names.now dimension.now) []) }
+{
+    if let Some(made) = defined_dimension(names, dimension)? {
+        dimensions.push(made)?;
+    }
+    Ok(())
+}
+
+fn defined_dimensions(
+    alloc: Global,
+    names: &Names,
+    dimensions: &[DimName],
+) -> Result<OpenDimList, AllocError>
+    ensures { IfOk result
+        (λ made. made ≡ filter_map (defined_dimension names.now) dimensions.now) }
+{
+    let mut made = Vec::with_capacity(alloc, dimensions.len())?;
+    for dimension in dimensions {
+        push_dimension(&mut made, names, dimension)?;
+    }
+    Ok(OpenDimList::from_vec(made))
+}
+
+/// A beat without rows that defines what the names do.
+pub(crate) fn definitions_in(alloc: Global, names: &Names) -> Result<OpenBeat, AllocError>
+    ensures { IfOk result (λ beat. beat ≡ definitions_in names.now) }
+{
+    Ok(OpenBeat {
+        charts: defined_charts(alloc, names.charts.as_slice())?,
+        dimensions: defined_dimensions(alloc, names, names.dimensions.as_slice())?,
+        rows: OpenRowList::new(alloc),
+    })
+}
+
+// ---- its words by number
+
+/// The number of the series of a dimension by its id and that of its chart.
+fn known_series(registry: &Registry, chart: &str, id: &str) -> Option<u32>
+    ensures { result ≡ series_of registry.now chart.now id.now }
+{
+    match registry.chart_of(chart) {
+        Some(number) => registry.series_of(number, id),
+        None => None,
+    }
+}
+
+/// A word by the number of its series, if its dimension has a name and the registry has that.
+fn numbered_word(registry: &Registry, names: &Names, word: &SentWord) -> Option<SeriesWord>
+    ensures { result
+        ≡ option_and_then (numbered_point registry.now) (named_point names.now word.now) }
+{
+    let dimension = names.dimensions.as_slice().get(word.series as usize)?;
+    let chart = names.charts.as_slice().get(dimension.chart as usize)?;
+    let series = known_series(registry, chart.id.as_str(), dimension.id.as_str())?;
+    Some(SeriesWord {
+        series,
+        word: word.word,
+    })
+}
+
+/// Adds a word, if it has a number.
+fn push_word(
+    words: &mut Vec<SeriesWord>,
+    registry: &Registry,
+    names: &Names,
+    word: &SentWord,
+) -> Result<(), AllocError>
+    ensures { OnOk result (words.new.items ≡ words.old.items ++ cons_option
+        (option_and_then (numbered_point registry.now) (named_point names.now word.now)) []) }
+{
+    if let Some(numbered) = numbered_word(registry, names, word) {
+        words.push(numbered)?;
+    }
+    Ok(())
+}
+
+fn gather_words(
+    alloc: Global,
+    registry: &Registry,
+    names: &Names,
+    words: &[SentWord],
+) -> Result<Vec<SeriesWord>, AllocError>
+    ensures { IfOk result (λ gathered. gathered.items
+        ≡ filter_map (λ word. option_and_then (numbered_point registry.now)
+        (named_point names.now word)) words.now) }
+{
+    let mut gathered = Vec::with_capacity(alloc, words.len())?;
+    for word in words {
+        push_word(&mut gathered, registry, names, word)?;
+    }
+    Ok(gathered)
+}
+
+fn sort_words(mut words: Vec<SeriesWord>) -> Result<Vec<SeriesWord>, AllocError>
+    ensures same { IfOk result (λ sorted. IsPermutation words.items sorted.items) }
+    ensures rises { IfOk result
+        (λ sorted. IsNonDecreasingBy (λ word. word.series) sorted.items) }
+{
+    words.sort_by_key(|word| word.series)?;
+    Ok(words)
+}
+
+/// The words of a beat, by the numbers of a registry that has its series and in their order.
+fn numbered_words(
+    alloc: Global,
+    registry: &Registry,
+    names: &Names,
+    beat: &SentBeat,
+) -> Result<Vec<SeriesWord>, AllocError>
+    requires own { AreApart same_dimension registry.now.dimensions }
+    requires names { AreNamesApart names.now }
+    requires places { has_rising_places beat.now ≡ true }
+    ensures { IfOk result (λ words. words.items
+        ≡ map point_word (numbered_words registry.now (named_beat names.now beat.now).points)) }
+{
+    sort_words(gather_words(alloc, registry, names, beat.words.as_slice())?)
+}
+
+// ---- its entry
+
+/// What a copy tells of a chart.
+fn told_chart(alloc: Global, chart: &NumberedChart) -> Result<CopiedChart, AllocError>
+    requires { chart_keeps_limits chart.now.def ≡ true }
+    ensures told { IfOk result (λ told. told ≡ told_chart chart.now) }
+    ensures short { IfOk result IsCopiedChart }
+{
+    let id = Text::from_str(alloc, chart.def.id.as_str())?;
+    let context = Text::from_str(alloc, chart.def.context.as_str())?;
+    let (number, update_every) = (chart.number, chart.def.update_every);
+    Ok(CopiedChart {
+        number,
+        id,
+        context,
+        update_every,
+    })
+}
+
+fn told_charts(alloc: Global, charts: &[NumberedChart]) -> Result<CopiedChartList, AllocError>
+    requires { All (λ chart. chart_keeps_limits chart.def ≡ true) charts.now }
+    ensures told { IfOk result (λ told. told ≡ map told_chart charts.now) }
+    ensures short { IfOk result (AllByRecursion IsCopiedChart) }
+{
+    let mut told = Vec::with_capacity(alloc, charts.len())?;
+    for chart in charts {
+        told.push(told_chart(alloc, chart)?)?;
+    }
+    Ok(CopiedChartList::from_vec(told))
+}
+
+/// What a copy tells of a dimension.
+fn told_dimension(
+    alloc: Global,
+    dimension: &NumberedDimension,
+) -> Result<CopiedDimension, AllocError>
+    requires { dimension_keeps_limits dimension.now.def ≡ true }
+    ensures told { IfOk result (λ told. told ≡ told_dimension dimension.now) }
+    ensures short { IfOk result IsCopiedDimension }
+{
+    let id = Text::from_str(alloc, dimension.def.id.as_str())?;
+    let (series, chart) = (dimension.series, dimension.chart);
+    Ok(CopiedDimension {
+        series,
+        chart,
+        id,
+        hidden: dimension.def.hidden,
+    })
+}
+
+fn told_dimensions(
+    alloc: Global,
+    dimensions: &[NumberedDimension],
+) -> Result<CopiedDimensionList, AllocError>
+    requires { All (λ dimension. dimension_keeps_limits dimension.def ≡ true) dimensions.now }
+    ensures told { IfOk result (λ told. told ≡ map told_dimension dimensions.now) }
+    ensures short { IfOk result (AllByRecursion IsCopiedDimension) }
+{
+    let mut told = Vec::with_capacity(alloc, dimensions.len())?;
+    for dimension in dimensions {
+        told.push(told_dimension(alloc, dimension)?)?;
+    }
+    Ok(CopiedDimensionList::from_vec(told))
+}
+
+fn entry_word(word: SeriesWord) -> CopiedWord
+    ensures word { result ≡ entry_word word }
+    ensures short { IsCopiedWord result }
+{
+    CopiedWord {
+        series: word.series,
+        word: word.word,
+    }
+}
+
+fn entry_words(alloc: Global, words: &[SeriesWord]) -> Result<CopiedWordList, AllocError>
+    ensures words { IfOk result (λ made. made ≡ map entry_word words.now) }
+    ensures short { IfOk result (AllByRecursion IsCopiedWord) }
+{
+    let mut made = Vec::with_capacity(alloc, words.len())?;
+    for word in words {
+        made.push(entry_word(*word))?;
+    }
+    Ok(CopiedWordList::from_vec(made))
 }
