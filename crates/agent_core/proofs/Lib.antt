@@ -6,7 +6,7 @@ pub mod ClosedLemmas
 pub mod CopyCalls
 pub mod CopyLemmas
 pub mod DefinedLemmas
-pub mod EntryLengths
+pub mod EntryLemmas
 pub mod FedLemmas
 pub mod FollowLemmas
 pub mod FormLemmas

@@ -67,7 +67,7 @@ apart-map {X} {Y} same f (x ∷ xs) apart = (
 )
 
 module _ {X Y : Type 0} (f : X → Option Y) where
-  all-made : (Q : X → Type 0) (P : Y → Type 0) → ((x : X) (y : Y) → Q x → f x ≡ Some y → P y) → (xs : List X) → AllByRecursion Q xs → AllByRecursion P (filter_map f xs)
+  pub all-made : (Q : X → Type 0) (P : Y → Type 0) → ((x : X) (y : Y) → Q x → f x ≡ Some y → P y) → (xs : List X) → AllByRecursion Q xs → AllByRecursion P (filter_map f xs)
   all-made Q P each [] all = tt
   all-made Q P each (x ∷ xs) all = by (f x) refl (all-made Q P each xs all.1)
     where

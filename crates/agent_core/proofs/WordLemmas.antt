@@ -1,24 +1,32 @@
 -- The words of a beat of a Data, by the numbers of a registry.
-use Rattle.std.proofs.Common.{◌≡◌, ℕ, ◌+◌, ◌==◌, ◌<◌, Bool, true, false, ◌&&◌, nat_lt, List, [], ◌∷◌, ◌++◌, length, map, take, get_or, slice_get, Option, Some, None, refl, sym, ap, subst, ◌∙◌, arith, inl, inr, true≢false, lt-ltb}
+use Rattle.std.proofs.Common.{◌≡◌, ℕ, ◌+◌, ◌==◌, ◌<◌, ◌≤◌, Bool, true, false, ◌&&◌, nat_lt, List, [], ◌∷◌, ◌++◌, length, map, take, get_or, slice_get, Option, Some, None, All, refl, sym, ap, subst, ◌∙◌, arith, inl, inr, true≢false, lt-ltb}
 use Rattle.std.specs.List.{cons_option, enumerate_from, filter_map, find, list_all, list_any, AllByRecursion, IsDistinct}
 use Rattle.std.specs.List.Sorted.{IsNonDecreasingBy, IsPermutation}
 use Rattle.std.specs.Option.{option_and_then, option_map}
 use Rattle.std.specs.Str.{bytes_eq}
 use Rattle.std.proofs.lemmas.Bool.{cases_Bool, and_parts, eq-eqb, eqb-true, ltb-true, ne_eqb}
-use Rattle.std.proofs.lemmas.List.{take_more}
-use Rattle.std.proofs.lemmas.List.Elements.{filter_map-append}
-use Rattle.std.proofs.lemmas.Option.{none-some}
+use Rattle.std.proofs.lemmas.List.{length-map, take_more}
+use Rattle.std.proofs.lemmas.List.Elements.{All-from_recursion, All-map, All-weaker, filter_map-append}
+use Rattle.std.proofs.lemmas.List.FromFn.{length-enumerate_from}
+use Rattle.std.proofs.lemmas.Option.{none-some, same_Some, slice_get_within}
 use Rattle.history.specs.declared.beat.OpenDim.{OpenDim}
 use Rattle.history.specs.History.{Word}
 use Rattle.history.specs.Registry.{Registry, is_dimension, is_of, same_dimension, series_of}
 use Rattle.history.specs.Regular.{AreApart}
 use Rattle.chart_registry.proofs.ApartLemmas.{one_series, own-series}
-use Rattle.chart_registry.proofs.Finding.{found-passes}
+use Rattle.chart_registry.proofs.Finding.{found-all, found-passes}
 use Rattle.chart_registry.proofs.Places.{position-nowhere, IsNowhere}
 use Rattle.chart_registry.proofs.RegistryLemmas.{or_false, series_of-within}
 use Rattle.chart_registry.proofs.RowsLemmas.{bytes_eq_same, same_text}
+use Rattle.entry_codec.specs.declared.words.CopiedWord.{CopiedWord}
 use Rattle.entry_codec.specs.Lists.{is_ascending}
+use Rattle.beat_tiers.specs.declared.item.BeatPoint.{BeatPoint}
 use Rattle.beat_points.specs.declared.series_word.SeriesWord.{SeriesWord}
+use Rattle.storage_number.specs.Word.{is_word}
+use Rattle.beat_points.specs.Points.{ArePointsIn, AreRising}
+use Rattle.beat_entries.specs.Copied.{told_word}
+use Rattle.beat_entries.proofs.Ascending.{picked-ascending}
+use Rattle.beat_entries.proofs.FollowLemmas.{all-places}
 use Rattle.beat_entries.proofs.Gathering.{all-gathered, apart-gathered, find-gathered, map-some, then-some}
 use Rattle.beat_entries.proofs.Slots.{at, sorted-is}
 use Rattle.replication.specs.declared.beats.Beat.{Beat as SentBeat}
@@ -28,11 +36,14 @@ use Rattle.replication.specs.declared.names.ChartName.{ChartName}
 use Rattle.replication.specs.declared.names.DimName.{DimName}
 use Rattle.replication.specs.declared.names.Names.{Names}
 use Rattle.replication.specs.Names.{named_beat, named_point, point_of}
-use Rattle.link_frames.specs.DataForm.{has_rising_places, place_of}
+use Rattle.link_frames.specs.DataForm.{has_rising_places, has_storage_numbers, is_storage_number, place_of}
 use Rattle.link_frames.specs.DataForm.{same_chart as same_name, same_dimension as same_series, AreApart as AreNamesApart}
+use Rattle.link_frames.proofs.PlacesLaw.{all-of}
 use Rattle.agent_core.specs.Copying.{is_point_of, numbered_word, numbered_words}
-use Rattle.agent_core.specs.Storing.{numbered_point, point_word}
-use Rattle.agent_core.proofs.TakenLemmas.{apart-made, one-place}
+use Rattle.agent_core.specs.Kept.{copied_point}
+use Rattle.agent_core.specs.Kept.{point_of as kept_point}
+use Rattle.agent_core.specs.Storing.{entry_word, numbered_point, point_word}
+use Rattle.agent_core.proofs.TakenLemmas.{all-made, apart-made, one-place}
 
 -- ---- lists
 pub gathered-next : {A B : Type 0} (f : A → Option B) (xs : List A) (i : ℕ) (d : A) (old new : List B) → i < length xs → new ≡ old ++ cons_option (f (get_or xs i d)) [] → old ≡ filter_map f (take i xs)
@@ -211,3 +222,100 @@ module _ (registry : Registry) (own : AreApart same_dimension registry.dimension
   sorted-words names beat apart rises gathered sorted is same up =
       words-are (named_beat names beat).points (points-apart names apart beat rises) sorted
       (subst (λ (all : List SeriesWord). IsPermutation all sorted) (is ∙ gathered-then (named_point names) (numbered_point registry) beat.words) same) up
+
+-- ---- what is stored of them
+module _ (registry : Registry) (names : Names) (beat : SentBeat) (stored : has_storage_numbers beat ≡ true) where
+  abbrev points : List NamedPoint
+  points = (named_beat names beat).points
+
+  abbrev IsStored : NamedPoint → Type 0
+  IsStored point = is_word point.word ≡ true
+
+  points-stored : AllByRecursion IsStored points
+  points-stored = all-made (named_point names) (λ (word : SentWord). is_storage_number word ≡ true) IsStored each beat.words (all-of is_storage_number beat.words stored)
+    where
+      each : (word : SentWord) (point : NamedPoint) → is_storage_number word ≡ true → named_point names word ≡ Some point → is_word point.word ≡ true
+      each word point is made =
+          let dimension = then-some (point_of names word.word) (slice_get names.dimensions word.series) point made in
+          let chart = map-some (λ (chart : ChartName). record { chart = chart.id; dimension = dimension.0.id; word = word.word }) (slice_get names.charts dimension.0.chart) point dimension.1.1 in
+          ap (λ (point : NamedPoint). is_word point.word) (sym chart.1.1) ∙ is
+
+  abbrev IsGiven : SeriesWord → Type 0
+  IsGiven word = (word.series < length registry.dimensions) × (is_word word.word ≡ true)
+
+  numbered-given : AllByRecursion (λ (word : Word). IsGiven (point_word word)) (numbered_words registry points)
+  numbered-given = all-places (λ (word : Word). IsGiven (point_word word)) (numbered_word points) registry.dimensions (λ m dimension word here is. given m dimension word here (find (is_point_of dimension) points) refl is)
+    where
+      given : (m : ℕ) (dimension : OpenDim) (word : Word) → slice_get registry.dimensions m ≡ Some dimension → (found : Option NamedPoint) → find (is_point_of dimension) points ≡ found
+          → option_map (λ (point : NamedPoint). record { series = m; word = point.word }) found ≡ Some word → IsGiven (point_word word)
+      given m dimension word here None e is = absurd (none-some word is)
+      given m dimension word here (Some point) e is =
+          subst (λ (word : Word). IsGiven (point_word word)) (same_Some _ word is) (slice_get_within registry.dimensions m dimension here, found-all IsStored (is_point_of dimension) points point points-stored e)
+
+  pub words-in : ArePointsIn registry (map point_word (numbered_words registry points))
+  words-in = All-map IsGiven point_word (numbered_words registry points) (All-from_recursion (λ (word : Word). IsGiven (point_word word)) (numbered_words registry points) numbered-given)
+
+rising-from : (words : List SeriesWord) → is_ascending (map (λ (word : SeriesWord). word.series) words) ≡ true → AreRising words
+rising-from [] up = tt
+rising-from (word ∷ words) up = (All-from_recursion (λ (later : SeriesWord). word.series < later.series) words (above word words up), rising-from words (rest word words up))
+  where
+    rest : (word : SeriesWord) (words : List SeriesWord) → is_ascending (map (λ (word : SeriesWord). word.series) (word ∷ words)) ≡ true → is_ascending (map (λ (word : SeriesWord). word.series) words) ≡ true
+    rest word [] up = refl
+    rest word (next ∷ words) up = (and_parts (nat_lt word.series next.series) (is_ascending (map (λ (word : SeriesWord). word.series) (next ∷ words))) up).1
+
+    higher : (a b : SeriesWord) (words : List SeriesWord) → a.series < b.series → AllByRecursion (λ (later : SeriesWord). b.series < later.series) words → AllByRecursion (λ (later : SeriesWord). a.series < later.series) words
+    higher a b [] less all = tt
+    higher a b (later ∷ words) less all = (omega (arith, less, all.0), higher a b words less all.1)
+
+    above : (word : SeriesWord) (words : List SeriesWord) → is_ascending (map (λ (word : SeriesWord). word.series) (word ∷ words)) ≡ true → AllByRecursion (λ (later : SeriesWord). word.series < later.series) words
+    above word [] up = tt
+    above word (next ∷ words) up =
+        let parts = and_parts (nat_lt word.series next.series) (is_ascending (map (λ (word : SeriesWord). word.series) (next ∷ words))) up in
+        let less = ltb-true word.series next.series parts.0 in
+        (less, higher word next words less (above next words parts.1))
+
+pub words-rising : (registry : Registry) (points : List NamedPoint) → AreRising (map point_word (numbered_words registry points))
+words-rising registry points =
+    rising-from (map point_word (numbered_words registry points))
+    (ap is_ascending (same-keys (numbered_words registry points)) ∙ picked-ascending (numbered_word points) (λ (word : Word). word.series) own registry.dimensions 0)
+  where
+    same-keys : (words : List Word) → map (λ (word : SeriesWord). word.series) (map point_word words) ≡ map (λ (word : Word). word.series) words
+    same-keys [] = refl
+    same-keys (word ∷ words) = ap (λ (rest : List ℕ). word.series ∷ rest) (same-keys words)
+
+    own : (n : ℕ) (dimension : OpenDim) (word : Word) → numbered_word points (n, dimension) ≡ Some word → n ≡ word.series
+    own n dimension word is = by (find (is_point_of dimension) points) is
+      where
+        by : (found : Option NamedPoint) → option_map (λ (point : NamedPoint). record { series = n; word = point.word }) found ≡ Some word → n ≡ word.series
+        by None is = absurd (none-some word is)
+        by (Some point) is = ap (λ (word : Word). word.series) (same_Some _ word is)
+
+pub words-few : (registry : Registry) (points : List NamedPoint) → length (map point_word (numbered_words registry points)) ≤ length registry.dimensions
+words-few registry points =
+    omega (
+      arith,
+      length-map (numbered_words registry points) point_word,
+      fewer (numbered_word points) (enumerate_from 0 registry.dimensions),
+      length-enumerate_from 0 registry.dimensions,
+    )
+  where
+    fewer : {A B : Type 0} (f : A → Option B) (xs : List A) → length (filter_map f xs) ≤ length xs
+    fewer f [] = omega arith
+    fewer {A} {B} f (x ∷ xs) = by (f x) (fewer f xs)
+      where
+        by : (found : Option B) → length (filter_map f xs) ≤ length xs → length (cons_option found (filter_map f xs)) ≤ length (x ∷ xs)
+        by None rest = omega (arith, rest)
+        by (Some y) rest = omega (arith, rest)
+
+-- the words of an entry, and the points, are those of the numbered words
+pub told-words : (words : List Word) → map entry_word (map point_word words) ≡ map told_word words
+told-words [] = refl
+told-words (word ∷ words) = ap (λ (rest : List CopiedWord). told_word word ∷ rest) (told-words words)
+
+pub copied-points : (registry : Registry) (words : List Word) → map (kept_point registry) (map point_word words) ≡ map (copied_point registry) words
+copied-points registry [] = refl
+copied-points registry (word ∷ words) = ap (λ (rest : List BeatPoint). copied_point registry word ∷ rest) (copied-points registry words)
+
+pub all-stored : (registry : Registry) (words : List SeriesWord) → ArePointsIn registry words → All (λ (word : SeriesWord). is_word word.word ≡ true) words
+all-stored registry words all =
+    All-weaker (λ (word : SeriesWord). (word.series < length registry.dimensions) × (is_word word.word ≡ true)) (λ (word : SeriesWord). is_word word.word ≡ true) (λ word given. given.1) words all

@@ -8,30 +8,42 @@ ghost use Rattle.history.specs.Limits.{chart_keeps_limits, dimension_keeps_limit
 ghost use Rattle.history.specs.Registry.{same_dimension, series_of};
 ghost use Rattle.history.specs.Regular.{AreApart};
 ghost use Rattle.beat_points.specs.Points.{ArePointsIn, AreRising};
+ghost use Rattle.storage_number.specs.Word.{is_word};
+ghost use Rattle.entry_codec.specs.declared.entry.Entry.TheVariants as entry;
 ghost use Rattle.entry_codec.specs.Charts.{IsCopiedChart};
 ghost use Rattle.entry_codec.specs.Dimensions.{IsCopiedDimension};
+ghost use Rattle.entry_codec.specs.Entries.{is_collected_canonical, HasSpelling, IsWithinLimits};
 ghost use Rattle.entry_codec.specs.Words.{IsCopiedWord};
+ghost use Rattle.store_core.specs.Beats.{beat_bytes, InForm};
 ghost use Rattle.beat_entries.specs.Copied.{told_chart, told_dimension};
 ghost use Rattle.replication.specs.Names.{named_beat, named_point};
 ghost use Rattle.replication.specs.Verdict.{is_stored};
 ghost use Rattle.link_frames.specs.DataForm.{has_rising_places, has_storage_numbers};
 ghost use Rattle.link_frames.specs.DataForm.{AreApart as AreNamesApart};
 ghost use Rattle.agent_core.specs.Copying.{defined_chart, defined_dimension, definitions_in, numbered_words};
-ghost use Rattle.agent_core.specs.Storing.{entry_word, numbered_point, point_word};
+ghost use Rattle.agent_core.specs.Notes.{names_series};
+ghost use Rattle.agent_core.specs.Rules.{HasLimits};
+ghost use Rattle.agent_core.specs.Storing.{entry_word, numbered_point, point_word, sent_entry, sent_kept};
 
+use crate::keeping::unwritten;
+use crate::points::stored_points;
 use beat_entries::{usual_chart, usual_dimension};
 use beat_points::SeriesWord;
 use chart_registry::Registry;
 use entry_codec::{
-    CopiedChart, CopiedChartList, CopiedDimension, CopiedDimensionList, CopiedWord, CopiedWordList,
+    Copied, CopiedChart, CopiedChartList, CopiedDimension, CopiedDimensionList, CopiedWord,
+    CopiedWordList, Entry, write_entry,
 };
 use fixed_num::Text;
 use history::{
-    ChartDef, ChartDefList, NumberedChart, NumberedDimension, OpenBeat, OpenDim, OpenDimList,
+    ChartDef, ChartDefList, NumberedBeat, NumberedChart, NumberedDimension, OpenBeat, OpenDim, OpenDimList,
     OpenRowList,
 };
-use replication::{Beat as SentBeat, ChartName, DimName, Names, SeriesWord as SentWord, Verdict};
+use replication::{
+    Beat as SentBeat, ChartName, Data, DimName, Names, SeriesWord as SentWord, Verdict,
+};
 use std::alloc::{AllocError, Global};
+use store_core::Beat;
 
 /// Whether a message with this verdict is stored.
 pub(crate) fn is_stored(verdict: Verdict) -> bool
@@ -191,10 +203,15 @@ fn numbered_words(
     beat: &SentBeat,
 ) -> Result<Vec<SeriesWord>, AllocError>
     requires own { AreApart same_dimension registry.now.dimensions }
+    requires few { length registry.now.dimensions ≤ 65536 }
     requires names { AreNamesApart names.now }
     requires places { has_rising_places beat.now ≡ true }
-    ensures { IfOk result (λ words. words.items
+    requires stored { has_storage_numbers beat.now ≡ true }
+    ensures words { IfOk result (λ words. words.items
         ≡ map point_word (numbered_words registry.now (named_beat names.now beat.now).points)) }
+    ensures there { IfOk result (λ words. ArePointsIn registry.now words.items) }
+    ensures rising { IfOk result (λ words. AreRising words.items) }
+    ensures few { IfOk result (λ words. length words.items ≤ 65536) }
 {
     sort_words(gather_words(alloc, registry, names, beat.words.as_slice())?)
 }
@@ -283,4 +300,74 @@ fn entry_words(alloc: Global, words: &[SeriesWord]) -> Result<CopiedWordList, Al
         made.push(entry_word(*word))?;
     }
     Ok(CopiedWordList::from_vec(made))
+}
+
+/// The entry of a copied beat of a child at this moment, that defines this and has these words.
+fn copied_entry(
+    alloc: Global,
+    child: u64,
+    moment: u32,
+    defines: &NumberedBeat,
+    words: &[SeriesWord],
+) -> Result<Entry, AllocError>
+    requires within { IsWithinLimits defines.now }
+    requires canonical { is_collected_canonical defines.now ≡ true }
+    requires rising { AreRising words.now }
+    requires stored { All (λ word. is_word word.word ≡ true) words.now }
+    requires few { length words.now ≤ 65536 }
+    ensures entry { IfOk result (λ made. made ≡ entry.Copied (record {
+      child = child;
+      moment = moment;
+      charts = map told_chart defines.now.charts;
+      dimensions = map told_dimension defines.now.dimensions;
+      words = map entry_word words.now;
+    })) }
+    ensures spelt { IfOk result HasSpelling }
+{
+    Ok(Entry::Copied(Copied {
+        child,
+        moment,
+        charts: told_charts(alloc, defines.charts.as_slice())?,
+        dimensions: told_dimensions(alloc, defines.dimensions.as_slice())?,
+        words: entry_words(alloc, words)?,
+    }))
+}
+
+/// What a store keeps of a beat of a message that defines this, where the registry has the definitions of the
+/// message.
+pub(crate) fn kept_copy(
+    alloc: Global,
+    registry: &Registry,
+    message: &Data,
+    defines: &NumberedBeat,
+    beat: &SentBeat,
+) -> Result<Beat, AllocError>
+    requires own { AreApart same_dimension registry.now.dimensions }
+    requires registry { HasLimits registry.now }
+    requires names { AreNamesApart message.now.names }
+    requires places { has_rising_places beat.now ≡ true }
+    requires words { has_storage_numbers beat.now ≡ true }
+    requires within { IsWithinLimits defines.now }
+    requires canonical { is_collected_canonical defines.now ≡ true }
+    requires later { 0 < beat.now.moment }
+    ensures kept { IfOk result
+        (λ kept. kept ≡ sent_kept registry.now message.now defines.now beat.now) }
+    ensures spelt { OnOk result (HasSpelling
+        (entry.Copied (sent_entry registry.now message.now defines.now beat.now))) }
+    ensures moment { IfOk result (λ kept. kept.moment ≡ Some beat.now.moment) }
+    ensures named { IfOk result (λ kept. names_series registry.now kept.points ≡ true) }
+    ensures form { IfOk result InForm }
+    ensures size { IfOk result (λ kept. length (beat_bytes kept) ≤ 2 ^ 26) }
+{
+    let words = numbered_words(alloc, registry, &message.names, beat)?;
+    let points = stored_points(alloc, registry, words.as_slice())?;
+    let entry = copied_entry(alloc, message.child, beat.moment, defines, words.as_slice())?;
+    match write_entry(alloc, &entry) {
+        Ok(note) => Ok(Beat {
+            moment: Some(beat.moment),
+            points,
+            note,
+        }),
+        Err(fault) => Err(unwritten(fault)),
+    }
 }
