@@ -31,6 +31,7 @@ pub mod ReplyLemmas
 pub mod SeenLemmas
 pub mod Sound
 pub mod StepLemmas
+pub mod StoringLemmas
 pub mod TakenLemmas
 pub mod UnseenLemmas
 pub mod Within

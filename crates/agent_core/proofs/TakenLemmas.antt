@@ -44,6 +44,7 @@ use Rattle.link_frames.specs.DataForm.{is_chart as names_chart, same_chart as sa
 use Rattle.agent_core.specs.Copying.{beats_of, copied_beats, copied_of, copy_refusal, defined_chart, defined_dimension, definitions_in, gap_beat, is_point_of, names_refusal, nothing_defined, numbered_word, numbered_words}
 use Rattle.agent_core.specs.Kept.{onto, CopyFollows}
 use Rattle.agent_core.specs.Roles.{may_copy, role_of}
+use Rattle.agent_core.specs.Storing.{MayTake, MayTakeAll}
 use Rattle.agent_core.specs.Rules.{changes_grid, changes_grid_of, too_many_charts, too_many_dimensions}
 use Rattle.agent_core.proofs.FollowLemmas.{keeps, KeepsGrid}
 use Rattle.agent_core.proofs.Within.{within-after}
@@ -241,18 +242,6 @@ words-below registry points =
     below m dimension word at (Some point) is = subst (λ (word : Word). word.series < length registry.dimensions) (same_Some _ word is) (slice_get_within registry.dimensions m dimension at)
 
 -- ---- beats that follow one another
-
--- a copied beat or a gap may follow the history
-abbrev pub MayTake : List Beat → Beat → Type 0
-MayTake g (collected moment beat) = ⊥
-MayTake g (copied copy) = CopyFollows g copy
-MayTake g (health text) = ⊥
-MayTake g (missing gap) = (may_copy (role_of g) ≡ true) × (last g < gap.to)
-
--- each of the beats may follow those before it
-abbrev pub MayTakeAll : List Beat → List Beat → Type 0
-MayTakeAll g [] = Unit {0}
-MayTakeAll g (beat ∷ more) = MayTake g beat × MayTakeAll (beat ∷ g) more
 
 take-at : (g before : List Beat) (beat : Beat) (rest : List Beat) → MayTakeAll g (before ++ beat ∷ rest) → MayTake (onto g before) beat
 take-at g [] beat rest all = all.0

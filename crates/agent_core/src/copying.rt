@@ -12,7 +12,7 @@ ghost use Rattle.storage_number.specs.Word.{is_word};
 ghost use Rattle.entry_codec.specs.declared.entry.Entry.TheVariants as entry;
 ghost use Rattle.entry_codec.specs.Charts.{IsCopiedChart};
 ghost use Rattle.entry_codec.specs.Dimensions.{IsCopiedDimension};
-ghost use Rattle.entry_codec.specs.Entries.{is_collected_canonical, HasSpelling, IsWithinLimits};
+ghost use Rattle.entry_codec.specs.Entries.{entry_bytes, is_collected_canonical, HasSpelling, IsWithinLimits};
 ghost use Rattle.entry_codec.specs.Words.{IsCopiedWord};
 ghost use Rattle.store_core.specs.Beats.{beat_bytes, InForm};
 ghost use Rattle.beat_entries.specs.Copied.{told_chart, told_dimension};
@@ -21,6 +21,7 @@ ghost use Rattle.replication.specs.Verdict.{is_stored};
 ghost use Rattle.link_frames.specs.DataForm.{has_rising_places, has_storage_numbers};
 ghost use Rattle.link_frames.specs.DataForm.{AreApart as AreNamesApart};
 ghost use Rattle.agent_core.specs.Copying.{defined_chart, defined_dimension, definitions_in, numbered_words};
+ghost use Rattle.agent_core.specs.Kept.{gap_entry};
 ghost use Rattle.agent_core.specs.Notes.{names_series};
 ghost use Rattle.agent_core.specs.Rules.{HasLimits};
 ghost use Rattle.agent_core.specs.Storing.{entry_word, numbered_point, point_word, sent_entry, sent_kept};
@@ -32,7 +33,7 @@ use beat_points::SeriesWord;
 use chart_registry::Registry;
 use entry_codec::{
     Copied, CopiedChart, CopiedChartList, CopiedDimension, CopiedDimensionList, CopiedWord,
-    CopiedWordList, Entry, write_entry,
+    CopiedWordList, Entry, Gap, write_entry,
 };
 use fixed_num::Text;
 use history::{
@@ -43,7 +44,7 @@ use replication::{
     Beat as SentBeat, ChartName, Data, DimName, Names, SeriesWord as SentWord, Verdict,
 };
 use std::alloc::{AllocError, Global};
-use store_core::Beat;
+use store_core::{Beat, BeatPointList};
 
 /// Whether a message with this verdict is stored.
 pub(crate) fn is_stored(verdict: Verdict) -> bool
@@ -366,6 +367,29 @@ pub(crate) fn kept_copy(
         Ok(note) => Ok(Beat {
             moment: Some(beat.moment),
             points,
+            note,
+        }),
+        Err(fault) => Err(unwritten(fault)),
+    }
+}
+
+/// What a store keeps of a gap of a child: the moments above `from`, up to `to`.
+pub(crate) fn kept_gap(alloc: Global, child: u64, from: u32, to: u32) -> Result<Beat, AllocError>
+    requires { 0 < to }
+    ensures kept { IfOk result (λ kept. kept ≡ record {
+      moment = Some to;
+      points = [];
+      note = entry_bytes (gap_entry (record { child = child; from = from; to = to }));
+    }) }
+    ensures spelt { OnOk result
+        (HasSpelling (gap_entry (record { child = child; from = from; to = to }))) }
+    ensures form { IfOk result InForm }
+    ensures size { IfOk result (λ kept. length (beat_bytes kept) ≤ 2 ^ 26) }
+{
+    match write_entry(alloc, &Entry::Gap(Gap { child, from, to })) {
+        Ok(note) => Ok(Beat {
+            moment: Some(to),
+            points: BeatPointList::new(alloc),
             note,
         }),
         Err(fault) => Err(unwritten(fault)),

@@ -1,0 +1,222 @@
+//! How the gap and the beats of a child's message are added to a history.
+
+ghost use Rattle.std.specs.Prelude.{◌≡◌, ◌<◌, ◌≤◌, ◌^◌, ◌++◌, ◌∷◌, ◌⊎◌, [], ℕ, List, Option, Some, None, true, length, IfOk, IfErr, IsErrOf, OnOk};
+ghost use Rattle.algorithms.specs.declared.last.Last.{Last as ALast};
+ghost use Rattle.alarm_core.specs.declared.latest.Latest.{Latest as ALatest};
+ghost use Rattle.alarm_core.specs.Course.{held};
+ghost use Rattle.host_model.specs.declared.file.File.TheVariants.{JournalA};
+ghost use Rattle.host_model.specs.Disks.{EveryDisk};
+ghost use Rattle.host_model.specs.Cause.{HasCause};
+ghost use Rattle.host_model.specs.Moments.{Throughout, OnlyOn};
+ghost use Rattle.history.specs.History.{Beat as HistoryBeat, copied, missing, registry_of, Copy};
+ghost use Rattle.history.specs.Registry.{Registry as ARegistry, same_dimension};
+ghost use Rattle.history.specs.Regular.{AreApart};
+ghost use Rattle.entry_codec.specs.declared.entry.Settings.{Settings as ASettings};
+ghost use Rattle.entry_codec.specs.Entries.{is_collected_canonical, IsWithinLimits};
+ghost use Rattle.link_frames.specs.DataForm.{has_rising_places, has_storage_numbers};
+ghost use Rattle.link_frames.specs.DataForm.{AreApart as AreNamesApart};
+ghost use Rattle.store_core.specs.Beats.{beat_bytes, InForm};
+ghost use Rattle.store_core.specs.Store.{IsReady, IsReplayed};
+ghost use Rattle.agent_core.specs.Agent.{Holds};
+ghost use Rattle.agent_core.specs.Alarms.{events_at};
+ghost use Rattle.agent_core.specs.Faults.{IsSpending};
+ghost use Rattle.agent_core.specs.Kept.{IsCopyOf, StandsForHistory};
+ghost use Rattle.agent_core.specs.Notes.{names_series};
+ghost use Rattle.agent_core.specs.Replay.{HasSeenCopy};
+ghost use Rattle.agent_core.specs.Roles.{may_copy, role_of};
+ghost use Rattle.agent_core.specs.Rules.{HasLimits};
+ghost use Rattle.agent_core.specs.Storing.{ArePartsAt, IsSentAs};
+
+use crate::alarming::{Stepping, follow};
+use crate::copying::{kept_copy, kept_gap};
+use crate::fault::AgentFault;
+use crate::keeping::{commit, take_rows};
+use crate::last_seen::see_copied;
+use alarm_core::{Alarms, EventList, Latest};
+use beat_points::LastRows;
+use chart_registry::Registry;
+use history::NumberedBeat;
+use host_model::Host;
+use replication::{Beat as SentBeat, Data};
+use std::alloc::{AllocError, Global};
+use store_core::{Beat, Store};
+
+/// Adds a gap of a child, the moments above `from` up to `to`, to a store that is still of use. At every moment a
+/// crash leaves the history with the gap or without it.
+pub(crate) fn add_gap<H: Host>(
+    alloc: Global,
+    store: &mut Store,
+    host: &mut H,
+    child: u64,
+    from: u32,
+    to: u32,
+) -> Result<(), AgentFault>
+    requires ready { IsReady H.honest (H.seen host.old).past store.old }
+    requires replayed { IsReplayed store.old }
+    requires going { store.old.fault ≡ None }
+    requires later { store.old.last < to }
+    ensures any_moment { H.honest → (registry : ARegistry) (lasts : List (Option ALast))
+        (latest : ALatest) (set : ASettings) (h : List HistoryBeat)
+        → Holds (H.seen host.old).past store.old registry lasts latest set h
+        → may_copy (role_of h) ≡ true
+        → let gap = missing (record { child = child; from = from; to = to }) in
+        Throughout (EveryDisk (λ disk. StandsForHistory set h disk
+        ⊎ StandsForHistory set (gap ∷ h) disk)) (H.seen host.old).past (H.seen host.new).past }
+    ensures done { OnOk result
+        (H.honest → (registry : ARegistry) (lasts : List (Option ALast)) (latest : ALatest)
+        (set : ASettings) (h : List HistoryBeat)
+        → Holds (H.seen host.old).past store.old registry lasts latest set h
+        → may_copy (role_of h) ≡ true
+        → Holds (H.seen host.new).past store.new registry lasts latest set
+        (missing (record { child = child; from = from; to = to }) ∷ h)) }
+    ensures ready { IsReady H.honest (H.seen host.new).past store.new }
+    ensures replayed { IsReplayed store.new }
+    ensures going { OnOk result (store.new.fault ≡ None) }
+    ensures last { OnOk result (store.new.last ≡ to) }
+    ensures settings { store.new.settings ≡ store.old.settings }
+    ensures faults { IfErr result IsSpending }
+    ensures only_here { H.honest → OnlyOn JournalA (H.seen host.old).past (H.seen host.new).past }
+    ensures cause { HasCause (H.seen host.old).disk_faults (H.seen host.new).disk_faults
+        (IsErrOf result AgentFault.DiskFault) }
+    ensures tells { (H.seen host.new).tell_faults ≡ (H.seen host.old).tell_faults }
+{
+    match kept_gap(alloc, child, from, to) {
+        Ok(kept) => commit(store, host, &kept),
+        Err(_) => Err(AgentFault::Memory),
+    }
+}
+
+/// Takes the points of a copied beat as what was last seen.
+fn see_copy(
+    alloc: Global,
+    latest: &mut Latest,
+    registry: &Registry,
+    moment: u32,
+    kept: &Beat,
+    before: u32,
+) -> Result<(), AgentFault>
+    requires { names_series registry.now kept.now.points ≡ true }
+    ensures seen { OnOk result
+        (HasSeenCopy registry.now latest.old latest.new moment kept.now.points) }
+    ensures before { OnOk result (latest.new.before ≡ before) }
+    ensures memory { IfErr result (λ fault. fault ≡ AgentFault.Memory) }
+{
+    match see_copied(alloc, latest, registry, moment, kept.points.as_slice(), before) {
+        Ok(()) => Ok(()),
+        Err(_) => Err(AgentFault::Memory),
+    }
+}
+
+/// Adds a copied beat, whose definitions the registry has, to the other parts of an agent. At every moment a
+/// crash leaves the history with the beat or without it. After an `Err` the parts are of no more use.
+fn store_copy<H: Host>(
+    alloc: Global,
+    store: &mut Store,
+    registry: &Registry,
+    last_rows: &mut LastRows,
+    latest: &mut Latest,
+    host: &mut H,
+    defines: &NumberedBeat,
+    kept: &Beat,
+    moment: u32,
+) -> Result<(), AgentFault>
+    requires ready { IsReady H.honest (H.seen host.old).past store.old }
+    requires replayed { IsReplayed store.old }
+    requires going { store.old.fault ≡ None }
+    requires later { store.old.last < moment }
+    requires moment { kept.now.moment ≡ Some moment }
+    requires no_rows { defines.now.rows ≡ [] }
+    requires named { names_series registry.now kept.now.points ≡ true }
+    requires form { InForm kept.now }
+    requires size { length (beat_bytes kept.now) ≤ 2 ^ 26 }
+    ensures any_moment { H.honest → (before : ARegistry) (set : ASettings)
+        (g : List HistoryBeat) (copy : Copy)
+        → Holds (H.seen host.old).past store.old before last_rows.old latest.old set g
+        → IsCopyOf g copy kept.now
+        → Throughout (EveryDisk (λ disk. StandsForHistory set g disk
+        ⊎ StandsForHistory set (copied copy ∷ g) disk)) (H.seen host.old).past
+        (H.seen host.new).past }
+    ensures done { OnOk result
+        (H.honest → (before : ARegistry) (set : ASettings) (g : List HistoryBeat) (copy : Copy)
+        → Holds (H.seen host.old).past store.old before last_rows.old latest.old set g
+        → IsCopyOf g copy kept.now → registry.now ≡ registry_of (copied copy ∷ g)
+        → Holds (H.seen host.new).past store.new registry.now last_rows.new latest.new set
+        (copied copy ∷ g)) }
+    ensures ready { IsReady H.honest (H.seen host.new).past store.new }
+    ensures replayed { IsReplayed store.new }
+    ensures going { OnOk result (store.new.fault ≡ None) }
+    ensures last { OnOk result (store.new.last ≡ moment) }
+    ensures before { OnOk result (latest.new.before ≡ store.old.last) }
+    ensures settings { store.new.settings ≡ store.old.settings }
+    ensures faults { IfErr result IsSpending }
+    ensures only_here { H.honest → OnlyOn JournalA (H.seen host.old).past (H.seen host.new).past }
+    ensures cause { HasCause (H.seen host.old).disk_faults (H.seen host.new).disk_faults
+        (IsErrOf result AgentFault.DiskFault) }
+    ensures tells { (H.seen host.new).tell_faults ≡ (H.seen host.old).tell_faults }
+{
+    let before = store.last();
+    commit(store, host, kept)?;
+    take_rows(last_rows, registry, defines)?;
+    see_copy(alloc, latest, registry, moment, kept, before)
+}
+
+/// Adds a beat of a message, whose definitions the registry has, to the other parts of an agent, and gives the
+/// events that its alarms tell. At every moment a crash leaves the history with the beat or without it. After an
+/// `Err` the parts are of no more use.
+fn add_copy<H: Host>(
+    alloc: Global,
+    store: &mut Store,
+    registry: &Registry,
+    last_rows: &mut LastRows,
+    latest: &mut Latest,
+    alarms: &mut Alarms,
+    host: &mut H,
+    message: &Data,
+    defines: &NumberedBeat,
+    beat: &SentBeat,
+) -> Result<EventList, AgentFault>
+    requires ready { IsReady H.honest (H.seen host.old).past store.old }
+    requires replayed { IsReplayed store.old }
+    requires going { store.old.fault ≡ None }
+    requires later { store.old.last < beat.now.moment }
+    requires own { AreApart same_dimension registry.now.dimensions }
+    requires registry { HasLimits registry.now }
+    requires names { AreNamesApart message.now.names }
+    requires places { has_rising_places beat.now ≡ true }
+    requires words { has_storage_numbers beat.now ≡ true }
+    requires within { IsWithinLimits defines.now }
+    requires canonical { is_collected_canonical defines.now ≡ true }
+    requires no_rows { defines.now.rows ≡ [] }
+    ensures any_moment { H.honest → (before : ARegistry) (set : ASettings)
+        (g : List HistoryBeat) (copy : Copy)
+        → Holds (H.seen host.old).past store.old before last_rows.old latest.old set g
+        → IsSentAs registry.now message.now defines.now beat.now g copy
+        → Throughout (EveryDisk (λ disk. StandsForHistory set g disk
+        ⊎ StandsForHistory set (copied copy ∷ g) disk)) (H.seen host.old).past
+        (H.seen host.new).past }
+    ensures done { IfOk result
+        (λ events. H.honest → (before : ARegistry) (set : ASettings) (g : List HistoryBeat)
+        (copy : Copy)
+        → ArePartsAt (H.seen host.old).past store.old before last_rows.old latest.old
+        (held alarms.old) set g
+        → IsSentAs registry.now message.now defines.now beat.now g copy
+        → ArePartsAt (H.seen host.new).past store.new registry.now last_rows.new latest.new
+        (held alarms.new) set (copied copy ∷ g) × (events ≡ events_at set (copied copy ∷ g))) }
+    ensures ready { IsReady H.honest (H.seen host.new).past store.new }
+    ensures replayed { IsReplayed store.new }
+    ensures going { OnOk result (store.new.fault ≡ None) }
+    ensures last { OnOk result (store.new.last ≡ beat.now.moment) }
+    ensures settings { store.new.settings ≡ store.old.settings }
+    ensures faults { IfErr result IsSpending }
+    ensures only_here { H.honest → OnlyOn JournalA (H.seen host.old).past (H.seen host.new).past }
+    ensures cause { HasCause (H.seen host.old).disk_faults (H.seen host.new).disk_faults
+        (IsErrOf result AgentFault.DiskFault) }
+    ensures tells { (H.seen host.new).tell_faults ≡ (H.seen host.old).tell_faults }
+{
+    let moment = beat.moment;
+    let Ok(kept) = kept_copy(alloc, registry, message, defines, beat) else {
+        return Err(AgentFault::Memory);
+    };
+    store_copy(alloc, store, registry, last_rows, latest, host, defines, &kept, moment)?;
+    follow(alloc, alarms, store, host, registry, latest, Stepping::Beat(moment))
+}
