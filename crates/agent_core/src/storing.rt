@@ -13,19 +13,22 @@ ghost use Rattle.history.specs.Registry.{Registry as ARegistry, same_dimension};
 ghost use Rattle.history.specs.Regular.{AreApart};
 ghost use Rattle.entry_codec.specs.declared.entry.Settings.{Settings as ASettings};
 ghost use Rattle.entry_codec.specs.Entries.{is_collected_canonical, IsWithinLimits};
+ghost use Rattle.replication.specs.Copies.{latest as latest_of};
+ghost use Rattle.replication.specs.Names.{beat_moment};
 ghost use Rattle.link_frames.specs.DataForm.{has_rising_places, has_storage_numbers};
 ghost use Rattle.link_frames.specs.DataForm.{AreApart as AreNamesApart};
 ghost use Rattle.store_core.specs.Beats.{beat_bytes, InForm};
 ghost use Rattle.store_core.specs.Store.{IsReady, IsReplayed};
 ghost use Rattle.agent_core.specs.Agent.{Holds};
 ghost use Rattle.agent_core.specs.Alarms.{events_at};
+ghost use Rattle.agent_core.specs.Copying.{events_onto};
 ghost use Rattle.agent_core.specs.Faults.{IsSpending};
-ghost use Rattle.agent_core.specs.Kept.{IsCopyOf, StandsForHistory};
+ghost use Rattle.agent_core.specs.Kept.{onto, IsCopyOf, StandsForFront, StandsForHistory};
 ghost use Rattle.agent_core.specs.Notes.{names_series};
 ghost use Rattle.agent_core.specs.Replay.{HasSeenCopy};
 ghost use Rattle.agent_core.specs.Roles.{may_copy, role_of};
 ghost use Rattle.agent_core.specs.Rules.{HasLimits};
-ghost use Rattle.agent_core.specs.Storing.{ArePartsAt, IsSentAs};
+ghost use Rattle.agent_core.specs.Storing.{later_copies, ArePartsAt, AreSent, IsSentAs, MayTakeAll};
 
 use crate::alarming::{Stepping, follow};
 use crate::copying::{kept_copy, kept_gap};
@@ -35,6 +38,7 @@ use crate::last_seen::see_copied;
 use alarm_core::{Alarms, EventList, Latest};
 use beat_points::LastRows;
 use chart_registry::Registry;
+use fixed_num::ListOf;
 use history::NumberedBeat;
 use host_model::Host;
 use replication::{Beat as SentBeat, Data};
@@ -219,4 +223,90 @@ fn add_copy<H: Host>(
     };
     store_copy(alloc, store, registry, last_rows, latest, host, defines, &kept, moment)?;
     follow(alloc, alarms, store, host, registry, latest, Stepping::Beat(moment))
+}
+
+/// A beat that defines nothing and sets nothing.
+#[tactic(auto, unfolding(entry_codec::specs::Entries::is_collected_canonical))]
+fn nothing_defined(alloc: Global) -> NumberedBeat
+    ensures charts { result.charts ≡ [] }
+    ensures dimensions { result.dimensions ≡ [] }
+    ensures rows { result.rows ≡ [] }
+    ensures within { IsWithinLimits result }
+    ensures canonical { is_collected_canonical result ≡ true }
+{
+    NumberedBeat {
+        moment: 0,
+        charts: ListOf::new(alloc),
+        dimensions: ListOf::new(alloc),
+        rows: ListOf::new(alloc),
+    }
+}
+
+/// Adds events to those before them.
+fn add_events(events: &mut EventList, more: EventList) -> Result<(), AgentFault>
+    ensures added { OnOk result (events.new ≡ events.old ++ more) }
+    ensures memory { IfErr result (λ fault. fault ≡ AgentFault.Memory) }
+{
+    for event in more.into_vec() {
+        if events.push(event).is_err() {
+            return Err(AgentFault::Memory);
+        }
+    }
+    Ok(())
+}
+
+/// Adds beats of a message that define nothing, each after those before it, to the parts of an agent, and gives the
+/// events of all of them. At every moment a crash leaves the history with the first of them, with none or with all.
+/// After an `Err` the parts are of no more use.
+fn add_later<H: Host>(
+    alloc: Global,
+    store: &mut Store,
+    registry: &Registry,
+    last_rows: &mut LastRows,
+    latest: &mut Latest,
+    alarms: &mut Alarms,
+    host: &mut H,
+    message: &Data,
+    beats: &[SentBeat],
+) -> Result<EventList, AgentFault>
+    requires ready { IsReady H.honest (H.seen host.old).past store.old }
+    requires replayed { IsReplayed store.old }
+    requires going { store.old.fault ≡ None }
+    requires own { AreApart same_dimension registry.now.dimensions }
+    requires registry { HasLimits registry.now }
+    requires sent { AreSent store.old.last message.now beats.now }
+    ensures any_moment { H.honest → (set : ASettings) (g : List HistoryBeat)
+        → let more = later_copies registry.now message.now beats.now in
+        ArePartsAt (H.seen host.old).past store.old registry.now last_rows.old latest.old
+        (held alarms.old) set g → MayTakeAll g more
+        → Throughout (EveryDisk (StandsForFront set g more)) (H.seen host.old).past
+        (H.seen host.new).past }
+    ensures done { IfOk result
+        (λ events. H.honest → (set : ASettings) (g : List HistoryBeat)
+        → let more = later_copies registry.now message.now beats.now in
+        ArePartsAt (H.seen host.old).past store.old registry.now last_rows.old latest.old
+        (held alarms.old) set g → MayTakeAll g more
+        → ArePartsAt (H.seen host.new).past store.new registry.now last_rows.new latest.new
+        (held alarms.new) set (onto g more) × (events ≡ events_onto set g more)) }
+    ensures ready { IsReady H.honest (H.seen host.new).past store.new }
+    ensures replayed { IsReplayed store.new }
+    ensures going { OnOk result (store.new.fault ≡ None) }
+    ensures last { OnOk result
+        (store.new.last ≡ latest_of beat_moment store.old.last beats.now) }
+    ensures settings { store.new.settings ≡ store.old.settings }
+    ensures faults { IfErr result IsSpending }
+    ensures only_here { H.honest → OnlyOn JournalA (H.seen host.old).past (H.seen host.new).past }
+    ensures cause { HasCause (H.seen host.old).disk_faults (H.seen host.new).disk_faults
+        (IsErrOf result AgentFault.DiskFault) }
+    ensures tells { (H.seen host.new).tell_faults ≡ (H.seen host.old).tell_faults }
+{
+    let defines = nothing_defined(alloc);
+    let mut events = EventList::new(alloc);
+    for beat in beats {
+        let more = add_copy(
+            alloc, store, registry, last_rows, latest, alarms, host, message, &defines, beat,
+        )?;
+        add_events(&mut events, more)?;
+    }
+    Ok(events)
 }

@@ -1,0 +1,147 @@
+-- The fronts of the beats that follow a history.
+use Rattle.std.proofs.Common.{◌≡◌, ℕ, zero, suc, ◌+◌, ◌<◌, ◌⊎◌, inl, inr, Bool, true, List, [], ◌∷◌, ◌++◌, length, map, take, get_or, slice_get, Option, Some, None, refl, sym, ap, ◌∙◌, subst, append_assoc, append-nil, if◌then◌else◌}
+use Rattle.std.specs.List.{enumerate_from, filter_map, list_all, list_any}
+use Rattle.std.specs.Option.{option_map}
+use Rattle.std.proofs.Math.Seq.{take-length}
+use Rattle.std.proofs.lemmas.Bool.{and_parts}
+use Rattle.std.proofs.lemmas.List.{length-map}
+use Rattle.std.proofs.lemmas.Option.{none-some, same_Some, slice_get-map}
+use Rattle.host_model.specs.declared.file.File.{File}
+use Rattle.host_model.specs.Past.{Event}
+use Rattle.host_model.specs.Disks.{EveryDisk}
+use Rattle.host_model.specs.Moments.{begins, Throughout}
+use Rattle.host_model.proofs.DiskLemmas.{disks_weaker}
+use Rattle.host_model.proofs.MomentLemmas.{joined}
+use Rattle.algorithms.specs.declared.last.Last.{Last}
+use Rattle.history.specs.declared.beat.OpenDim.{OpenDim}
+use Rattle.history.specs.declared.chart.ChartDef.{ChartDef}
+use Rattle.history.specs.declared.numbered.NumberedBeat.{NumberedBeat}
+use Rattle.history.specs.declared.numbered.NumberedChart.{NumberedChart}
+use Rattle.history.specs.History.{Beat, copied, registry_of, Copy}
+use Rattle.history.specs.Numbered.{numbered_dimension}
+use Rattle.history.specs.Registry.{Registry, is_chart, is_dimension}
+use Rattle.alarm_core.specs.declared.latest.Latest.{Latest}
+use Rattle.alarm_core.specs.Course.{Held}
+use Rattle.alarm_events.specs.declared.event.Event.{Event as AlarmEvent}
+use Rattle.entry_codec.specs.declared.entry.Settings.{Settings}
+use Rattle.replication.specs.declared.beats.Beat.{Beat as SentBeat}
+use Rattle.replication.specs.declared.message.Data.{Data}
+use Rattle.replication.specs.Copies.{latest as latest_of, RisesFrom}
+use Rattle.replication.specs.Names.{beat_moment, named_beat, named_beats}
+use Rattle.store_core.specs.Store.{StoreState}
+use Rattle.agent_core.specs.Alarms.{events_at}
+use Rattle.agent_core.specs.Copying.{copied_of, events_onto, nothing_defined}
+use Rattle.agent_core.specs.Kept.{onto, StandsForFront, StandsForHistory}
+use Rattle.agent_core.specs.Storing.{later_copies, sent_words, ArePartsAt, IsSentAs, MayTake, MayTakeAll}
+use Rattle.agent_core.proofs.KeptLemmas.{stays}
+
+-- ---- one beat more of a list
+module _ (set : Settings) where
+  pub onto-next : (h more : List Beat) (i : ℕ) (beat : Beat) → slice_get more i ≡ Some beat → onto h (take (suc i) more) ≡ beat ∷ onto h (take i more)
+  onto-next h [] i beat at = absurd (none-some beat at)
+  onto-next h (first ∷ more) zero beat at = ap (λ (b : Beat). b ∷ h) (same_Some first beat at)
+  onto-next h (first ∷ more) (suc i) beat at = onto-next (first ∷ h) more i beat at
+
+  events-next : (h more : List Beat) (i : ℕ) (beat : Beat) → slice_get more i ≡ Some beat → events_onto set h (take (suc i) more) ≡ events_onto set h (take i more) ++ events_at set (beat ∷ onto h (take i more))
+  unfolding events_onto
+  events-next h [] i beat at = absurd (none-some beat at)
+  events-next h (first ∷ more) zero beat at = append-nil (events_at set (first ∷ h)) ∙ ap (λ (b : Beat). events_at set (b ∷ h)) (same_Some first beat at)
+  events-next h (first ∷ more) (suc i) beat at =
+      ap (λ (rest : List AlarmEvent). events_at set (first ∷ h) ++ rest) (events-next (first ∷ h) more i beat at)
+      ∙ sym (append_assoc (events_at set (first ∷ h)) (events_onto set (first ∷ h) (take i more)) (events_at set (beat ∷ onto (first ∷ h) (take i more))))
+
+pub takes-next : (h more : List Beat) (i : ℕ) (beat : Beat) → slice_get more i ≡ Some beat → MayTakeAll h more → MayTake (onto h (take i more)) beat
+takes-next h [] i beat at all = absurd (none-some beat at)
+takes-next h (first ∷ more) zero beat at all = subst (MayTake h) (same_Some first beat at) all.0
+takes-next h (first ∷ more) (suc i) beat at all = takes-next (first ∷ h) more i beat at all.1
+
+-- ---- what was stored so far
+
+-- the first n of these beats are stored on a history: so the parts of an agent are, and these events were told
+pub record HaveStored (old now : List Event) (set : Settings) (h more : List Beat) (n : ℕ) (store : StoreState) (registry : Registry) (lasts : List (Option Last)) (latest : Latest) (held : Held) (events : List AlarmEvent) : Type 0 where
+  pub moments : Throughout (EveryDisk (StandsForFront set h more)) old now
+  pub parts : ArePartsAt now store registry lasts latest held set (onto h (take n more))
+  pub events_are : events ≡ events_onto set h (take n more)
+
+pub stored-none : (past : List Event) (set : Settings) (h more : List Beat) (store : StoreState) (registry : Registry) (lasts : List (Option Last)) (latest : Latest) (held : Held)
+    → ArePartsAt past store registry lasts latest held set h → HaveStored past past set h more 0 store registry lasts latest held []
+unfolding events_onto
+stored-none past set h more store registry lasts latest held parts = record {
+  moments = begins (λ disk images. (0, stays past store registry lasts latest set h parts.holds disk images));
+  parts = parts;
+  events_are = refl;
+}
+
+module _ (old now new : List Event) (set : Settings) (h more : List Beat) (n : ℕ) (store : StoreState) (registry : Registry) (lasts : List (Option Last)) (latest : Latest) (held : Held) (events : List AlarmEvent)
+    (stored : HaveStored old now set h more n store registry lasts latest held events) (beat : Beat) (at : slice_get more n ≡ Some beat)
+    (moments : Throughout (EveryDisk (λ disk. StandsForHistory set (onto h (take n more)) disk ⊎ StandsForHistory set (beat ∷ onto h (take n more)) disk)) now new) where
+  pub stored-moments : Throughout (EveryDisk (StandsForFront set h more)) old new
+  stored-moments = joined stored.moments (disks_weaker by moments)
+    where
+      by : (disk : File → List ℕ) → StandsForHistory set (onto h (take n more)) disk ⊎ StandsForHistory set (beat ∷ onto h (take n more)) disk → StandsForFront set h more disk
+      by disk (inl stands) = (n, stands)
+      by disk (inr stands) = (suc n, subst (λ (g : List Beat). StandsForHistory set g disk) (sym (onto-next set h more n beat at)) stands)
+
+  pub stored-more : (store' : StoreState) (lasts' : List (Option Last)) (latest' : Latest) (held' : Held) (told events' : List AlarmEvent) → ArePartsAt new store' registry lasts' latest' held' set (beat ∷ onto h (take n more))
+      → told ≡ events_at set (beat ∷ onto h (take n more)) → events' ≡ events ++ told → HaveStored old new set h more (suc n) store' registry lasts' latest' held' events'
+  stored-more store' lasts' latest' held' told events' parts told_is added = record {
+    moments = stored-moments;
+    parts = subst (ArePartsAt new store' registry lasts' latest' held' set) (sym (onto-next set h more n beat at)) parts;
+    events_are = added ∙ (λ i. stored.events_are i ++ told_is i) ∙ sym (events-next set h more n beat at);
+  }
+
+-- ---- the beats of a Data
+pub all-at : {X : Type 0} (p : X → Bool) (xs : List X) (i : ℕ) (x : X) → slice_get xs i ≡ Some x → list_all p xs ≡ true → p x ≡ true
+all-at p [] i x at all = absurd (none-some x at)
+all-at p (y ∷ ys) zero x at all = ap p (sym (same_Some y x at)) ∙ (and_parts (p y) (list_all p ys) all).0
+all-at p (y ∷ ys) (suc i) x at all = all-at p ys i x at (and_parts (p y) (list_all p ys) all).1
+
+pub rises-at : (low : ℕ) (beats : List SentBeat) (i : ℕ) (beat : SentBeat) → slice_get beats i ≡ Some beat → RisesFrom beat_moment low beats → latest_of beat_moment low (take i beats) < beat.moment
+rises-at low [] i beat at rises = absurd (none-some beat at)
+rises-at low (first ∷ beats) zero beat at rises = subst (λ (b : SentBeat). low < b.moment) (same_Some first beat at) rises.0
+rises-at low (first ∷ beats) (suc i) beat at rises = rises-at first.moment beats i beat at rises.1
+
+pub latest-next : (low : ℕ) (beats : List SentBeat) (i : ℕ) (beat : SentBeat) → slice_get beats i ≡ Some beat → beat.moment ≡ latest_of beat_moment low (take (suc i) beats)
+latest-next low [] i beat at = absurd (none-some beat at)
+latest-next low (first ∷ beats) zero beat at = ap (λ (b : SentBeat). b.moment) (sym (same_Some first beat at))
+latest-next low (first ∷ beats) (suc i) beat at = latest-next first.moment beats i beat at
+
+-- ---- the copies of a Data that define nothing
+abbrev numbered_chart : ℕ → ChartDef → NumberedChart
+numbered_chart number def = record { number = number; def = def }
+
+no-charts : (defs : List ChartDef) (n : ℕ) → [] ≡ filter_map (λ (place : ℕ × ChartDef). if list_any (is_chart place.1.id) [] then Some (numbered_chart place.0 place.1) else None) (enumerate_from n defs)
+no-charts [] n = refl
+no-charts (def ∷ defs) n = no-charts defs (n + 1)
+
+no-dimensions : (registry : Registry) (ds : List OpenDim) (n : ℕ)
+    → [] ≡ filter_map (λ (place : ℕ × OpenDim). if list_any (is_dimension place.1.chart place.1.def.id) [] then numbered_dimension registry place.0 place.1 else None) (enumerate_from n ds)
+no-dimensions registry [] n = refl
+no-dimensions registry (d ∷ ds) n = no-dimensions registry ds (n + 1)
+
+abbrev pub later_copy : Registry → Data → SentBeat → Copy
+later_copy registry message beat = record { child = message.child; moment = beat.moment; charts = []; dimensions = []; words = sent_words registry message beat }
+
+pub later-at : (registry : Registry) (message : Data) (beats : List SentBeat) (i : ℕ) (beat : SentBeat) → slice_get beats i ≡ Some beat → slice_get (later_copies registry message beats) i ≡ Some (copied (later_copy registry message beat))
+later-at registry message beats i beat at =
+    slice_get-map (copied_of message.child registry nothing_defined) (named_beats message.names beats) i
+    ∙ ap (option_map (copied_of message.child registry nothing_defined)) (slice_get-map (named_beat message.names) beats i ∙ ap (option_map (named_beat message.names)) at)
+
+pub sent-later : (registry : Registry) (message : Data) (defines : NumberedBeat) (beat : SentBeat) (g : List Beat) → defines.charts ≡ [] → defines.dimensions ≡ [] → registry ≡ registry_of g
+    → MayTake g (copied (later_copy registry message beat)) → IsSentAs registry message defines beat g (later_copy registry message beat)
+sent-later registry message defines beat g charts dimensions is follows = record {
+  child = refl;
+  moment = refl;
+  words = refl;
+  charts = charts ∙ no-charts registry.charts 0;
+  dimensions = dimensions ∙ no-dimensions registry registry.dimensions 0;
+  follows = follows;
+  registry_is = is;
+}
+
+-- all of them are stored
+pub all-taken : {X : Type 0} (xs : List X) (n : ℕ) → n ≡ length xs → take n xs ≡ xs
+all-taken xs n is = ap (λ (k : ℕ). take k xs) is ∙ take-length xs
+
+pub later-length : (registry : Registry) (message : Data) (beats : List SentBeat) → length (later_copies registry message beats) ≡ length beats
+later-length registry message beats = length-map (named_beats message.names beats) (copied_of message.child registry nothing_defined) ∙ length-map beats (named_beat message.names)
