@@ -18,7 +18,7 @@ use Rattle.history.specs.declared.chart.ChartDef.{ChartDef}
 use Rattle.history.specs.declared.numbered.NumberedBeat.{NumberedBeat}
 use Rattle.history.specs.declared.numbered.NumberedChart.{NumberedChart}
 use Rattle.history.specs.History.{Beat, copied, registry_of, Copy}
-use Rattle.history.specs.Numbered.{numbered_dimension}
+use Rattle.history.specs.Numbered.{numbered_charts, numbered_dimension, numbered_dimensions}
 use Rattle.history.specs.Registry.{Registry, is_chart, is_dimension}
 use Rattle.alarm_core.specs.declared.latest.Latest.{Latest}
 use Rattle.alarm_core.specs.Course.{Held}
@@ -30,9 +30,9 @@ use Rattle.replication.specs.Copies.{latest as latest_of, RisesFrom}
 use Rattle.replication.specs.Names.{beat_moment, named_beat, named_beats}
 use Rattle.store_core.specs.Store.{StoreState}
 use Rattle.agent_core.specs.Alarms.{events_at}
-use Rattle.agent_core.specs.Copying.{copied_of, events_onto, nothing_defined}
+use Rattle.agent_core.specs.Copying.{copied_of, definitions_in, events_onto, nothing_defined}
 use Rattle.agent_core.specs.Kept.{onto, StandsForFront, StandsForHistory}
-use Rattle.agent_core.specs.Storing.{later_copies, sent_words, ArePartsAt, IsSentAs, MayTake, MayTakeAll}
+use Rattle.agent_core.specs.Storing.{later_copies, sent_copies, sent_words, with_names, ArePartsAt, IsSentAs, MayTake, MayTakeAll}
 use Rattle.agent_core.proofs.KeptLemmas.{stays}
 
 -- ---- one beat more of a list
@@ -145,3 +145,49 @@ all-taken xs n is = ap (λ (k : ℕ). take k xs) is ∙ take-length xs
 
 pub later-length : (registry : Registry) (message : Data) (beats : List SentBeat) → length (later_copies registry message beats) ≡ length beats
 later-length registry message beats = length-map (named_beats message.names beats) (copied_of message.child registry nothing_defined) ∙ length-map beats (named_beat message.names)
+
+-- ---- the first of them, and the others
+module _ (set : Settings) (h : List Beat) (beat : Beat) (more : List Beat) (old new : List Event) where
+  pub first-moments : Throughout (EveryDisk (λ disk. StandsForHistory set h disk ⊎ StandsForHistory set (beat ∷ h) disk)) old new → Throughout (EveryDisk (StandsForFront set h (beat ∷ more))) old new
+  first-moments moments = disks_weaker by moments
+    where
+      by : (disk : File → List ℕ) → StandsForHistory set h disk ⊎ StandsForHistory set (beat ∷ h) disk → StandsForFront set h (beat ∷ more) disk
+      by disk (inl stands) = (0, stands)
+      by disk (inr stands) = (1, stands)
+
+  pub rest-moments : Throughout (EveryDisk (StandsForFront set (beat ∷ h) more)) old new → Throughout (EveryDisk (StandsForFront set h (beat ∷ more))) old new
+  rest-moments moments = disks_weaker by moments
+    where
+      by : (disk : File → List ℕ) → StandsForFront set (beat ∷ h) more disk → StandsForFront set h (beat ∷ more) disk
+      by disk stands = (suc stands.0, stands.1)
+
+pub events-first : (set : Settings) (h : List Beat) (beat : Beat) (more : List Beat) → events_at set (beat ∷ h) ++ events_onto set (beat ∷ h) more ≡ events_onto set h (beat ∷ more)
+unfolding events_onto
+events-first set h beat more = refl
+
+-- ---- the definitions of a Data
+abbrev pub first_copy : Registry → Data → SentBeat → Copy
+first_copy registry message beat = let defines = definitions_in message.names in record {
+  child = message.child;
+  moment = beat.moment;
+  charts = defines.charts;
+  dimensions = defines.dimensions;
+  words = sent_words registry message beat;
+}
+
+pub sent-first : (before registry : Registry) (message : Data) (defines : NumberedBeat) (beat : SentBeat) (g : List Beat) → defines.charts ≡ numbered_charts registry (definitions_in message.names)
+    → defines.dimensions ≡ numbered_dimensions registry (definitions_in message.names) → before ≡ registry_of g → registry ≡ with_names before message → MayTake g (copied (first_copy registry message beat))
+    → IsSentAs registry message defines beat g (first_copy registry message beat)
+sent-first before registry message defines beat g charts dimensions was is follows = record {
+  child = refl;
+  moment = refl;
+  words = refl;
+  charts = charts;
+  dimensions = dimensions;
+  follows = follows;
+  registry_is = is ∙ ap (λ (r : Registry). with_names r message) was;
+}
+
+pub copies-are : (registry : Registry) (message : Data) (beats : List SentBeat) (first : SentBeat) (rest : List SentBeat) → beats ≡ first ∷ rest
+    → sent_copies registry message beats ≡ copied (first_copy registry message first) ∷ later_copies registry message rest
+copies-are registry message beats first rest is = ap (sent_copies registry message) is

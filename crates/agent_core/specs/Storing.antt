@@ -7,7 +7,7 @@ use Rattle.algorithms.specs.declared.last.Last.{Last}
 use Rattle.history.specs.declared.numbered.NumberedBeat.{NumberedBeat}
 use Rattle.history.specs.History.{Beat, collected, copied, health, missing, last, registry_of, Copy, Word}
 use Rattle.history.specs.Numbered.{numbered_charts, numbered_dimensions}
-use Rattle.history.specs.Registry.{Registry, series_of}
+use Rattle.history.specs.Registry.{Registry, series_of, with_definitions}
 use Rattle.beat_points.specs.declared.series_word.SeriesWord.{SeriesWord}
 use Rattle.entry_codec.specs.declared.entry.Copied.{Copied}
 use Rattle.entry_codec.specs.declared.entry.Entry.TheVariants as entry
@@ -20,14 +20,14 @@ use Rattle.alarm_core.specs.Course.{Held}
 use Rattle.replication.specs.declared.beats.Beat.{Beat as SentBeat}
 use Rattle.replication.specs.declared.message.Data.{Data}
 use Rattle.replication.specs.declared.named.NamedPoint.{NamedPoint}
-use Rattle.replication.specs.Copies.{RisesFrom}
+use Rattle.replication.specs.Copies.{gap_between, RisesFrom}
 use Rattle.replication.specs.Names.{beat_moment, named_beat, named_beats}
 use Rattle.link_frames.specs.DataForm.{has_rising_places, has_storage_numbers, AreApart}
 use Rattle.store_core.specs.declared.beat.Beat.{Beat as StoreBeat}
 use Rattle.store_core.specs.Store.{StoreState}
 use Rattle.agent_core.specs.Agent.{Holds}
 use Rattle.agent_core.specs.Alarms.{alarms_at}
-use Rattle.agent_core.specs.Copying.{copied_of, nothing_defined, numbered_words}
+use Rattle.agent_core.specs.Copying.{copied_beats, copied_of, definitions_in, gap_beat, nothing_defined, numbered_words}
 use Rattle.agent_core.specs.Kept.{copied_point, CopyFollows}
 use Rattle.agent_core.specs.Roles.{may_copy, role_of}
 
@@ -107,3 +107,15 @@ pub record AreSent (last : ℕ) (message : Data) (beats : List SentBeat) : Type 
   pub places : list_all has_rising_places beats ≡ true
   pub words : list_all has_storage_numbers beats ≡ true
   pub rises : RisesFrom beat_moment last beats
+
+-- the gap before the beats of a Data, if there is one
+abbrev pub gap_beats : Data → List Beat
+gap_beats message = map (gap_beat message.child) (gap_between message.prev message.from)
+
+-- the copies of these beats of a Data, by a registry with its definitions, which the first of them has
+abbrev pub sent_copies : Registry → Data → List SentBeat → List Beat
+sent_copies registry message beats = copied_beats message.child registry (definitions_in message.names) (named_beats message.names beats)
+
+-- a registry with what the names of a Data define
+abbrev pub with_names : Registry → Data → Registry
+with_names registry message = let defines = definitions_in message.names in with_definitions registry defines.charts defines.dimensions

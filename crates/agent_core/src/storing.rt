@@ -9,6 +9,7 @@ ghost use Rattle.host_model.specs.Disks.{EveryDisk};
 ghost use Rattle.host_model.specs.Cause.{HasCause};
 ghost use Rattle.host_model.specs.Moments.{Throughout, OnlyOn};
 ghost use Rattle.history.specs.History.{Beat as HistoryBeat, copied, missing, registry_of, Copy};
+ghost use Rattle.history.specs.Numbered.{numbered_charts, numbered_dimensions};
 ghost use Rattle.history.specs.Registry.{Registry as ARegistry, same_dimension};
 ghost use Rattle.history.specs.Regular.{AreApart};
 ghost use Rattle.entry_codec.specs.declared.entry.Settings.{Settings as ASettings};
@@ -21,14 +22,14 @@ ghost use Rattle.store_core.specs.Beats.{beat_bytes, InForm};
 ghost use Rattle.store_core.specs.Store.{IsReady, IsReplayed};
 ghost use Rattle.agent_core.specs.Agent.{Holds};
 ghost use Rattle.agent_core.specs.Alarms.{events_at};
-ghost use Rattle.agent_core.specs.Copying.{events_onto};
+ghost use Rattle.agent_core.specs.Copying.{definitions_in, events_onto};
 ghost use Rattle.agent_core.specs.Faults.{IsSpending};
 ghost use Rattle.agent_core.specs.Kept.{onto, IsCopyOf, StandsForFront, StandsForHistory};
 ghost use Rattle.agent_core.specs.Notes.{names_series};
 ghost use Rattle.agent_core.specs.Replay.{HasSeenCopy};
 ghost use Rattle.agent_core.specs.Roles.{may_copy, role_of};
 ghost use Rattle.agent_core.specs.Rules.{HasLimits};
-ghost use Rattle.agent_core.specs.Storing.{later_copies, ArePartsAt, AreSent, IsSentAs, MayTakeAll};
+ghost use Rattle.agent_core.specs.Storing.{later_copies, sent_copies, with_names, ArePartsAt, AreSent, IsSentAs, MayTakeAll};
 
 use crate::alarming::{Stepping, follow};
 use crate::copying::{kept_copy, kept_gap};
@@ -308,5 +309,75 @@ fn add_later<H: Host>(
         )?;
         add_events(&mut events, more)?;
     }
+    Ok(events)
+}
+
+/// Adds the beats of a message, each after those before it, where the registry has the definitions of the message,
+/// of which this is the numbered beat: the first has them. The events are those of all of them. At every moment a
+/// crash leaves the history with the first of them, with none or with all. After an `Err` the parts are of no more
+/// use.
+fn add_beats<H: Host>(
+    alloc: Global,
+    store: &mut Store,
+    registry: &Registry,
+    last_rows: &mut LastRows,
+    latest: &mut Latest,
+    alarms: &mut Alarms,
+    host: &mut H,
+    message: &Data,
+    defines: &NumberedBeat,
+    beats: &[SentBeat],
+) -> Result<EventList, AgentFault>
+    requires ready { IsReady H.honest (H.seen host.old).past store.old }
+    requires replayed { IsReplayed store.old }
+    requires going { store.old.fault ≡ None }
+    requires own { AreApart same_dimension registry.now.dimensions }
+    requires registry { HasLimits registry.now }
+    requires sent { AreSent store.old.last message.now beats.now }
+    requires charts { defines.now.charts
+        ≡ numbered_charts registry.now (definitions_in message.now.names) }
+    requires dimensions { defines.now.dimensions
+        ≡ numbered_dimensions registry.now (definitions_in message.now.names) }
+    requires within { IsWithinLimits defines.now }
+    requires canonical { is_collected_canonical defines.now ≡ true }
+    requires no_rows { defines.now.rows ≡ [] }
+    ensures any_moment { H.honest → (before : ARegistry) (set : ASettings)
+        (g : List HistoryBeat)
+        → let more = sent_copies registry.now message.now beats.now in
+        ArePartsAt (H.seen host.old).past store.old before last_rows.old latest.old
+        (held alarms.old) set g → registry.now ≡ with_names before message.now
+        → MayTakeAll g more
+        → Throughout (EveryDisk (StandsForFront set g more)) (H.seen host.old).past
+        (H.seen host.new).past }
+    ensures done { IfOk result
+        (λ events. H.honest → (before : ARegistry) (set : ASettings) (g : List HistoryBeat)
+        → let more = sent_copies registry.now message.now beats.now in
+        ArePartsAt (H.seen host.old).past store.old before last_rows.old latest.old
+        (held alarms.old) set g → registry.now ≡ with_names before message.now
+        → MayTakeAll g more → 0 < length beats.now
+        → ArePartsAt (H.seen host.new).past store.new registry.now last_rows.new latest.new
+        (held alarms.new) set (onto g more) × (events ≡ events_onto set g more)) }
+    ensures ready { IsReady H.honest (H.seen host.new).past store.new }
+    ensures replayed { IsReplayed store.new }
+    ensures going { OnOk result (store.new.fault ≡ None) }
+    ensures last { OnOk result
+        (store.new.last ≡ latest_of beat_moment store.old.last beats.now) }
+    ensures settings { store.new.settings ≡ store.old.settings }
+    ensures faults { IfErr result IsSpending }
+    ensures only_here { H.honest → OnlyOn JournalA (H.seen host.old).past (H.seen host.new).past }
+    ensures cause { HasCause (H.seen host.old).disk_faults (H.seen host.new).disk_faults
+        (IsErrOf result AgentFault.DiskFault) }
+    ensures tells { (H.seen host.new).tell_faults ≡ (H.seen host.old).tell_faults }
+{
+    let Some((first, rest)) = beats.split_first() else {
+        return Ok(EventList::new(alloc));
+    };
+    let mut events = add_copy(
+        alloc, store, registry, last_rows, latest, alarms, host, message, defines, first,
+    )?;
+    let more = add_later(
+        alloc, store, registry, last_rows, latest, alarms, host, message, rest,
+    )?;
+    add_events(&mut events, more)?;
     Ok(events)
 }
