@@ -1,13 +1,19 @@
 -- The parts of an agent once a gap or a copied beat is stored.
-use Rattle.std.proofs.Common.{◌≡◌, ℕ, ◌+◌, ◌<◌, ◌≤◌, ◌^◌, true, List, [], ◌∷◌, length, map, Option, Some, refl, sym, ap, ◌∙◌, subst, arith, length-append}
+use Rattle.std.proofs.Common.{◌≡◌, ℕ, ◌+◌, ◌<◌, ◌≤◌, ◌^◌, true, List, [], ◌∷◌, length, map, Option, Some, refl, sym, ap, ◌∙◌, subst, arith, length-append, lt-ltb}
+use Rattle.std.specs.List.{enumerate_from, filter_map, find}
+use Rattle.std.specs.Option.{option_map}
+use Rattle.std.specs.Str.{bytes_eq}
+use Rattle.std.proofs.lemmas.Bool.{cond-false, cond-true, le-ltb}
 use Rattle.std.proofs.lemmas.Option.{same_Some}
 use Rattle.host_model.specs.Past.{Event}
 use Rattle.algorithms.specs.declared.last.Last.{Last}
+use Rattle.history.specs.declared.beat.OpenBeat.{OpenBeat}
+use Rattle.history.specs.declared.beat.OpenRow.{OpenRow}
+use Rattle.history.specs.declared.chart.ChartDef.{ChartDef}
+use Rattle.history.specs.declared.row.Row.{Row}
 use Rattle.history.specs.declared.numbered.NumberedBeat.{NumberedBeat}
-use Rattle.history.specs.declared.numbered.NumberedChart.{NumberedChart}
-use Rattle.history.specs.declared.numbered.NumberedDimension.{NumberedDimension}
 use Rattle.history.specs.History.{Beat, copied, missing, last, registry_of, Copy, Gap}
-use Rattle.history.specs.Numbered.{numbered_charts, numbered_dimensions, IsThere}
+use Rattle.history.specs.Numbered.{numbered_charts, numbered_dimensions, numbered_rows, numbered_values, IsThere}
 use Rattle.history.specs.Registry.{Registry}
 use Rattle.alarm_core.specs.declared.latest.Latest.{Latest}
 use Rattle.entry_codec.specs.declared.entry.Entry.{Entry}
@@ -25,10 +31,11 @@ use Rattle.store_core.specs.Beats.{beat_bytes, InForm}
 use Rattle.store_core.specs.Store.{IsStoreOf, StoreState}
 use Rattle.store_core.proofs.BeatLaw.{beat_size}
 use Rattle.agent_core.specs.Agent.{Holds}
+use Rattle.agent_core.specs.Copying.{gap_beat}
 use Rattle.agent_core.specs.Kept.{copied_entry, copied_point, gap_entry, IsCopyOf, IsGapOf}
 use Rattle.agent_core.specs.Replay.{HasRoom, HasSeenCopy}
 use Rattle.agent_core.specs.Roles.{may_copy, role_of}
-use Rattle.agent_core.specs.Storing.{sent_entry, sent_kept, IsSentAs}
+use Rattle.agent_core.specs.Storing.{gap_beats, sent_entry, sent_kept, IsSentAs}
 use Rattle.agent_core.proofs.OpeningLemmas.{answers}
 
 -- ---- a gap
@@ -124,3 +131,22 @@ no-rows-there registry beat none = record {
   dimensions = λ k d less. absurd (omega (arith, ap length none, less));
   limit = λ k d less. absurd (omega (arith, ap length none, less));
 }
+
+abbrev no_row : List Row
+no_row = []
+
+-- and by number it has none
+pub no-numbered-rows : (registry : Registry) (beat : OpenBeat) → beat.rows ≡ [] → numbered_rows registry beat ≡ []
+no-numbered-rows registry beat none = ap (λ (rows : List OpenRow). numbered_rows registry (record beat { rows = rows })) none ∙ by registry.charts 0
+  where
+    by : (defs : List ChartDef) (n : ℕ) → filter_map (λ (place : ℕ × ChartDef). option_map (λ (row : OpenRow). record { chart = place.0; values = numbered_values registry row })
+        (find (λ (row : OpenRow). bytes_eq place.1.id row.chart) [])) (enumerate_from n defs) ≡ no_row
+    by [] n = refl
+    by (def ∷ defs) n = by defs (n + 1)
+
+-- ---- the gap before the beats of a Data
+pub gap-some : (message : Data) → message.prev < message.from → missing (record { child = message.child; from = message.prev; to = message.from }) ∷ [] ≡ gap_beats message
+gap-some message less = ap (map (gap_beat message.child)) (sym (cond-true _ (record { from = message.prev; to = message.from } ∷ []) [] (lt-ltb message.prev message.from less)))
+
+pub gap-none : (message : Data) → message.from ≤ message.prev → [] ≡ gap_beats message
+gap-none message less = ap (map (gap_beat message.child)) (sym (cond-false _ (record { from = message.prev; to = message.from } ∷ []) [] (le-ltb message.prev message.from less)))

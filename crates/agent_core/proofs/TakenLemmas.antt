@@ -47,7 +47,7 @@ use Rattle.agent_core.specs.Roles.{may_copy, role_of}
 use Rattle.agent_core.specs.Storing.{MayTake, MayTakeAll}
 use Rattle.agent_core.specs.Rules.{changes_grid, changes_grid_of, too_many_charts, too_many_dimensions}
 use Rattle.agent_core.proofs.FollowLemmas.{keeps, KeepsGrid}
-use Rattle.agent_core.proofs.Within.{within-after}
+use Rattle.agent_core.proofs.Within.{names-tests, within-after}
 
 -- ---- lists
 any-at : {X : Type 0} (p : X → Bool) (xs : List X) (i : ℕ) (x : X) → slice_get xs i ≡ Some x → p x ≡ true → list_any p xs ≡ true
@@ -204,11 +204,7 @@ module _ (names : Names) (charts : list_all names_chart names.charts ≡ true) (
     after = with_definitions registry defines.charts defines.dimensions
 
     tests : (changes_grid registry defines ≡ false) × (too_many_charts registry defines ≡ false) × (too_many_dimensions registry defines ≡ false)
-    tests =
-        let grids = passed (changes_grid registry defines) fault.GridChanged _ free in
-        let room = passed (too_many_charts registry defines) fault.TooManyCharts _ grids.1 in
-        let few = passed (too_many_dimensions registry defines) fault.TooManyDimensions _ room.1 in
-        (grids.0, room.0, few.0)
+    tests = names-tests registry defines free
 
     defined-within : IsWithin after
     defined-within = within-after registry defines within tests.1 tests.2

@@ -121,7 +121,7 @@ fn kept_of(
 }
 
 /// Why a registry did not take a beat that was tested before: there was no memory.
-fn untaken(fault: RegistryFault) -> AllocError
+pub(crate) fn untaken(fault: RegistryFault) -> AllocError
     requires { fault ≡ registry_fault.Memory }
 {
     match fault {

@@ -1,6 +1,6 @@
 //! How the gap and the beats of a child's message are added to a history.
 
-ghost use Rattle.std.specs.Prelude.{◌≡◌, ◌<◌, ◌≤◌, ◌^◌, ◌++◌, ◌∷◌, ◌⊎◌, [], ℕ, List, Option, Some, None, true, length, IfOk, IfErr, IsErrOf, OnOk};
+ghost use Rattle.std.specs.Prelude.{◌≡◌, ◌<◌, ◌≤◌, ◌^◌, ◌++◌, ◌∷◌, ◌⊎◌, [], ℕ, List, Option, Some, None, true, false, length, IfOk, IfErr, IsErrOf, OnOk};
 ghost use Rattle.algorithms.specs.declared.last.Last.{Last as ALast};
 ghost use Rattle.alarm_core.specs.declared.latest.Latest.{Latest as ALatest};
 ghost use Rattle.alarm_core.specs.Course.{held};
@@ -10,7 +10,7 @@ ghost use Rattle.host_model.specs.Cause.{HasCause};
 ghost use Rattle.host_model.specs.Moments.{Throughout, OnlyOn};
 ghost use Rattle.history.specs.History.{Beat as HistoryBeat, copied, missing, registry_of, Copy};
 ghost use Rattle.history.specs.Numbered.{numbered_charts, numbered_dimensions};
-ghost use Rattle.history.specs.Registry.{Registry as ARegistry, same_dimension};
+ghost use Rattle.history.specs.Registry.{Registry as ARegistry, same_chart, same_dimension, with_definitions};
 ghost use Rattle.history.specs.Regular.{AreApart};
 ghost use Rattle.entry_codec.specs.declared.entry.Settings.{Settings as ASettings};
 ghost use Rattle.entry_codec.specs.Entries.{is_collected_canonical, IsWithinLimits};
@@ -22,25 +22,26 @@ ghost use Rattle.store_core.specs.Beats.{beat_bytes, InForm};
 ghost use Rattle.store_core.specs.Store.{IsReady, IsReplayed};
 ghost use Rattle.agent_core.specs.Agent.{Holds};
 ghost use Rattle.agent_core.specs.Alarms.{events_at};
-ghost use Rattle.agent_core.specs.Copying.{definitions_in, events_onto};
+ghost use Rattle.agent_core.specs.Copying.{definitions_in, events_onto, names_refusal};
 ghost use Rattle.agent_core.specs.Faults.{IsSpending};
 ghost use Rattle.agent_core.specs.Kept.{onto, IsCopyOf, StandsForFront, StandsForHistory};
 ghost use Rattle.agent_core.specs.Notes.{names_series};
 ghost use Rattle.agent_core.specs.Replay.{HasSeenCopy};
 ghost use Rattle.agent_core.specs.Roles.{may_copy, role_of};
-ghost use Rattle.agent_core.specs.Rules.{HasLimits};
-ghost use Rattle.agent_core.specs.Storing.{later_copies, sent_copies, with_names, ArePartsAt, AreSent, IsSentAs, MayTakeAll};
+ghost use Rattle.agent_core.specs.Rules.{lacks_chart, HasLimits, IsOpenBeat};
+ghost use Rattle.agent_core.specs.Storing.{gap_beats, later_copies, sent_copies, with_names, ArePartsAt, AreSent, IsSentAs, MayTakeAll};
 
 use crate::alarming::{Stepping, follow};
 use crate::copying::{kept_copy, kept_gap};
 use crate::fault::AgentFault;
-use crate::keeping::{commit, take_rows};
+use crate::keeping::{commit, take_rows, untaken};
 use crate::last_seen::see_copied;
 use alarm_core::{Alarms, EventList, Latest};
+use beat_entries::number_beat;
 use beat_points::LastRows;
 use chart_registry::Registry;
 use fixed_num::ListOf;
-use history::NumberedBeat;
+use history::{NumberedBeat, OpenBeat};
 use host_model::Host;
 use replication::{Beat as SentBeat, Data};
 use std::alloc::{AllocError, Global};
@@ -380,4 +381,94 @@ fn add_beats<H: Host>(
     )?;
     add_events(&mut events, more)?;
     Ok(events)
+}
+
+/// Adds the gap before the beats of a message, if there is one, to a store that is still of use.
+fn add_gap_before<H: Host>(
+    alloc: Global,
+    store: &mut Store,
+    host: &mut H,
+    message: &Data,
+) -> Result<(), AgentFault>
+    requires ready { IsReady H.honest (H.seen host.old).past store.old }
+    requires replayed { IsReplayed store.old }
+    requires going { store.old.fault ≡ None }
+    requires at { message.now.prev ≡ store.old.last }
+    requires from { message.now.prev ≤ message.now.from }
+    ensures any_moment { H.honest → (registry : ARegistry) (lasts : List (Option ALast))
+        (latest : ALatest) (set : ASettings) (h : List HistoryBeat)
+        → Holds (H.seen host.old).past store.old registry lasts latest set h
+        → may_copy (role_of h) ≡ true
+        → Throughout (EveryDisk (StandsForFront set h (gap_beats message.now)))
+        (H.seen host.old).past (H.seen host.new).past }
+    ensures done { OnOk result
+        (H.honest → (registry : ARegistry) (lasts : List (Option ALast)) (latest : ALatest)
+        (set : ASettings) (h : List HistoryBeat)
+        → Holds (H.seen host.old).past store.old registry lasts latest set h
+        → may_copy (role_of h) ≡ true
+        → Holds (H.seen host.new).past store.new registry lasts latest set
+        (onto h (gap_beats message.now))) }
+    ensures ready { IsReady H.honest (H.seen host.new).past store.new }
+    ensures replayed { IsReplayed store.new }
+    ensures going { OnOk result (store.new.fault ≡ None) }
+    ensures last { OnOk result (store.new.last ≡ message.now.from) }
+    ensures settings { store.new.settings ≡ store.old.settings }
+    ensures faults { IfErr result IsSpending }
+    ensures only_here { H.honest → OnlyOn JournalA (H.seen host.old).past (H.seen host.new).past }
+    ensures cause { HasCause (H.seen host.old).disk_faults (H.seen host.new).disk_faults
+        (IsErrOf result AgentFault.DiskFault) }
+    ensures tells { (H.seen host.new).tell_faults ≡ (H.seen host.old).tell_faults }
+{
+    if message.prev < message.from {
+        add_gap(
+            alloc,
+            store,
+            host,
+            message.child,
+            message.prev,
+            message.from,
+        )
+    } else {
+        Ok(())
+    }
+}
+
+/// Takes definitions that a registry was tested for, and gives them by number. After an `Err` it may have taken a part
+/// of them.
+fn define(
+    alloc: Global,
+    registry: &mut Registry,
+    defs: &OpenBeat,
+) -> Result<NumberedBeat, AgentFault>
+    requires is_open { IsOpenBeat defs.now }
+    requires no_rows { defs.now.rows ≡ [] }
+    requires has_charts { lacks_chart registry.old defs.now ≡ false }
+    requires free { names_refusal registry.old defs.now ≡ None }
+    requires charts { AreApart same_chart registry.old.charts }
+    requires dimensions { AreApart same_dimension registry.old.dimensions }
+    requires limits { HasLimits registry.old }
+    ensures applied { OnOk result
+        (registry.new ≡ with_definitions registry.old defs.now.charts defs.now.dimensions) }
+    ensures numbered_charts { IfOk result
+        (λ numbered. numbered.charts ≡ numbered_charts registry.new defs.now) }
+    ensures numbered_dimensions { IfOk result
+        (λ numbered. numbered.dimensions ≡ numbered_dimensions registry.new defs.now) }
+    ensures within { IfOk result IsWithinLimits }
+    ensures canonical { IfOk result (λ numbered. is_collected_canonical numbered ≡ true) }
+    ensures no_rows { IfOk result (λ numbered. numbered.rows ≡ []) }
+    ensures charts { OnOk result (AreApart same_chart registry.new.charts) }
+    ensures dimensions { OnOk result (AreApart same_dimension registry.new.dimensions) }
+    ensures limits { OnOk result (HasLimits registry.new) }
+    ensures memory { IfErr result (λ fault. fault ≡ AgentFault.Memory) }
+{
+    match registry.apply(defs) {
+        Ok(()) => match number_beat(alloc, registry, 0, defs) {
+            Ok(numbered) => Ok(numbered),
+            Err(_) => Err(AgentFault::Memory),
+        },
+        Err(fault) => {
+            let _none = untaken(fault);
+            Err(AgentFault::Memory)
+        }
+    }
 }
