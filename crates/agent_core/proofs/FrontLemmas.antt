@@ -1,9 +1,9 @@
 -- The fronts of the beats that follow a history.
-use Rattle.std.proofs.Common.{◌≡◌, ℕ, zero, suc, ◌+◌, ◌<◌, ◌⊎◌, inl, inr, Bool, true, List, [], ◌∷◌, ◌++◌, length, map, take, get_or, slice_get, Option, Some, None, refl, sym, ap, ◌∙◌, subst, append_assoc, append-nil, if◌then◌else◌}
+use Rattle.std.proofs.Common.{◌≡◌, ℕ, zero, suc, ◌+◌, ◌<◌, ◌⊎◌, inl, inr, Bool, true, not, List, [], ◌∷◌, ◌++◌, length, map, take, get_or, slice_get, Option, Some, None, refl, sym, ap, ◌∙◌, subst, append_assoc, append-nil, if◌then◌else◌}
 use Rattle.std.specs.List.{enumerate_from, filter_map, list_all, list_any}
 use Rattle.std.specs.Option.{option_map}
-use Rattle.std.proofs.Math.Seq.{take-length}
-use Rattle.std.proofs.lemmas.Bool.{and_parts}
+use Rattle.std.proofs.Math.Seq.{take-append-add, take-length}
+use Rattle.std.proofs.lemmas.Bool.{and_parts, cases_lt}
 use Rattle.std.proofs.lemmas.List.{length-map}
 use Rattle.std.proofs.lemmas.Option.{none-some, same_Some, slice_get-map}
 use Rattle.host_model.specs.declared.file.File.{File}
@@ -17,9 +17,11 @@ use Rattle.history.specs.declared.beat.OpenDim.{OpenDim}
 use Rattle.history.specs.declared.chart.ChartDef.{ChartDef}
 use Rattle.history.specs.declared.numbered.NumberedBeat.{NumberedBeat}
 use Rattle.history.specs.declared.numbered.NumberedChart.{NumberedChart}
-use Rattle.history.specs.History.{Beat, copied, registry_of, Copy}
+use Rattle.history.specs.declared.fault.BlockFault.TheVariants.{MixedRoles}
+use Rattle.history.specs.History.{Beat, copied, last, missing, registry_of, Copy, Gap}
 use Rattle.history.specs.Numbered.{numbered_charts, numbered_dimension, numbered_dimensions}
 use Rattle.history.specs.Registry.{Registry, is_chart, is_dimension}
+use Rattle.chart_registry.specs.Accepted.{IsWithin}
 use Rattle.alarm_core.specs.declared.latest.Latest.{Latest}
 use Rattle.alarm_core.specs.Course.{Held}
 use Rattle.alarm_events.specs.declared.event.Event.{Event as AlarmEvent}
@@ -28,12 +30,17 @@ use Rattle.replication.specs.declared.beats.Beat.{Beat as SentBeat}
 use Rattle.replication.specs.declared.message.Data.{Data}
 use Rattle.replication.specs.Copies.{latest as latest_of, RisesFrom}
 use Rattle.replication.specs.Names.{beat_moment, named_beat, named_beats}
+use Rattle.link_frames.specs.DataForm.{IsData}
 use Rattle.store_core.specs.Store.{StoreState}
-use Rattle.agent_core.specs.Alarms.{events_at}
-use Rattle.agent_core.specs.Copying.{copied_of, definitions_in, events_onto, nothing_defined}
+use Rattle.agent_core.specs.Alarms.{alarms_at, events_at}
+use Rattle.agent_core.specs.Copying.{beats_of, copied_of, copy_refusal, definitions_in, events_onto, names_refusal, nothing_defined}
 use Rattle.agent_core.specs.Kept.{onto, StandsForFront, StandsForHistory}
-use Rattle.agent_core.specs.Storing.{later_copies, sent_copies, sent_words, with_names, ArePartsAt, IsSentAs, MayTake, MayTakeAll}
+use Rattle.agent_core.specs.Roles.{may_copy, role_of}
+use Rattle.agent_core.specs.Storing.{gap_beats, later_copies, sent_copies, sent_words, with_names, ArePartsAt, IsSentAs, MayTake, MayTakeAll}
+use Rattle.agent_core.proofs.AlarmLemmas.{none-followed}
 use Rattle.agent_core.proofs.KeptLemmas.{stays}
+use Rattle.agent_core.proofs.StoringLemmas.{gap-none, gap-some}
+use Rattle.agent_core.proofs.TakenLemmas.{all-follow}
 
 -- ---- one beat more of a list
 module _ (set : Settings) where
@@ -191,3 +198,87 @@ sent-first before registry message defines beat g charts dimensions was is follo
 pub copies-are : (registry : Registry) (message : Data) (beats : List SentBeat) (first : SentBeat) (rest : List SentBeat) → beats ≡ first ∷ rest
     → sent_copies registry message beats ≡ copied (first_copy registry message first) ∷ later_copies registry message rest
 copies-are registry message beats first rest is = ap (sent_copies registry message) is
+
+-- ---- beats, and those behind them
+onto-append : (h xs ys : List Beat) → onto h (xs ++ ys) ≡ onto (onto h xs) ys
+onto-append h [] ys = refl
+onto-append h (x ∷ xs) ys = onto-append (x ∷ h) xs ys
+
+events-append : (set : Settings) (h xs ys : List Beat) → events_onto set h xs ++ events_onto set (onto h xs) ys ≡ events_onto set h (xs ++ ys)
+unfolding events_onto
+events-append set h [] ys = refl
+events-append set h (x ∷ xs) ys =
+    append_assoc (events_at set (x ∷ h)) (events_onto set (x ∷ h) xs) (events_onto set (onto (x ∷ h) xs) ys) ∙ ap (λ (rest : List AlarmEvent). events_at set (x ∷ h) ++ rest) (events-append set (x ∷ h) xs ys)
+
+pub takes-behind : (h xs ys : List Beat) → MayTakeAll h (xs ++ ys) → MayTakeAll (onto h xs) ys
+takes-behind h [] ys all = all
+takes-behind h (x ∷ xs) ys all = takes-behind (x ∷ h) xs ys all.1
+
+front-before : (n : ℕ) (xs ys : List Beat) → (m : ℕ) × (take m (xs ++ ys) ≡ take n xs)
+front-before zero xs ys = (0, refl)
+front-before (suc n) [] ys = (0, refl)
+front-before (suc n) (x ∷ xs) ys = let rest = front-before n xs ys in (suc rest.0, ap (λ (l : List Beat). x ∷ l) rest.1)
+
+module _ (set : Settings) (h xs ys : List Beat) (old new : List Event) where
+  pub moments-before : Throughout (EveryDisk (StandsForFront set h xs)) old new → Throughout (EveryDisk (StandsForFront set h (xs ++ ys))) old new
+  moments-before moments = disks_weaker by moments
+    where
+      by : (disk : File → List ℕ) → StandsForFront set h xs disk → StandsForFront set h (xs ++ ys) disk
+      by disk stands =
+          let front = front-before stands.0 xs ys in
+          (front.0, subst (λ (more : List Beat). StandsForHistory set (onto h more) disk) (sym front.1) stands.1)
+
+  pub moments-behind : Throughout (EveryDisk (StandsForFront set (onto h xs) ys)) old new → Throughout (EveryDisk (StandsForFront set h (xs ++ ys))) old new
+  moments-behind moments = disks_weaker by moments
+    where
+      by : (disk : File → List ℕ) → StandsForFront set (onto h xs) ys disk → StandsForFront set h (xs ++ ys) disk
+      by disk stands =
+          (length xs + stands.0, subst (λ (g : List Beat). StandsForHistory set g disk) (sym (ap (onto h) (take-append-add xs ys stands.0) ∙ onto-append h xs (take stands.0 ys))) stands.1)
+
+-- ---- a message
+-- a gap tells no event, and leaves the alarms
+pub record IsQuiet (set : Settings) (h more : List Beat) : Type 0 where
+  pub alarms : alarms_at set h ≡ alarms_at set (onto h more)
+  pub events : [] ≡ events_onto set h more
+
+pub gap-quiet : (set : Settings) (h : List Beat) (message : Data) → IsQuiet set h (gap_beats message)
+unfolding events_onto
+gap-quiet set h message =
+    elim (cases_lt message.prev message.from) [
+      | inl less ↦
+          let gap : Gap = record { child = message.child; from = message.prev; to = message.from } in
+          let told = none-followed set h (missing gap) (alarms_at set h) refl tt in
+          subst (IsQuiet set h) (gap-some message less) (record { alarms = told.held_is; events = told.events_are ∙ sym (append-nil (events_at set (missing gap ∷ h))) })
+      | inr none ↦ subst (IsQuiet set h) (gap-none message none) (record { alarms = refl; events = refl })
+    ]
+
+module _ (set : Settings) (h : List Beat) (registry : Registry) (message : Data) where
+  abbrev copies : List Beat
+  copies = sent_copies (with_names registry message) message message.beats
+
+  beats-are : beats_of registry message ≡ gap_beats message ++ copies
+  unfolding beats_of
+  beats-are = refl
+
+  pub message-before : (old new : List Event) → Throughout (EveryDisk (StandsForFront set h (gap_beats message))) old new → Throughout (EveryDisk (StandsForFront set h (beats_of registry message))) old new
+  message-before old new moments = subst (λ (more : List Beat). Throughout (EveryDisk (StandsForFront set h more)) old new) (sym beats-are) (moments-before set h (gap_beats message) copies old new moments)
+
+  pub message-behind : (old new : List Event) → Throughout (EveryDisk (StandsForFront set (onto h (gap_beats message)) copies)) old new → Throughout (EveryDisk (StandsForFront set h (beats_of registry message))) old new
+  message-behind old new moments = subst (λ (more : List Beat). Throughout (EveryDisk (StandsForFront set h more)) old new) (sym beats-are) (moments-behind set h (gap_beats message) copies old new moments)
+
+  pub message-onto : onto (onto h (gap_beats message)) copies ≡ onto h (beats_of registry message)
+  message-onto = sym (onto-append h (gap_beats message) copies) ∙ ap (onto h) (sym beats-are)
+
+  pub message-events : events_onto set (onto h (gap_beats message)) copies ≡ events_onto set h (beats_of registry message)
+  message-events =
+      ap (λ (first : List AlarmEvent). first ++ events_onto set (onto h (gap_beats message)) copies) (gap-quiet set h message).events
+      ∙ events-append set h (gap_beats message) copies ∙ ap (events_onto set h) (sym beats-are)
+
+  -- its beats may follow the gap
+  pub message-takes : IsData message → IsWithin (registry_of h) → registry ≡ registry_of h → may_copy (role_of h) ≡ true → names_refusal registry (definitions_in message.names) ≡ None → message.prev ≡ last h
+      → MayTakeAll (onto h (gap_beats message)) copies
+  message-takes form within is role free prev =
+      let refused : copy_refusal (registry_of h) (role_of h) message ≡ None
+      = ap (λ (b : Bool). if not b then Some MixedRoles else names_refusal (registry_of h) (definitions_in message.names)) role ∙ ap (λ (r : Registry). names_refusal r (definitions_in message.names)) (sym is) ∙ free in
+      let all = all-follow h message within form refused prev in
+      takes-behind h (gap_beats message) copies (subst (MayTakeAll h) (ap (λ (r : Registry). beats_of r message) (sym is) ∙ beats-are) all)

@@ -5,17 +5,19 @@ use Rattle.std.specs.Option.{option_map}
 use Rattle.std.specs.Str.{bytes_eq}
 use Rattle.std.proofs.lemmas.Bool.{cases_Bool, cases_lt, and_left, and_right, and_parts, or_left, or_right, cond-true, cond-false, eq-eqb, le-leb, leb-true, lt-ltb, le-ltb, not-false, true≢false}
 use Rattle.std.proofs.lemmas.List.{length-drop}
-use Rattle.std.proofs.lemmas.List.Elements.{All-from_recursion, All-map, All-nil}
+use Rattle.std.proofs.lemmas.List.Elements.{All-from_recursion, All-map, All-nil, All-weaker}
 use Rattle.std.proofs.lemmas.List.Folds.{list_any_none}
 use Rattle.std.proofs.lemmas.Option.{none-some, same_Some, slice_get_within}
 use Rattle.history.specs.declared.beat.OpenBeat.{OpenBeat}
 use Rattle.history.specs.declared.beat.OpenDim.{OpenDim}
+use Rattle.history.specs.declared.beat.OpenRow.{OpenRow}
 use Rattle.history.specs.declared.chart.ChartDef.{ChartDef}
 use Rattle.history.specs.declared.fault.BlockFault.TheVariants as fault
 use Rattle.history.specs.History.{Beat, collected, copied, health, missing, last, registry_of, Word}
 use Rattle.history.specs.Limits.{chart_keeps_limits, dimension_keeps_limits, has_two_parts, is_chart_id, is_dot, is_id, is_one_line, is_short}
 use Rattle.history.specs.Refusal.{has_chart}
-use Rattle.history.specs.Registry.{Registry, is_chart, same_chart, same_dimension, with_definitions}
+use Rattle.history.specs.Looking.{same_value}
+use Rattle.history.specs.Registry.{Registry, empty, is_chart, same_chart, same_dimension, with_definitions}
 use Rattle.history.specs.Regular.{AreApart}
 use Rattle.chart_registry.specs.Accepted.{IsWithin}
 use Rattle.chart_registry.proofs.AcceptedLemmas.{passed}
@@ -45,7 +47,7 @@ use Rattle.agent_core.specs.Copying.{beats_of, copied_beats, copied_of, copy_ref
 use Rattle.agent_core.specs.Kept.{onto, CopyFollows}
 use Rattle.agent_core.specs.Roles.{may_copy, role_of}
 use Rattle.agent_core.specs.Storing.{MayTake, MayTakeAll}
-use Rattle.agent_core.specs.Rules.{changes_grid, changes_grid_of, too_many_charts, too_many_dimensions}
+use Rattle.agent_core.specs.Rules.{changes_grid, changes_grid_of, lacks_chart, too_many_charts, too_many_dimensions, IsOpenBeat}
 use Rattle.agent_core.proofs.FollowLemmas.{keeps, KeepsGrid}
 use Rattle.agent_core.proofs.Within.{names-tests, within-after}
 
@@ -199,6 +201,30 @@ module _ (names : Names) (charts : list_all names_chart names.charts ≡ true) (
   limited : AllByRecursion (λ (chart : ChartName). IsLimited (defined_chart chart)) names.charts
   limited = all-weaker (λ (chart : ChartName). names_chart chart ≡ true) (λ (chart : ChartName). IsLimited (defined_chart chart)) chart-limited names.charts (all-of names_chart names.charts charts)
 
+  -- they may be handed in as the definitions of a beat are
+  pub defined-open : IsOpenBeat defines
+  defined-open = record {
+    apart_charts = (defined-owned empty).charts;
+    apart_dimensions = (defined-owned empty).dimensions;
+    apart_rows = tt;
+    apart_values = All-nil (λ (row : OpenRow). AreApart same_value row.values);
+    grids = All-map (λ (def : ChartDef). 0 < def.update_every) defined_chart names.charts (All-from_recursion (λ (chart : ChartName). 0 < chart.update_every) names.charts
+        (all-weaker (λ (chart : ChartName). IsLimited (defined_chart chart)) (λ (chart : ChartName). 0 < chart.update_every) (λ chart of. of.some) names.charts limited));
+    chart_limits = All-map (λ (def : ChartDef). chart_keeps_limits def ≡ true) defined_chart names.charts (All-from_recursion (λ (chart : ChartName). chart_keeps_limits (defined_chart chart) ≡ true) names.charts
+        (all-weaker (λ (chart : ChartName). IsLimited (defined_chart chart)) (λ (chart : ChartName). chart_keeps_limits (defined_chart chart) ≡ true) (λ chart of. of.keeps_limits) names.charts limited));
+    dimension_limits = All-from_recursion (λ (dimension : OpenDim). dimension_keeps_limits dimension.def ≡ true) defines.dimensions
+        (all-made (defined_dimension names) (λ (dimension : DimName). has_id dimension ≡ true) (λ (dimension : OpenDim). dimension_keeps_limits dimension.def ≡ true)
+        (λ dimension made is at. subst (λ (made : OpenDim). dimension_keeps_limits made.def ≡ true) (made-of dimension made at).is (dimension-limited dimension.id dimension.hidden is))
+        names.dimensions (all-of has_id names.dimensions ids));
+  }
+
+  -- each dimension is of a chart that they define
+  pub defined-has : (registry : Registry) → lacks_chart registry defines ≡ false
+  defined-has registry =
+      list_any_none (λ (dimension : OpenDim). not (has_chart registry defines dimension.chart)) defines.dimensions
+      (All-weaker (λ (dimension : OpenDim). has_chart registry defines dimension.chart ≡ true) (λ (dimension : OpenDim). not (has_chart registry defines dimension.chart) ≡ false) (λ dimension has. ap not has) defines.dimensions
+      (defined-owned registry).owners)
+
   module _ (registry : Registry) (within : IsWithin registry) (free : names_refusal registry defines ≡ None) where
     abbrev after : Registry
     after = with_definitions registry defines.charts defines.dimensions
@@ -211,16 +237,11 @@ module _ (names : Names) (charts : list_all names_chart names.charts ≡ true) (
 
     defined-may : MayFollow registry defines
     defined-may = record {
-      grids = All-map (λ (def : ChartDef). 0 < def.update_every) defined_chart names.charts (All-from_recursion (λ (chart : ChartName). 0 < chart.update_every) names.charts
-          (all-weaker (λ (chart : ChartName). IsLimited (defined_chart chart)) (λ (chart : ChartName). 0 < chart.update_every) (λ chart of. of.some) names.charts limited));
+      grids = defined-open.grids;
       kept = All-from_recursion (KeepsGrid registry) defines.charts
           (all-weaker (λ (def : ChartDef). changes_grid_of registry def ≡ false) (KeepsGrid registry) (keeps registry) defines.charts (none-all (changes_grid_of registry) defines.charts tests.0));
-      chart_limits = All-map (λ (def : ChartDef). chart_keeps_limits def ≡ true) defined_chart names.charts (All-from_recursion (λ (chart : ChartName). chart_keeps_limits (defined_chart chart) ≡ true) names.charts
-          (all-weaker (λ (chart : ChartName). IsLimited (defined_chart chart)) (λ (chart : ChartName). chart_keeps_limits (defined_chart chart) ≡ true) (λ chart of. of.keeps_limits) names.charts limited));
-      dimension_limits = All-from_recursion (λ (dimension : OpenDim). dimension_keeps_limits dimension.def ≡ true) defines.dimensions
-          (all-made (defined_dimension names) (λ (dimension : DimName). has_id dimension ≡ true) (λ (dimension : OpenDim). dimension_keeps_limits dimension.def ≡ true)
-          (λ dimension made is at. subst (λ (made : OpenDim). dimension_keeps_limits made.def ≡ true) (made-of dimension made at).is (dimension-limited dimension.id dimension.hidden is))
-          names.dimensions (all-of has_id names.dimensions ids));
+      chart_limits = defined-open.chart_limits;
+      dimension_limits = defined-open.dimension_limits;
       charts = defined-within.charts;
       dimensions = defined-within.dimensions;
       each = defined-within.each;
@@ -310,7 +331,7 @@ module _ (h : List Beat) (message : Data) (within : IsWithin (registry_of h)) (d
   rises : RisesFrom named_moment message.from (named_beats message.names message.beats)
   rises = RisesFrom-map beat_moment named_moment (named_beat message.names) (λ beat. refl) message.from message.beats data_is.moments.rises
 
-  all-follow : MayTakeAll h (beats_of registry message)
+  pub all-follow : MayTakeAll h (beats_of registry message)
   unfolding beats_of
   all-follow =
       elim (cases_lt message.prev message.from) [

@@ -16,13 +16,13 @@ ghost use Rattle.entry_codec.specs.declared.entry.Settings.{Settings as ASetting
 ghost use Rattle.entry_codec.specs.Entries.{is_collected_canonical, IsWithinLimits};
 ghost use Rattle.replication.specs.Copies.{latest as latest_of};
 ghost use Rattle.replication.specs.Names.{beat_moment};
-ghost use Rattle.link_frames.specs.DataForm.{has_rising_places, has_storage_numbers};
+ghost use Rattle.link_frames.specs.DataForm.{has_rising_places, has_storage_numbers, IsData};
 ghost use Rattle.link_frames.specs.DataForm.{AreApart as AreNamesApart};
 ghost use Rattle.store_core.specs.Beats.{beat_bytes, InForm};
 ghost use Rattle.store_core.specs.Store.{IsReady, IsReplayed};
 ghost use Rattle.agent_core.specs.Agent.{Holds};
 ghost use Rattle.agent_core.specs.Alarms.{events_at};
-ghost use Rattle.agent_core.specs.Copying.{definitions_in, events_onto, names_refusal};
+ghost use Rattle.agent_core.specs.Copying.{beats_of, definitions_in, events_onto, names_refusal};
 ghost use Rattle.agent_core.specs.Faults.{IsSpending};
 ghost use Rattle.agent_core.specs.Kept.{onto, IsCopyOf, StandsForFront, StandsForHistory};
 ghost use Rattle.agent_core.specs.Notes.{names_series};
@@ -32,7 +32,7 @@ ghost use Rattle.agent_core.specs.Rules.{lacks_chart, HasLimits, IsOpenBeat};
 ghost use Rattle.agent_core.specs.Storing.{gap_beats, later_copies, sent_copies, with_names, ArePartsAt, AreSent, IsSentAs, MayTakeAll};
 
 use crate::alarming::{Stepping, follow};
-use crate::copying::{kept_copy, kept_gap};
+use crate::copying::{definitions_in, kept_copy, kept_gap};
 use crate::fault::AgentFault;
 use crate::keeping::{commit, take_rows, untaken};
 use crate::last_seen::see_copied;
@@ -471,4 +471,63 @@ fn define(
             Err(AgentFault::Memory)
         }
     }
+}
+
+/// Adds the gap and the beats of a message that begins where the history ends to the parts of an agent, and gives the
+/// events of all of them; nothing stands against it. At every moment a crash leaves the history with the first of
+/// them, with none or with all. After an `Err` the parts are of no more use.
+pub(crate) fn add_message<H: Host>(
+    alloc: Global,
+    store: &mut Store,
+    registry: &mut Registry,
+    last_rows: &mut LastRows,
+    latest: &mut Latest,
+    alarms: &mut Alarms,
+    host: &mut H,
+    message: &Data,
+) -> Result<EventList, AgentFault>
+    requires ready { IsReady H.honest (H.seen host.old).past store.old }
+    requires replayed { IsReplayed store.old }
+    requires going { store.old.fault ≡ None }
+    requires at { message.now.prev ≡ store.old.last }
+    requires form { IsData message.now }
+    requires free { names_refusal registry.old (definitions_in message.now.names) ≡ None }
+    requires charts { AreApart same_chart registry.old.charts }
+    requires dimensions { AreApart same_dimension registry.old.dimensions }
+    requires limits { HasLimits registry.old }
+    ensures any_moment { H.honest → (set : ASettings) (h : List HistoryBeat)
+        → ArePartsAt (H.seen host.old).past store.old registry.old last_rows.old latest.old
+        (held alarms.old) set h → may_copy (role_of h) ≡ true
+        → Throughout (EveryDisk (StandsForFront set h (beats_of registry.old message.now)))
+        (H.seen host.old).past (H.seen host.new).past }
+    ensures done { IfOk result
+        (λ events. H.honest → (set : ASettings) (h : List HistoryBeat)
+        → let more = beats_of registry.old message.now in
+        ArePartsAt (H.seen host.old).past store.old registry.old last_rows.old latest.old
+        (held alarms.old) set h → may_copy (role_of h) ≡ true
+        → ArePartsAt (H.seen host.new).past store.new registry.new last_rows.new latest.new
+        (held alarms.new) set (onto h more) × (events ≡ events_onto set h more)) }
+    ensures ready { IsReady H.honest (H.seen host.new).past store.new }
+    ensures replayed { IsReplayed store.new }
+    ensures going { OnOk result (store.new.fault ≡ None) }
+    ensures last { OnOk result (store.new.last ≡ message.now.upto) }
+    ensures charts { OnOk result (AreApart same_chart registry.new.charts) }
+    ensures dimensions { OnOk result (AreApart same_dimension registry.new.dimensions) }
+    ensures limits { OnOk result (HasLimits registry.new) }
+    ensures settings { store.new.settings ≡ store.old.settings }
+    ensures faults { IfErr result IsSpending }
+    ensures only_here { H.honest → OnlyOn JournalA (H.seen host.old).past (H.seen host.new).past }
+    ensures cause { HasCause (H.seen host.old).disk_faults (H.seen host.new).disk_faults
+        (IsErrOf result AgentFault.DiskFault) }
+    ensures tells { (H.seen host.new).tell_faults ≡ (H.seen host.old).tell_faults }
+{
+    let Ok(defs) = definitions_in(alloc, &message.names) else {
+        return Err(AgentFault::Memory);
+    };
+    add_gap_before(alloc, store, host, message)?;
+    let defines = define(alloc, registry, &defs)?;
+    let beats = message.beats.as_slice();
+    add_beats(
+        alloc, store, registry, last_rows, latest, alarms, host, message, &defines, beats,
+    )
 }
