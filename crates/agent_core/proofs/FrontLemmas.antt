@@ -1,5 +1,5 @@
 -- The fronts of the beats that follow a history.
-use Rattle.std.proofs.Common.{◌≡◌, ℕ, zero, suc, ◌+◌, ◌<◌, ◌⊎◌, inl, inr, Bool, true, not, List, [], ◌∷◌, ◌++◌, length, map, take, get_or, slice_get, Option, Some, None, refl, sym, ap, ◌∙◌, subst, append_assoc, append-nil, if◌then◌else◌}
+use Rattle.std.proofs.Common.{◌≡◌, ℕ, zero, suc, ◌+◌, ◌<◌, ◌≤◌, ◌⊎◌, inl, inr, Bool, true, not, List, [], ◌∷◌, ◌++◌, length, map, take, get_or, slice_get, Option, Some, None, refl, sym, ap, ◌∙◌, subst, append_assoc, append-nil, arith, length-append, if◌then◌else◌}
 use Rattle.std.specs.List.{enumerate_from, filter_map, list_all, list_any}
 use Rattle.std.specs.Option.{option_map}
 use Rattle.std.proofs.Math.Seq.{take-append-add, take-length}
@@ -35,6 +35,7 @@ use Rattle.store_core.specs.Store.{StoreState}
 use Rattle.agent_core.specs.Alarms.{alarms_at, events_at}
 use Rattle.agent_core.specs.Copying.{beats_of, copied_of, copy_refusal, definitions_in, events_onto, names_refusal, nothing_defined}
 use Rattle.agent_core.specs.Kept.{onto, StandsForFront, StandsForHistory}
+use Rattle.agent_core.specs.declared.left.Role.TheVariants.{Copies}
 use Rattle.agent_core.specs.Roles.{may_copy, role_of}
 use Rattle.agent_core.specs.Storing.{gap_beats, later_copies, sent_copies, sent_words, with_names, ArePartsAt, IsSentAs, MayTake, MayTakeAll}
 use Rattle.agent_core.proofs.AlarmLemmas.{none-followed}
@@ -252,27 +253,27 @@ gap-quiet set h message =
       | inr none ↦ subst (IsQuiet set h) (gap-none message none) (record { alarms = refl; events = refl })
     ]
 
+beats-are-all : (registry : Registry) (message : Data) → beats_of registry message ≡ gap_beats message ++ sent_copies (with_names registry message) message message.beats
+unfolding beats_of
+beats-are-all registry message = refl
+
 module _ (set : Settings) (h : List Beat) (registry : Registry) (message : Data) where
   abbrev copies : List Beat
   copies = sent_copies (with_names registry message) message message.beats
 
-  beats-are : beats_of registry message ≡ gap_beats message ++ copies
-  unfolding beats_of
-  beats-are = refl
-
   pub message-before : (old new : List Event) → Throughout (EveryDisk (StandsForFront set h (gap_beats message))) old new → Throughout (EveryDisk (StandsForFront set h (beats_of registry message))) old new
-  message-before old new moments = subst (λ (more : List Beat). Throughout (EveryDisk (StandsForFront set h more)) old new) (sym beats-are) (moments-before set h (gap_beats message) copies old new moments)
+  message-before old new moments = subst (λ (more : List Beat). Throughout (EveryDisk (StandsForFront set h more)) old new) (sym (beats-are-all registry message)) (moments-before set h (gap_beats message) copies old new moments)
 
   pub message-behind : (old new : List Event) → Throughout (EveryDisk (StandsForFront set (onto h (gap_beats message)) copies)) old new → Throughout (EveryDisk (StandsForFront set h (beats_of registry message))) old new
-  message-behind old new moments = subst (λ (more : List Beat). Throughout (EveryDisk (StandsForFront set h more)) old new) (sym beats-are) (moments-behind set h (gap_beats message) copies old new moments)
+  message-behind old new moments = subst (λ (more : List Beat). Throughout (EveryDisk (StandsForFront set h more)) old new) (sym (beats-are-all registry message)) (moments-behind set h (gap_beats message) copies old new moments)
 
   pub message-onto : onto (onto h (gap_beats message)) copies ≡ onto h (beats_of registry message)
-  message-onto = sym (onto-append h (gap_beats message) copies) ∙ ap (onto h) (sym beats-are)
+  message-onto = sym (onto-append h (gap_beats message) copies) ∙ ap (onto h) (sym (beats-are-all registry message))
 
   pub message-events : events_onto set (onto h (gap_beats message)) copies ≡ events_onto set h (beats_of registry message)
   message-events =
       ap (λ (first : List AlarmEvent). first ++ events_onto set (onto h (gap_beats message)) copies) (gap-quiet set h message).events
-      ∙ events-append set h (gap_beats message) copies ∙ ap (events_onto set h) (sym beats-are)
+      ∙ events-append set h (gap_beats message) copies ∙ ap (events_onto set h) (sym (beats-are-all registry message))
 
   -- its beats may follow the gap
   pub message-takes : IsData message → IsWithin (registry_of h) → registry ≡ registry_of h → may_copy (role_of h) ≡ true → names_refusal registry (definitions_in message.names) ≡ None → message.prev ≡ last h
@@ -281,4 +282,36 @@ module _ (set : Settings) (h : List Beat) (registry : Registry) (message : Data)
       let refused : copy_refusal (registry_of h) (role_of h) message ≡ None
       = ap (λ (b : Bool). if not b then Some MixedRoles else names_refusal (registry_of h) (definitions_in message.names)) role ∙ ap (λ (r : Registry). names_refusal r (definitions_in message.names)) (sym is) ∙ free in
       let all = all-follow h message within form refused prev in
-      takes-behind h (gap_beats message) copies (subst (MayTakeAll h) (ap (λ (r : Registry). beats_of r message) (sym is) ∙ beats-are) all)
+      takes-behind h (gap_beats message) copies (subst (MayTakeAll h) (ap (λ (r : Registry). beats_of r message) (sym is) ∙ beats-are-all registry message) all)
+
+-- ---- how many there are, and what the history then does
+pub onto-length : (h more : List Beat) → length (onto h more) ≡ length h + length more
+onto-length h [] = omega arith
+onto-length h (beat ∷ more) = omega (arith, onto-length (beat ∷ h) more)
+
+copies-length : (registry : Registry) (message : Data) (beats : List SentBeat) → length (sent_copies registry message beats) ≡ length beats
+copies-length registry message [] = refl
+copies-length registry message (beat ∷ beats) = omega (arith, later-length registry message beats)
+
+pub length-some : (registry : Registry) (message : Data) → message.prev < message.from → length message.beats + 1 ≡ length (beats_of registry message)
+length-some registry message less =
+    let gap = ap length (gap-some message less) in
+    omega (arith, ap length (beats-are-all registry message), length-append (gap_beats message) (sent_copies (with_names registry message) message message.beats), gap, copies-length (with_names registry message) message message.beats)
+
+pub length-none : (registry : Registry) (message : Data) → message.from ≤ message.prev → length message.beats ≡ length (beats_of registry message)
+length-none registry message less =
+    let gap = ap length (gap-none message less) in
+    omega (arith, ap length (beats-are-all registry message), length-append (gap_beats message) (sent_copies (with_names registry message) message message.beats), gap, copies-length (with_names registry message) message message.beats)
+
+later-role : (registry : Registry) (message : Data) (beats : List SentBeat) (g : List Beat) → role_of g ≡ Copies message.child → role_of (onto g (later_copies registry message beats)) ≡ Copies message.child
+later-role registry message [] g role = role
+later-role registry message (beat ∷ beats) g role = later-role registry message beats (copied (later_copy registry message beat) ∷ g) refl
+
+copies-role : (registry : Registry) (message : Data) (beats : List SentBeat) (g : List Beat) → 0 < length beats → role_of (onto g (sent_copies registry message beats)) ≡ Copies message.child
+copies-role registry message [] g some = absurd (omega (arith, some))
+copies-role registry message (beat ∷ beats) g some = later-role registry message beats (copied (first_copy registry message beat) ∷ g) refl
+
+pub message-role : (registry : Registry) (message : Data) (h : List Beat) → 0 < length message.beats → role_of (onto h (beats_of registry message)) ≡ Copies message.child
+message-role registry message h some =
+    ap role_of (ap (onto h) (beats-are-all registry message) ∙ onto-append h (gap_beats message) (sent_copies (with_names registry message) message message.beats))
+    ∙ copies-role (with_names registry message) message message.beats (onto h (gap_beats message)) some

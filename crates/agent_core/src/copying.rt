@@ -1,11 +1,11 @@
 //! What the message of a child defines, and what a store keeps of its beats.
 
-ghost use Rattle.std.specs.Prelude.{◌≡◌, [], ◌++◌, ◌<◌, ◌≤◌, ◌^◌, true, length, map, filter_map, All, Some, IfOk, OnOk};
+ghost use Rattle.std.specs.Prelude.{◌≡◌, [], ◌++◌, ◌<◌, ◌≤◌, ◌^◌, ℕ, true, length, map, filter_map, All, Some, IfOk, OnOk};
 ghost use Rattle.std.specs.List.{cons_option, AllByRecursion};
 ghost use Rattle.std.specs.List.Sorted.{IsNonDecreasingBy, IsPermutation};
 ghost use Rattle.std.specs.Option.{option_and_then};
 ghost use Rattle.history.specs.Limits.{chart_keeps_limits, dimension_keeps_limits};
-ghost use Rattle.history.specs.Registry.{same_dimension, series_of};
+ghost use Rattle.history.specs.Registry.{Registry as ARegistry, same_dimension, series_of};
 ghost use Rattle.history.specs.Regular.{AreApart};
 ghost use Rattle.beat_points.specs.Points.{ArePointsIn, AreRising};
 ghost use Rattle.storage_number.specs.Word.{is_word};
@@ -20,7 +20,7 @@ ghost use Rattle.replication.specs.Names.{named_beat, named_point};
 ghost use Rattle.replication.specs.Verdict.{is_stored};
 ghost use Rattle.link_frames.specs.DataForm.{has_rising_places, has_storage_numbers};
 ghost use Rattle.link_frames.specs.DataForm.{AreApart as AreNamesApart};
-ghost use Rattle.agent_core.specs.Copying.{defined_chart, defined_dimension, definitions_in, numbered_words};
+ghost use Rattle.agent_core.specs.Copying.{beats_of, defined_chart, defined_dimension, definitions_in, numbered_words};
 ghost use Rattle.agent_core.specs.Kept.{gap_entry};
 ghost use Rattle.agent_core.specs.Notes.{names_series};
 ghost use Rattle.agent_core.specs.Rules.{HasLimits};
@@ -53,6 +53,19 @@ pub(crate) fn is_stored(verdict: Verdict) -> bool
     match verdict {
         Verdict::Stored => true,
         Verdict::Old | Verdict::Ahead | Verdict::WrongChild { kept: _, came: _ } => false,
+    }
+}
+
+/// How many beats a message adds where it is stored: the gap, if there is one, and its beats.
+pub(crate) fn beats_in(message: &Data) -> u64
+    ensures { (registry : ARegistry) → result ≡ length (beats_of registry message.now) }
+{
+    let beats = message.beats.as_slice();
+    let count = beats.len() as u64;
+    if message.prev < message.from {
+        count + 1
+    } else {
+        count
     }
 }
 
