@@ -1,5 +1,5 @@
 -- What an agent adds of the message of a child, and what a call of it leaves.
-use Rattle.std.proofs.Common.{◌≡◌, ℕ, ◌+◌, ◌<◌, ◌^◌, Bool, true, false, not, ◌&&◌, List, [], length, Option, None, is_none, refl, sym, ap, ◌∙◌, subst, arith, if◌then◌else◌}
+use Rattle.std.proofs.Common.{◌≡◌, ℕ, ◌+◌, ◌<◌, Bool, true, false, not, ◌&&◌, List, [], length, None, is_none, sym, ap, ◌∙◌, arith, if◌then◌else◌}
 use Rattle.host_model.specs.Past.{Event}
 use Rattle.host_model.specs.Disks.{EveryDisk}
 use Rattle.host_model.specs.Moments.{begins, Throughout}
@@ -39,18 +39,9 @@ module _ (agent : AgentState) (message : Data) (left : is_stored (agent_verdict 
   none : [] ≡ agent_adds agent message
   none = ap (λ (b : Bool). if b && is_none (copy_refusal agent.registry agent.role message) then beats_of agent.registry message else []) (sym left)
 
-  pub left-done : (past : List Event) (set : Settings) (h : List Beat) → IsAgentOf past agent set h → IsAgentOf past agent set (onto h (agent_adds agent message))
-  left-done past set h is_of = subst (λ (more : List Beat). IsAgentOf past agent set (onto h more)) none is_of
-
   pub left-events : (set : Settings) (h : List Beat) → [] ≡ events_onto set h (agent_adds agent message)
   unfolding events_onto
   left-events set h = ap (events_onto set h) none
-
-  pub left-counts : agent.count < 2 ^ 64 → agent.count ≡ counted (agent.count + length (agent_adds agent message))
-  left-counts small = same ∙ ap (λ (more : List Beat). counted (agent.count + length more)) none
-    where
-      same : agent.count ≡ counted (agent.count + length {A = Beat} [])
-      same = omega (arith, small)
 
 -- ---- a message that is stored
 -- what is refused by nothing is copied, and defines what may be defined

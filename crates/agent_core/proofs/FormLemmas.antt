@@ -2,19 +2,16 @@
 use Rattle.std.proofs.Common.{◌≡◌, ℕ, ◌+◌, ◌≤◌, ◌<◌, ◌^◌, true, ◌&&◌, nat_le, nat_lt, List, [], ◌∷◌, length, map, slice_get, Option, Some, None, refl, sym, ap, subst, ◌∙◌, arith, lt-ltb}
 use Rattle.std.specs.List.{find, list_all, AllByRecursion}
 use Rattle.std.specs.Option.{option_and_then, option_map_or}
-use Rattle.std.proofs.lemmas.Bool.{and_from, and_parts, le-leb, leb-true}
+use Rattle.std.proofs.lemmas.Bool.{and_from, le-leb}
 use Rattle.field_codec.specs.Spelling.{sized_bytes, u32_bytes}
 use Rattle.field_codec.proofs.Lengths.{length-u32_bytes}
 use Rattle.std.proofs.lemmas.List.{length-append, length-map}
-use Rattle.std.proofs.lemmas.List.Elements.{All-from_recursion, recursion_from_All}
+use Rattle.std.proofs.lemmas.List.Elements.{recursion_from_All}
 use Rattle.storage_number.specs.Word.{is_word}
-use Rattle.history.specs.declared.beat.OpenBeat.{OpenBeat}
 use Rattle.history.specs.declared.beat.OpenDim.{OpenDim}
 use Rattle.history.specs.declared.chart.ChartDef.{ChartDef}
-use Rattle.history.specs.declared.limits.TheConstants.{UPDATE_EVERY_LIMIT}
 use Rattle.history.specs.declared.numbered.NumberedBeat.{NumberedBeat}
-use Rattle.history.specs.Limits.{chart_keeps_limits, has_short_texts, is_chart_id}
-use Rattle.history.specs.Registry.{Registry, is_chart, same_chart, with_definitions}
+use Rattle.history.specs.Registry.{Registry, is_chart}
 use Rattle.beat_points.specs.declared.series_word.SeriesWord.{SeriesWord}
 use Rattle.beat_points.specs.Points.{ArePointsIn, AreRising}
 use Rattle.chart_registry.proofs.Finding.{found-all}

@@ -1,6 +1,5 @@
 -- An agent that was just made.
-use Rattle.std.proofs.Common.{◌≡◌, ◌⊎◌, ℕ, inl, inr, false, List, [], Option, Some, None, Result, Err, refl, sym, ap, subst, ◌∙◌}
-use Rattle.std.proofs.lemmas.List.Elements.{All-from_recursion}
+use Rattle.std.proofs.Common.{◌≡◌, ◌⊎◌, ℕ, inl, inr, List, [], Option, Some, None, Result, Err, refl, sym, ap, subst, ◌∙◌}
 use Rattle.host_model.specs.Cause.{HasCause}
 use Rattle.host_model.specs.declared.file.File.{File}
 use Rattle.host_model.specs.Past.{Event, IsDisk}

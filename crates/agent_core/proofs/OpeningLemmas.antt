@@ -1,5 +1,5 @@
 -- An agent that replays the beats of its store: where it begins, each step, and where it ends.
-use Rattle.std.proofs.Common.{◌≡◌, ℕ, suc, not, List, [], ◌∷◌, length, Option, Some, None, refl, sym, ap, ◌∙◌, subst}
+use Rattle.std.proofs.Common.{◌≡◌, ℕ, suc, List, [], ◌∷◌, length, Option, Some, None, refl, sym, ap, ◌∙◌, subst}
 use Rattle.host_model.specs.declared.file.File.{File}
 use Rattle.host_model.specs.Past.{Event}
 use Rattle.algorithms.specs.declared.last.Last.{Last}
@@ -19,7 +19,6 @@ use Rattle.agent_core.specs.Kept.{onto, AreBeatsOf, IsBeatOf, StandsForHistory}
 use Rattle.agent_core.specs.LastSeen.{IsLatestOf}
 use Rattle.agent_core.specs.Notes.{left_by}
 use Rattle.agent_core.specs.Replay.{AreNextOf, ArePartsOf, IsOpenedFor, IsReplaying}
-use Rattle.agent_core.specs.Roles.{may_collect}
 use Rattle.agent_core.proofs.AlarmLemmas.{none-yet}
 
 -- ---- the beginning

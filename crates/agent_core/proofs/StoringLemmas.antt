@@ -16,11 +16,9 @@ use Rattle.history.specs.History.{Beat, copied, missing, last, registry_of, Copy
 use Rattle.history.specs.Numbered.{numbered_charts, numbered_dimensions, numbered_rows, numbered_values, IsThere}
 use Rattle.history.specs.Registry.{Registry}
 use Rattle.alarm_core.specs.declared.latest.Latest.{Latest}
-use Rattle.entry_codec.specs.declared.entry.Entry.{Entry}
 use Rattle.entry_codec.specs.declared.entry.Entry.TheVariants as entry
 use Rattle.entry_codec.specs.declared.entry.Settings.{Settings}
 use Rattle.entry_codec.specs.Entries.{entry_bytes, gap_bytes, is_canonical, HasSpelling}
-use Rattle.field_codec.specs.Spelling.{u32_bytes, u64_bytes}
 use Rattle.field_codec.proofs.Lengths.{length-u32_bytes, length-u64_bytes}
 use Rattle.beat_entries.specs.Copied.{definitions_of, told_chart, told_dimension, told_word}
 use Rattle.beat_tiers.specs.declared.item.BeatPoint.{BeatPoint}

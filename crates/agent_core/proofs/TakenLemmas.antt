@@ -13,7 +13,7 @@ use Rattle.history.specs.declared.beat.OpenDim.{OpenDim}
 use Rattle.history.specs.declared.beat.OpenRow.{OpenRow}
 use Rattle.history.specs.declared.chart.ChartDef.{ChartDef}
 use Rattle.history.specs.declared.fault.BlockFault.TheVariants as fault
-use Rattle.history.specs.History.{Beat, collected, copied, health, missing, last, registry_of, Word}
+use Rattle.history.specs.History.{Beat, missing, last, registry_of, Word}
 use Rattle.history.specs.Limits.{chart_keeps_limits, dimension_keeps_limits, has_two_parts, is_chart_id, is_dot, is_id, is_one_line, is_short}
 use Rattle.history.specs.Refusal.{has_chart}
 use Rattle.history.specs.Looking.{same_value}
@@ -44,7 +44,7 @@ use Rattle.link_frames.proofs.PlacesLaw.{all-of}
 use Rattle.link_frames.specs.DataForm.{has_id, IsData}
 use Rattle.link_frames.specs.DataForm.{is_chart as names_chart, same_chart as same_name, same_dimension as same_series, AreApart as AreNamesApart}
 use Rattle.agent_core.specs.Copying.{beats_of, copied_beats, copied_of, copy_refusal, defined_chart, defined_dimension, definitions_in, gap_beat, is_point_of, names_refusal, nothing_defined, numbered_word, numbered_words}
-use Rattle.agent_core.specs.Kept.{onto, CopyFollows}
+use Rattle.agent_core.specs.Kept.{onto}
 use Rattle.agent_core.specs.Roles.{may_copy, role_of}
 use Rattle.agent_core.specs.Storing.{MayTake, MayTakeAll}
 use Rattle.agent_core.specs.Rules.{changes_grid, changes_grid_of, lacks_chart, too_many_charts, too_many_dimensions, IsOpenBeat}

@@ -175,7 +175,11 @@ fn keep(
 }
 
 /// Adds a beat to a store that is still of use.
-pub(crate) fn commit<H: Host>(store: &mut Store, host: &mut H, kept: &Beat) -> Result<(), AgentFault>
+pub(crate) fn commit<H: Host>(
+    store: &mut Store,
+    host: &mut H,
+    kept: &Beat,
+) -> Result<(), AgentFault>
     requires ready { IsReady H.honest (H.seen host.old).past store.old }
     requires replayed { IsReplayed store.old }
     requires going { store.old.fault ≡ None }

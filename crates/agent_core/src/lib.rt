@@ -11,14 +11,19 @@
 //! expired below the floors. `line` answers a QUERY so. After a failure of
 //! the disk, or where memory was refused, each call answers that the agent must be opened again, with the first
 //! cause, and the count, the last moment and the id answer as before. What a call promises is one record of
-//! facts (`Beats`, `Lines`, `SetsHealth`, `Logs`, `Creates`, `Opens`, `Queries`, `Keeps`). It is proved from these records alone that an agent stays sound
-//! by its history.
+//! facts (`Beats`, `Lines`, `SetsHealth`, `Logs`, `Creates`, `Opens`, `Queries`, `Keeps`, `TakesData`,
+//! `AnswersAsk`). It is proved from these records alone that an agent stays sound by its history.
+//!
+//! A history collects, or copies one child, and never both. `ask` asks a child for what lies above the last moment,
+//! `data` answers such an ask by the beats of this history, and `take` stores what a message adds: the gap before
+//! its beats where some are gone, and a copied beat for each of them. An agent that copies refuses every beat of a
+//! collector, and one that collects every copy. A message is stored beat by beat, so a stop in the midst leaves the
+//! history with the first of what the message adds.
 //!
 //! It stands on the store of `store_core`, which keeps of each beat its moment, its points by `beat_points`
 //! and its entry by `beat_entries`, on the feed of `collect_block` and on the numbers of `chart_registry`, and for
 //! replies on `query_engine` and `query_text`. It
-//! names no file and no byte of a journal. No call stores copies and gaps, but a database that
-//! holds them opens where its notes go on, and then an agent with copies or gaps refuses every beat.
+//! names no file and no byte of a journal. The messages and their verdicts are those of `replication`.
 //!
 //! Its alarms are those of `alarm_core` over the history, as `specs/Alarms.antt` says of any history: a beat that
 //! is stored steps them, and its reply has the events; `set_health` stores another configuration as a beat

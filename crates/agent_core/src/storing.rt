@@ -107,7 +107,14 @@ fn see_copy(
     ensures before { OnOk result (latest.new.before ≡ before) }
     ensures memory { IfErr result (λ fault. fault ≡ AgentFault.Memory) }
 {
-    match see_copied(alloc, latest, registry, moment, kept.points.as_slice(), before) {
+    match see_copied(
+        alloc,
+        latest,
+        registry,
+        moment,
+        kept.points.as_slice(),
+        before,
+    ) {
         Ok(()) => Ok(()),
         Err(_) => Err(AgentFault::Memory),
     }
@@ -223,8 +230,18 @@ fn add_copy<H: Host>(
     let Ok(kept) = kept_copy(alloc, registry, message, defines, beat) else {
         return Err(AgentFault::Memory);
     };
-    store_copy(alloc, store, registry, last_rows, latest, host, defines, &kept, moment)?;
-    follow(alloc, alarms, store, host, registry, latest, Stepping::Beat(moment))
+    store_copy(
+        alloc, store, registry, last_rows, latest, host, defines, &kept, moment,
+    )?;
+    follow(
+        alloc,
+        alarms,
+        store,
+        host,
+        registry,
+        latest,
+        Stepping::Beat(moment),
+    )
 }
 
 /// A beat that defines nothing and sets nothing.

@@ -1,4 +1,4 @@
-use Rattle.std.proofs.Common.{◌≡◌, ◌<◌, ◌^◌, map, rules, ap, ◌∙◌}
+use Rattle.std.proofs.Common.{map, rules, ap, ◌∙◌}
 use Rattle.beat_entries.specs.Copied.{told_chart, told_dimension}
 use Rattle.agent_core.proofs.EntryLemmas.{told-spelt}
 use Rattle.agent_core.proofs.copying.copied_entry.Goals as goal

@@ -7,11 +7,10 @@ use Rattle.entry_codec.specs.declared.entry.Entry.TheVariants as entry
 use Rattle.entry_codec.specs.declared.words.CopiedWord.{CopiedWord}
 use Rattle.entry_codec.specs.Entries.{entry_bytes, HasSpelling}
 use Rattle.store_core.specs.declared.beat.Beat.{Beat as StoreBeat}
-use Rattle.beat_tiers.specs.declared.item.BeatPoint.{BeatPoint}
 use Rattle.agent_core.specs.Kept.{copied_point}
 use Rattle.agent_core.specs.Kept.{point_of as kept_point}
 use Rattle.agent_core.specs.Notes.{names_series}
-use Rattle.agent_core.specs.Storing.{entry_word, point_word, sent_entry, sent_kept, sent_words}
+use Rattle.agent_core.specs.Storing.{entry_word, point_word, sent_entry, sent_words}
 use Rattle.agent_core.proofs.EntryLemmas.{copied-length}
 use Rattle.agent_core.proofs.FormLemmas.{kept-form, kept-size}
 use Rattle.agent_core.proofs.PointLemmas.{words-named}

@@ -1,4 +1,4 @@
-use Rattle.std.proofs.Common.{◌≤◌, length, sym, subst}
+use Rattle.std.proofs.Common.{sym, subst}
 use Rattle.history.specs.Numbered.{numbered_beat}
 use Rattle.history.specs.Registry.{Registry, with_definitions}
 use Rattle.history.specs.Regular.{IsRegular}

@@ -1,4 +1,4 @@
-use Rattle.std.proofs.Common.{◌≡◌, ℕ, Bool, false, ◌||◌, sym, ap, ◌∙◌}
+use Rattle.std.proofs.Common.{Bool, false, ◌||◌, sym, ap, ◌∙◌}
 use Rattle.std.specs.List.{list_any}
 use Rattle.agent_core.specs.Copying.{defined_dimension, definitions_in}
 use Rattle.agent_core.specs.Rules.{fills_chart}

@@ -1,18 +1,14 @@
 use Rattle.std.proofs.Common.{◌≡◌, List, ◌∷◌, ◌++◌, rules, sym, ap, subst, ◌∙◌}
-use Rattle.std.proofs.lemmas.Result.{IfOk-weaker}
 use Rattle.host_model.specs.Disks.{EveryDisk}
 use Rattle.host_model.specs.Moments.{begins, Throughout}
 use Rattle.host_model.proofs.MomentLemmas.{joined}
 use Rattle.history.specs.History.{Beat, copied}
 use Rattle.alarm_core.specs.Course.{held}
-use Rattle.alarm_events.specs.declared.event.Event.{Event as AlarmEvent}
-use Rattle.replication.specs.declared.beats.Beat.{Beat as SentBeat}
 use Rattle.agent_core.specs.Copying.{events_onto}
 use Rattle.agent_core.specs.Kept.{onto, StandsForFront}
-use Rattle.agent_core.specs.Storing.{later_copies, sent_copies, ArePartsAt, MayTakeAll}
+use Rattle.agent_core.specs.Storing.{later_copies, ArePartsAt, MayTakeAll}
 use Rattle.agent_core.proofs.FrontLemmas.{copies-are, events-first, first_copy, first-moments, rest-moments, sent-first}
 use Rattle.agent_core.proofs.KeptLemmas.{stays}
-use Rattle.agent_core.proofs.Outcomes.{on_ok}
 use Rattle.agent_core.proofs.storing.add_beats.Goals as goal
 
 pub returns-in_default-clause-any_moment : goal.returns-in_default-clause-any_moment

@@ -1,4 +1,4 @@
-use Rattle.std.proofs.Common.{◌≡◌, ℕ, List, None, take}
+use Rattle.std.proofs.Common.{◌≡◌, List, None, take}
 use Rattle.host_model.specs.declared.file.File.TheVariants.{JournalA}
 use Rattle.host_model.specs.Moments.{OnlyOn}
 use Rattle.history.specs.History.{Beat}

@@ -1,4 +1,4 @@
-use Rattle.std.proofs.Common.{◌≡◌, [], sym, ap, subst, ◌∙◌}
+use Rattle.std.proofs.Common.{sym, ap, subst, ◌∙◌}
 use Rattle.history.specs.declared.numbered.NumberedBeat.{NumberedBeat}
 use Rattle.history.specs.Numbered.{numbered_beat}
 use Rattle.history.specs.Registry.{Registry, same_chart, same_dimension, with_definitions}

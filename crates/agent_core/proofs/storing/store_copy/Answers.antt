@@ -1,6 +1,4 @@
-use Rattle.std.proofs.Common.{ap, ◌∙◌}
 use Rattle.history.specs.History.{copied}
-use Rattle.store_core.specs.Records.{last_after}
 use Rattle.agent_core.proofs.KeptLemmas.{climbs}
 use Rattle.agent_core.proofs.Outcomes.{on_ok}
 use Rattle.agent_core.proofs.StoringLemmas.{holds-copy, no-rows-there}

@@ -1,4 +1,4 @@
-use Rattle.std.proofs.Common.{◌≡◌, ◌+◌, List, true, None, length, refl, sym, ap, subst, ◌∙◌}
+use Rattle.std.proofs.Common.{◌≡◌, ◌+◌, true, refl, sym, ap, subst, ◌∙◌}
 use Rattle.alarm_core.specs.Course.{held}
 use Rattle.store_core.specs.Store.{counted}
 use Rattle.agent_core.specs.declared.left.Role.TheVariants.{Copies}

@@ -1,11 +1,10 @@
-use Rattle.std.proofs.Common.{◌≡◌, not, [], refl, ap, ◌∙◌}
+use Rattle.std.proofs.Common.{◌≡◌, [], refl, ap}
 use Rattle.std.proofs.lemmas.Result.{err_from_is_err_and}
 use Rattle.history.specs.Registry.{Registry, empty}
 use Rattle.alarm_core.specs.Course.{held}
 use Rattle.agent_core.specs.declared.left.Left.{Left}
 use Rattle.agent_core.specs.declared.left.Role.TheVariants.{Undecided}
 use Rattle.agent_core.specs.Notes.{left_by}
-use Rattle.agent_core.specs.Roles.{may_collect}
 use Rattle.agent_core.proofs.NoteLemmas.{taken-all, taken-begins, taken-left}
 use Rattle.agent_core.proofs.OpeningLemmas.{replayed-is_of, replaying-begins}
 use Rattle.agent_core.proofs.agent.Agent.replayed.Goals as goal

@@ -1,15 +1,11 @@
 use Rattle.std.proofs.Common.{rules, ◌≡◌, List, None, Some, true, false, Bool, subst, sym, ap, ◌∙◌, if◌then◌else◌}
-use Rattle.host_model.specs.Past.{Event}
 use Rattle.host_model.specs.Disks.{EveryDisk}
 use Rattle.host_model.specs.Moments.{Throughout}
 use Rattle.history.specs.History.{Beat as HistoryBeat}
-use Rattle.entry_codec.specs.declared.entry.Settings.{Settings as ASettings}
-use Rattle.replication.specs.declared.message.Data.{Data}
-use Rattle.alarm_events.specs.declared.event.Event.{Event as AlarmEvent}
 use Rattle.replication.specs.Verdict.{is_stored}
 use Rattle.agent_core.specs.Agent.{AgentState, IsAgentOf}
 use Rattle.agent_core.specs.Calls.{agent_adds, agent_verdict}
-use Rattle.agent_core.specs.Copying.{beats_of, copy_refusal, events_onto}
+use Rattle.agent_core.specs.Copying.{copy_refusal, events_onto}
 use Rattle.agent_core.specs.Kept.{onto, StandsForFront}
 use Rattle.agent_core.proofs.CopyCalls.{left-events, none-added, stored-adds}
 use Rattle.agent_core.proofs.agent.Agent.store_copies.Goals as goal
@@ -42,7 +38,7 @@ returns-in-Ok-clause-any_moment g c true_host set h is_of =
     let free : copy_refusal agent.registry agent.role message ≡ None
     = ap (λ (a : AgentState). copy_refusal a.registry a.role message) (sym c.self.view_is) ∙ sym c.copy_refusal.ensures ∙ c.in_default-copy_refusal.is in
     subst (λ (more : List HistoryBeat). Throughout (EveryDisk (StandsForFront set h more)) (g.H.Host.seen c.args.host.now).past (g.H.Host.seen c.add_copies.new.host).past)
-        (stored-adds agent message stored free) (c.in-Ok.ensures.any_moment true_host set h is_of)
+    (stored-adds agent message stored free) (c.in-Ok.ensures.any_moment true_host set h is_of)
 
 pub returns-in-Ok-clause-done : goal.returns-in-Ok-clause-done
 returns-in-Ok-clause-done g c true_host set h is_of =
@@ -52,7 +48,7 @@ returns-in-Ok-clause-done g c true_host set h is_of =
     let free : copy_refusal agent.registry agent.role message ≡ None
     = ap (λ (a : AgentState). copy_refusal a.registry a.role message) (sym c.self.view_is) ∙ sym c.copy_refusal.ensures ∙ c.in_default-copy_refusal.is in
     subst (λ (more : List HistoryBeat). IsAgentOf (g.H.Host.seen c.add_copies.new.host).past c.add_copies.new.self set (onto h more))
-        (stored-adds agent message stored free) (c.in-Ok.ensures.done true_host set h is_of)
+    (stored-adds agent message stored free) (c.in-Ok.ensures.done true_host set h is_of)
 
 pub returns-in-Ok-clause-events : goal.returns-in-Ok-clause-events
 returns-in-Ok-clause-events g c true_host set h is_of =
@@ -71,4 +67,4 @@ returns-in-Err-clause-any_moment g c true_host set h is_of =
     let free : copy_refusal agent.registry agent.role message ≡ None
     = ap (λ (a : AgentState). copy_refusal a.registry a.role message) (sym c.self.view_is) ∙ sym c.copy_refusal.ensures ∙ c.in_default-copy_refusal.is in
     subst (λ (more : List HistoryBeat). Throughout (EveryDisk (StandsForFront set h more)) (g.H.Host.seen c.args.host.now).past (g.H.Host.seen c.add_copies.new.host).past)
-        (stored-adds agent message stored free) (c.in-Err.ensures.any_moment true_host set h is_of)
+    (stored-adds agent message stored free) (c.in-Err.ensures.any_moment true_host set h is_of)
