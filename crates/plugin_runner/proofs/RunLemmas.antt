@@ -25,7 +25,7 @@ module _ (o : Origin) (rs : List ℕ) (p : List (List ℕ)) (t : List ℕ) where
   closed-line past line true false one other on is = on is
   closed-line past line false d one other on is = is
 
-  closed-rest : (past : List (List ℕ)) (r first : List ℕ) (following : List (List ℕ)) (b : Bool) → fits r ≡ b → (if b then Open past else Closed past (take 8193 r)) ≡ Closed p t
+  pub closed-rest : (past : List (List ℕ)) (r first : List ℕ) (following : List (List ℕ)) (b : Bool) → fits r ≡ b → (if b then Open past else Closed past (take 8193 r)) ≡ Closed p t
       → hear o rs past ((r ++ first) ∷ following) ≡ Closed p t
   closed-rest past r first following true fit is =
       let never : Open past ≡ Closed p t = is in
@@ -100,7 +100,7 @@ not_running (child ∷ ran) runs =
     let never : Some child.status ≡ None = runs in
     cc never
 
-reverse-next : (ran : List Child) (child : Child) (others : List Child) → reverse ran ++ child ∷ others ≡ reverse (child ∷ ran) ++ others
+pub reverse-next : (ran : List Child) (child : Child) (others : List Child) → reverse ran ++ child ∷ others ≡ reverse (child ∷ ran) ++ others
 reverse-next ran child others = sym (ap (λ (l : List Child). l ++ others) (reverse-append (child ∷ []) ran) ∙ append_assoc (reverse ran) (child ∷ []) others)
 
 -- ---- a start
@@ -221,7 +221,7 @@ same_child o rs starts bytes child earlier (Open past) (Open p) last is answer =
 same_child o rs starts bytes child earlier (Open past) (Closed p t) last is answer =
     sym (ap (at_end (Some child.status) o rs) (hear-closed o rs p t past bytes child.left is))
 
-ran_of : (coming : List Child) (course : Course) (later : List ℕ) (last : Result Turn RunFault) → Last coming course.starts course.children
+pub ran_of : (coming : List Child) (course : Course) (later : List ℕ) (last : Result Turn RunFault) → Last coming course.starts course.children
     → answer_after course.starts (text_of course later) course.children ≡ Some last → Ran coming course later
 ran_of coming course later last (over ran others is whole may) answer = record {
   ran = ran;
@@ -243,9 +243,13 @@ ran_of coming course later last (within ran others child bytes is whole may) ans
           (subst (λ (h : List Heard). answer_after course.starts (text_of course later) h ≡ Some last) is answer);
     }
 
+pub run_last : (coming : List Child) (course : Course) (event : Option Event) (answer : Option (Result Turn RunFault)) (before after : Children) (faults faults' : ℕ) → Run coming course before
+    → Hears course answer event (Some before) (Some after) faults faults' → Last coming course.starts (children_after event course.children)
+run_last coming course event answer before after faults faults' run hears = turn_last coming course before after faults faults' (run_stage coming course before run) answer event hears
+
 pub run_ran : (coming : List Child) (course : Course) (event : Option Event) (taken added : List ℕ) (answer : Option (Result Turn RunFault)) (before after : Children) (faults faults' : ℕ) → Run coming course before
     → Hears course answer event (Some before) (Some after) faults faults' → (later : List ℕ) (last : Result Turn RunFault)
     → answer_after course.starts (text_of (course_after event taken added course) later) (course_after event taken added course).children ≡ Some last → Ran coming (course_after event taken added course) later
 run_ran coming course event taken added answer before after faults faults' run hears later last is =
     ran_of coming (course_after event taken added course) later last
-    (turn_last coming course before after faults faults' (run_stage coming course before run) answer event hears) is
+    (run_last coming course event answer before after faults faults' run hears) is
