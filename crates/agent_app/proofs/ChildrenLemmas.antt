@@ -34,7 +34,7 @@ front-within limit told more =
     elim (cases_lt (length told) limit) [
       | inl less ↦ (
         take (limit - length told) more,
-        take-append_past limit told more (omega (arith, less)) ∙ ap (λ (t : List ℕ). t ++ take (limit - length told) more) (sym (take_all limit told (omega (arith, less))))
+        take-append_past limit told more (omega (arith, less)) ∙ ap (λ (t : List ℕ). t ++ take (limit - length told) more) (sym (take_all limit told (omega (arith, less)))),
       )
       | inr not_less ↦ ([], take-append-le limit told more (omega (arith, not_less)) ∙ sym (append-nil (take limit told)))
     ]
