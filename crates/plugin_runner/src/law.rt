@@ -65,7 +65,7 @@ pub fn any_front()
         → IsFront course.told (bytes_of (text (record { every = every; last = last })
         (course.readings ++ later) (whole_children starts coming))) }
 
-    // Where the last turn came to an end of the text, it is that text, and that is the answer it asks for.
+    // Where the last turn came to an end of the text, it is that one, with its answer.
     ensures whole { (coming : List Child) (words : List (List ℕ)) (every starts last : ℕ)
         (begun : List (List (List ℕ))) (course : Course) (answer ending : Result Turn RunFault)
         (after : Option Children) (ahead ahead' : Option (List ℕ)) (later : List ℕ)
