@@ -1,0 +1,49 @@
+//! Children in memory whose bytes come in pieces of drawn sizes.
+ghost use Rattle.std.specs.Prelude.{None};
+
+use super::draws::Draws;
+use fixed_num::WordsList;
+use host_model::{Failed, MemorySpawner, Spawner};
+
+/// A spawner in memory that hands over less than would fit. It tells nothing.
+#[derive(Drop)]
+pub struct Cut {
+    pub inner: MemorySpawner,
+    pub draws: Draws,
+}
+
+impl Cut {
+    /// How many bytes are handed over at most: one, a few, or all.
+    fn size(&mut self) -> usize {
+        let most = match self.draws.below(8) {
+            0 => 1,
+            1 => 9_000,
+            2 | 3 => 300,
+            _ => 20,
+        };
+        self.draws.below(most) as usize
+    }
+}
+
+impl Spawner for Cut {
+    ghost children = { λ _. None };
+
+    ghost faults = { λ cut. ⟦<MemorySpawner as Spawner>⟧.faults cut.inner };
+
+    fn start(&mut self, words: &WordsList) -> Result<(), Failed> {
+        self.inner.start(words)
+    }
+
+    fn pull(&mut self, into: &mut [u8]) -> Result<usize, Failed> {
+        let size = self.size().saturating_add(1).min(into.len());
+        self.inner.pull(&mut into[..size])
+    }
+
+    fn finish(&mut self) -> Result<i32, Failed> {
+        self.inner.finish()
+    }
+
+    fn stop(&mut self) -> Result<(), Failed> {
+        self.inner.stop()
+    }
+}
