@@ -1,5 +1,7 @@
 //! Collectors whose children are drawn, told twice: by a runner and by the top call.
 
+ghost use Rattle.std.specs.Prelude.{◌<◌};
+
 use children::{draw_child, draw_readings};
 use cut::Cut;
 use draws::Draws;
@@ -84,15 +86,22 @@ fn words_of(alloc: Global, words: &[&str]) -> Result<WordsList, AllocError> {
     Ok(list)
 }
 
+/// A small number that is not 0.
+fn small(number: u64) -> u32
+    ensures { 0 < result }
+{
+    u32::try_from(number).unwrap_or(1).max(1)
+}
+
 /// The runner of a collector of which nothing is told yet.
 fn runner_of(plain: &Plain, last: u64) -> Result<Option<Runner>, AllocError> {
     let words = words_of(plain.alloc, &["p", "x"])?;
     if words.is_empty() {
         return Ok(None);
     }
-    let every = (plain.every as u32).max(1);
-    let starts = (plain.starts as u32).max(1);
-    Ok(Some(Runner::new(plain.alloc, words, every, starts, last as u32)))
+    let every = small(plain.every);
+    let starts = small(plain.starts);
+    Ok(Some(Runner::new(plain.alloc, words, every, starts, small(last))))
 }
 
 /// Takes turns until one answers something else than `More`.
@@ -111,12 +120,23 @@ fn take_turns(
     Ok(Turn::More)
 }
 
+/// Whether a start was made with these words.
+fn is_start(start: &WordsList, wanted: &[&str]) -> bool {
+    let mut are_equal = start.len() == wanted.len();
+    for (word, want) in start.as_slice().iter().zip(wanted) {
+        are_equal = are_equal && word.as_str() == *want;
+    }
+    are_equal
+}
+
 /// Whether each start was made with the words of the collector, and there were as many as there are to be.
 fn are_starts(plain: &Plain, starts: &[WordsList]) -> Result<bool, AllocError> {
     let every = format!(in plain.alloc; "{}", plain.every)?;
-    let wanted = ["p", every.as_str(), "x"];
-    let is_start = |start: &WordsList| start.as_slice().iter().map(Text::as_str).eq(wanted);
-    Ok(starts.len() as u64 == plain.started && starts.iter().all(is_start))
+    let mut are_equal = starts.len() as u64 == plain.started;
+    for start in starts {
+        are_equal = are_equal && is_start(start, &["p", every.as_str(), "x"]);
+    }
+    Ok(are_equal)
 }
 
 /// What a runner does otherwise than the rules say.

@@ -12,17 +12,15 @@ pub struct Cut {
     pub draws: Draws,
 }
 
-impl Cut {
-    /// How many bytes are handed over at most: one, a few, or all.
-    fn size(&mut self) -> usize {
-        let most = match self.draws.below(8) {
-            0 => 1,
-            1 => 9_000,
-            2 | 3 => 300,
-            _ => 20,
-        };
-        self.draws.below(most) as usize
-    }
+/// How many bytes are handed over at most: one, a few, or all.
+fn draw_size(draws: &mut Draws) -> usize {
+    let most = match draws.below(8) {
+        0 => 1,
+        1 => 9_000,
+        2 | 3 => 300,
+        _ => 20,
+    };
+    (draws.below(most) as usize).saturating_add(1)
 }
 
 impl Spawner for Cut {
@@ -35,7 +33,7 @@ impl Spawner for Cut {
     }
 
     fn pull(&mut self, into: &mut [u8]) -> Result<usize, Failed> {
-        let size = self.size().saturating_add(1).min(into.len());
+        let size = draw_size(&mut self.draws).min(into.len());
         self.inner.pull(&mut into[..size])
     }
 
