@@ -23,14 +23,21 @@ static CATS: [Row; 6] = [
     (&["collect", "1", "1", "cat"], Status::Ok),
     (&["collect", "2", "1", "cat"], Status::Disabled),
     (&["collect", "1", "2", "cat"], Status::Ok),
-    (&["collect", "1", "1", "no.such.program"], Status::SpawnFault),
+    (
+        &["collect", "1", "1", "no.such.program"],
+        Status::SpawnFault,
+    ),
     (&["query", "test.one", "100", "103", "1", "sum"], Status::Ok),
 ];
 
 /// Scripts that go on where nothing that they write would count.
 static SCRIPTS: [(&str, &str, Status); 3] = [
     ("3", "echo DISABLE; exec sleep 100\n", Status::Disabled),
-    ("4", "echo BEGIN no.chart; exec sleep 100\n", Status::Refused(1, 21)),
+    (
+        "4",
+        "echo BEGIN no.chart; exec sleep 100\n",
+        Status::Refused(1, 21),
+    ),
     ("5", "echo MOMENT 7; exit 3\n", Status::Disabled),
 ];
 
@@ -50,11 +57,23 @@ fn call_main(rt: &HostRuntime, host: &mut MemoryHost, words: &[&str]) -> Result<
     let mut link = MemoryLink::new(alloc, b"", CallList::new(alloc))?;
     let mut spawner = ChildSpawner::new(alloc, rt);
     let mut clock = MemoryClock::new(alloc, &[100])?;
-    Ok(agent_main(alloc, &words, &mut source, host, &mut link, &mut spawner, &mut clock))
+    Ok(agent_main(
+        alloc,
+        &words,
+        &mut source,
+        host,
+        &mut link,
+        &mut spawner,
+        &mut clock,
+    ))
 }
 
 /// The first of the commands that does not end as it should.
-fn first_wrong(rt: &HostRuntime, host: &mut MemoryHost, rows: &[Row]) -> Result<Option<usize>, Fail> {
+fn first_wrong(
+    rt: &HostRuntime,
+    host: &mut MemoryHost,
+    rows: &[Row],
+) -> Result<Option<usize>, Fail> {
     for (index, (words, status)) in rows.iter().enumerate() {
         if call_main(rt, host, words)? != *status {
             return Ok(Some(index));
@@ -78,7 +97,7 @@ fn a_collector_is_not_waited_for_where_it_does_not_count(rt: HostRuntime) -> Res
     let mut host = MemoryHost::new(rt.alloc(), CallList::new(rt.alloc()))?;
     assert_eq!(rt; call_main(&rt, &mut host, &["new", "7"])?, Status::Ok);
     for (every, script, status) in &SCRIPTS {
-        fs::write(&rt, every, script)?;
+        fs::write(&rt, *every, *script)?;
         let words = ["collect", every, "1", "sh"];
         assert_eq!(rt; call_main(&rt, &mut host, &words)?, *status, "{script}");
     }
