@@ -131,7 +131,8 @@ fn is_start(start: &WordsList, wanted: &[&str]) -> bool {
     are_equal
 }
 
-/// Whether each start was made with the words of the collector, and there were as many as there are to be.
+/// Whether each start was made with the words of the collector, and there were as many as there are
+/// to be.
 fn are_starts(plain: &Plain, starts: &[WordsList]) -> Result<bool, AllocError> {
     let every = format!(in plain.alloc; "{}", plain.every)?;
     let mut are_equal = starts.len() as u64 == plain.started;
@@ -167,7 +168,8 @@ fn first_difference(
     Ok(None)
 }
 
-/// What is otherwise than it should be with the collector of a seed, and how many children were started.
+/// What is otherwise than it should be with the collector of a seed, and how many children were
+/// started.
 fn try_seed(alloc: Global, seed: u64) -> Result<(Option<&'static str>, u64), Fail> {
     let mut draws = Draws::new(seed);
     let mut plain = draw_plain(alloc, &mut draws)?;

@@ -1,5 +1,5 @@
-//! Programs of the system that the top call runs as collectors, over a disk in memory and a clock that always reads
-//! 100.
+//! Programs of the system that the top call runs as collectors, over a disk in memory and a clock
+//! that always reads 100.
 
 use super::*;
 use fixed_num::Text;

@@ -1,4 +1,5 @@
-//! Random children: what each writes is handed to the rules of collectors line by line as it is drawn.
+//! Random children: what each writes is handed to the rules of collectors line by line as it is
+//! drawn.
 
 use super::draws::Draws;
 use super::plain::{Plain, Said};
@@ -242,7 +243,8 @@ pub fn draw_child(
     Ok(status)
 }
 
-/// A reading of a clock that jumps: mostly the next one is near, and now and then it is 0 or far too late.
+/// A reading of a clock that jumps: mostly the next one is near, and now and then it is 0 or far
+/// too late.
 fn draw_reading(draws: &mut Draws, before: u64) -> u64 {
     match draws.below(64) {
         0 => 0,

@@ -135,7 +135,8 @@ impl Plain {
         self.put(line, said)
     }
 
-    /// A child ends behind bytes without a line feed, which are dropped where a line may have so many.
+    /// A child ends behind bytes without a line feed, which are dropped where a line may have so
+    /// many.
     pub fn rest(&mut self, rest: &[u8]) -> Result<(), AllocError> {
         if self.outcome.is_none() && rest.len() > LONGEST {
             self.text.extend_from_slice(&rest[..LONGEST + 1])?;

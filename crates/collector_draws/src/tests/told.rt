@@ -104,8 +104,8 @@ fn unfinished(alloc: Global, line: u64) -> Result<String, Fail> {
     Ok(format!(in alloc; "REFUSED {line} 28\n")?)
 }
 
-/// How `collect` is to end. Where the runner failed or was disabled it does not ask whether a beat is open at the
-/// end of the text.
+/// How `collect` is to end. Where the runner failed or was disabled it does not ask whether a beat
+/// is open at the end of the text.
 fn wanted(plain: &Plain, run: Ending) -> Result<Ending, Fail> {
     let answer = plain.answer();
     match run.status {
