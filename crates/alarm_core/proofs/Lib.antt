@@ -1,4 +1,5 @@
 pub mod FindLemmas
+pub mod ByChartLemmas
 pub mod NameLemmas
 pub mod SeriesLemmas
 pub mod LookupLemmas

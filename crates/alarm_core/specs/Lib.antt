@@ -8,6 +8,7 @@ pub mod Delay
 pub mod Step
 pub mod Lookups
 pub mod Gathering
+pub mod ByChart
 pub mod Pairs
 pub mod Charts
 pub mod Same

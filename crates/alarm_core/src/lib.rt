@@ -35,12 +35,13 @@
 //! name with those of the others. So does a beat behind which there are more charts, or one has another
 //! name or context. Any other beat compares the three texts of each chart with what they were.
 //!
-//! Where the states are not those of the pairs, states go and come. That compares each state with each
-//! pair, by the number of the chart, and of one chart by all that the alarms say.
+//! Where the states are not those of the pairs, states go and come: each state is compared with the pairs of
+//! its chart, and each pair with the states of its chart, by all that the alarms say. `configure` always does
+//! that. `from_bytes` compares the name of each state with those of the pairs of its chart.
 //!
-//! A beat goes once through all states, and once through all dimensions. A state that is due costs what its
-//! expressions cost, and reads the points of its lookup. A name that is no dimension's id goes through the
-//! names of the chart's dimensions.
+//! A beat goes twice through all states, to see that they are those of the pairs and to step them, and once
+//! through all dimensions. A state that is due costs what its expressions cost, and reads the points of its
+//! lookup. A name that is no dimension's id goes through the names of the chart's dimensions.
 //!
 //! It stands on `health_config` for alarms, on `health_expr` for expressions and values, on
 //! `alarm_events` for events, their log and what is kept, and on `chart_registry` for charts and dimensions.
@@ -49,6 +50,7 @@
 
 mod alarms;
 mod beats;
+mod by_chart;
 mod charts;
 mod delay;
 mod dimension;

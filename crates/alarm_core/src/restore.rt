@@ -6,6 +6,7 @@ ghost use Rattle.health_config.specs.ConfigOf.{configuration_of, text_of};
 ghost use Rattle.health_config.specs.Entity.{alarm_of};
 ghost use Rattle.alarm_core.specs.Kept as spec;
 
+use crate::by_chart::{ByChart, by_chart};
 use crate::fault::AlarmFault;
 use crate::pairing::push_state;
 use crate::pairs::{Pair, alarm_in};
@@ -67,8 +68,8 @@ fn is_pair_of(entities: &[Entity], kept: &KeptState, pair: Pair) -> bool
     pair.chart == kept.chart && is_named(entities, pair.alarm, kept.alarm.as_str())
 }
 
-/// The pair of a kept state.
-fn pair_of(entities: &[Entity], pairs: &[Pair], kept: &KeptState) -> Option<Pair>
+/// The pair of a kept state among these. It compares the state with each.
+fn pair_among(entities: &[Entity], pairs: &[Pair], kept: &KeptState) -> Option<Pair>
     ensures { result ≡ find (spec.is_pair_of (map alarm_of entities.now) kept.now) pairs.now }
 {
     for pair in pairs {
@@ -77,6 +78,14 @@ fn pair_of(entities: &[Entity], pairs: &[Pair], kept: &KeptState) -> Option<Pair
         }
     }
     None
+}
+
+/// The pair of a kept state, found among those of its chart.
+fn pair_of(entities: &[Entity], pairs: &ByChart<Pair>, kept: &KeptState) -> Option<Pair>
+    ensures { result
+        ≡ find (spec.is_pair_of (map alarm_of entities.now) kept.now) pairs.now.items.now }
+{
+    pair_among(entities, pairs.on(kept.chart), kept)
 }
 
 fn state_by(alarm: Holder, kept: &KeptState) -> State
@@ -110,11 +119,11 @@ fn restore_lost(restored: &mut Restored, kept: &KeptState) -> Result<(), AllocEr
 fn restore_one(
     restored: &mut Restored,
     entities: &[Entity],
-    pairs: &[Pair],
+    pairs: &ByChart<Pair>,
     kept: &KeptState,
 ) -> Result<(), AllocError>
     ensures { OnOk result (restored.new
-        ≡ spec.restored_one (map alarm_of entities.now) pairs.now restored.old kept.now) }
+        ≡ spec.restored_one (map alarm_of entities.now) pairs.now.items.now restored.old kept.now) }
 {
     match pair_of(entities, pairs, kept) {
         Some(pair) => {
@@ -125,7 +134,8 @@ fn restore_one(
     }
 }
 
-/// The states of kept ones: each is of the pair that is its own. It compares each with each pair.
+/// The states of kept ones: each is of the pair that is its own. It compares each with the pairs
+/// of its chart.
 pub fn restore(
     alloc: Global,
     entities: &[Entity],
@@ -139,8 +149,9 @@ pub fn restore(
         states: StateList::new(alloc),
         lost: NameList::new(alloc),
     };
+    let of_pairs = by_chart(alloc, pairs)?;
     for kept in states {
-        restore_one(&mut restored, entities, pairs, kept)?;
+        restore_one(&mut restored, entities, &of_pairs, kept)?;
     }
     Ok(restored)
 }
