@@ -99,3 +99,7 @@ wanted_known alarms charts =
 pub none_wanted : (alarms : List Entity) (words : List ChartWords) → alarms ≡ [] → [] ≡ wanted_on (map alarm_of alarms) words
 unfolding wanted_on first_pairs
 none_wanted alarms words none = ap (λ (all : List Entity). wanted_on (map alarm_of all) words) (sym none)
+
+pub none_wanted_now : (alarms : List Entity) (charts : List ChartDef) → alarms ≡ [] → [] ≡ wanted (map alarm_of alarms) charts
+unfolding first_pairs
+none_wanted_now alarms charts none = ap (λ (all : List Entity). wanted (map alarm_of all) charts) (sym none)

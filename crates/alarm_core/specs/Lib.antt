@@ -16,6 +16,7 @@ pub mod Telling
 pub mod Pairing
 pub mod Beats
 pub mod Course
+pub mod UpTo
 pub mod Rows
 pub mod Faults
 pub mod Kept
