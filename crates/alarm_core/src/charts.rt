@@ -1,5 +1,5 @@
 //! What alarms say of charts: where that stays, the pairs stay.
-ghost use Rattle.std.specs.Prelude.{◌≡◌, ◌⊎◌, [], ◌∷◌, ◌++◌, map, IsTrue, IfOk, OnOk};
+ghost use Rattle.std.specs.Prelude.{◌≡◌, ◌⊎◌, ◌↔◌, [], ◌∷◌, ◌++◌, map, IsTrue, IfOk, OnOk};
 ghost use Rattle.health_config.specs.Entity.{alarm_of};
 ghost use Rattle.alarm_core.specs.Charts.{words_of, wanted_on, owner, owner_of};
 ghost use Rattle.alarm_core.specs.Pairs.{wanted};
@@ -65,14 +65,14 @@ fn all_words(alloc: Global, registry: &Registry) -> Result<ChartWordsList, Alloc
 
 /// Whether alarms say the same of a chart.
 fn has_words(def: &ChartDef, words: &ChartWords) -> bool
-    ensures { IsTrue result → words_of def.now ≡ words.now }
+    ensures { IsTrue result ↔ (words_of def.now ≡ words.now) }
 {
     def.id == words.id && def.name == words.name && def.context == words.context
 }
 
 /// Whether alarms say the same of each chart. It compares three texts for each.
 fn have_words(registry: &Registry, words: &[ChartWords]) -> bool
-    ensures { IsTrue result → map words_of registry.now.charts ≡ words.now }
+    ensures { IsTrue result ↔ (map words_of registry.now.charts ≡ words.now) }
 {
     if words.len() != registry.charts() as usize {
         return false;
@@ -135,14 +135,14 @@ pub fn pairing_of(
 
 /// Whether a state is that of a pair.
 fn is_state_of(state: State, pair: Pair) -> bool
-    ensures { IsTrue result → owner state ≡ owner_of pair }
+    ensures { IsTrue result ↔ (owner state ≡ owner_of pair) }
 {
     state.alarm == Holder::Alarm(pair.alarm) && state.chart == pair.chart
 }
 
 /// Whether there is a state for each pair, in their order, and no other.
 pub fn are_states_of(states: &[State], pairs: &[Pair]) -> bool
-    ensures { IsTrue result → map owner states.now ≡ map owner_of pairs.now }
+    ensures { IsTrue result ↔ (map owner states.now ≡ map owner_of pairs.now) }
 {
     if states.len() != pairs.len() {
         return false;

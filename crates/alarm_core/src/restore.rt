@@ -1,6 +1,7 @@
 //! The states of kept alarms.
-ghost use Rattle.std.specs.Prelude.{◌≡◌, ◌⊎◌, [], ◌∷◌, ◌++◌, find, map, Ok, IfOk, IfErr, IsErr, OnOk};
+ghost use Rattle.std.specs.Prelude.{◌≡◌, ◌⊎◌, [], ◌∷◌, ◌++◌, length, find, map, if◌then◌else◌, Ok, IfOk, IfErr, IsErr, OnOk};
 ghost use Rattle.std.specs.List.{list_all};
+ghost use Rattle.std.specs.Option.{is_none};
 ghost use Rattle.health_config.specs.Config.{config_read};
 ghost use Rattle.health_config.specs.ConfigOf.{configuration_of, text_of};
 ghost use Rattle.health_config.specs.Entity.{alarm_of};
@@ -82,8 +83,7 @@ fn pair_among(entities: &[Entity], pairs: &[Pair], kept: &KeptState) -> Option<P
 
 /// The pair of a kept state, found among those of its chart.
 fn pair_of(entities: &[Entity], pairs: &ByChart<Pair>, kept: &KeptState) -> Option<Pair>
-    ensures { result
-        ≡ find (spec.is_pair_of (map alarm_of entities.now) kept.now) pairs.now.items.now }
+    ensures { result ≡ spec.pair_of (map alarm_of entities.now) pairs.now.items.now kept.now }
 {
     pair_among(entities, pairs.on(kept.chart), kept)
 }
@@ -106,13 +106,24 @@ fn push_name(names: &mut NameList, name: Text) -> Result<(), AllocError>
     names.push(name).map_err(|_| AllocError)
 }
 
-/// Adds a state of no pair.
-fn restore_lost(restored: &mut Restored, kept: &KeptState) -> Result<(), AllocError>
-    ensures { OnOk result (restored.new ≡ spec.lost_one restored.old kept.now) }
+/// Whose a state is: the alarm of its pair, or the next that is lost, whose name is noted.
+fn holder_of(
+    lost: &mut NameList,
+    pair: Option<Pair>,
+    kept: &KeptState,
+) -> Result<Holder, AllocError>
+    ensures holder { IfOk result (λ holder. holder ≡ spec.holder_of (length lost.old) pair) }
+    ensures lost { OnOk result (lost.new
+        ≡ lost.old ++ (if is_none pair then kept.now.alarm ∷ [] else [])) }
 {
-    let place = restored.lost.len();
-    push_name(&mut restored.lost, kept.alarm.clone()?)?;
-    push_state(&mut restored.states, state_by(Holder::Lost(place), kept))
+    let place = lost.len();
+    match pair {
+        Some(pair) => Ok(Holder::Alarm(pair.alarm)),
+        None => {
+            push_name(lost, kept.alarm.clone()?)?;
+            Ok(Holder::Lost(place))
+        }
+    }
 }
 
 /// Adds a state.
@@ -122,16 +133,16 @@ fn restore_one(
     pairs: &ByChart<Pair>,
     kept: &KeptState,
 ) -> Result<(), AllocError>
-    ensures { OnOk result (restored.new
-        ≡ spec.restored_one (map alarm_of entities.now) pairs.now.items.now restored.old kept.now) }
+    ensures states { OnOk result (restored.new.states ≡ restored.old.states
+        ++ spec.state_by (spec.holder_of (length restored.old.lost)
+        (spec.pair_of (map alarm_of entities.now) pairs.now.items.now kept.now)) kept.now ∷ []) }
+    ensures lost { OnOk result (restored.new.lost ≡ restored.old.lost
+        ++ map (λ kept. kept.alarm)
+        (spec.lost_among (map alarm_of entities.now) pairs.now.items.now (kept.now ∷ []))) }
 {
-    match pair_of(entities, pairs, kept) {
-        Some(pair) => {
-            let state = state_by(Holder::Alarm(pair.alarm), kept);
-            push_state(&mut restored.states, state)
-        }
-        None => restore_lost(restored, kept),
-    }
+    let pair = pair_of(entities, pairs, kept);
+    let holder = holder_of(&mut restored.lost, pair, kept)?;
+    push_state(&mut restored.states, state_by(holder, kept))
 }
 
 /// The states of kept ones: each is of the pair that is its own. It compares each with the pairs

@@ -14,4 +14,4 @@ returns-then-is_empty-clause-wanted c =
 pub returns-then-have_words-clause-wanted : goal.returns-then-have_words-clause-wanted
 returns-then-have_words-clause-wanted c =
     let alarms = map alarm_of c.args.alarms.now in
-    c.requires ∙ ap (wanted_on alarms) (sym (c.if-have_words.ensures refl ∙ c.as_slice.ensures)) ∙ wanted_known alarms c.args.registry.now.charts
+    c.requires ∙ ap (wanted_on alarms) (sym (c.if-have_words.ensures.0 refl ∙ c.as_slice.ensures)) ∙ wanted_known alarms c.args.registry.now.charts

@@ -14,7 +14,7 @@ returns-then-are_states_of-clause-states c =
     let charts = c.args.registry.now.charts in
     let states = c.args.self.now.states in
     let at : map owner states ≡ map owner_of (wanted alarms charts) =
-    ap (map owner) (sym c.as_slice-states.ensures) ∙ c.if-are_states_of.ensures refl
+    ap (map owner) (sym c.as_slice-states.ensures) ∙ c.if-are_states_of.ensures.0 refl
     ∙ ap (map owner_of) (c.as_slice-pairs.ensures ∙ c.requires.pairs) in
     sym (states_stay alarms charts (wanted alarms charts) states (wanted_each alarms charts) (wanted_rise alarms charts) at)
 
@@ -24,7 +24,7 @@ returns-then-are_states_of-clause-told c =
     let charts = c.args.registry.now.charts in
     let states = c.args.self.now.states in
     let at : map owner states ≡ map owner_of (wanted alarms charts) =
-    ap (map owner) (sym c.as_slice-states.ensures) ∙ c.if-are_states_of.ensures refl
+    ap (map owner) (sym c.as_slice-states.ensures) ∙ c.if-are_states_of.ensures.0 refl
     ∙ ap (map owner_of) (c.as_slice-pairs.ensures ∙ c.requires.pairs) in
     ap (λ (events : List Event). record { log = c.args.self.now.told.log; events = events }) c.clear.ensures
     ∙ sym (ap (tell_all (silent c.args.self.now.told.log)) (none_goes alarms c.args.self.now.lost charts (wanted alarms charts) c.args.registry.now c.args.moment states (wanted_each alarms charts) at))
