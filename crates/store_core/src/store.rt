@@ -7,14 +7,15 @@ ghost use Rattle.host_model.specs.Cause.{HasCause};
 ghost use Rattle.host_model.specs.Moments.{Throughout, EveryImage, OnlyOn};
 ghost use Rattle.beat_tiers.specs.Above.{is_above, RiseAbove};
 ghost use Rattle.beat_tiers.specs.Room.{tiers_held, HasRoomFor};
-ghost use Rattle.beat_tiers.specs.State.{after_beat};
+ghost use Rattle.beat_tiers.specs.Kept.{kept_in};
+ghost use Rattle.beat_tiers.specs.State.{after_beat, no_beats, tier_floor};
 ghost use Rattle.entry_codec.specs.declared.entry.Settings.{Settings as ASettings};
 ghost use Rattle.store_core.specs.declared.beat.Beat.{Beat as ABeat};
 ghost use Rattle.store_core.specs.Beats.{beat_bytes, InForm};
 ghost use Rattle.store_core.specs.Faults.{fault_after, IsCommitFault, IsCreateFault, IsOpenFault, IsReplayFault, IsStepFault, LeavesAll, Reopens};
 ghost use Rattle.store_core.specs.FirstRecord.{InLimits};
 ghost use Rattle.store_core.specs.Records.{is_later, last_after};
-ghost use Rattle.store_core.specs.Tiers.{floor_at, kept_of};
+ghost use Rattle.store_core.specs.Tiers.{first_tier, floor_at, kept_of, other_tiers};
 ghost use Rattle.store_core.specs.Stands.{is_made, IsDamaged, Stands, StandsAround, StandsIfMade};
 
 use crate::beat::Beat;
@@ -152,6 +153,8 @@ impl Store {
         ensures ready { IfOk result (IsReady H.honest (H.seen host.new).past) }
         ensures going { IfOk result (λ store. store.fault ≡ None) }
         ensures new { IfOk result (λ store. (store.count ≡ 0) × (store.last ≡ 0)) }
+        ensures tiers { IfOk result (λ store.
+            store.tiers ≡ no_beats (first_tier store.settings) (other_tiers store.settings)) }
 
         // Every image at every moment is one from before, and what the files read as stays.
         ensures any_moment { H.honest
@@ -228,7 +231,8 @@ impl Store {
     /// it, in seconds, or 0 where nothing has expired.
     pub fn floor(&self, tier: u8) -> u32
         requires { tier < 3 }
-        ensures { (past : List Event) (set : ASettings) (beats rest : List ABeat)
+        ensures kept { result ≡ tier_floor self.now.tiers tier }
+        ensures applied { (past : List Event) (set : ASettings) (beats rest : List ABeat)
             → IsStoreAt past self.now set beats rest → result ≡ floor_at set beats tier }
     {
         self.tiers.floor(tier)
@@ -240,6 +244,7 @@ impl Store {
         ensures kept { (past : List Event) (set : ASettings) (beats rest : List ABeat)
             → IsStoreAt past self.old set beats rest
             → IfOk result (λ kept. kept ≡ kept_of set beats) }
+        ensures tiers { IfOk result (λ kept. kept ≡ kept_in self.old.tiers.points) }
         ensures reopens { Reopens self.old.fault result }
         ensures faults { IfErr result IsReplayFault }
         ensures same { self.new ≡ self.old }
