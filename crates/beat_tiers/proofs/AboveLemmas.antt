@@ -8,6 +8,7 @@ use Rattle.std.proofs.lemmas.List.Concat.{flat_map-append}
 use Rattle.std.proofs.lemmas.List.Elements.{filter-append}
 use Rattle.std.proofs.lemmas.Option.{same_Some}
 use Rattle.beat_tiers.specs.declared.item.Item.{Item}
+use Rattle.beat_tiers.specs.declared.item.Stepped.{Stepped}
 use Rattle.beat_tiers.specs.declared.kept.KeptBeat.{KeptBeat}
 use Rattle.beat_tiers.specs.Above.{Adds, RiseAbove, RiseFrom, is_above, item_above, least_behind}
 use Rattle.beat_tiers.specs.Kept.{beat_of_item, before_beats, beats_in, behind_all, behind_beats, point_of_item}
@@ -29,13 +30,13 @@ last-is least (beat ∷ next ∷ beats) last is =
     last-is beat.moment (next ∷ beats) last (sym (ap (slice_get (beat ∷ next ∷ beats)) e) ∙ is)
 
 -- the item is in the last beat
-pub least-behind : (least : ℕ) (beats : List KeptBeat) (item : Item ℕ) → least_behind least (behind_beats beats item) ≡ item.place
+pub least-behind : (least : ℕ) (beats : List KeptBeat) (item : Item Stepped) → least_behind least (behind_beats beats item) ≡ item.place
 least-behind least [] item = refl
 least-behind least (beat ∷ []) item =
     cond_both (beat.moment == item.place) _ _ (λ (bs : List KeptBeat). least_behind least bs ≡ item.place) (λ is. eqb-true beat.moment item.place is) (λ _. refl)
 least-behind least (beat ∷ next ∷ beats) item = least-behind beat.moment (next ∷ beats) item
 
-pub rises-behind : (from : ℕ) (beats : List KeptBeat) (item : Item ℕ) → RiseAbove from beats → least_behind (from + 1) beats ≤ item.place → RiseAbove from (behind_beats beats item)
+pub rises-behind : (from : ℕ) (beats : List KeptBeat) (item : Item Stepped) → RiseAbove from beats → least_behind (from + 1) beats ≤ item.place → RiseAbove from (behind_beats beats item)
 rises-behind from [] item rises le = (omega (arith, le), omega arith, tt)
 rises-behind from (beat ∷ []) item rises le =
     cond_both (beat.moment == item.place) _ _ (RiseAbove from)
@@ -44,12 +45,12 @@ rises-behind from (beat ∷ []) item rises le =
 rises-behind from (beat ∷ next ∷ beats) item rises le = (rises.0, rises.1, rises-behind beat.moment (next ∷ beats) item rises.2 le)
 
 -- a later item begins a beat
-new-behind : (beat : KeptBeat) (beats : List KeptBeat) (item : Item ℕ) → least_behind beat.moment beats < item.place → behind_beats (beat ∷ beats) item ≡ (beat ∷ beats) ++ beat_of_item item ∷ []
+new-behind : (beat : KeptBeat) (beats : List KeptBeat) (item : Item Stepped) → least_behind beat.moment beats < item.place → behind_beats (beat ∷ beats) item ≡ (beat ∷ beats) ++ beat_of_item item ∷ []
 new-behind beat [] item lt = cond-false (beat.moment == item.place) _ _ (ne_eqb beat.moment item.place (λ same. omega (arith, lt, same)))
 new-behind beat (next ∷ beats) item lt = ap (λ rest. beat ∷ rest) (new-behind next beats item lt)
 
 -- the last beat alone takes items
-all-behind-last : (beats : List KeptBeat) (last : KeptBeat) (items : List (Item ℕ)) → behind_all (beats ++ last ∷ []) items ≡ beats ++ behind_all (last ∷ []) items
+all-behind-last : (beats : List KeptBeat) (last : KeptBeat) (items : List (Item Stepped)) → behind_all (beats ++ last ∷ []) items ≡ beats ++ behind_all (last ∷ []) items
 all-behind-last beats last [] = refl
 all-behind-last beats last (item ∷ items) =
     ap (λ (bs : List KeptBeat). behind_all bs items) (behind-last beats last item)
@@ -65,8 +66,8 @@ all-behind-last beats last (item ∷ items) =
         ∙ ap (λ (bs : List KeptBeat). beats ++ bs) (sym (rest (last ∷ []) (beat_of_item item)))
 
 -- so many beats are whole where the next item begins a beat
-pub whole : (most least : ℕ) (beats : List KeptBeat) (item : Item ℕ) → length beats ≤ most → most ≤ length beats → (ltb (least_behind least beats) item.place || (length beats == 0)) ≡ true
-    → (more : List (Item ℕ)) → beats ≡ take most (behind_all beats (item ∷ more))
+pub whole : (most least : ℕ) (beats : List KeptBeat) (item : Item Stepped) → length beats ≤ most → most ≤ length beats → (ltb (least_behind least beats) item.place || (length beats == 0)) ≡ true
+    → (more : List (Item Stepped)) → beats ≡ take most (behind_all beats (item ∷ more))
 whole zero least [] item few size begins more = refl
 whole (suc most) least [] item few size begins more = absurd (omega (arith, size))
 whole most least (beat ∷ beats) item few size begins more =
@@ -78,16 +79,16 @@ whole most least (beat ∷ beats) item few size begins more =
     ∙ take_all most (beat ∷ beats) few)
 
 -- how many beats there are then
-pub few-behind : (beats : List KeptBeat) (item : Item ℕ) → length (behind_beats beats item) ≤ length beats + 1
+pub few-behind : (beats : List KeptBeat) (item : Item Stepped) → length (behind_beats beats item) ≤ length beats + 1
 few-behind [] item = omega arith
 few-behind (beat ∷ []) item = cond_both (beat.moment == item.place) _ _ (λ (bs : List KeptBeat). length bs ≤ 2) (λ _. omega arith) (λ _. omega arith)
 few-behind (beat ∷ next ∷ beats) item = omega (arith, few-behind (next ∷ beats) item)
 
-same-behind : (beat : KeptBeat) (beats : List KeptBeat) (item : Item ℕ) → least_behind beat.moment beats ≡ item.place → length (behind_beats (beat ∷ beats) item) ≡ length (beat ∷ beats)
+same-behind : (beat : KeptBeat) (beats : List KeptBeat) (item : Item Stepped) → least_behind beat.moment beats ≡ item.place → length (behind_beats (beat ∷ beats) item) ≡ length (beat ∷ beats)
 same-behind beat [] item is = ap length (cond-true (beat.moment == item.place) _ _ (eq-eqb beat.moment item.place is))
 same-behind beat (next ∷ beats) item is = omega (arith, same-behind next beats item is)
 
-pub as-few-behind : (most least : ℕ) (beats : List KeptBeat) (item : Item ℕ) → length beats ≤ most → least_behind least beats ≤ item.place → (ltb (least_behind least beats) item.place || (length beats == 0)) ≡ false
+pub as-few-behind : (most least : ℕ) (beats : List KeptBeat) (item : Item Stepped) → length beats ≤ most → least_behind least beats ≤ item.place → (ltb (least_behind least beats) item.place || (length beats == 0)) ≡ false
     → length (behind_beats beats item) ≤ most
 as-few-behind most least [] item few le begins = absurd (grind (arith, nat_tests))
 as-few-behind most least (beat ∷ beats) item few le begins =
@@ -97,46 +98,46 @@ as-few-behind most least (beat ∷ beats) item few le begins =
 -- ---- items one after the other
 
 -- what follows rises from the last of the beats then
-pub rises-on : (least : ℕ) (old : List KeptBeat) (xs ys : List (Item ℕ)) → RiseFrom (least_behind least old) (xs ++ ys) → RiseFrom (least_behind least (behind_all old xs)) ys
+pub rises-on : (least : ℕ) (old : List KeptBeat) (xs ys : List (Item Stepped)) → RiseFrom (least_behind least old) (xs ++ ys) → RiseFrom (least_behind least (behind_all old xs)) ys
 rises-on least old [] ys rises = rises
 rises-on least old (x ∷ xs) ys rises = rises-on least (behind_beats old x) xs ys (subst (λ (n : ℕ). RiseFrom n (xs ++ ys)) (sym (least-behind least old x)) rises.1)
 
-pub rises-left : (least : ℕ) (xs ys : List (Item ℕ)) → RiseFrom least (xs ++ ys) → RiseFrom least xs
+pub rises-left : (least : ℕ) (xs ys : List (Item Stepped)) → RiseFrom least (xs ++ ys) → RiseFrom least xs
 rises-left least [] ys rises = tt
 rises-left least (x ∷ xs) ys rises = (rises.0, rises-left x.place xs ys rises.1)
 
 -- items behind items
-pub adds-more : (most : ℕ) (old mid new : List KeptBeat) (xs ys : List (Item ℕ)) (going : Bool) → mid ≡ behind_all old xs → Adds most mid ys new going → Adds most old (xs ++ ys) new going
+pub adds-more : (most : ℕ) (old mid new : List KeptBeat) (xs ys : List (Item Stepped)) (going : Bool) → mid ≡ behind_all old xs → Adds most mid ys new going → Adds most old (xs ++ ys) new going
 adds-more most old mid new xs ys true is adds = adds ∙ ap (λ (bs : List KeptBeat). behind_all bs ys) is ∙ sym (behind-all-append old xs ys)
 adds-more most old mid new xs ys false is adds = λ more.
     adds more
     ∙ ap (take most) (ap (λ (bs : List KeptBeat). behind_all bs (ys ++ more)) is ∙ sym (behind-all-append old xs (ys ++ more)) ∙ ap (behind_all old) (sym (append_assoc xs ys more)))
 
 -- where enough are whole, what follows changes nothing
-pub adds-whole : (most : ℕ) (old new : List KeptBeat) (xs ys : List (Item ℕ)) → Adds most old xs new false → Adds most old (xs ++ ys) new false
-adds-whole most old new xs ys adds = λ more. adds (ys ++ more) ∙ ap (λ (zs : List (Item ℕ)). take most (behind_all old zs)) (sym (append_assoc xs ys more))
+pub adds-whole : (most : ℕ) (old new : List KeptBeat) (xs ys : List (Item Stepped)) → Adds most old xs new false → Adds most old (xs ++ ys) new false
+adds-whole most old new xs ys adds = λ more. adds (ys ++ more) ∙ ap (λ (zs : List (Item Stepped)). take most (behind_all old zs)) (sym (append_assoc xs ys more))
 
-pub adds-all : (most : ℕ) (new : List KeptBeat) (xs : List (Item ℕ)) (going : Bool) → length new ≤ most → Adds most [] xs new going → new ≡ take most (beats_in xs)
+pub adds-all : (most : ℕ) (new : List KeptBeat) (xs : List (Item Stepped)) (going : Bool) → length new ≤ most → Adds most [] xs new going → new ≡ take most (beats_in xs)
 adds-all most new xs true few adds = sym (take_all most new few) ∙ ap (take most) (adds ∙ behind-all-in [] xs)
 adds-all most new xs false few adds = adds [] ∙ ap (take most) (behind-all-in [] (xs ++ []) ∙ ap beats_in (append-nil xs))
 
 -- ---- the items above a moment
 
-rises-ordered : (x : Item ℕ) (xs : List (Item ℕ)) → AreOrdered (x ∷ xs) → RiseFrom x.place xs
+rises-ordered : (x : Item Stepped) (xs : List (Item Stepped)) → AreOrdered (x ∷ xs) → RiseFrom x.place xs
 rises-ordered x [] ordered = tt
 rises-ordered x (y ∷ xs) ordered = (place-le x y ordered.0, rises-ordered y xs ordered.1)
 
-rises-less : (least low : ℕ) (xs : List (Item ℕ)) → least ≤ low → RiseFrom low xs → RiseFrom least xs
+rises-less : (least low : ℕ) (xs : List (Item Stepped)) → least ≤ low → RiseFrom low xs → RiseFrom least xs
 rises-less least low [] le rises = tt
 rises-less least low (x ∷ xs) le rises = (omega (arith, le, rises.0), rises.1)
 
-rises-filter : (p : Item ℕ → Bool) (least : ℕ) (xs : List (Item ℕ)) → RiseFrom least xs → RiseFrom least (filter p xs)
+rises-filter : (p : Item Stepped → Bool) (least : ℕ) (xs : List (Item Stepped)) → RiseFrom least xs → RiseFrom least (filter p xs)
 rises-filter p least [] rises = tt
 rises-filter p least (x ∷ xs) rises =
     let rest = rises-filter p x.place xs rises.1 in
     cond_both (p x) _ _ (RiseFrom least) (λ _. (rises.0, rest)) (λ _. rises-less least x.place (filter p xs) rises.0 rest)
 
-pub rises-above : (from : ℕ) (xs : List (Item ℕ)) → AreOrdered xs → RiseFrom (from + 1) (filter (item_above from) xs)
+pub rises-above : (from : ℕ) (xs : List (Item Stepped)) → AreOrdered xs → RiseFrom (from + 1) (filter (item_above from) xs)
 rises-above from [] ordered = tt
 rises-above from (x ∷ xs) ordered =
     cond_both (item_above from x) _ _ (RiseFrom (from + 1))
@@ -147,7 +148,7 @@ rises-above from (x ∷ xs) ordered =
 abbrev AreLater : ℕ → List KeptBeat → Type 0
 AreLater from beats = AllByRecursion (λ (beat : KeptBeat). from < beat.moment) beats
 
-later-in : (from least : ℕ) (xs : List (Item ℕ)) → from < least → RiseFrom least xs → AreLater from (beats_in xs)
+later-in : (from least : ℕ) (xs : List (Item Stepped)) → from < least → RiseFrom least xs → AreLater from (beats_in xs)
 later-in from least [] lt rises = tt
 later-in from least (x ∷ xs) lt rises =
     before (beats_in xs) (later-in from x.place xs (omega (arith, lt, rises.0)) rises.1)
@@ -160,13 +161,13 @@ all-later : (from : ℕ) (beats : List KeptBeat) → AreLater from beats → fil
 all-later from [] later = refl
 all-later from (beat ∷ beats) later = cond-true (is_above from beat) _ _ (lt-ltb from beat.moment later.0) ∙ ap (λ rest. beat ∷ rest) (all-later from beats later.1)
 
-all-above : (from least : ℕ) (xs : List (Item ℕ)) → from < least → RiseFrom least xs → filter (item_above from) xs ≡ xs
+all-above : (from least : ℕ) (xs : List (Item Stepped)) → from < least → RiseFrom least xs → filter (item_above from) xs ≡ xs
 all-above from least [] lt rises = refl
 all-above from least (x ∷ xs) lt rises =
     cond-true (item_above from x) _ _ (le-leb (from + 1) x.place (omega (arith, lt, rises.0))) ∙ ap (λ rest. x ∷ rest) (all-above from x.place xs (omega (arith, lt, rises.0)) rises.1)
 
 -- an item that does not lie above gives nothing
-below-before : (from : ℕ) (x : Item ℕ) (beats : List KeptBeat) → x.place ≤ from → filter (is_above from) (before_beats x beats) ≡ filter (is_above from) beats
+below-before : (from : ℕ) (x : Item Stepped) (beats : List KeptBeat) → x.place ≤ from → filter (is_above from) (before_beats x beats) ≡ filter (is_above from) beats
 below-before from x [] le = cond-false (is_above from (beat_of_item x)) _ _ (le-ltb from x.place le)
 below-before from x (beat ∷ beats) le =
     cond_both (x.place == beat.moment) _ _ (λ (bs : List KeptBeat). filter (is_above from) bs ≡ filter (is_above from) (beat ∷ beats))
@@ -176,7 +177,7 @@ below-before from x (beat ∷ beats) le =
     (λ _. cond-false (is_above from (beat_of_item x)) _ _ (le-ltb from x.place le))
 
 -- the beats above a moment are those of the items above it
-pub above-in : (from : ℕ) (xs : List (Item ℕ)) → AreOrdered xs → filter (is_above from) (beats_in xs) ≡ beats_in (filter (item_above from) xs)
+pub above-in : (from : ℕ) (xs : List (Item Stepped)) → AreOrdered xs → filter (is_above from) (beats_in xs) ≡ beats_in (filter (item_above from) xs)
 above-in from [] ordered = refl
 above-in from (x ∷ xs) ordered =
     elim (cases_Bool (item_above from x)) [
@@ -192,8 +193,8 @@ above-in from (x ∷ xs) ordered =
 
 -- ---- part by part
 
-module _ {S : Type 0} (f : S → List (Item ℕ)) (from : ℕ) where
-  abbrev pub above : List S → List (Item ℕ)
+module _ {S : Type 0} (f : S → List (Item Stepped)) (from : ℕ) where
+  abbrev pub above : List S → List (Item Stepped)
   above segments = filter (item_above from) (flat_map f segments)
 
   pub above-more : (segments : List S) (i : ℕ) (s : S) → i < length segments → s ≡ get_or segments i s → above (take (i + 1) segments) ≡ above (take i segments) ++ filter (item_above from) (f s)
@@ -204,11 +205,11 @@ module _ {S : Type 0} (f : S → List (Item ℕ)) (from : ℕ) where
   above-split segments i s lt is =
       ap (filter (item_above from)) (ap (flat_map f) (sym (take-append-drop (i + 1) segments)) ∙ flat_map-append f (take (i + 1) segments) (drop (i + 1) segments))
       ∙ filter-append (item_above from) (flat_map f (take (i + 1) segments)) (flat_map f (drop (i + 1) segments))
-      ∙ ap (λ (zs : List (Item ℕ)). zs ++ above (drop (i + 1) segments)) (above-more segments i s lt is)
+      ∙ ap (λ (zs : List (Item Stepped)). zs ++ above (drop (i + 1) segments)) (above-more segments i s lt is)
 
 -- ---- a part more
 
-module _ (most least : ℕ) (old mid new : List KeptBeat) (all done here rest : List (Item ℕ)) (split : all ≡ (done ++ here) ++ rest) (is : mid ≡ behind_all old done) where
+module _ (most least : ℕ) (old mid new : List KeptBeat) (all done here rest : List (Item Stepped)) (split : all ≡ (done ++ here) ++ rest) (is : mid ≡ behind_all old done) where
   pub part-rises : RiseFrom (least_behind least old) all → RiseFrom (least_behind least mid) here
   part-rises rises =
       let front : RiseFrom (least_behind least old) (done ++ here) = rises-left (least_behind least old) (done ++ here) rest (subst (RiseFrom (least_behind least old)) split rises) in
@@ -220,16 +221,16 @@ module _ (most least : ℕ) (old mid new : List KeptBeat) (all done here rest : 
 
   pub part-ends : (going : Bool) → going ≡ false → Adds most mid here new going → Adds most old all new false
   part-ends going off adds =
-      subst (λ (zs : List (Item ℕ)). Adds most old zs new false) (sym split)
+      subst (λ (zs : List (Item Stepped)). Adds most old zs new false) (sym split)
       (adds-whole most old new (done ++ here) rest (adds-more most old mid new done here false is (subst (λ (g : Bool). Adds most mid here new g) off adds)))
 
-pub items-split : (items : List (Item ℕ)) (i : ℕ) (d : Item ℕ) → i < length items → items ≡ (take i items ++ get_or items i d ∷ []) ++ drop (i + 1) items
-items-split items i d lt = sym (take-append-drop (i + 1) items) ∙ ap (λ (zs : List (Item ℕ)). zs ++ drop (i + 1) items) (take_more items i d lt)
+pub items-split : (items : List (Item Stepped)) (i : ℕ) (d : Item Stepped) → i < length items → items ≡ (take i items ++ get_or items i d ∷ []) ++ drop (i + 1) items
+items-split items i d lt = sym (take-append-drop (i + 1) items) ∙ ap (λ (zs : List (Item Stepped)). zs ++ drop (i + 1) items) (take_more items i d lt)
 
 -- those of all segments
-pub all-above-split : (from : ℕ) (segments : SegmentsOf ℕ) (a b : List (Segment ℕ)) → a ++ b ≡ segments.sealed
+pub all-above-split : (from : ℕ) (segments : SegmentsOf Stepped) (a b : List (Segment Stepped)) → a ++ b ≡ segments.sealed
     → filter (item_above from) (items_of segments) ≡ filter (item_above from) (items_in a) ++ (filter (item_above from) (items_in b) ++ filter (item_above from) segments.unsealed)
 all-above-split from segments a b e =
     ap (filter (item_above from)) (segments-split segments a b e)
     ∙ filter-append (item_above from) (items_in a) (items_in b ++ segments.unsealed)
-    ∙ ap (λ (zs : List (Item ℕ)). filter (item_above from) (items_in a) ++ zs) (filter-append (item_above from) (items_in b) segments.unsealed)
+    ∙ ap (λ (zs : List (Item Stepped)). filter (item_above from) (items_in a) ++ zs) (filter-append (item_above from) (items_in b) segments.unsealed)

@@ -10,6 +10,7 @@ use Rattle.fixed_num.specs.declared.units.Record.{Record}
 use Rattle.tier_rollup.proofs.BucketLemmas.{ends_after}
 use Rattle.beat_tiers.specs.declared.item.BeatPoint.{BeatPoint}
 use Rattle.beat_tiers.specs.declared.item.Item.{Item}
+use Rattle.beat_tiers.specs.declared.item.Stepped.{Stepped}
 use Rattle.beat_tiers.specs.declared.tier.Tier.{Tier}
 use Rattle.beat_tiers.specs.Beats.{TierBeat, Follows, last, record_of, records_in, series_limit}
 use Rattle.beat_tiers.specs.Floors.{closing, cut_after, cuts_of, items_added}
@@ -145,11 +146,11 @@ set_kept last moment points (state ∷ states) =
 
 -- ---- tier 0
 
-after_given : (tier : Tier) (moment : ℕ) (points : List BeatPoint) (segments : SegmentsOf ℕ) → points_after tier moment points segments ≡ given tier moment (point_items moment points) segments
+after_given : (tier : Tier) (moment : ℕ) (points : List BeatPoint) (segments : SegmentsOf Stepped) → points_after tier moment points segments ≡ given tier moment (point_items moment points) segments
 after_given tier moment [] segments = refl
 after_given tier moment (point ∷ points) segments = refl
 
-points_more : (beats : List TierBeat) (tier : Tier) (moment : ℕ) (points : List BeatPoint) (segments : SegmentsOf ℕ) → IsTier tier → AreBeats beats → Follows (beat_of (Some moment) points) beats
+points_more : (beats : List TierBeat) (tier : Tier) (moment : ℕ) (points : List BeatPoint) (segments : SegmentsOf Stepped) → IsTier tier → AreBeats beats → Follows (beat_of (Some moment) points) beats
     → AreSegmentsOf tier (cuts_of 0 tier beats) (points_given beats) segments
     → AreSegmentsOf tier (cuts_of 0 tier (beat_of (Some moment) points ∷ beats)) (points_given (beat_of (Some moment) points ∷ beats)) (points_after tier moment points segments)
 points_more beats tier moment points segments settings beats_are follows are =
@@ -158,9 +159,9 @@ points_more beats tier moment points segments settings beats_are follows are =
     settings.extents (since_few 0 tier beats settings.items)
     (falling_to (last beats + 1) moment (points_given beats) (points_fall beats beats_are) low)
     (less_to (last beats + 1) moment (cuts_of 0 tier beats).sealed (cuts_less 0 tier beats beats_are) low) (ltb-true moment (2 ^ 32) follows.short) are in
-    subst (λ (s : SegmentsOf ℕ). AreSegmentsOf tier (cuts_of 0 tier (beat_of (Some moment) points ∷ beats)) (points_given (beat_of (Some moment) points ∷ beats)) s) (sym (after_given tier moment points segments))
+    subst (λ (s : SegmentsOf Stepped). AreSegmentsOf tier (cuts_of 0 tier (beat_of (Some moment) points ∷ beats)) (points_given (beat_of (Some moment) points ∷ beats)) s) (sym (after_given tier moment points segments))
     (subst (λ n. AreSegmentsOf tier (cut_after tier (Some moment) n (cuts_of 0 tier beats)) (points_given (beat_of (Some moment) points ∷ beats)) (given tier moment (point_items moment points) segments))
-    (length-map points (λ (point : BeatPoint). record { place = moment; series = point.series; value = point.word })) more)
+    (length-map points (λ (point : BeatPoint). record { place = moment; series = point.series; value = record { step = point.step; word = point.word } })) more)
 
 -- ---- all tiers
 

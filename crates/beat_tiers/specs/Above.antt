@@ -1,6 +1,7 @@
 -- The kept beats above a moment, and how they are gathered from items.
 use Rattle.std.specs.Prelude.{◌≡◌, ℕ, ◌+◌, ◌<◌, ◌≤◌, Bool, true, false, nat_le, nat_lt, List, [], ◌∷◌, ◌++◌, length, filter, take}
 use Rattle.beat_tiers.specs.declared.item.Item.{Item}
+use Rattle.beat_tiers.specs.declared.item.Stepped.{Stepped}
 use Rattle.beat_tiers.specs.declared.kept.KeptBeat.{KeptBeat}
 use Rattle.beat_tiers.specs.Kept.{behind_all}
 use Rattle.beat_tiers.specs.Tiers.{AreOrdered}
@@ -15,11 +16,11 @@ RiseAbove from (beat ∷ beats) = (from < beat.moment) × (1 ≤ length beat.poi
 
 -- ---- items
 
-abbrev pub item_above : ℕ → Item ℕ → Bool
+abbrev pub item_above : ℕ → Item Stepped → Bool
 item_above from item = nat_le (from + 1) item.place
 
 -- the places do not fall, and are from a number on
-abbrev pub RiseFrom : ℕ → List (Item ℕ) → Type 0
+abbrev pub RiseFrom : ℕ → List (Item Stepped) → Type 0
 RiseFrom least [] = Unit {0}
 RiseFrom least (item ∷ items) = (least ≤ item.place) × RiseFrom item.place items
 
@@ -29,11 +30,11 @@ least_behind least [] = least
 least_behind least (beat ∷ beats) = least_behind beat.moment beats
 
 -- Beats and these items behind them are the new beats: all of them, or the first so many, whatever follows.
-abbrev pub Adds : ℕ → List KeptBeat → List (Item ℕ) → List KeptBeat → Bool → Type 0
+abbrev pub Adds : ℕ → List KeptBeat → List (Item Stepped) → List KeptBeat → Bool → Type 0
 Adds most old items new true = new ≡ behind_all old items
-Adds most old items new false = (more : List (Item ℕ)) → new ≡ take most (behind_all old (items ++ more))
+Adds most old items new false = (more : List (Item Stepped)) → new ≡ take most (behind_all old (items ++ more))
 
 -- the same of those of ordered items that lie above a moment, where they may follow the beats
-abbrev pub AddsAbove : ℕ → ℕ → List KeptBeat → List (Item ℕ) → List KeptBeat → Bool → Type 0
+abbrev pub AddsAbove : ℕ → ℕ → List KeptBeat → List (Item Stepped) → List KeptBeat → Bool → Type 0
 AddsAbove from most old items new going =
     AreOrdered items → RiseFrom (least_behind (from + 1) old) (filter (item_above from) items) → Adds most old (filter (item_above from) items) new going

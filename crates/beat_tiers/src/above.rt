@@ -6,7 +6,7 @@ ghost use Rattle.beat_tiers.specs.Searching.{items_in, HasItems};
 ghost use Rattle.beat_tiers.specs.Segments.{items_of};
 ghost use Rattle.beat_tiers.specs.Tiers.{AreOrdered};
 
-use crate::item::Item;
+use crate::item::{Item, Stepped};
 use crate::kept::{KeptBeat, KeptBeatList, add_item};
 use crate::sealed::Sealed;
 use crate::searching::{from_place, from_segment};
@@ -35,7 +35,7 @@ fn begins(beats: &[KeptBeat], least: u64, place: u64) -> bool
 fn add_above(
     alloc: Global,
     beats: &mut Vec<KeptBeat>,
-    item: &Item<u32>,
+    item: &Item<Stepped>,
     from: u32,
     most: usize,
 ) -> Result<bool, AllocError>
@@ -62,7 +62,7 @@ fn add_above(
 fn add_items(
     alloc: Global,
     beats: &mut Vec<KeptBeat>,
-    items: &[Item<u32>],
+    items: &[Item<Stepped>],
     from: u32,
     most: usize,
 ) -> Result<bool, AllocError>
@@ -86,7 +86,7 @@ fn add_items(
 fn add_ordered(
     alloc: Global,
     beats: &mut Vec<KeptBeat>,
-    items: &[Item<u32>],
+    items: &[Item<Stepped>],
     from: u32,
     most: usize,
 ) -> Result<bool, AllocError>
@@ -105,7 +105,7 @@ fn add_ordered(
 fn add_segments(
     alloc: Global,
     beats: &mut Vec<KeptBeat>,
-    segments: &[Sealed<u32>],
+    segments: &[Sealed<Stepped>],
     from: u32,
     most: usize,
 ) -> Result<bool, AllocError>
@@ -129,7 +129,7 @@ fn add_segments(
 fn add_sealed(
     alloc: Global,
     beats: &mut Vec<KeptBeat>,
-    segments: &[Sealed<u32>],
+    segments: &[Sealed<Stepped>],
     from: u32,
     most: usize,
 ) -> Result<bool, AllocError>
@@ -149,7 +149,7 @@ fn add_sealed(
 fn add_all(
     alloc: Global,
     beats: &mut Vec<KeptBeat>,
-    segments: &Segments<u32>,
+    segments: &Segments<Stepped>,
     from: u32,
     most: usize,
 ) -> Result<bool, AllocError>
@@ -173,7 +173,7 @@ fn add_all(
 /// The beats above a moment that gave the items of segments, the earliest first, and at most so many of them.
 pub(crate) fn kept_above(
     alloc: Global,
-    segments: &Segments<u32>,
+    segments: &Segments<Stepped>,
     from: u32,
     most: usize,
 ) -> Result<KeptBeatList, AllocError>

@@ -37,7 +37,7 @@ mod tests;
 mod tier;
 mod tiers;
 
-pub use item::{BeatPoint, BeatPointList, Item};
+pub use item::{BeatPoint, BeatPointList, Item, Stepped};
 pub use kept::{Kept, KeptBeat, KeptBeatList, KeptPoint, KeptPointList};
 pub use kept_law::any_kept_beats;
 pub use law::any_beats;

@@ -7,7 +7,7 @@ ghost use Rattle.beat_tiers.specs.Segments.{items_of, with_items};
 ghost use Rattle.beat_tiers.specs.State.{AreClosed, RecordTierState, after_beat, floor_in, no_beats, no_records, point_items, points_after, points_in, record_in, record_tier_after, tier_floor};
 ghost use Rattle.beat_tiers.specs.Tiers.{AreOrdered, IsFirstRecord, IsTier};
 
-use crate::item::{BeatPoint, Item};
+use crate::item::{BeatPoint, Item, Stepped};
 use crate::kept::{self, Kept, KeptBeatList};
 use crate::record_tier::RecordTier;
 use crate::segments::Segments;
@@ -25,7 +25,7 @@ pub struct Tiers {
     /// The last moment of a beat, or 0.
     last: u32,
     first: Tier,
-    points: Segments<u32>,
+    points: Segments<Stepped>,
     records: Vec<RecordTier>,
 }
 
@@ -58,7 +58,7 @@ fn record_tiers(alloc: Global, settings: &[Tier]) -> Result<Vec<RecordTier>, All
 }
 
 /// Adds points as items, for which there is memory.
-fn push_points(segments: &mut Segments<u32>, moment: u32, points: &[BeatPoint])
+fn push_points(segments: &mut Segments<Stepped>, moment: u32, points: &[BeatPoint])
     requires { length points.now ≤ segments.old.items }
     ensures { segments.new ≡ record segments.old {
       kept = with_items segments.old.kept (point_items moment points.now);
@@ -69,13 +69,16 @@ fn push_points(segments: &mut Segments<u32>, moment: u32, points: &[BeatPoint])
         segments.push(Item {
             place: moment,
             series: point.series,
-            value: point.word,
+            value: Stepped {
+                step: point.step,
+                word: point.word,
+            },
         });
     }
 }
 
 /// Adds the points of a beat, for which there is memory, and ends it.
-fn take_points(segments: &mut Segments<u32>, tier: Tier, moment: u32, points: &[BeatPoint])
+fn take_points(segments: &mut Segments<Stepped>, tier: Tier, moment: u32, points: &[BeatPoint])
     requires room { HasRoom (length points.now) segments.old }
     requires tier { 1 ≤ tier.items }
     ensures { segments.new.kept ≡ points_after tier moment points.now segments.old.kept }

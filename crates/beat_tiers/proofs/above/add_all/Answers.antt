@@ -1,6 +1,7 @@
 use Rattle.std.proofs.Common.{◌≡◌, ℕ, ◌+◌, Bool, true, false, List, [], ◌++◌, filter, refl, sym, subst, ◌∙◌, append-nil, append_assoc}
 use Rattle.std.proofs.lemmas.Result.{IfOk-weaker}
 use Rattle.beat_tiers.specs.declared.item.Item.{Item}
+use Rattle.beat_tiers.specs.declared.item.Stepped.{Stepped}
 use Rattle.beat_tiers.specs.declared.kept.KeptBeat.{KeptBeat}
 use Rattle.beat_tiers.specs.declared.segments.Segment.{Segment}
 use Rattle.beat_tiers.specs.Above.{Adds, AddsAbove, RiseFrom, item_above, least_behind}
@@ -13,18 +14,18 @@ use Rattle.beat_tiers.proofs.Searches.{parts-ordered}
 use Rattle.beat_tiers.proofs.above.add_all.Goals as goal
 
 -- the parts of all segments, one behind the other
-module _ (from most : ℕ) (old : List KeptBeat) (segments : SegmentsOf ℕ) (early late : List (Segment ℕ)) (split : early ++ late ≡ segments.sealed) (ordered : AreOrdered (items_of segments))
+module _ (from most : ℕ) (old : List KeptBeat) (segments : SegmentsOf Stepped) (early late : List (Segment Stepped)) (split : early ++ late ≡ segments.sealed) (ordered : AreOrdered (items_of segments))
     (rises : RiseFrom (least_behind (from + 1) old) (filter (item_above from) (items_of segments))) where
-  all : List (Item ℕ)
+  all : List (Item Stepped)
   all = filter (item_above from) (items_of segments)
 
-  first : List (Item ℕ)
+  first : List (Item Stepped)
   first = filter (item_above from) (items_in early)
 
-  second : List (Item ℕ)
+  second : List (Item Stepped)
   second = filter (item_above from) (items_in late)
 
-  third : List (Item ℕ)
+  third : List (Item Stepped)
   third = filter (item_above from) segments.unsealed
 
   is_first : all ≡ ([] ++ first) ++ (second ++ third)
@@ -66,7 +67,7 @@ module _ (from most : ℕ) (old : List KeptBeat) (segments : SegmentsOf ℕ) (ea
     adds_third =
         let here : Adds most mid third new going =
         adds (parts-ordered segments early late split ordered).2 (part-rises most (from + 1) old mid new all (first ++ second) third [] is_third is rises) in
-        subst (λ (zs : List (Item ℕ)). Adds most old zs new going) (sym is_second) (adds-more most old mid new (first ++ second) third going is here)
+        subst (λ (zs : List (Item Stepped)). Adds most old zs new going) (sym is_second) (adds-more most old mid new (first ++ second) third going is here)
 
 pub returns-then-not-branch-clause-added : goal.returns-then-not-branch-clause-added
 unfolding all
@@ -98,5 +99,5 @@ returns-clause-added c =
     λ going adds ordered rises.
     let is = goes_first a.from a.most a.beats.now.items segments early late c.sealed.ensures.all ordered rises mid c.in_ok-add_sealed.field-0 c.in_ok-add_sealed.ensures.added c.if-not-branch.false in
     let on = goes_second a.from a.most a.beats.now.items segments early late c.sealed.ensures.all ordered rises mid last is c.in_ok-add_sealed-2.field-0 c.in_ok-add_sealed-2.ensures.added c.if-not-branch-2.false in
-    adds_third a.from a.most a.beats.now.items segments early late c.sealed.ensures.all ordered rises last new on going (subst (λ (zs : List (Item ℕ)). AddsAbove a.from a.most last zs new going) c.unsealed.ensures adds) in
+    adds_third a.from a.most a.beats.now.items segments early late c.sealed.ensures.all ordered rises last new on going (subst (λ (zs : List (Item Stepped)). AddsAbove a.from a.most last zs new going) c.unsealed.ensures adds) in
     IfOk-weaker c.add_ordered.result _ _ weaker c.add_ordered.ensures.added

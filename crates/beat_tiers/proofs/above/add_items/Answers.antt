@@ -1,12 +1,13 @@
-use Rattle.std.proofs.Common.{ℕ, ◌+◌, [], ◌∷◌, take, drop, get_or, ap, sym, ◌∙◌, arith}
+use Rattle.std.proofs.Common.{◌+◌, [], ◌∷◌, take, drop, get_or, ap, sym, ◌∙◌, arith}
 use Rattle.std.proofs.lemmas.List.{take_more}
 use Rattle.beat_tiers.specs.declared.item.Item.{Item}
+use Rattle.beat_tiers.specs.declared.item.Stepped.{Stepped}
 use Rattle.beat_tiers.specs.Kept.{behind_all}
 use Rattle.beat_tiers.proofs.AboveLemmas.{items-split, part-adds, part-ends, part-rises}
 use Rattle.beat_tiers.proofs.above.add_items.Goals as goal
 
-none : Item ℕ
-none = record { place = 0; series = 0; value = 0 }
+none : Item Stepped
+none = record { place = 0; series = 0; value = record { step = 0; word = 0 } }
 
 pub returns-then-not-branch-clause-added : goal.returns-then-not-branch-clause-added
 unfolding none

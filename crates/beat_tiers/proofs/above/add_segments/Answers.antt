@@ -1,5 +1,6 @@
-use Rattle.std.proofs.Common.{ℕ, ◌+◌, List, filter, take, drop, ap, sym, subst, ◌∙◌, arith}
+use Rattle.std.proofs.Common.{◌+◌, List, filter, take, drop, ap, sym, subst, ◌∙◌, arith}
 use Rattle.beat_tiers.specs.declared.item.Item.{Item}
+use Rattle.beat_tiers.specs.declared.item.Stepped.{Stepped}
 use Rattle.beat_tiers.specs.declared.segments.Segment.{Segment}
 use Rattle.beat_tiers.specs.Above.{AddsAbove, item_above}
 use Rattle.beat_tiers.specs.Kept.{behind_all}
@@ -8,7 +9,7 @@ use Rattle.beat_tiers.proofs.AboveLemmas.{above, above-more, above-split, part-a
 use Rattle.beat_tiers.proofs.Ordered.{ordered-part}
 use Rattle.beat_tiers.proofs.above.add_segments.Goals as goal
 
-abbrev items : Segment ℕ → List (Item ℕ)
+abbrev items : Segment Stepped → List (Item Stepped)
 items segment = segment.items
 
 pub returns-then-not-branch-clause-added : goal.returns-then-not-branch-clause-added
@@ -25,9 +26,9 @@ returns-then-not-branch-clause-added c = λ ordered rises.
     let split = above-split items a.from segments place one (omega arith) c.segment-item.is in
     let is = c.loop-segment.invariant.2 ordered rises in
     let part : AreOrdered one.items =
-    subst (λ (segment : Segment ℕ). AreOrdered segment.items) (sym c.segment-item.is) (ordered-part items segments place one (omega arith) ordered) in
+    subst (λ (segment : Segment Stepped). AreOrdered segment.items) (sym c.segment-item.is) (ordered-part items segments place one (omega arith) ordered) in
     let adds : AddsAbove a.from a.most mid one.items new c.in_ok-add_ordered.field-0 =
-    subst (λ (zs : List (Item ℕ)). AddsAbove a.from a.most mid zs new c.in_ok-add_ordered.field-0) c.items.ensures c.in_ok-add_ordered.ensures.added in
+    subst (λ (zs : List (Item Stepped)). AddsAbove a.from a.most mid zs new c.in_ok-add_ordered.field-0) c.items.ensures c.in_ok-add_ordered.ensures.added in
     let rise = part-rises a.most (a.from + 1) a.beats.now.items mid new (above items a.from segments) done here rest split is rises in
     part-ends a.most (a.from + 1) a.beats.now.items mid new (above items a.from segments) done here rest split is c.in_ok-add_ordered.field-0 c.if-not-branch.true (adds part rise)
 
@@ -48,9 +49,9 @@ loop-segment-preserved c = (
       let split = above-split items a.from segments place one (omega arith) c.segment-item.is in
       let is = c.loop-segment.invariant.2 ordered rises in
       let part : AreOrdered one.items =
-      subst (λ (segment : Segment ℕ). AreOrdered segment.items) (sym c.segment-item.is) (ordered-part items segments place one (omega arith) ordered) in
+      subst (λ (segment : Segment Stepped). AreOrdered segment.items) (sym c.segment-item.is) (ordered-part items segments place one (omega arith) ordered) in
       let adds : AddsAbove a.from a.most mid one.items new c.in_ok-add_ordered.field-0 =
-      subst (λ (zs : List (Item ℕ)). AddsAbove a.from a.most mid zs new c.in_ok-add_ordered.field-0) c.items.ensures c.in_ok-add_ordered.ensures.added in
+      subst (λ (zs : List (Item Stepped)). AddsAbove a.from a.most mid zs new c.in_ok-add_ordered.field-0) c.items.ensures c.in_ok-add_ordered.ensures.added in
       let rise = part-rises a.most (a.from + 1) a.beats.now.items mid new (above items a.from segments) done here rest split is rises in
       part-adds a.most (a.from + 1) a.beats.now.items mid new (above items a.from segments) done here rest split is c.in_ok-add_ordered.field-0 c.if-not-branch.false (adds part rise)
       ∙ ap (behind_all a.beats.now.items) (sym (above-more items a.from segments place one (omega arith) c.segment-item.is)),
