@@ -73,6 +73,7 @@ module _ {T : Type 0} where
   pub record AreSegmentsOf (tier : Tier) (cuts : Cuts) (groups : List (Group T)) (segments : SegmentsOf T) : Type 0 where
     pub expired : segments.expired ≡ slice_get cuts.sealed tier.extents
     pub sealed : map (λ (segment : Segment T). segment.sealed_at) segments.sealed ≡ reverse (take tier.extents cuts.sealed)
+    pub count : segments.count ≡ length cuts.sealed
     pub since : length segments.unsealed ≡ cuts.since
     pub split : AreSplit segments.expired segments.sealed segments.unsealed segments.beats groups
 
