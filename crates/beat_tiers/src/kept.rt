@@ -90,7 +90,11 @@ fn add_behind(
 }
 
 /// Puts an item behind beats.
-fn add_item(alloc: Global, beats: &mut Vec<KeptBeat>, item: &Item<u32>) -> Result<(), AllocError>
+pub(crate) fn add_item(
+    alloc: Global,
+    beats: &mut Vec<KeptBeat>,
+    item: &Item<u32>,
+) -> Result<(), AllocError>
     ensures { OnOk result (beats.new.items ≡ behind_beats beats.old.items item.now) }
 {
     match beats.pop() {

@@ -22,6 +22,7 @@
 //! `fixed_num`. It knows no disk and no history.
 #![tactic(auto)]
 
+mod above;
 mod item;
 mod kept;
 mod kept_law;

@@ -17,7 +17,7 @@ use std::alloc::{AllocError, Global};
 use tier_rollup::{Point, PointList};
 
 /// The items from a place on, by halves.
-fn from_place<T>(items: &[Item<T>], low: u64) -> &[Item<T>]
+pub(crate) fn from_place<T>(items: &[Item<T>], low: u64) -> &[Item<T>]
     ensures ordered { AreOrdered items.now → AreOrdered result.now }
     ensures from { AreOrdered items.now
         → result.now ≡ filter (λ (item : AnItem T). nat_le low item.place) items.now }
@@ -56,7 +56,7 @@ fn last_place<T>(segment: &Sealed<T>) -> u32
 }
 
 /// The segments that have items from a place on, by halves.
-fn from_segment<T>(segments: &[Sealed<T>], low: u64) -> &[Sealed<T>]
+pub(crate) fn from_segment<T>(segments: &[Sealed<T>], low: u64) -> &[Sealed<T>]
     requires { AllByRecursion HasItems segments.now }
     ensures ordered { AreOrdered (items_in segments.now) → AreOrdered (items_in result.now) }
     ensures full { AllByRecursion HasItems result.now }

@@ -1,5 +1,6 @@
-ghost use Rattle.std.specs.Prelude.{◌≡◌, ℕ, ◌+◌, ◌-◌, ◌^◌, ◌<◌, ◌≤◌, min, ◌∷◌, ◌++◌, length, map, slice_get, Some, None, IfOk, IsNone, IsOk, OnOk};
+ghost use Rattle.std.specs.Prelude.{◌≡◌, ℕ, ◌+◌, ◌-◌, ◌^◌, ◌<◌, ◌≤◌, min, ◌∷◌, ◌++◌, filter, length, map, slice_get, take, Some, None, IfOk, IsNone, IsOk, OnOk};
 ghost use Rattle.std.specs.List.{AllByRecursion};
+ghost use Rattle.beat_tiers.specs.Above.{is_above, RiseAbove};
 ghost use Rattle.beat_tiers.specs.Kept.{kept_in};
 ghost use Rattle.beat_tiers.specs.Room.{records_held, tiers_held, HasRoom, HasRoomAfter, HasRoomFor};
 ghost use Rattle.beat_tiers.specs.Segments.{items_of, with_items};
@@ -7,11 +8,11 @@ ghost use Rattle.beat_tiers.specs.State.{AreClosed, RecordTierState, after_beat,
 ghost use Rattle.beat_tiers.specs.Tiers.{AreOrdered, IsFirstRecord, IsTier};
 
 use crate::item::{BeatPoint, Item};
-use crate::kept::{self, Kept};
+use crate::kept::{self, Kept, KeptBeatList};
 use crate::record_tier::RecordTier;
-use crate::searching;
 use crate::segments::Segments;
 use crate::tier::Tier;
+use crate::{above, searching};
 use fixed_num::Record;
 use std::alloc::{AllocError, Global};
 use std::marker::Model;
@@ -270,5 +271,18 @@ impl Tiers {
         ensures { IfOk result (λ kept. kept ≡ kept_in self.now.points.kept) }
     {
         kept::kept_of(self.alloc, &self.points)
+    }
+
+    /// The kept beats above a moment, the earliest first, and at most so many of them. It costs by what it gives and by a
+    /// search for the first of them, and not by what is kept.
+    pub fn kept_above(&self, from: u32, most: usize) -> Result<KeptBeatList, AllocError>
+        ensures kept { AreOrdered (items_of self.now.points.kept) → IfOk result (λ beats.
+            beats ≡ take most (filter (is_above from) (kept_in self.now.points.kept).beats)) }
+
+        // The same, of tiers that are of no beats.
+        ensures rises { IfOk result (RiseAbove from) }
+        ensures few { IfOk result (λ beats. length beats ≤ most) }
+    {
+        above::kept_above(self.alloc, &self.points, from, most)
     }
 }
