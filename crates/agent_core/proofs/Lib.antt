@@ -3,6 +3,7 @@ pub mod AnswerLemmas
 pub mod AnswerTruth
 pub mod CallLemmas
 pub mod ClosedLemmas
+pub mod CopyCalls
 pub mod CopyLemmas
 pub mod DefinedLemmas
 pub mod FedLemmas

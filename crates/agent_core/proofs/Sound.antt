@@ -13,6 +13,9 @@ use Rattle.history.specs.History.{Beat, collected, health}
 use Rattle.history.specs.Looking.{beat as open_beat}
 use Rattle.collect_block.specs.declared.feed.Feed.{Feed}
 use Rattle.collect_block.specs.Feed.{CountsAt, IsFeedOf}
+use Rattle.replication.specs.declared.ask.Ask.{Ask}
+use Rattle.replication.specs.declared.message.Data.{Data}
+use Rattle.replication.specs.declared.verdict.Verdict.{Verdict}
 use Rattle.entry_codec.specs.declared.entry.Settings.{Settings}
 use Rattle.store_core.specs.declared.fault.Why.{Why}
 use Rattle.store_core.specs.declared.fault.Why.TheVariants as why
@@ -23,14 +26,16 @@ use Rattle.agent_core.specs.declared.fault.AgentFault.TheVariants.{Refused, Heal
 use Rattle.agent_core.specs.declared.reply.Reply.{Reply}
 use Rattle.agent_core.specs.declared.reply.Said.{Said}
 use Rattle.agent_core.specs.Agent.{id_of, AgentState, IsAgentOf, IsSoundBy, IsSpentAfter}
-use Rattle.agent_core.specs.Calls.{Beats, Keeps, Lines, Queries, Reads, SetsHealth}
+use Rattle.agent_core.specs.Calls.{agent_verdict, AnswersAsk, Beats, Keeps, Lines, Queries, Reads, SetsHealth, TakesData}
+use Rattle.agent_core.specs.Copying.{added_to, refusal_by}
 use Rattle.host_model.specs.Seen.{Seen}
 use Rattle.agent_core.specs.Faults.{cause_of, fault_after, IsHealthRefusal, IsRefusal, LeavesAll, ReopensWith}
 use Rattle.agent_core.specs.Health.{health_refusal}
-use Rattle.agent_core.specs.Kept.{StandsForFront, StandsForHealth, StandsForHistory, StandsForOneOf}
+use Rattle.agent_core.specs.Kept.{onto, StandsForFront, StandsForHealth, StandsForHistory, StandsForOneOf}
 use Rattle.agent_core.specs.Roles.{copies}
 use Rattle.agent_core.specs.Rules.{beat_refusal, history_with, line_refusal}
 use Rattle.agent_core.specs.Sound.{closed_by, history_after, history_by, tried_after, tried_with}
+use Rattle.agent_core.proofs.CopyCalls.{adds-are}
 use Rattle.agent_core.proofs.KeptLemmas.{stays}
 use Rattle.agent_core.proofs.Outcomes.{fails-free}
 
@@ -260,3 +265,34 @@ query-sound honest host host' agent agent' text result set h tried true_host did
 pub kept-sound : (honest : Type 0) (host host' : Seen) (agent agent' : AgentState) (result : Result Kept AgentFault) (set : Settings) (h tried : List Beat) → honest
     → Keeps honest host agent result host' agent' → IsSoundBy host.past agent set h tried → IsSoundBy host'.past agent' set h (tried_after result [] tried)
 kept-sound honest host host' agent agent' result set h tried true_host did = read-sound honest host agent host' agent' set h tried true_host _ result did.reads
+
+-- `data` keeps an agent sound
+pub data-sound : (honest : Type 0) (host host' : Seen) (agent agent' : AgentState) (ask : Ask) (result : Result (Option Data) AgentFault) (set : Settings) (h tried : List Beat) → honest
+    → AnswersAsk honest host agent ask result host' agent' → IsSoundBy host.past agent set h tried → IsSoundBy host'.past agent' set h (tried_after result [] tried)
+data-sound honest host host' agent agent' ask result set h tried true_host did = read-sound honest host agent host' agent' set h tried true_host _ result did.reads
+
+-- ---- a message of a child
+module _ (honest : Type 0) (host : Seen) (agent : AgentState) (message : Data) (host' : Seen) (agent' : AgentState) (set : Settings) (h tried : List Beat) (true_host : honest) where
+  abbrev untaken : AgentFault → Result (Verdict × Reply) AgentFault
+  untaken fault = Err fault
+
+  take-failed : (fault : AgentFault) → TakesData honest host agent message (untaken fault) host' agent' → Failed host agent fault host' agent'
+  take-failed fault did = record {
+    possible = λ going. of-refusal (refusal_by (agent_verdict agent message) agent.registry agent.role message) fault (did.refused going);
+    unchanged = did.unchanged;
+    spends = λ going. did.fault ∙ ap (λ (f : Option Why). fault_after f (untaken fault)) going;
+    reopens = did.reopens;
+    count = did.stays.0;
+    last = did.stays.1;
+    id = did.id;
+  }
+
+  -- `take` keeps an agent sound
+  pub take-sound : (result : Result (Verdict × Reply) AgentFault) → TakesData honest host agent message result host' agent' → IsSoundBy host.past agent set h tried
+      → IsSoundBy host'.past agent' set (history_after result (added_to h message) h) (tried_after result (added_to h message) tried)
+  take-sound (Ok taken) did (inl is_of) =
+      inl (subst (λ (more : List Beat). IsAgentOf host'.past agent' set (onto h more)) (adds-are host.past agent set h is_of message) (did.done true_host set h is_of))
+  take-sound (Ok taken) did (inr was) = absurd (never agent was.cause was.spent did.reopens)
+  take-sound (Err fault) did sound =
+      failed-sound host agent host' agent' set h (added_to h message) tried fault (take-failed fault did)
+      (λ is_of disk images. subst (λ (more : List Beat). StandsForFront set h more disk) (adds-are host.past agent set h is_of message) (at_end (did.any_moment true_host set h is_of) disk images)) sound

@@ -1,4 +1,4 @@
-ghost use Rattle.std.specs.Prelude.{◌≡◌, ◌<◌, ◌≤◌, ℕ, Bool, true, false, List, [], ◌∷◌, ◌++◌, map, take, Some, None, is_some, reverse, Result};
+ghost use Rattle.std.specs.Prelude.{◌≡◌, ◌<◌, ◌≤◌, ℕ, Bool, true, false, List, [], ◌∷◌, ◌++◌, map, take, Option, Some, None, is_some, reverse, Result};
 ghost use Rattle.std.specs.List.{AllByRecursion};
 ghost use Rattle.host_model.specs.declared.file.File.{File as AFile};
 ghost use Rattle.history.specs.declared.line.Line.{Line};
@@ -14,6 +14,7 @@ ghost use Rattle.beat_tiers.specs.Beats.{series_points};
 ghost use Rattle.entry_codec.specs.declared.entry.Settings.{Settings as ASettings};
 ghost use Rattle.replication.specs.declared.ask.Ask.{Ask as AnAsk};
 ghost use Rattle.replication.specs.declared.message.Data.{Data};
+ghost use Rattle.replication.specs.declared.verdict.Verdict.{Verdict};
 ghost use Rattle.replication.specs.Answer.{from_of};
 ghost use Rattle.replication.specs.Copies.{above, had_floor, latest, EndsBy, RisesFrom};
 ghost use Rattle.link_frames.specs.DataForm.{IsData};
@@ -26,7 +27,7 @@ ghost use Rattle.agent_core.specs.declared.reply.Reply.{Reply};
 ghost use Rattle.agent_core.specs.declared.reply.Said.{Said};
 ghost use Rattle.agent_core.specs.Agent.{AgentState, IsSoundBy};
 ghost use Rattle.agent_core.specs.Alarms.{all_events, log_at};
-ghost use Rattle.agent_core.specs.Calls.{Beats, Keeps, Lines, Queries, SetsHealth};
+ghost use Rattle.agent_core.specs.Calls.{AnswersAsk, Beats, Keeps, Lines, Queries, SetsHealth, TakesData};
 ghost use Rattle.host_model.specs.Seen.{Seen};
 ghost use Rattle.agent_core.specs.Kept.{onto, AreBeatsOf, CopyFollows, StandsForHistory};
 ghost use Rattle.agent_core.specs.Answers.{floor_of_history, points_of_history, tier_beats};
@@ -107,6 +108,17 @@ pub fn any_call<H: Host>()
         → IsSoundBy host.past agent set h tried
         → IsSoundBy host'.past agent' set (history_after result (health text ∷ []) h)
         (tried_after result (health text ∷ []) tried) }
+    ensures take { H.honest → (host host' : Seen) (agent agent' : AgentState) (message : Data)
+        (result : Result (Verdict × Reply) AgentFault) (set : ASettings) (h tried : List Beat)
+        → TakesData H.honest host agent message result host' agent'
+        → IsSoundBy host.past agent set h tried
+        → IsSoundBy host'.past agent' set (history_after result (added_to h message) h)
+        (tried_after result (added_to h message) tried) }
+    ensures data { H.honest → (host host' : Seen) (agent agent' : AgentState) (ask : AnAsk)
+        (result : Result (Option Data) AgentFault) (set : ASettings) (h tried : List Beat)
+        → AnswersAsk H.honest host agent ask result host' agent'
+        → IsSoundBy host.past agent set h tried
+        → IsSoundBy host'.past agent' set h (tried_after result [] tried) }
 {}
 
 /// The law of what is answered of a history: the points that its tiers see of a series are its points, so that
