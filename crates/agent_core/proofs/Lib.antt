@@ -28,6 +28,8 @@ pub mod PointLemmas
 pub mod ReplayLemmas
 pub mod ReplyLemmas
 pub mod SeenLemmas
+pub mod SentBeats
+pub mod SentNames
 pub mod Sound
 pub mod StepLemmas
 pub mod TakenLemmas

@@ -30,6 +30,7 @@
 mod agent;
 mod alarming;
 mod answering;
+mod asking;
 mod beat_index;
 mod copying;
 mod definitions;
