@@ -1,6 +1,7 @@
 pub mod AlarmLemmas
 pub mod AnswerLemmas
 pub mod AnswerTruth
+pub mod AskLemmas
 pub mod CallLemmas
 pub mod ClosedLemmas
 pub mod CopyCalls

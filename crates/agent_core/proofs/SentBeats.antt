@@ -3,6 +3,7 @@ use Rattle.std.proofs.Common.{◌≡◌, ℕ, ◌+◌, ◌<◌, ◌≤◌, ◌^�
 use Rattle.std.specs.List.{list_all, AllByRecursion}
 use Rattle.std.proofs.lemmas.Bool.{and_from, and_parts, le-leb, leb-true, lt-ltb, ltb-true}
 use Rattle.std.proofs.lemmas.List.{append-nil, drop_more, length-append, map-append}
+use Rattle.std.proofs.lemmas.Option.{get_or_from_slice_get, slice_get-get_or}
 use Rattle.storage_number.specs.Word.{is_word}
 use Rattle.entry_codec.specs.Lists.{is_ascending, IsShortListOf}
 use Rattle.beat_tiers.specs.declared.kept.KeptBeat.{KeptBeat}
@@ -18,6 +19,10 @@ use Rattle.link_frames.specs.Fields.{FitsBeat, FitsWord}
 use Rattle.agent_core.specs.Asking.{beat_with, AreSendable, IsSendable}
 use Rattle.agent_core.specs.Copies.{sent_beat, sent_word}
 use Rattle.agent_core.proofs.PointLemmas.{mapped-more}
+
+-- an item in its place is the same, whatever stands for one that is not there
+pub same-item : {A : Type 0} (xs : List A) (n : ℕ) (d : A) → n < length xs → get_or xs n (get_or xs n d) ≡ get_or xs n d
+same-item xs n d within = get_or_from_slice_get xs n (get_or xs n d) (get_or xs n d) (slice_get-get_or xs n d within)
 
 -- ---- numbers that rise
 ascending-push : (ns : List ℕ) (n : ℕ) → is_ascending ns ≡ true → AllByRecursion (λ m. m < n) ns → is_ascending (ns ++ n ∷ []) ≡ true

@@ -1,10 +1,10 @@
 -- What is told of the charts and dimensions of a registry: each in its place, and so that a frame may have it.
-use Rattle.std.proofs.Common.{◌≡◌, ℕ, ◌==◌, ◌+◌, ◌<◌, ◌≤◌, ◌^◌, Bool, true, false, cond, ◌&&◌, ltb, nat_le, List, [], ◌∷◌, ◌++◌, length, map, take, slice_get, get_or, position, Option, Some, None, is_some, IfSome, inl, inr, refl, sym, ap, subst, ◌∙◌, arith, true≢false, bytes_eq}
+use Rattle.std.proofs.Common.{◌≡◌, ℕ, ◌==◌, ◌+◌, ◌<◌, ◌≤◌, ◌^◌, Bool, true, false, cond, ◌&&◌, nat_le, nat_lt, List, [], ◌∷◌, ◌++◌, length, map, take, slice_get, get_or, position, Option, Some, None, is_some, IfSome, inl, inr, refl, sym, ap, subst, ◌∙◌, arith, true≢false, bytes_eq}
 use Rattle.std.specs.List.{list_all, list_any, position_or_len, AllByRecursion, IsDistinct}
 use Rattle.std.specs.Option.{option_map}
 use Rattle.std.specs.Str.{IsUtf8}
 use Rattle.std.proofs.lemmas.Bool.{cases_Bool, and_from, and_parts, eq-eqb, le-leb, leb-true, ne_eqb}
-use Rattle.std.proofs.lemmas.List.{length-map}
+use Rattle.std.proofs.lemmas.List.{length-map, take_more}
 use Rattle.std.proofs.lemmas.List.Elements.{recursion_from_All}
 use Rattle.std.proofs.lemmas.Option.{get_or_from_slice_get, none-some, same_Some, slice_get_within}
 use Rattle.history.specs.declared.beat.OpenDim.{OpenDim}
@@ -20,6 +20,7 @@ use Rattle.replication.specs.declared.names.ChartName.{ChartName}
 use Rattle.replication.specs.declared.names.DimName.{DimName}
 use Rattle.replication.specs.declared.names.Names.{Names}
 use Rattle.replication.specs.Answer.{AreNames}
+use Rattle.replication.proofs.Copies.{all-append}
 use Rattle.replication.proofs.PointsLaws.{found}
 use Rattle.entry_codec.specs.Lists.{IsText}
 use Rattle.link_frames.specs.DataForm.{has_id, AreApart as ApartNames}
@@ -43,26 +44,18 @@ named-more f xs n y old new within is pushed before =
     let y_is : y ≡ f there.0 = subst (λ found. IfSome found (λ x. y ≡ f x)) there.1 is in
     mapped-more f xs n there.0 old new within (get_or_from_slice_get xs n there.0 there.0 there.1) (pushed ∙ ap (λ y. old ++ y ∷ []) y_is) before
 
-place-is : {A : Type 0} (p : A → Bool) (xs : List A) (n : ℕ) → position p xs ≡ Some n → position_or_len p xs ≡ n
-place-is p xs n is = by (ltb (position_or_len p xs) (length xs)) is
-  where
-    by : (b : Bool) → cond b (Some (position_or_len p xs)) None ≡ Some n → position_or_len p xs ≡ n
-    by true e = same_Some (position_or_len p xs) n e
-    by false e = absurd (none-some n e)
-
--- what was read of a dimension is what is told of it
-pub dimension-is : (registry : Registry) (found : Option OpenDim) (def : DimDef) (chart : ℕ) (id : List ℕ) → option_map (λ (dimension : OpenDim). dimension.def) found ≡ Some def
-    → IfSome found (λ dimension. chart_of registry dimension.chart ≡ Some chart) → id ≡ def.id
-    → IfSome found (λ dimension. record { chart = chart; id = id; hidden = def.hidden } ≡ dimension_name registry dimension)
-dimension-is registry None def chart id at owner id_is = tt
-dimension-is registry (Some dimension) def chart id at owner id_is =
-    let def_is : def ≡ dimension.def = sym (same_Some dimension.def def at) in
-    λ i. record { chart = sym (place-is (is_chart dimension.chart) registry.charts chart owner) i; id = (id_is ∙ ap (λ (def : DimDef). def.id) def_is) i; hidden = (def_is i).hidden }
-
 -- a chart with a number is there
 pub chart-there : (registry : Registry) (found : Option OpenDim) (chart : ℕ) → IfSome found (λ dimension. chart_of registry dimension.chart ≡ Some chart) → IfSome found (HasChart registry)
 chart-there registry None chart owner = tt
 chart-there registry (Some dimension) chart owner = sym (list_any-position (is_chart dimension.chart) registry.charts) ∙ ap is_some owner
+
+-- what holds of each of the first, and of one more
+pub holds-more : {A : Type 0} (P : A → Type 0) (xs : List A) (n : ℕ) → n < length xs → IfSome (slice_get xs n) P → AllByRecursion P (take n xs) → AllByRecursion P (take (n + 1) xs)
+holds-more P xs n within is before =
+    let there = item-there xs n within in
+    let one : P there.0 = subst (λ found. IfSome found P) there.1 is in
+    let next : take (n + 1) xs ≡ take n xs ++ there.0 ∷ [] = take_more xs n there.0 within ∙ ap (λ x. take n xs ++ x ∷ []) (get_or_from_slice_get xs n there.0 there.0 there.1) in
+    subst (AllByRecursion P) (sym next) (all-append P (take n xs) (there.0 ∷ []) before (one, tt))
 
 -- ---- so that a frame may have them
 distinct-from_apart : {A : Type 0} (same : A → A → Bool) (xs : List A) → AreApart same xs → IsDistinct same xs

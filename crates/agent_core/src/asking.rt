@@ -3,7 +3,7 @@
 //! The answer is a frame whatever database it is of: a point whose word is no storage number, that is of no series or
 //! out of order is left out, and so is a beat without points. A history has no such points and beats.
 
-ghost use Rattle.std.specs.Prelude.{◌≡◌, ℕ, ◌<◌, ◌++◌, ◌&&◌, nat_le, nat_lt, None, List, length, map, slice_get, IfOk, IfErr, IfSome, OnOk};
+ghost use Rattle.std.specs.Prelude.{◌≡◌, ℕ, ◌^◌, ◌<◌, ◌++◌, ◌&&◌, nat_le, nat_lt, None, List, length, map, slice_get, IfOk, IfErr, IfSome, OnOk};
 ghost use Rattle.std.specs.List.{AllByRecursion};
 ghost use Rattle.storage_number.specs.Word.{is_word};
 ghost use Rattle.host_model.specs.Past.{Event};
@@ -115,8 +115,9 @@ fn names_of(alloc: Global, registry: &Registry) -> Result<Names, CopyFault>
 
 /// Whether a point may be sent behind others, where its series may be from `least` on and below `series`.
 fn may_follow(least: u32, series: u32, point: &KeptPoint) -> bool
-    ensures { result ≡ (nat_le least point.now.series && nat_lt point.now.series series
+    ensures value { result ≡ (nat_le least point.now.series && nat_lt point.now.series series
         && is_word point.now.word) }
+    ensures small { point.now.word < 2 ^ 32 }
 {
     least <= point.series && point.series < series && is_word(point.word)
 }
@@ -188,6 +189,7 @@ fn answer_by(
     requires dimensions { AreApart same_dimension registry.now.dimensions }
     requires limits { HasLimits registry.now }
     requires rises { RiseAbove (from_of floor ask.last) kept.now }
+    requires small { ask.last < 2 ^ 32 }
     ensures answered { IfOk result (λ answer.
         AllByRecursion (IsSendable (length registry.now.dimensions)) (map sent_beat kept.now)
         → answer ≡ data_of child floor (names_of registry.now) (map sent_beat kept.now) ask) }
