@@ -3,7 +3,7 @@
 //! The answer is a frame whatever database it is of: a point whose word is no storage number, that is of no series or
 //! out of order is left out, and so is a beat without points. A history has no such points and beats.
 
-ghost use Rattle.std.specs.Prelude.{◌≡◌, ℕ, ◌^◌, ◌<◌, ◌++◌, ◌&&◌, nat_le, nat_lt, None, List, length, map, slice_get, IfOk, IfErr, IfSome, OnOk};
+ghost use Rattle.std.specs.Prelude.{◌≡◌, ℕ, ◌^◌, ◌<◌, ◌++◌, ◌&&◌, nat_le, nat_lt, None, List, length, map, slice_get, IfOk, IfErr, IfSome, IsTrue, OnOk};
 ghost use Rattle.std.specs.List.{AllByRecursion};
 ghost use Rattle.storage_number.specs.Word.{is_word};
 ghost use Rattle.host_model.specs.Past.{Event};
@@ -117,7 +117,7 @@ fn names_of(alloc: Global, registry: &Registry) -> Result<Names, CopyFault>
 fn may_follow(least: u32, series: u32, point: &KeptPoint) -> bool
     ensures value { result ≡ (nat_le least point.now.series && nat_lt point.now.series series
         && is_word point.now.word) }
-    ensures small { point.now.word < 2 ^ 32 }
+    ensures small { IsTrue result → point.now.word < 2 ^ 32 }
 {
     least <= point.series && point.series < series && is_word(point.word)
 }
@@ -243,9 +243,10 @@ pub(crate) fn answer<H: Host>(
     }
     let floor = store.floor(0);
     match store.kept_above(host, from_of(floor, ask.last), BEAT_LIMIT) {
-        Ok(kept) => {
-            answer_by(alloc, child, floor, registry, &kept, *ask).map_err(|_| AgentFault::Memory)
-        }
+        Ok(kept) => match answer_by(alloc, child, floor, registry, &kept, *ask) {
+            Ok(answer) => Ok(answer),
+            Err(_) => Err(AgentFault::Memory),
+        },
         Err(fault) => Err(store_fault(fault)),
     }
 }

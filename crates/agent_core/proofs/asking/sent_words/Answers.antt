@@ -25,7 +25,7 @@ loop-point-preserved c =
           let pushed : c.if-may_follow.words ≡ words ++ sent_word point ∷ [] = w.words-is ∙ w.in_ok-push.ensures.ok in
           record {
             taken = subst (λ next. SoFar series next c.if-may_follow.words) (sym w.least-is)
-                (more-so_far series least words c.if-may_follow.words point so.taken may (record { series = omega arith; word = c.may_follow.ensures.small }) pushed);
+                (more-so_far series least words c.if-may_follow.words point so.taken may (record { series = omega arith; word = c.may_follow.ensures.small w.if-may_follow.true }) pushed);
             all = λ sendable. subst (λ next. AllSoFar series next c.if-may_follow.words points (n + 1)) (sym w.least-is)
                 (all-more series least words points n point within at (so.all sendable) c.if-may_follow.words pushed);
           }
