@@ -35,6 +35,7 @@ ghost use Rattle.agent_core.specs.Steps.{IsOpenStep, Takes};
 
 use crate::alarming::{Stepping, follow};
 use crate::answering;
+use crate::asking;
 use crate::copying::is_stored;
 use crate::fault::{AgentFault, store_fault};
 use crate::keeping::{add, add_health};
@@ -805,30 +806,35 @@ impl Agent {
         self.answer(host, ask)
     }
 
-    fn answer<H: Host>(&mut self, _host: &mut H, _ask: &Ask) -> Result<Option<Data>, AgentFault>
-        requires { AgentIsReady H.honest (H.seen _host.old).past self.old }
+    fn answer<H: Host>(&mut self, host: &mut H, ask: &Ask) -> Result<Option<Data>, AgentFault>
+        requires { AgentIsReady H.honest (H.seen host.old).past self.old }
         ensures answered { IfOk result (λ answer. (set : ASettings) (h : List HistoryBeat)
-            → IsAgentOf (H.seen _host.old).past self.old set h
-            → answer ≡ data_of_history set h _ask.now) }
+            → IsAgentOf (H.seen host.old).past self.old set h
+            → answer ≡ data_of_history set h ask.now) }
         ensures form { IfOk result
             (λ answer. IfSome answer (λ message. HasSpelling (frame.Data message))) }
         ensures asked { IfOk result (λ answer. IfSome answer
-            (λ message. (message.child ≡ id_of self.old) × (message.prev ≡ _ask.now.last))) }
-        ensures host { H.seen _host.new ≡ H.seen _host.old }
+            (λ message. (message.child ≡ id_of self.old) × (message.prev ≡ ask.now.last))) }
+        ensures host { H.seen host.new ≡ H.seen host.old }
         ensures done { OnOk result (self.new ≡ self.old) }
         ensures unchanged { IfErr result (λ fault. LeavesAll fault → self.new ≡ self.old) }
         ensures faults { IfErr result IsReading }
         ensures fault { self.new.fault ≡ fault_after self.old.fault result }
         ensures reopens { Reopens self.old.fault result }
         ensures stays { self.new ≡ record self.old { fault = self.new.fault } }
-        ensures cause { HasCause (H.seen _host.old).disk_faults (H.seen _host.new).disk_faults
+        ensures cause { HasCause (H.seen host.old).disk_faults (H.seen host.new).disk_faults
             (IsErrOf result AgentFault.DiskFault) }
     {
         if let Some(cause) = self.fault {
             return Err(AgentFault::Reopen(cause));
         }
-        self.fault = Some(Why::Memory);
-        Err(AgentFault::Memory)
+        match asking::answer(self.alloc, &mut self.store, &self.registry, host, ask) {
+            Ok(answer) => Ok(answer),
+            Err(fault) => {
+                self.fault = fault.cause();
+                Err(fault)
+            }
+        }
     }
 
     /// The child that it copies, if it copies.
