@@ -1,6 +1,6 @@
 -- What a history answers to an Ask is true of the beats that are seen of it, and it answers nothing only where it has
 -- nothing above what was asked for.
-use Rattle.std.proofs.Common.{◌≡◌, ℕ, ◌==◌, ◌+◌, ◌-◌, ◌<◌, ◌≤◌, Bool, true, false, cond, not, ◌&&◌, nat_le, nat_lt, List, [], ◌∷◌, ◌++◌, length, map, reverse, slice_get, Option, Some, None, inl, inr, refl, sym, ap, subst, ◌∙◌, arith, true≢false}
+use Rattle.std.proofs.Common.{◌≡◌, ℕ, ◌==◌, ◌-◌, ◌<◌, ◌≤◌, Bool, true, false, cond, not, ◌&&◌, nat_le, nat_lt, List, [], ◌∷◌, ◌++◌, length, map, reverse, slice_get, Option, Some, None, inl, inr, refl, sym, ap, subst, ◌∙◌, arith, true≢false}
 use Rattle.std.specs.List.{filter, list_any, AllByRecursion}
 use Rattle.std.specs.Option.{option_map}
 use Rattle.std.proofs.lemmas.Bool.{cases_Bool, and_from, cond-true, cond-false, eq-eqb, false_from_ne_true, le-leb, lt-leb, ltb-true}
@@ -65,7 +65,7 @@ filter-within p q within (x ∷ xs) =
     not_there leaves = false_from_ne_true (p x) (λ passes. true≢false (sym (within x passes) ∙ leaves))
 
 module _ {B : Type 0} (moment : B → ℕ) where
-  pub rises-lower : (low high : ℕ) (xs : List B) → low ≤ high → RisesFrom moment high xs → RisesFrom moment low xs
+  rises-lower : (low high : ℕ) (xs : List B) → low ≤ high → RisesFrom moment high xs → RisesFrom moment low xs
   rises-lower low high [] le rises = tt
   rises-lower low high (x ∷ xs) le rises = (omega (arith, rises.0), rises.1)
 

@@ -1,13 +1,11 @@
 -- What is answered to a parent is what the history answers, and a frame whatever database it is of.
-use Rattle.std.proofs.Common.{◌≡◌, ℕ, ◌==◌, ◌+◌, ◌<◌, ◌≤◌, ◌^◌, Bool, true, not, ◌&&◌, nat_le, nat_lt, List, [], ◌∷◌, ◌++◌, length, map, reverse, take, Option, Some, None, IfSome, refl, sym, ap, subst, ◌∙◌, arith}
+use Rattle.std.proofs.Common.{◌≡◌, ℕ, ◌==◌, ◌<◌, ◌≤◌, ◌^◌, Bool, true, not, ◌&&◌, nat_le, nat_lt, List, [], ◌∷◌, length, map, reverse, take, Option, Some, None, IfSome, refl, sym, ap, subst, ◌∙◌, arith}
 use Rattle.std.specs.List.{filter, list_all, AllByRecursion}
 use Rattle.std.proofs.lemmas.Bool.{and_parts, cond-false, cond_both, ne_eqb}
 use Rattle.std.proofs.lemmas.List.{length-map, reverse-append, take-map}
-use Rattle.std.proofs.lemmas.Simd.{map-map}
 use Rattle.std.proofs.lemmas.List.Elements.{recursion_from_All}
 use Rattle.storage_number.specs.Word.{is_word}
 use Rattle.host_model.specs.Past.{Event}
-use Rattle.history.specs.declared.beat.OpenBeat.{OpenBeat}
 use Rattle.history.specs.History.{Beat, collected, copied, health, missing, registry_of, Word}
 use Rattle.history.specs.Registry.{Registry, same_chart, same_dimension}
 use Rattle.history.specs.Regular.{AreApart}
@@ -15,7 +13,7 @@ use Rattle.beat_points.specs.declared.series_word.SeriesWord.{SeriesWord as Poin
 use Rattle.beat_points.specs.Points.{beat_points}
 use Rattle.beat_tiers.specs.declared.item.BeatPoint.{BeatPoint}
 use Rattle.beat_tiers.specs.declared.kept.KeptBeat.{KeptBeat}
-use Rattle.beat_tiers.specs.Above.{is_above, RiseAbove}
+use Rattle.beat_tiers.specs.Above.{is_above}
 use Rattle.beat_tiers.specs.Beats.{TierBeat}
 use Rattle.beat_tiers.specs.Floors.{floor_of, has_points, is_kept}
 use Rattle.beat_tiers.specs.Kept.{kept_beat_of}
@@ -24,13 +22,13 @@ use Rattle.replication.specs.declared.beats.Beat.{Beat as SentBeat}
 use Rattle.replication.specs.declared.beats.SeriesWord.{SeriesWord}
 use Rattle.replication.specs.declared.message.Data.{Data}
 use Rattle.replication.specs.declared.names.Names.{Names}
-use Rattle.replication.specs.Answer.{data_of, from_of, AreBeatsOf as AreSentOf, AreOfSeries, HaveWords}
+use Rattle.replication.specs.Answer.{data_of, from_of, AreBeatsOf as AreSentOf, AreOfSeries}
 use Rattle.replication.specs.Copies.{above, RisesFrom}
 use Rattle.replication.specs.Names.{beat_moment}
 use Rattle.replication.proofs.AboveLaws.{all-filter, all-take}
 use Rattle.replication.proofs.Copies.{all-append, all-map}
 use Rattle.replication.proofs.FrontLaws.{data_of-take}
-use Rattle.replication.proofs.NamesLaws.{above-map, answer-child, answer-prev}
+use Rattle.replication.proofs.NamesLaws.{above-map}
 use Rattle.replication.proofs.Wholes.{all-of-map}
 use Rattle.entry_codec.specs.declared.entry.Settings.{Settings}
 use Rattle.entry_codec.specs.Lists.{is_ascending}
@@ -46,19 +44,19 @@ use Rattle.store_core.specs.Beats.{is_point, is_timed, series_of, InForm}
 use Rattle.store_core.specs.Store.{IsStoreOf, StoreState}
 use Rattle.store_core.specs.Tiers.{first_tier, floor_at, kept_of, seen}
 use Rattle.agent_core.specs.Answers.{floor_of_history, kept_of_history}
-use Rattle.agent_core.specs.Asking.{AreInUtf8, AreSendable, HaveCharts, IsSendable}
-use Rattle.agent_core.specs.Copies.{data_of_history, names_of, sent_beat, sent_word, word_of_point}
+use Rattle.agent_core.specs.Asking.{AreInUtf8, HaveCharts, IsSendable}
+use Rattle.agent_core.specs.Copies.{data_of_history, names_of, sent_beat, word_of_point}
 use Rattle.agent_core.specs.Kept.{copied_point, point_of, AreBeatsOf}
 use Rattle.agent_core.specs.Rules.{HasLimits}
 use Rattle.agent_core.proofs.AnswerLemmas.{floor-is, kept-is}
-use Rattle.agent_core.proofs.AnswerTruth.{points-below, rises-lower, sent-rises}
+use Rattle.agent_core.proofs.AnswerTruth.{points-below, sent-rises}
 use Rattle.agent_core.proofs.NamedLemmas.{grows-same, grows-with}
 use Rattle.agent_core.proofs.SentNames.{names-sent}
 
 -- ---- a frame
 module _ (registry : Registry) (apart_charts : AreApart same_chart registry.charts) (apart_dimensions : AreApart same_dimension registry.dimensions) (limits : HasLimits registry)
     (names : Names) (names_are : names ≡ names_of registry) (owned : HaveCharts registry) (utf8 : AreInUtf8 names)
-    (from : ℕ) (beats : List SentBeat) (rises : RisesFrom beat_moment from beats) (fits : AllByRecursion FitsBeat beats) (sendable : AllByRecursion (IsSendable (length registry.dimensions)) beats) where
+    (beats : List SentBeat) (rises : RisesFrom beat_moment 0 beats) (fits : AllByRecursion FitsBeat beats) (sendable : AllByRecursion (IsSendable (length registry.dimensions)) beats) where
   series-are : length registry.dimensions ≡ length (names_of registry).dimensions
   unfolding names_of
   series-are = sym (length-map registry.dimensions _)
@@ -78,7 +76,7 @@ module _ (registry : Registry) (apart_charts : AreApart same_chart registry.char
         few_dimensions = may.few_dimensions;
         whole = may.whole;
         fits = fits;
-        rises = rises-lower beat_moment 0 from beats (omega arith) rises;
+        rises = rises;
         series = subst (λ (n : ℕ). AreSentOf n beats) series-are (all-map (IsSendable series) (λ beat. AreOfSeries series beat.words) beats (λ beat may. may.words.of) sendable);
         some = all-map (IsSendable series) (λ beat. 0 < length beat.words) beats (λ beat may. may.some) sendable;
         places = of-all has_rising_places beats (all-map (IsSendable series) (λ beat. has_rising_places beat ≡ true) beats (λ beat may. may.words.rise) sendable);
@@ -89,11 +87,6 @@ pub answer-form : (names : Names) (beats : List SentBeat) → KeepsRules names b
     → answer ≡ data_of child floor names beats ask → IfSome answer (λ message. HasSpelling (frame.Data message))
 answer-form names beats rules child floor ask None small_child small_floor small_last is = tt
 answer-form names beats rules child floor ask (Some message) small_child small_floor small_last is = answer-spells child floor names beats ask message small_child small_floor small_last rules (sym is)
-
-pub answer-asked : (child floor : ℕ) (names : Names) (beats : List SentBeat) (ask : Ask) (answer : Option Data) → answer ≡ data_of child floor names beats ask
-    → IfSome answer (λ message. (message.child ≡ child) × (message.prev ≡ ask.last))
-answer-asked child floor names beats ask None is = tt
-answer-asked child floor names beats ask (Some message) is = (answer-child child floor names beats ask message (sym is), answer-prev child floor names beats ask message (sym is))
 
 -- ---- the kept beats of a history
 all-reverse : {A : Type 0} (P : A → Type 0) (xs : List A) → AllByRecursion P xs → AllByRecursion P (reverse xs)

@@ -1,5 +1,5 @@
 -- A registry that takes a beat or an entry keeps the limits of what a history may have.
-use Rattle.std.proofs.Common.{◌≡◌, ℕ, ◌+◌, ◌<◌, ◌≤◌, ◌==◌, Bool, true, false, not, ◌&&◌, ◌||◌, nat_le, nat_lt, List, [], ◌∷◌, length, count_by, find, map, Option, Some, None, is_none, is_some, refl, sym, ap, ◌∙◌, subst, arith, true≢false, if◌then◌else◌}
+use Rattle.std.proofs.Common.{◌≡◌, ◌+◌, ◌<◌, ◌≤◌, ◌==◌, Bool, true, false, not, ◌&&◌, ◌||◌, nat_le, nat_lt, List, [], ◌∷◌, length, count_by, find, Option, Some, None, is_none, refl, sym, ap, subst, arith, true≢false, if◌then◌else◌}
 use Rattle.std.specs.List.{list_all, list_any, AllByRecursion}
 use Rattle.std.specs.Option.{option_map_or}
 use Rattle.std.proofs.lemmas.Bool.{and_parts, leb-false, leb-true, ltb-true}
@@ -14,10 +14,9 @@ use Rattle.history.specs.declared.numbered.NumberedBeat.{NumberedBeat}
 use Rattle.history.specs.declared.numbered.NumberedChart.{NumberedChart}
 use Rattle.history.specs.declared.numbered.NumberedDimension.{NumberedDimension}
 use Rattle.history.specs.Limits.{chart_keeps_limits, dimension_keeps_limits, has_short_texts, is_chart_id}
-use Rattle.history.specs.Refusal.{chart_refusal, charts_full, dimension_refusal, dimensions_full, has_dimension, is_new_chart, is_new_dimension}
+use Rattle.history.specs.Refusal.{chart_refusal, charts_full, dimension_refusal, dimensions_full, is_new_chart, is_new_dimension}
 use Rattle.history.specs.Registry.{Registry, chart_of, empty, is_chart, is_dimension, is_of, same_chart, same_dimension, series_of, with_definitions}
-use Rattle.chart_registry.specs.Defining.{chart_id, nothing_open}
-use Rattle.chart_registry.proofs.AcceptedLemmas.{passed}
+use Rattle.chart_registry.specs.Defining.{nothing_open}
 use Rattle.chart_registry.proofs.Applying.{same_chart-alike}
 use Rattle.chart_registry.proofs.FewLemmas.{count-cons}
 use Rattle.chart_registry.proofs.Finding.{one_if}

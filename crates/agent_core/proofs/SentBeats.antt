@@ -158,31 +158,31 @@ more-fits moment (word ∷ words) beats new pushed small fits all =
     subst (AllByRecursion FitsBeat) (sym pushed) (all-append FitsBeat beats (beat_with moment (word ∷ words)) all (record { moment = small; words = fits }, tt))
 
 -- the beats rise, and those from the n-th on may follow them
-pub record StillRise (from : ℕ) (beats : List SentBeat) (kept : List KeptBeat) (n : ℕ) : Type 0 where
-  pub rises : RisesFrom beat_moment from beats
-  pub rest : RiseAbove (latest beat_moment from beats) (drop n kept)
+pub record StillRise (beats : List SentBeat) (kept : List KeptBeat) (n : ℕ) : Type 0 where
+  pub rises : RisesFrom beat_moment 0 beats
+  pub rest : RiseAbove (latest beat_moment 0 beats) (drop n kept)
 
-rise-lower : (low high : ℕ) (beats : List KeptBeat) → low ≤ high → RiseAbove high beats → RiseAbove low beats
+pub rise-lower : (low high : ℕ) (beats : List KeptBeat) → low ≤ high → RiseAbove high beats → RiseAbove low beats
 rise-lower low high [] le rise = tt
 rise-lower low high (beat ∷ beats) le rise = (omega (arith, rise.0), rise.1, rise.2)
 
-pub more-rise : (from : ℕ) (words : List SeriesWord) (beats new : List SentBeat) (kept : List KeptBeat) (n : ℕ) (beat : KeptBeat) → n < length kept → get_or kept n beat ≡ beat → new ≡ beats ++ beat_with beat.moment words
-    → StillRise from beats kept n → StillRise from new kept (n + 1)
-more-rise from words beats new kept n beat within at pushed still = by words pushed
+pub more-rise : (words : List SeriesWord) (beats new : List SentBeat) (kept : List KeptBeat) (n : ℕ) (beat : KeptBeat) → n < length kept → get_or kept n beat ≡ beat → new ≡ beats ++ beat_with beat.moment words
+    → StillRise beats kept n → StillRise new kept (n + 1)
+more-rise words beats new kept n beat within at pushed still = by words pushed
   where
-    here : RiseAbove (latest beat_moment from beats) (beat ∷ drop (n + 1) kept)
-    here = subst (RiseAbove (latest beat_moment from beats)) (drop_more kept n beat within ∙ ap (λ (b : KeptBeat). b ∷ drop (n + 1) kept) at) still.rest
+    here : RiseAbove (latest beat_moment 0 beats) (beat ∷ drop (n + 1) kept)
+    here = subst (RiseAbove (latest beat_moment 0 beats)) (drop_more kept n beat within ∙ ap (λ (b : KeptBeat). b ∷ drop (n + 1) kept) at) still.rest
 
-    by : (words : List SeriesWord) → new ≡ beats ++ beat_with beat.moment words → StillRise from new kept (n + 1)
+    by : (words : List SeriesWord) → new ≡ beats ++ beat_with beat.moment words → StillRise new kept (n + 1)
     by [] pushed =
-        subst (λ (beats : List SentBeat). StillRise from beats kept (n + 1)) (sym (pushed ∙ append-nil beats))
-        (record { rises = still.rises; rest = rise-lower (latest beat_moment from beats) beat.moment (drop (n + 1) kept) (omega (arith, here.0)) here.2 })
+        subst (λ (beats : List SentBeat). StillRise beats kept (n + 1)) (sym (pushed ∙ append-nil beats))
+        (record { rises = still.rises; rest = rise-lower (latest beat_moment 0 beats) beat.moment (drop (n + 1) kept) (omega (arith, here.0)) here.2 })
     by (word ∷ words) pushed =
-        let sent : SentBeat = record { moment = beat.moment; words = word ∷ words } in
-        subst (λ (beats : List SentBeat). StillRise from beats kept (n + 1)) (sym pushed)
+        let next : SentBeat = record { moment = beat.moment; words = word ∷ words } in
+        subst (λ (beats : List SentBeat). StillRise beats kept (n + 1)) (sym pushed)
         (record {
-          rises = rises-later beat_moment from beats sent still.rises here.0;
-          rest = subst (λ low. RiseAbove low (drop (n + 1) kept)) (sym (latest-later beat_moment from beats sent)) here.2;
+          rises = rises-later beat_moment 0 beats next still.rises here.0;
+          rest = subst (λ low. RiseAbove low (drop (n + 1) kept)) (sym (latest-later beat_moment 0 beats next)) here.2;
         })
 
 -- the first n beats are all there, and the others may be sent

@@ -1,28 +1,27 @@
 -- What is told of the charts and dimensions of a registry: each in its place, and so that a frame may have it.
-use Rattle.std.proofs.Common.{◌≡◌, ℕ, ◌==◌, ◌+◌, ◌<◌, ◌≤◌, ◌^◌, Bool, true, false, cond, ◌&&◌, nat_le, nat_lt, List, [], ◌∷◌, ◌++◌, length, map, take, slice_get, get_or, position, Option, Some, None, is_some, IfSome, inl, inr, refl, sym, ap, subst, ◌∙◌, arith, true≢false, bytes_eq}
+use Rattle.std.proofs.Common.{◌≡◌, ℕ, ◌==◌, ◌+◌, ◌<◌, ◌≤◌, Bool, true, false, ◌&&◌, nat_le, List, [], ◌∷◌, ◌++◌, length, map, take, slice_get, Option, Some, None, is_some, IfSome, inl, inr, refl, sym, ap, subst, ◌∙◌, arith, true≢false, bytes_eq}
 use Rattle.std.specs.List.{list_all, list_any, position_or_len, AllByRecursion, IsDistinct}
-use Rattle.std.specs.Option.{option_map}
 use Rattle.std.specs.Str.{IsUtf8}
 use Rattle.std.proofs.lemmas.Bool.{cases_Bool, and_from, and_parts, eq-eqb, le-leb, leb-true, ne_eqb}
 use Rattle.std.proofs.lemmas.List.{length-map, take_more}
 use Rattle.std.proofs.lemmas.List.Elements.{recursion_from_All}
-use Rattle.std.proofs.lemmas.Option.{get_or_from_slice_get, none-some, same_Some, slice_get_within}
+use Rattle.std.proofs.lemmas.Option.{get_or_from_slice_get, same_Some, slice_get_within}
 use Rattle.history.specs.declared.beat.OpenDim.{OpenDim}
 use Rattle.history.specs.declared.chart.ChartDef.{ChartDef}
 use Rattle.history.specs.declared.dimension.DimDef.{DimDef}
-use Rattle.history.specs.Limits.{chart_keeps_limits, dimension_keeps_limits, has_short_texts, has_two_parts, is_chart_id, is_factor, is_id, is_one_line, is_short}
+use Rattle.history.specs.Limits.{chart_keeps_limits, dimension_keeps_limits, has_short_texts, has_two_parts, is_chart_id, is_factor, is_id, is_short}
 use Rattle.history.specs.Registry.{Registry, chart_of, is_chart, same_chart, same_dimension}
 use Rattle.history.specs.Regular.{AreApart}
 use Rattle.chart_registry.proofs.Places.{list_any-position}
 use Rattle.chart_registry.proofs.RegistryLemmas.{or_false}
 use Rattle.chart_registry.proofs.RowsLemmas.{bytes_eq_same, same_text}
-use Rattle.replication.specs.declared.names.ChartName.{ChartName}
 use Rattle.replication.specs.declared.names.DimName.{DimName}
 use Rattle.replication.specs.declared.names.Names.{Names}
 use Rattle.replication.specs.Answer.{AreNames}
 use Rattle.replication.proofs.Copies.{all-append}
 use Rattle.replication.proofs.PointsLaws.{found}
 use Rattle.entry_codec.specs.Lists.{IsText}
+use Rattle.entry_codec.proofs.Lengths.{id-length}
 use Rattle.link_frames.specs.DataForm.{has_id, AreApart as ApartNames}
 use Rattle.link_frames.specs.DataForm.{is_chart as may_be_sent, same_chart as same_name, same_dimension as same_dimension_name}
 use Rattle.link_frames.specs.Fields.{FitsChart, FitsDimension, FitNames}
@@ -86,11 +85,6 @@ place-same charts a b at_a at_b =
         let chart : first.0 ≡ second.0 = same_Some first.0 second.0 (sym first.1.0 ∙ ap (slice_get charts) e ∙ second.1.0) in
         same_text a first.0.id first.1.1 ∙ ap (λ (def : ChartDef). def.id) chart ∙ sym (same_text b second.0.id second.1.1)
 
-id-short : (text : List ℕ) → is_id text ≡ true → length text ≤ 200
-id-short text is =
-    let parts = and_parts (nat_lt 0 (length text) && nat_le (length text) 200) (is_one_line text) is in
-    leb-true (length text) 200 (and_parts (nat_lt 0 (length text)) (nat_le (length text) 200) parts.0).1
-
 text-is : (text : List ℕ) → length text ≤ 200 → IsUtf8 text → IsText text
 text-is text short utf8 = record { short = omega (arith, short); utf8 = utf8 }
 
@@ -112,7 +106,7 @@ chart-fits : (def : ChartDef) → IsGrid def → chart_keeps_limits def ≡ true
 chart-fits def grid keeps utf8 =
     let limits = chart-keeps def keeps in
     record {
-      id = text-is def.id (id-short def.id (and_parts (is_id def.id) (has_two_parts def.id) limits.id).0) utf8.id;
+      id = text-is def.id (id-length def.id (and_parts (is_id def.id) (has_two_parts def.id) limits.id).0) utf8.id;
       context = text-is def.context (leb-true (length def.context) 200 limits.context) utf8.context;
       update_every = omega (arith, grid);
     }
@@ -157,12 +151,12 @@ module _ (registry : Registry) where
       → AllByRecursion FitsDimension (map (dimension_name registry) ds)
   dimensions-fit few [] keep owned utf8 = tt
   dimensions-fit few (d ∷ ds) keep owned utf8 = (
-        record {
-          chart = omega (arith, few, place-within (is_chart d.chart) registry.charts owned.0);
-          id = text-is d.def.id (id-short d.def.id (dimension-id d.def keep.0)) utf8.0;
-        },
-        dimensions-fit few ds keep.1 owned.1 utf8.1
-      )
+    record {
+      chart = omega (arith, few, place-within (is_chart d.chart) registry.charts owned.0);
+      id = text-is d.def.id (id-length d.def.id (dimension-id d.def keep.0)) utf8.0;
+    },
+    dimensions-fit few ds keep.1 owned.1 utf8.1,
+  )
 
   dimensions-ids : (ds : List OpenDim) → AllByRecursion Keeps ds → list_all has_id (map (dimension_name registry) ds) ≡ true
   dimensions-ids [] keep = refl

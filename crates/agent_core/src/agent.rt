@@ -34,8 +34,6 @@ ghost use Rattle.agent_core.specs.Rules.{beat_refusal, IsOpenBeat};
 ghost use Rattle.agent_core.specs.Steps.{IsOpenStep, Takes};
 
 use crate::alarming::{Stepping, follow};
-use crate::answering;
-use crate::asking;
 use crate::copying::is_stored;
 use crate::fault::{AgentFault, store_fault};
 use crate::keeping::{add, add_health};
@@ -45,6 +43,7 @@ use crate::names::copy_refusal;
 use crate::refusal::refusal;
 use crate::replaying::{open_store, replay_all};
 use crate::reply::{Reply, Said};
+use crate::{answering, asking};
 use alarm_core::{Alarms, EventList, Latest, Log};
 use beat_points::LastRows;
 use chart_registry::Registry;

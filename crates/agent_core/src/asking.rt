@@ -17,6 +17,7 @@ ghost use Rattle.replication.specs.Answer.{data_of, from_of};
 ghost use Rattle.replication.specs.Copies.{RisesFrom};
 ghost use Rattle.replication.specs.Names.{beat_moment};
 ghost use Rattle.link_frames.specs.declared.frame.Frame.TheVariants as frame;
+ghost use Rattle.link_frames.specs.Children.{KeepsRules};
 ghost use Rattle.link_frames.specs.Fields.{FitsBeat, FitsWord};
 ghost use Rattle.link_frames.specs.Frames.{HasSpelling};
 ghost use Rattle.store_core.specs.declared.beat.Beat.{Beat as StoreBeat};
@@ -65,11 +66,7 @@ fn chart_names(alloc: Global, registry: &Registry) -> Result<ChartNameList, Copy
 }
 
 /// What is told of the dimension with this number.
-fn dimension_name(
-    alloc: Global,
-    registry: &Registry,
-    series: u32,
-) -> Result<DimName, CopyFault>
+fn dimension_name(alloc: Global, registry: &Registry, series: u32) -> Result<DimName, CopyFault>
     requires { series < length registry.now.dimensions }
     ensures name { IfOk result (λ name. IfSome (slice_get registry.now.dimensions series)
         (λ dimension. name ≡ dimension_name registry.now dimension)) }
@@ -123,11 +120,7 @@ fn may_follow(least: u32, series: u32, point: &KeptPoint) -> bool
 }
 
 /// The words of the points that may be sent, where there are so many series.
-fn sent_words(
-    alloc: Global,
-    series: u32,
-    points: &[KeptPoint],
-) -> Result<SeriesWordList, CopyFault>
+fn sent_words(alloc: Global, series: u32, points: &[KeptPoint]) -> Result<SeriesWordList, CopyFault>
     ensures sendable { IfOk result (AreSendable series) }
     ensures fits { IfOk result (IsShortListOf FitsWord) }
     ensures all { IfOk result (λ words. AreSendable series (map sent_word points.now)
@@ -160,10 +153,10 @@ fn add_beat(beats: &mut BeatList, moment: u32, words: SeriesWordList) -> Result<
 
 /// The beats that may be sent, where there are so many series.
 fn sent_beats(alloc: Global, series: u32, kept: &[KeptBeat]) -> Result<BeatList, CopyFault>
+    requires { RiseAbove 0 kept.now }
     ensures sendable { IfOk result (AllByRecursion (IsSendable series)) }
     ensures fits { IfOk result (AllByRecursion FitsBeat) }
-    ensures rises { IfOk result (λ beats. (from : ℕ) → RiseAbove from kept.now
-        → RisesFrom beat_moment from beats) }
+    ensures rises { IfOk result (RisesFrom beat_moment 0) }
     ensures all { IfOk result (λ beats. AllByRecursion (IsSendable series) (map sent_beat kept.now)
         → beats ≡ map sent_beat kept.now) }
 {
@@ -173,6 +166,27 @@ fn sent_beats(alloc: Global, series: u32, kept: &[KeptBeat]) -> Result<BeatList,
         add_beat(&mut beats, beat.moment, words)?;
     }
     Ok(beats)
+}
+
+/// The names of all series, and the beats that may be sent.
+fn sent(
+    alloc: Global,
+    registry: &Registry,
+    kept: &KeptBeatList,
+) -> Result<(Names, BeatList), CopyFault>
+    requires charts { AreApart same_chart registry.now.charts }
+    requires dimensions { AreApart same_dimension registry.now.dimensions }
+    requires limits { HasLimits registry.now }
+    requires rises { RiseAbove 0 kept.now }
+    ensures names { IfOk result (λ sent. sent.0 ≡ names_of registry.now) }
+    ensures all { IfOk result (λ sent.
+        AllByRecursion (IsSendable (length registry.now.dimensions)) (map sent_beat kept.now)
+        → sent.1 ≡ map sent_beat kept.now) }
+    ensures rules { IfOk result (λ sent. KeepsRules sent.0 sent.1) }
+{
+    let names = names_of(alloc, registry)?;
+    let beats = sent_beats(alloc, registry.dimensions(), kept.as_slice())?;
+    Ok((names, beats))
 }
 
 /// The answer of a history with this number, floor and registry, by the first of its kept beats above where the
@@ -188,7 +202,7 @@ fn answer_by(
     requires charts { AreApart same_chart registry.now.charts }
     requires dimensions { AreApart same_dimension registry.now.dimensions }
     requires limits { HasLimits registry.now }
-    requires rises { RiseAbove (from_of floor ask.last) kept.now }
+    requires rises { RiseAbove 0 kept.now }
     requires small { ask.last < 2 ^ 32 }
     ensures answered { IfOk result (λ answer.
         AllByRecursion (IsSendable (length registry.now.dimensions)) (map sent_beat kept.now)
@@ -198,8 +212,7 @@ fn answer_by(
     ensures asked { IfOk result (λ answer. IfSome answer
         (λ message. (message.child ≡ child) × (message.prev ≡ ask.last))) }
 {
-    let names = names_of(alloc, registry)?;
-    let beats = sent_beats(alloc, registry.dimensions(), kept.as_slice())?;
+    let (names, beats) = sent(alloc, registry, kept)?;
     Child::answer(alloc, child, floor, &names, &beats, &ask)
 }
 

@@ -1,4 +1,4 @@
-use Rattle.std.proofs.Common.{◌≡◌, ◌<◌, ◌^◌, length, map, sym, ap, subst, ◌∙◌, arith}
+use Rattle.std.proofs.Common.{◌≡◌, ◌<◌, length, map, sym, subst, arith}
 use Rattle.agent_core.specs.Asking.{AreSendable}
 use Rattle.agent_core.specs.Copies.{sent_word}
 use Rattle.agent_core.proofs.SentBeats.{all-more_beats, more-fits, more-rise, more-sendable}
@@ -21,6 +21,6 @@ loop-beat-preserved c =
     record {
       sendable = more-sendable series beat.moment words beats new pushed c.in_ok-words.ensures.sendable so.sendable;
       fits = more-fits beat.moment words beats new pushed (omega arith) c.in_ok-words.ensures.fits so.fits;
-      rises = λ from rise. more-rise from words beats new kept n beat within (sym c.beat-item.is) pushed (so.rises from rise);
+      rises = more-rise words beats new kept n beat within (sym c.beat-item.is) pushed so.rises;
       all = λ sendable. all-more_beats series words beats new kept n beat within (sym c.beat-item.is) pushed all (so.all sendable);
     }

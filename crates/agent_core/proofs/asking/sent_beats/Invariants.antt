@@ -1,6 +1,5 @@
-use Rattle.std.proofs.Common.{ℕ, map}
+use Rattle.std.proofs.Common.{map}
 use Rattle.std.specs.List.{AllByRecursion}
-use Rattle.beat_tiers.specs.Above.{RiseAbove}
 use Rattle.link_frames.specs.Fields.{FitsBeat}
 use Rattle.agent_core.specs.Asking.{IsSendable}
 use Rattle.agent_core.specs.Copies.{sent_beat}
@@ -11,6 +10,6 @@ abbrev pub invariant-loop-beat : goal.invariant-loop-beat
 invariant-loop-beat l = record {
   sendable : AllByRecursion (IsSendable l.series) l.beats;
   fits : AllByRecursion FitsBeat l.beats;
-  rises : (from : ℕ) → RiseAbove from l.kept → StillRise from l.beats l.kept l.beat-index;
+  rises : StillRise l.beats l.kept l.beat-index;
   all : AllByRecursion (IsSendable l.series) (map sent_beat l.kept) → AllBeatsSoFar l.series l.beats l.kept l.beat-index;
 }

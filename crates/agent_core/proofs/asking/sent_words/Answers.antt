@@ -1,7 +1,5 @@
-use Rattle.std.proofs.Common.{◌≡◌, ℕ, ◌+◌, ◌<◌, ◌++◌, ◌∷◌, [], true, true≢false, List, length, map, get_or, sym, ap, subst, ◌∙◌, arith}
+use Rattle.std.proofs.Common.{◌≡◌, ◌+◌, ◌<◌, ◌++◌, ◌∷◌, [], true, true≢false, length, get_or, sym, subst, ◌∙◌, arith}
 use Rattle.beat_tiers.specs.declared.kept.KeptPoint.{KeptPoint}
-use Rattle.replication.specs.declared.beats.SeriesWord.{SeriesWord}
-use Rattle.agent_core.specs.Asking.{AreSendable}
 use Rattle.agent_core.specs.Copies.{sent_word}
 use Rattle.agent_core.proofs.SentBeats.{all-more, all-passes, may_follow, more-so_far, same-item, AllSoFar, SoFar}
 use Rattle.agent_core.proofs.asking.sent_words.Goals as goal
@@ -30,7 +28,7 @@ loop-point-preserved c =
                 (all-more series least words points n point within at (so.all sendable) c.if-may_follow.words pushed);
           }
       | else-may_follow w ↦ record {
-            taken = subst (λ next. SoFar series next c.if-may_follow.words) (sym w.least-is) (subst (SoFar series least) (sym w.words-is) so.taken);
-            all = λ sendable. absurd (true≢false (sym (all-passes series least words points n point within at (so.all sendable)) ∙ sym c.may_follow.ensures.value ∙ w.if-may_follow.false));
-          }
+        taken = subst (λ next. SoFar series next c.if-may_follow.words) (sym w.least-is) (subst (SoFar series least) (sym w.words-is) so.taken);
+        all = λ sendable. absurd (true≢false (sym (all-passes series least words points n point within at (so.all sendable)) ∙ sym c.may_follow.ensures.value ∙ w.if-may_follow.false));
+      }
     ]
