@@ -45,7 +45,7 @@ pub told-by : (past : List PastEvent) (store : StoreState) (set : Settings) (bea
     → ((told : ℕ → List Point) → Tells store told → new ≡ part (stepped_by old (seen_by moment registry latest (tier_floor store.tiers 0) told)))
     → new ≡ part (stepped_by old (seen_by moment registry latest (floor_at set beats 0) (points_of beats)))
 told-by past store set beats rest is_at moment registry latest old part new says =
-    says (points_of beats) (record { past = past; set = set; beats = beats; rest = rest; is_at = is_at; told_is = refl })
+    says (points_of beats) (record { set = set; beats = beats; has = is_at.tiers; told_is = refl })
     ∙ ap (λ (floor : ℕ). part (stepped_by old (seen_by moment registry latest floor (points_of beats)))) (floor_is set beats store.tiers is_at.tiers 0 (omega arith))
 
 -- ---- what a beat makes of the alarms

@@ -1,7 +1,10 @@
 pub mod Agent
 pub mod Alarms
 pub mod Answers
+pub mod Asking
 pub mod Calls
+pub mod Copies
+pub mod Copying
 pub mod Faults
 pub mod Fed
 pub mod Health
