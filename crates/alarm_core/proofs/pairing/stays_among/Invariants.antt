@@ -3,7 +3,7 @@ use Rattle.health_config.specs.Entity.{alarm_of}
 use Rattle.std.specs.List.{list_any}
 use Rattle.alarm_core.specs.declared.pairs.Pair.{Pair}
 use Rattle.alarm_core.specs.Pairing.{is_of}
-use Rattle.alarm_core.proofs.pairing.stays.Given as goal
+use Rattle.alarm_core.proofs.pairing.stays_among.Given as goal
 
 abbrev pub invariant-loop-pair : goal.invariant-loop-pair
 invariant-loop-pair l =

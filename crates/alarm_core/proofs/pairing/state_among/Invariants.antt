@@ -1,7 +1,7 @@
 use Rattle.std.proofs.Common.{◌≡◌, drop, find, map}
 use Rattle.health_config.specs.Entity.{alarm_of}
 use Rattle.alarm_core.specs.Pairing.{is_of}
-use Rattle.alarm_core.proofs.pairing.state_before.Given as goal
+use Rattle.alarm_core.proofs.pairing.state_among.Given as goal
 
 abbrev pub invariant-loop-state : goal.invariant-loop-state
 invariant-loop-state l =

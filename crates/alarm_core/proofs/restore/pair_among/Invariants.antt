@@ -1,7 +1,7 @@
 use Rattle.std.proofs.Common.{◌≡◌, drop, find, map}
 use Rattle.health_config.specs.Entity.{alarm_of}
 use Rattle.alarm_core.specs.Kept.{is_pair_of}
-use Rattle.alarm_core.proofs.restore.pair_of.Given as goal
+use Rattle.alarm_core.proofs.restore.pair_among.Given as goal
 
 abbrev pub invariant-loop-pair : goal.invariant-loop-pair
 invariant-loop-pair l =
