@@ -19,7 +19,8 @@ ghost use Rattle.link_frames.specs.Frames.{HasSpelling};
 ghost use Rattle.agent_core.specs.Answers.{floor_of_history, kept_of_history, reply_of};
 ghost use Rattle.agent_core.specs.Agent.{Holds};
 ghost use Rattle.alarm_core.specs.Course.{held};
-ghost use Rattle.agent_core.specs.Alarms.{alarms_at, events_at, HaveFollowed, IsSteppingOf};
+ghost use Rattle.alarm_core.specs.UpTo.{IsUpTo};
+ghost use Rattle.agent_core.specs.Alarms.{alarms_at, events_at, DefinesNothing, HaveFollowed, IsSteppingOf};
 ghost use Rattle.agent_core.specs.Calls.{agent_adds, agent_verdict, AnswersAsk, Beats, Creates, Keeps, Lines, Logs, Opens, Queries, SetsHealth, TakesData};
 ghost use Rattle.agent_core.specs.Copies.{data_of_history};
 ghost use Rattle.agent_core.specs.Copying.{events_onto, refusal_by};
@@ -36,7 +37,7 @@ ghost use Rattle.agent_core.specs.Steps.{IsOpenStep, Takes};
 use crate::alarming::{Stepping, follow};
 use crate::copying::is_stored;
 use crate::fault::{AgentFault, store_fault};
-use crate::keeping::{add, add_health};
+use crate::keeping::{add, add_health, defines_some};
 use crate::last_seen::nothing_seen;
 use crate::left::{Left, Role};
 use crate::names::copy_refusal;
@@ -471,7 +472,10 @@ impl Agent {
             beat,
             moment,
         ) {
-            Ok(()) => self.tell(host, Stepping::Beat(moment), moment, Role::Collects),
+            Ok(()) => {
+                let stepping = Stepping::Beat(moment, defines_some(beat));
+                self.tell(host, stepping, moment, Role::Collects)
+            }
             Err(fault) => {
                 self.fault = fault.cause();
                 Err(fault)
@@ -489,6 +493,7 @@ impl Agent {
     ) -> Result<Reply, AgentFault>
         requires going { self.old.fault ≡ None }
         requires store_going { self.old.store.fault ≡ None }
+        requires same { DefinesNothing stepping → IsUpTo self.old.alarms self.old.registry }
         ensures followed { IfOk result (λ reply. (past : List Event) (set : ASettings)
             (h : List HistoryBeat) (beat : HistoryBeat)
             → Holds past self.old.store self.old.registry self.old.last_rows self.old.latest set
@@ -503,6 +508,7 @@ impl Agent {
           role = role;
           count = raised self.old.count;
         }) }
+        ensures up_to { OnOk result (IsUpTo self.new.alarms self.new.registry) }
         ensures spent { OnErr result (self.new ≡ record self.old {
           alarms = self.new.alarms;
           fault = self.new.fault;
