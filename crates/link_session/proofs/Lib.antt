@@ -1,0 +1,3 @@
+pub mod ExchangeLemmas
+pub mod IncomingLemmas
+pub mod LinkLemmas

@@ -1,0 +1,4 @@
+pub mod Child
+pub mod Exchange
+pub mod Incoming
+pub mod Session

@@ -1,0 +1,9 @@
+//! A session each way over a link: a child sends its history, and a parent receives it.
+#![tactic(auto)]
+
+mod fault;
+mod flow;
+mod incoming;
+mod saying;
+
+pub use fault::{PeerFault, SessionFault};
