@@ -1,8 +1,9 @@
 -- How the frames of a link are taken.
-use Rattle.std.proofs.Common.{◌≡◌, ℕ, ◌+◌, ◌-◌, ◌≤◌, List, [], ◌∷◌, ◌++◌, length, drop, Option, Some, None, Result, Ok, Err, OnOk, OnErr, IsErrOf, refl, sym, ap, subst, ◌∙◌, append_assoc, append-nil, length-append, arith}
+use Rattle.std.proofs.Common.{◌≡◌, ◌⊎◌, inl, inr, ℕ, ◌+◌, ◌<◌, ◌≤◌, List, [], ◌∷◌, ◌++◌, length, drop, slice_get, Option, Some, None, IfSome, Result, Ok, Err, OnOk, OnErr, IsErrOf, refl, sym, ap, subst, ◌∙◌, append_assoc, append-nil, length-append, add-one, drop-cons, suc, arith}
 use Rattle.std.specs.List.{flat_map}
 use Rattle.std.specs.Result.{result_err}
 use Rattle.std.proofs.Math.ListN.{drop_of_length-le}
+use Rattle.std.proofs.lemmas.Option.{get_or_from_slice_get, slice_get_within}
 use Rattle.std.proofs.lemmas.List.Concat.{flat_map-cons}
 use Rattle.host_model.specs.Source.{Takes}
 use Rattle.field_codec.specs.Spelling.{u32_bytes, sized_bytes}
@@ -12,11 +13,25 @@ use Rattle.link_frames.specs.declared.fault.FrameFault.{FrameFault}
 use Rattle.link_frames.specs.declared.fault.FrameFault.TheVariants as frame_fault
 use Rattle.link_frames.specs.declared.frame.Frame.{Frame}
 use Rattle.link_frames.specs.Frames.{body_bytes, frame_bytes}
+use Rattle.link_frames.specs.Held.{Held}
 use Rattle.link_frames.specs.Stream.{HandsOut, IsBad, IsOpen, IsTooLong}
 use Rattle.link_frames.proofs.StreamLaw.{after, HandsOut_none}
 use Rattle.link_session.specs.declared.incoming.Incoming.{Incoming}
-use Rattle.link_session.specs.Incoming.{waiting, HasGiven, StandsBehind}
+use Rattle.link_session.specs.declared.fault.SessionFault.{SessionFault}
+use Rattle.link_session.specs.declared.fault.SessionFault.TheVariants.{LinkFault, Ended, InputLimit}
+use Rattle.link_session.specs.Incoming.{reading_fault, HasGiven, HasNoMore, IsEndOf, StandsBehind}
 use Rattle.link_session.proofs.LinkLemmas.{takes-both, takes-nothing}
+
+-- ---- at first
+pub fresh-given : (incoming : Incoming) → length incoming.frames ≤ incoming.given → incoming.budget ≡ input_limit → incoming.reader.rest ≡ [] → incoming.reader.refused ≡ None → (left : Option (List ℕ)) → HasGiven incoming left left []
+fresh-given incoming over budget none going left = record {
+  taken = [];
+  takes = takes-nothing left;
+  spent = omega (arith, budget);
+  rest = [];
+  cut = subst (λ (fs : List Frame). HandsOut [] [] fs []) (sym (drop_of_length-le incoming.frames over)) (HandsOut_none [] []);
+  behind = subst (λ (refused : Option FrameFault). StandsBehind refused incoming.reader.rest []) (sym going) (none, record { short = λ there. absurd (omega (arith, there)); part = λ there. absurd (omega (arith, there)) });
+}
 
 -- ---- sizes
 frame-some : (f : Frame) → 1 ≤ length (frame_bytes f)
@@ -36,17 +51,24 @@ pub record IsFed (refused : Option FrameFault) (bytes : List ℕ) (frames : List
   pub behind : StandsBehind refused held rest
   pub short : length held ≤ length rest
 
-pub fed-by : (bytes : List ℕ) (result : Result (Unit {0}) FrameFault) (frames : List Frame) (held : List ℕ) → OnOk result (HandsOut bytes [] frames held) → IsOpen held
-    → (IsErrOf result frame_fault.FrameTooLong → (rest : List ℕ) × HandsOut bytes [] frames rest × IsTooLong rest)
-    → (IsErrOf result frame_fault.BadFrame → (rest : List ℕ) × HandsOut bytes [] frames rest × IsBad rest)
-    → (IsErrOf result frame_fault.Memory → (rest : List ℕ) × HandsOut bytes [] frames rest) → OnErr result (held ≡ []) → IsFed (result_err result) bytes frames held
-fed-by bytes (Ok done) frames held cut open_rest long bad memory emptied = record { rest = held; cut = cut; behind = (refl, open_rest); short = omega arith }
-fed-by bytes (Err frame_fault.FrameTooLong) frames held cut open_rest long bad memory emptied =
-    let there = long refl in record { rest = there.0; cut = there.1; behind = there.2; short = omega (arith, ap (λ (l : List ℕ). length l) emptied) }
-fed-by bytes (Err frame_fault.BadFrame) frames held cut open_rest long bad memory emptied =
-    let there = bad refl in record { rest = there.0; cut = there.1; behind = there.2; short = omega (arith, ap (λ (l : List ℕ). length l) emptied) }
-fed-by bytes (Err frame_fault.Memory) frames held cut open_rest long bad memory emptied =
-    let there = memory refl in record { rest = there.0; cut = there.1; behind = tt; short = omega (arith, ap (λ (l : List ℕ). length l) emptied) }
+module _ (bytes : List ℕ) (before frames : List Frame) (held : List ℕ) (none : before ≡ []) where
+  first-cut : (rest : List ℕ) → HandsOut bytes before frames rest → HandsOut bytes [] frames rest
+  first-cut rest cut = subst (λ (fs : List Frame). HandsOut bytes fs frames rest) none cut
+
+  emptied-short : (rest : List ℕ) → held ≡ [] → length held ≤ length rest
+  emptied-short rest empty = omega (arith, ap (λ (l : List ℕ). length l) empty)
+
+  pub fed-by : (result : Result (Unit {0}) FrameFault) → OnOk result (HandsOut bytes before frames held) → IsOpen held
+      → (IsErrOf result frame_fault.FrameTooLong → (rest : List ℕ) × HandsOut bytes before frames rest × IsTooLong rest)
+      → (IsErrOf result frame_fault.BadFrame → (rest : List ℕ) × HandsOut bytes before frames rest × IsBad rest)
+      → (IsErrOf result frame_fault.Memory → (rest : List ℕ) × HandsOut bytes before frames rest) → OnErr result (held ≡ []) → IsFed (result_err result) bytes frames held
+  fed-by (Ok done) cut open_rest long bad memory emptied = record { rest = held; cut = first-cut held cut; behind = (refl, open_rest); short = omega arith }
+  fed-by (Err frame_fault.FrameTooLong) cut open_rest long bad memory emptied =
+      let there = long refl in record { rest = there.0; cut = first-cut there.0 there.1; behind = there.2; short = emptied-short there.0 emptied }
+  fed-by (Err frame_fault.BadFrame) cut open_rest long bad memory emptied =
+      let there = bad refl in record { rest = there.0; cut = first-cut there.0 there.1; behind = there.2; short = emptied-short there.0 emptied }
+  fed-by (Err frame_fault.Memory) cut open_rest long bad memory emptied =
+      let there = memory refl in record { rest = there.0; cut = first-cut there.0 there.1; behind = tt; short = emptied-short there.0 emptied }
 
 -- each frame took bytes
 pub fed-size : (refused : Option FrameFault) (bytes : List ℕ) (frames : List Frame) (held : List ℕ) → IsFed refused bytes frames held → length frames + length held ≤ length bytes
@@ -99,3 +121,72 @@ module _ (old : Incoming) (left left' : Option (List ℕ)) (frames : List Frame)
         cut = subst (λ (n : ℕ). HandsOut (given.taken ++ piece) [] (frames ++ drop n new.frames) fed.rest) (sym first) all;
         behind = fed.behind;
       }
+
+  -- as many bytes were taken as may be
+  pub at-limit : old.budget ≡ 0 → HasNoMore InputLimit left left' frames
+  at-limit spent = record {
+    taken = given.taken;
+    takes = given.takes;
+    within = omega (arith, given.spent);
+    rest = given.rest;
+    cut = cut-over;
+    why = (held-open.1, omega (arith, given.spent));
+  }
+
+  -- the link failed, or the peer sends no more
+  pub at-pull : (fault : SessionFault) (left'' : Option (List ℕ)) → left'' ≡ left' → 0 < old.budget → (fault ≡ LinkFault) ⊎ (fault ≡ Ended) → (fault ≡ Ended → IfSome left'' (λ bytes. bytes ≡ []))
+      → HasNoMore fault left left'' frames
+  at-pull fault left'' same room (inl is) over = subst (λ (f : SessionFault). HasNoMore f left left'' frames) (sym is) (record {
+    taken = given.taken;
+    takes = subst (Takes left given.taken) (sym same) given.takes;
+    within = omega (arith, given.spent);
+    rest = given.rest;
+    cut = cut-over;
+    why = tt;
+  })
+  at-pull fault left'' same room (inr is) over = subst (λ (f : SessionFault). HasNoMore f left left'' frames) (sym is) (record {
+    taken = given.taken;
+    takes = subst (Takes left given.taken) (sym same) given.takes;
+    within = omega (arith, given.spent);
+    rest = given.rest;
+    cut = cut-over;
+    why = (held-open.1, omega (arith, given.spent, room), over is);
+  })
+
+-- the reader refused what stands behind the frames
+pub at-refusal : (old : Incoming) (left left' : Option (List ℕ)) (frames : List Frame) → HasGiven old left left' frames → length old.frames ≤ old.given → (fault : FrameFault) → old.reader.refused ≡ Some fault
+    → HasNoMore (reading_fault fault) left left' frames
+at-refusal old left left' frames given over fault is = by fault (subst (λ (refused : Option FrameFault). StandsBehind refused old.reader.rest given.rest) is given.behind)
+  where
+    ends : (why : SessionFault) → IsEndOf why given.taken given.rest left' → HasNoMore why left left' frames
+    ends why is_end = record {
+      taken = given.taken;
+      takes = given.takes;
+      within = omega (arith, given.spent);
+      rest = given.rest;
+      cut = subst (λ (fs : List Frame). HandsOut given.taken [] fs given.rest) (ap (λ (fs : List Frame). frames ++ fs) (drop_of_length-le old.frames over) ∙ append-nil frames) given.cut;
+      why = is_end;
+    }
+
+    by : (fault : FrameFault) → StandsBehind (Some fault) old.reader.rest given.rest → HasNoMore (reading_fault fault) left left' frames
+    by frame_fault.FrameTooLong behind = ends (reading_fault frame_fault.FrameTooLong) behind
+    by frame_fault.BadFrame behind = ends (reading_fault frame_fault.BadFrame) behind
+    by frame_fault.Memory behind = ends (reading_fault frame_fault.Memory) tt
+
+drop-here : (fs : List Frame) (n : ℕ) (f : Frame) → slice_get fs n ≡ Some f → drop n fs ≡ f ∷ drop (n + 1) fs
+drop-here fs n f at =
+    drop-cons fs n f (slice_get_within fs n f at) ∙ ap (λ (x : Frame). x ∷ drop (suc n) fs) (get_or_from_slice_get fs n f f at) ∙ ap (λ (m : ℕ). f ∷ drop m fs) (sym (add-one n))
+
+-- the next of the frames that wait is given
+pub next-given : (old : Incoming) (left left' : Option (List ℕ)) (frames : List Frame) → HasGiven old left left' frames → (new : Incoming) (f : Frame) → slice_get old.frames old.given ≡ Some f
+    → new.given ≡ old.given + 1 → new.frames ≡ old.frames → new.budget ≡ old.budget → new.reader ≡ old.reader → HasGiven new left left' (frames ++ f ∷ [])
+next-given old left left' frames given new f at count same budget reader = record {
+  taken = given.taken;
+  takes = given.takes;
+  spent = omega (arith, given.spent, budget);
+  rest = given.rest;
+  cut = subst (λ (fs : List Frame). HandsOut given.taken [] fs given.rest)
+      (ap (λ (fs : List Frame). frames ++ fs) (drop-here old.frames old.given f at) ∙ sym (append_assoc frames (f ∷ []) (drop (old.given + 1) old.frames))
+      ∙ ap (λ (fs : List Frame). (frames ++ f ∷ []) ++ fs) (ap (λ (n : ℕ). drop n old.frames) (sym count) ∙ ap (λ (fs : List Frame). drop new.given fs) (sym same))) given.cut;
+  behind = subst (λ (r : Held). StandsBehind r.refused r.rest given.rest) (sym reader) given.behind;
+}

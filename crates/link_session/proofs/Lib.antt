@@ -1,3 +1,5 @@
 pub mod ExchangeLemmas
+pub mod HearLemmas
 pub mod IncomingLemmas
 pub mod LinkLemmas
+pub mod SpellingLemmas

@@ -26,7 +26,7 @@ takes-both a b (Some left) x y first second = first ∙ ap (option_map (λ (left
 
 -- nothing was to be said
 pub silent-front : (all : Bool) (sent : Option (List ℕ)) → SaysFront all [] sent sent
-silent-front all sent = record { said = []; unsaid = []; whole = refl; sends = sends-nothing sent; all = λ _. refl }
+silent-front all sent = record { said = []; unsaid = []; whole = refl; sends = sends-nothing sent; complete = λ _. refl }
 
 -- behind frames that were said, a front of others was
 pub joined-front : (all : Bool) (first more : List Frame) (a b c : Option (List ℕ)) → Sends a (flat_map frame_bytes first) b → SaysFront all more b c → SaysFront all (first ++ more) a c
@@ -35,5 +35,5 @@ joined-front all first more a b c said front = record {
   unsaid = front.unsaid;
   whole = flat_map-append frame_bytes first more ∙ ap (λ (bytes : List ℕ). flat_map frame_bytes first ++ bytes) front.whole ∙ sym (append_assoc (flat_map frame_bytes first) front.said front.unsaid);
   sends = sends-both a b c (flat_map frame_bytes first) front.said said front.sends;
-  all = front.all;
+  complete = front.complete;
 }

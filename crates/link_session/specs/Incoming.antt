@@ -47,21 +47,21 @@ pub record HasGiven (incoming : Incoming) (left left' : Option (List ℕ)) (fram
   pub behind : StandsBehind incoming.reader.refused incoming.reader.rest rest
 
 -- why no frame comes behind those of the bytes that were taken
-abbrev pub IsEndOf : SessionFault → (taken rest : List ℕ) → (left' : Option (List ℕ)) → (link_rose : Type 0) → Type 0
-IsEndOf LinkFault taken rest left' link_rose = link_rose
-IsEndOf (PeerRefused FrameTooLong) taken rest left' link_rose = IsTooLong rest
-IsEndOf (PeerRefused BadFrame) taken rest left' link_rose = IsBad rest
-IsEndOf Ended taken rest left' link_rose = IsOpen rest × (length taken < input_limit) × IfSome left' (λ bytes. bytes ≡ [])
-IsEndOf InputLimit taken rest left' link_rose = IsOpen rest × (length taken ≡ input_limit)
-IsEndOf Memory taken rest left' link_rose = Unit {0}
-IsEndOf fault taken rest left' link_rose = ⊥
+abbrev pub IsEndOf : SessionFault → (taken rest : List ℕ) → (left' : Option (List ℕ)) → Type 0
+IsEndOf LinkFault taken rest left' = Unit {0}
+IsEndOf (PeerRefused FrameTooLong) taken rest left' = IsTooLong rest
+IsEndOf (PeerRefused BadFrame) taken rest left' = IsBad rest
+IsEndOf Ended taken rest left' = IsOpen rest × (length taken < input_limit) × IfSome left' (λ bytes. bytes ≡ [])
+IsEndOf InputLimit taken rest left' = IsOpen rest × (length taken ≡ input_limit)
+IsEndOf Memory taken rest left' = Unit {0}
+IsEndOf fault taken rest left' = ⊥
 
 -- Of a link that had `left` to come and has `left'`, the bytes that were taken are these frames and others, and for this
 -- reason no frame follows.
-pub record HasNoMore (fault : SessionFault) (left left' : Option (List ℕ)) (frames : List Frame) (link_rose : Type 0) : Type 0 where
+pub record HasNoMore (fault : SessionFault) (left left' : Option (List ℕ)) (frames : List Frame) : Type 0 where
   pub taken : List ℕ
   pub takes : Takes left taken left'
   pub within : length taken ≤ input_limit
   pub rest : List ℕ
   pub cut : HandsOut taken [] frames rest
-  pub why : IsEndOf fault taken rest left' link_rose
+  pub why : IsEndOf fault taken rest left'

@@ -40,7 +40,7 @@ pub record SaysFront (all : Bool) (frames : List Frame) (sent sent' : Option (Li
   pub unsaid : List ℕ
   pub whole : flat_map frame_bytes frames ≡ said ++ unsaid
   pub sends : Sends sent said sent'
-  pub all : all ≡ true → unsaid ≡ []
+  pub complete : all ≡ true → unsaid ≡ []
 
 -- such a fault stands behind the frames
 abbrev pub IsBrokenBy : Option PeerFault → List ℕ → Type 0

@@ -1,6 +1,6 @@
 //! The frames that come over a link.
-ghost use Rattle.std.specs.Prelude.{◌≡◌, ◌⊎◌, ◌<◌, ◌≤◌, ℕ, List, [], ◌∷◌, ◌++◌, length, take, Option, Some, None, IsErrOf, IfOk, IfErr, IfSome, OnOk, OnErr};
-ghost use Rattle.host_model.specs.Cause.{HasCause, Rose};
+ghost use Rattle.std.specs.Prelude.{◌≡◌, ◌⊎◌, ◌+◌, ◌<◌, ◌≤◌, ℕ, List, [], ◌∷◌, ◌++◌, length, take, Option, Some, None, IsErrOf, IfOk, IfErr, IfSome, OnOk, OnErr};
+ghost use Rattle.host_model.specs.Cause.{HasCause};
 ghost use Rattle.host_model.specs.Source.{Takes};
 ghost use Rattle.link_frames.specs.declared.frame.Frame.{Frame as AFrame};
 
@@ -8,10 +8,10 @@ use crate::fault::{SessionFault, reading_fault};
 use host_model::Link;
 use line_stream::INPUT_LIMIT;
 use link_frames::{Frame, FrameList, FrameReader};
-use std::alloc::{AllocError, Global};
+use std::alloc::Global;
 
 /// How many bytes are asked of the link at once.
-const PIECE_SIZE: usize = 1 << 16;
+const PIECE_SIZE: usize = 1 << 12;
 
 /// What comes over a link, frame by frame.
 #[derive(Drop)]
@@ -22,11 +22,8 @@ pub(crate) struct Incoming {
     frames: FrameList,
     /// How many of them were given.
     given: usize,
-    /// Where the next piece goes.
-    piece: Vec<u8>,
     /// How many more bytes may be taken.
     budget: usize,
-    ghost has_room: { 0 < length piece.items },
 }
 
 /// Takes bytes of the link into the front of `into`, and says how many.
@@ -52,42 +49,41 @@ fn pull<L: Link>(link: &mut L, into: &mut [u8]) -> Result<usize, SessionFault>
 impl Incoming {
     ghost use Rattle.link_session.specs.Incoming.{current, work_left, HasGiven, HasNoMore};
 
-    /// What comes over a link of which nothing was taken yet.
-    pub(crate) fn new(alloc: Global) -> Result<Incoming, AllocError>
-        ensures fresh { IfOk result
-            (λ incoming. (left : Option (List ℕ)) → HasGiven incoming left left []) }
+    /// What comes over a link of which nothing was taken yet. It takes no memory.
+    pub(crate) fn new(alloc: Global) -> Incoming
+        ensures { (left : Option (List ℕ)) → HasGiven result left left [] }
     {
-        Ok(Incoming {
+        Incoming {
             alloc,
             reader: FrameReader::new(alloc),
             frames: FrameList::new(alloc),
             given: 0,
-            piece: vec![in alloc; 0; PIECE_SIZE]?,
             budget: INPUT_LIMIT,
-        })
+        }
     }
 
-    /// Cuts the bytes that were taken last. A refusal is kept by the reader, since the frames before it come first.
-    fn cut(&mut self, taken: usize)
-        requires within { taken ≤ length self.old.piece.items }
-        requires budget { taken ≤ self.old.budget }
-        requires given { length self.old.frames ≤ self.old.given }
+    /// Cuts a piece into frames. A refusal is kept by the reader, since the frames before it come first.
+    fn cut(&mut self, piece: &[u8])
+        requires budget { length piece.now ≤ self.old.budget }
+        requires over { length self.old.frames ≤ self.old.given }
         requires going { self.old.reader.refused ≡ None }
         ensures given { (left left' left'' : Option (List ℕ)) (frames : List AFrame)
-            → HasGiven self.old left left' frames → Takes left' (take taken self.old.piece.items) left''
+            → HasGiven self.old left left' frames → Takes left' piece.now left''
             → HasGiven self.new left left'' frames }
-        ensures budget { self.new.budget ≡ self.old.budget - taken }
+        ensures budget { self.new.budget + length piece.now ≡ self.old.budget }
         ensures work { work_left self.new ≤ work_left self.old }
     {
         self.frames.clear();
         self.given = 0;
-        self.budget -= taken;
-        let _refusal = self.reader.feed(self.alloc, &self.piece[..taken], &mut self.frames);
+        self.budget -= piece.len();
+        let _refusal = self.reader.feed(self.alloc, piece, &mut self.frames);
     }
 
-    /// Takes the next piece.
-    fn take_piece<L: Link>(&mut self, link: &mut L) -> Result<(), SessionFault>
-        requires given { length self.old.frames ≤ self.old.given }
+    /// Takes the next piece, into `piece`.
+    fn take_into<L: Link>(&mut self, link: &mut L, piece: &mut [u8]) -> Result<(), SessionFault>
+        requires some { 0 < length piece.old }
+        requires budget { length piece.old ≤ self.old.budget }
+        requires over { length self.old.frames ≤ self.old.given }
         requires going { self.old.reader.refused ≡ None }
         ensures given { OnOk result
             ((left : Option (List ℕ)) (frames : List AFrame)
@@ -96,21 +92,42 @@ impl Incoming {
         ensures ends { IfErr result
             (λ fault. (left : Option (List ℕ)) (frames : List AFrame)
             → HasGiven self.old left (L.left link.old) frames
-            → HasNoMore fault left (L.left link.new) frames
-            (Rose (L.faults link.old) (L.faults link.new))) }
+            → HasNoMore fault left (L.left link.new) frames) }
         ensures budget { OnOk result (self.new.budget < self.old.budget) }
         ensures work { OnOk result (work_left self.new ≤ work_left self.old) }
         ensures sent { L.sent link.new ≡ L.sent link.old }
         ensures cause { HasCause (L.faults link.old) (L.faults link.new)
             (IsErrOf result SessionFault.LinkFault) }
     {
-        let room = self.budget.min(self.piece.len());
-        if room == 0 {
+        let taken = pull(link, piece)?;
+        self.cut(&piece[..taken]);
+        Ok(())
+    }
+
+    /// Takes the next piece.
+    fn take_piece<L: Link>(&mut self, link: &mut L) -> Result<(), SessionFault>
+        requires over { length self.old.frames ≤ self.old.given }
+        requires going { self.old.reader.refused ≡ None }
+        ensures given { OnOk result
+            ((left : Option (List ℕ)) (frames : List AFrame)
+            → HasGiven self.old left (L.left link.old) frames
+            → HasGiven self.new left (L.left link.new) frames) }
+        ensures ends { IfErr result
+            (λ fault. (left : Option (List ℕ)) (frames : List AFrame)
+            → HasGiven self.old left (L.left link.old) frames
+            → HasNoMore fault left (L.left link.new) frames) }
+        ensures budget { OnOk result (self.new.budget < self.old.budget) }
+        ensures work { OnOk result (work_left self.new ≤ work_left self.old) }
+        ensures sent { L.sent link.new ≡ L.sent link.old }
+        ensures cause { HasCause (L.faults link.old) (L.faults link.new)
+            (IsErrOf result SessionFault.LinkFault) }
+    {
+        if self.budget == 0 {
             return Err(SessionFault::InputLimit);
         }
-        let taken = pull(link, &mut self.piece[..room])?;
-        self.cut(taken);
-        Ok(())
+        let mut piece = [0; PIECE_SIZE];
+        let room = self.budget.min(PIECE_SIZE);
+        self.take_into(link, &mut piece[..room])
     }
 
     /// Gives the next frame.
@@ -125,8 +142,7 @@ impl Incoming {
         ensures ends { IfErr result
             (λ fault. (left : Option (List ℕ)) (frames : List AFrame)
             → HasGiven self.old left (L.left link.old) frames
-            → HasNoMore fault left (L.left link.new) frames
-            (Rose (L.faults link.old) (L.faults link.new))) }
+            → HasNoMore fault left (L.left link.new) frames) }
         ensures work { OnOk result (work_left self.new < work_left self.old) }
         ensures sent { L.sent link.new ≡ L.sent link.old }
         ensures cause { HasCause (L.faults link.old) (L.faults link.new)

@@ -84,7 +84,9 @@ pub(crate) fn hear<L: Link>(
 {
     match incoming.next(link) {
         Ok(()) => Ok(()),
-        Err(SessionFault::PeerRefused(fault)) => Err(refuse(alloc, link, fault)),
-        Err(fault) => Err(fault),
+        Err(fault) => match fault {
+            SessionFault::PeerRefused(why) => Err(refuse(alloc, link, why)),
+            other => Err(other),
+        },
     }
 }
