@@ -11,7 +11,7 @@ use Rattle.link_frames.specs.Frames.{bad_frame, frame_bytes}
 use Rattle.link_session.specs.declared.fault.PeerFault.{PeerFault}
 use Rattle.link_session.specs.declared.fault.PeerFault.TheVariants.{WrongChild, BadFrame, FrameTooLong}
 use Rattle.link_session.specs.declared.fault.SessionFault.{SessionFault}
-use Rattle.link_session.specs.declared.fault.SessionFault.TheVariants.{LinkFault, PeerRefused, Ended, InputLimit, TellFault, Memory}
+use Rattle.link_session.specs.declared.fault.SessionFault.TheVariants.{LinkFault, Agent, PeerRefused, Ended, InputLimit, TellFault, Memory}
 use Rattle.link_session.specs.Incoming.{HasNoMore, IsEndOf}
 use Rattle.link_session.specs.Exchange.{SessionResult}
 use Rattle.link_session.specs.Session.{says_all, bye_for, HearsNoMore, IsBrokenBy, IsSilentFor, Leaves, LinkSeen, Says, SaysFront}
@@ -51,6 +51,7 @@ says-front f (Err TellFault) sent sent' said = absurd said
 says-front f (Err Ended) sent sent' said = absurd said
 says-front f (Err InputLimit) sent sent' said = absurd said
 says-front f (Err (PeerRefused fault)) sent sent' said = absurd said
+says-front f (Err (Agent fault)) sent sent' said = absurd said
 
 pub leaves-front : (reason : ℕ) (fault : PeerFault) (ended : SessionFault) (sent sent' : Option (List ℕ)) → Leaves reason fault ended sent sent' → SaysFront (says_all (Err ended)) (frame.Bye reason ∷ []) sent sent'
 leaves-front reason fault (PeerRefused other) sent sent' left = said-one true (frame.Bye reason) sent sent' left.1
@@ -59,6 +60,7 @@ leaves-front reason fault Memory sent sent' left = untold-one (frame.Bye reason)
 leaves-front reason fault TellFault sent sent' left = absurd left
 leaves-front reason fault Ended sent sent' left = absurd left
 leaves-front reason fault InputLimit sent sent' left = absurd left
+leaves-front reason fault (Agent other) sent sent' left = absurd left
 
 -- ---- no frame is heard
 silent-for : (fault : SessionFault) (left : Option (List ℕ)) (frames : List Frame) (link link' : LinkSeen) → ((why : PeerFault) → fault ≡ PeerRefused why → ⊥) → (more : HasNoMore fault left link'.left frames) → IsSilentFor fault None more.taken more.rest link'.left
@@ -68,6 +70,7 @@ silent-for (PeerRefused why) left frames link link' other more = absurd (other w
 silent-for Ended left frames link link' other more = (refl, more.why.0, more.why.1, more.why.2)
 silent-for InputLimit left frames link link' other more = (refl, more.why.0, more.why.1)
 silent-for TellFault left frames link link' other more = more.why
+silent-for (Agent fault) left frames link link' other more = more.why
 
 pub ended-silently : (fault : SessionFault) (left : Option (List ℕ)) (frames : List Frame) (link link' : LinkSeen) → ((why : PeerFault) → fault ≡ PeerRefused why → ⊥) → HasNoMore fault left link'.left frames → link'.sent ≡ link.sent → HearsNoMore fault frames left link link'
 ended-silently fault left frames link link' other more same = record {
@@ -95,6 +98,7 @@ silent-left why (PeerRefused other) taken rest left sent sent' leaves = ap Some 
 silent-left why Ended taken rest left sent sent' leaves = absurd leaves
 silent-left why InputLimit taken rest left sent sent' leaves = absurd leaves
 silent-left why TellFault taken rest left sent sent' leaves = absurd leaves
+silent-left why (Agent fault) taken rest left sent sent' leaves = absurd leaves
 
 pub ended-broken : (why : PeerFault) (ended : SessionFault) (left left' : Option (List ℕ)) (frames : List Frame) (link link' : LinkSeen) → HasNoMore (PeerRefused why) left left' frames → link'.left ≡ left' → Leaves bad_frame why ended link.sent link'.sent
     → HearsNoMore ended frames left link link'

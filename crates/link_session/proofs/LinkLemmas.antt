@@ -1,5 +1,5 @@
 -- What is sent over a link and taken of it, part by part.
-use Rattle.std.proofs.Common.{◌≡◌, ℕ, Bool, List, [], ◌++◌, Option, Some, None, option_map, refl, sym, ap, ◌∙◌, append_assoc, append-nil}
+use Rattle.std.proofs.Common.{◌≡◌, ℕ, Bool, true, List, [], ◌++◌, Option, Some, None, option_map, refl, sym, ap, subst, ◌∙◌, append_assoc, append-nil}
 use Rattle.std.specs.List.{flat_map}
 use Rattle.std.proofs.lemmas.Grind.{flat_map-append}
 use Rattle.host_model.specs.Link.{Sends}
@@ -37,3 +37,8 @@ joined-front all first more a b c said front = record {
   sends = sends-both a b c (flat_map frame_bytes first) front.said said front.sends;
   complete = front.complete;
 }
+
+-- all of them were
+pub all-said : (all : Bool) (frames : List Frame) (a b : Option (List ℕ)) → SaysFront all frames a b → all ≡ true → Sends a (flat_map frame_bytes frames) b
+all-said all frames a b front is =
+    subst (λ (bytes : List ℕ). Sends a bytes b) (sym (front.whole ∙ ap (λ (bytes : List ℕ). front.said ++ bytes) (front.complete is) ∙ append-nil front.said)) front.sends

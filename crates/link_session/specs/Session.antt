@@ -1,5 +1,5 @@
 -- What a session over a link comes to, whichever end it is of.
-use Rattle.std.specs.Prelude.{◌≡◌, ◌⊎◌, ℕ, ◌<◌, ◌≤◌, Bool, true, false, List, [], ◌∷◌, ◌++◌, length, Option, Some, None, IfSome, OnOk, Result, Ok, Err}
+use Rattle.std.specs.Prelude.{◌≡◌, ℕ, ◌<◌, ◌≤◌, Bool, true, false, List, [], ◌∷◌, ◌++◌, length, Option, Some, None, IfSome, OnOk, Result, Ok, Err}
 use Rattle.std.specs.List.{flat_map}
 use Rattle.host_model.specs.Link.{Sends, SendsFront}
 use Rattle.host_model.specs.Source.{Takes}
@@ -8,10 +8,12 @@ use Rattle.link_frames.specs.declared.frame.Frame.{Frame}
 use Rattle.link_frames.specs.declared.frame.Frame.TheVariants as frame
 use Rattle.link_frames.specs.Frames.{bad_frame, frame_bytes}
 use Rattle.link_frames.specs.Stream.{HandsOut, IsBad, IsOpen, IsTooLong}
+use Rattle.agent_core.specs.declared.fault.AgentFault.{AgentFault}
+use Rattle.agent_core.specs.declared.fault.AgentFault.TheVariants as agent
 use Rattle.link_session.specs.declared.fault.PeerFault.{PeerFault}
 use Rattle.link_session.specs.declared.fault.PeerFault.TheVariants.{WrongChild, BadFrame, FrameTooLong}
 use Rattle.link_session.specs.declared.fault.SessionFault.{SessionFault}
-use Rattle.link_session.specs.declared.fault.SessionFault.TheVariants.{LinkFault, PeerRefused, Ended, InputLimit, TellFault, Memory}
+use Rattle.link_session.specs.declared.fault.SessionFault.TheVariants.{LinkFault, Agent, PeerRefused, Ended, InputLimit, TellFault, Memory}
 use Rattle.link_session.specs.declared.flow.Flow.{Flow}
 use Rattle.link_session.specs.declared.flow.Flow.TheVariants.{GoesOn, Done}
 use Rattle.link_session.specs.Exchange.{broken_by, exchange, Course, SessionResult}
@@ -27,11 +29,17 @@ pub record LinkSeen : Type 0 where
 abbrev pub link_seen : Option (List ℕ) → Option (List ℕ) → ℕ → LinkSeen
 link_seen sent left faults = record { sent = sent; left = left; faults = faults }
 
+-- the faults of an agent at which it has done nothing of what it was asked
+abbrev pub is_refusal : AgentFault → Bool
+is_refusal (agent.Refused why) = true
+is_refusal fault = false
+
 -- at all other results all that was to be said was said
 abbrev pub says_all : SessionResult → Bool
 says_all (Err LinkFault) = false
 says_all (Err TellFault) = false
 says_all (Err Memory) = false
+says_all (Err (Agent fault)) = is_refusal fault
 says_all result = true
 
 -- a front of the bytes of these frames was sent, and all of them where `all` says so
@@ -49,14 +57,23 @@ IsBrokenBy (Some WrongChild) rest = ⊥
 IsBrokenBy (Some BadFrame) rest = IsBad rest
 IsBrokenBy (Some FrameTooLong) rest = IsTooLong rest
 
+-- why a session of an agent that is of a history ended with this fault of the agent
+abbrev pub IsAgentEnd : AgentFault → Option SessionResult → Type 0
+IsAgentEnd (agent.Refused why) ended = ended ≡ Some (Err (Agent (agent.Refused why)))
+IsAgentEnd agent.DiskFault ended = Unit {0}
+IsAgentEnd agent.Memory ended = Unit {0}
+IsAgentEnd fault ended = ⊥
+
 -- why a session ended so over these bytes, of which `rest` stands behind the frames
 abbrev pub IsEndFor : SessionResult → (ended : Option SessionResult) → (taken rest : List ℕ) → (left' : Option (List ℕ)) → Type 0
+IsEndFor (Ok done) ended taken rest left' = ended ≡ Some (Ok tt)
 IsEndFor (Err LinkFault) ended taken rest left' = Unit {0}
+IsEndFor (Err (Agent fault)) ended taken rest left' = IsAgentEnd fault ended
+IsEndFor (Err (PeerRefused fault)) ended taken rest left' = ended ≡ Some (Err (PeerRefused fault))
 IsEndFor (Err Ended) ended taken rest left' = (ended ≡ None) × IsOpen rest × (length taken < input_limit) × IfSome left' (λ bytes. bytes ≡ [])
 IsEndFor (Err InputLimit) ended taken rest left' = (ended ≡ None) × IsOpen rest × (length taken ≡ input_limit)
 IsEndFor (Err TellFault) ended taken rest left' = Unit {0}
 IsEndFor (Err Memory) ended taken rest left' = Unit {0}
-IsEndFor result ended taken rest left' = ended ≡ Some result
 
 -- A session took these bytes of its link and ended with this result: it did what an end does with the frames in them, and
 -- with what broke the bytes behind them, if it came to that. Behind a frame at which it ended, or at whose answer something
@@ -81,28 +98,27 @@ pub record Talks {S : Type 0} (does : S → Frame → Course S) (begin : Course 
   pub now_is : (exchange does begin frames).now ≡ now
   pub sends : Sends sent (flat_map frame_bytes (exchange does begin frames).sent) sent'
 
--- how a session goes on or ends at a frame
-abbrev pub closing : Result Flow SessionFault → Option SessionResult
-closing (Ok GoesOn) = None
-closing (Ok Done) = Some (Ok tt)
-closing (Err fault) = Some (Err fault)
+-- a session goes on or ends so at a frame, unless something failed
+abbrev pub ClosesSo : Result Flow SessionFault → (ended : Option SessionResult) → Type 0
+ClosesSo (Ok GoesOn) ended = ended ≡ None
+ClosesSo (Ok Done) ended = ended ≡ Some (Ok tt)
+ClosesSo (Err LinkFault) ended = Unit {0}
+ClosesSo (Err (Agent fault)) ended = IsAgentEnd fault ended
+ClosesSo (Err (PeerRefused fault)) ended = ended ≡ Some (Err (PeerRefused fault))
+ClosesSo (Err Ended) ended = ⊥
+ClosesSo (Err InputLimit) ended = ⊥
+ClosesSo (Err TellFault) ended = Unit {0}
+ClosesSo (Err Memory) ended = Unit {0}
 
--- something failed
-abbrev pub Fails : Result Flow SessionFault → Type 0
-Fails (Err LinkFault) = Unit {0}
-Fails (Err TellFault) = Unit {0}
-Fails (Err Memory) = Unit {0}
-Fails result = ⊥
-
--- all was said that such a result leaves to be said
-abbrev pub flow_says_all : Result Flow SessionFault → Bool
-flow_says_all (Err fault) = says_all (Err fault)
-flow_says_all (Ok flow) = true
+-- how a session ends that goes on or ends so at a frame
+abbrev pub result_of : Result Flow SessionFault → SessionResult
+result_of (Ok flow) = Ok tt
+result_of (Err fault) = Err fault
 
 -- an end did this at a frame and knows `now`, or something failed while it did
 pub record DoesSo {S : Type 0} (course : Course S) (now : S) (result : Result Flow SessionFault) (sent sent' : Option (List ℕ)) : Type 0 where
-  pub says : SaysFront (flow_says_all result) course.sent sent sent'
-  pub ended : Fails result ⊎ (course.ended ≡ closing result)
+  pub says : SaysFront (says_all (result_of result)) course.sent sent sent'
+  pub closes : ClosesSo result course.ended
   pub now_is : OnOk result (course.now ≡ now)
 
 -- the frame was said, or a front of it

@@ -1,6 +1,7 @@
 ghost use Rattle.std.specs.Prelude.{◌≡◌};
 ghost use Rattle.link_session.specs.Incoming.{reading_fault};
 
+use agent_core::AgentFault;
 use link_frames::FrameFault;
 use std::alloc::AllocError;
 use thiserror::Error;
@@ -25,6 +26,9 @@ pub enum SessionFault {
     /// A call on the link failed.
     #[error("the link failed")]
     LinkFault,
+    /// The agent did not do what it was asked to do.
+    #[error("{0}")]
+    Agent(AgentFault),
     /// One end refused the other.
     #[error("{0}")]
     PeerRefused(PeerFault),
