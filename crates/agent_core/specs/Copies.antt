@@ -1,13 +1,13 @@
 -- A history as a copy, and what one tells a parent. A beat is seen by names: its moment, and for the ids of a chart and
 -- a dimension the word of their point, if it has one. A history has its newest beat first; the beats that are seen are
 -- the oldest first.
-use Rattle.std.specs.Prelude.{◌≡◌, ℕ, ◌==◌, ◌<◌, Bool, List, [], ◌∷◌, ◌++◌, map, find, Option, Some, None}
+use Rattle.std.specs.Prelude.{ℕ, ◌==◌, Bool, ◌&&◌, List, [], ◌∷◌, ◌++◌, map, find, Option}
 use Rattle.std.specs.Option.{option_map, option_and_then}
 use Rattle.std.specs.List.{position_or_len}
 use Rattle.std.specs.Str.{bytes_eq}
 use Rattle.history.specs.declared.beat.OpenDim.{OpenDim}
 use Rattle.history.specs.declared.chart.ChartDef.{ChartDef}
-use Rattle.history.specs.History.{Beat, collected, copied, health, missing, gaps, last, registry_of, Word}
+use Rattle.history.specs.History.{Beat, collected, copied, gaps, last, registry_of, Word}
 use Rattle.history.specs.History.{Gap as HistoryGap}
 use Rattle.history.specs.Registry.{Registry, is_chart, series_of}
 use Rattle.beat_points.specs.declared.series_word.SeriesWord.{SeriesWord as PointWord}
