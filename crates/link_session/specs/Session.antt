@@ -128,6 +128,18 @@ Says f (Err LinkFault) sent sent' = SendsFront sent (frame_bytes f) sent'
 Says f (Err Memory) sent sent' = sent' ≡ sent
 Says f (Err fault) sent sent' = ⊥
 
+-- the frame was said, and the session goes on or is done so, or a front of the frame was
+abbrev pub SaysThen : Frame → Flow → Result Flow SessionFault → (sent sent' : Option (List ℕ)) → Type 0
+SaysThen f flow (Ok became) sent sent' = (became ≡ flow) × Sends sent (frame_bytes f) sent'
+SaysThen f flow (Err fault) sent sent' = Says f (Err fault) sent sent'
+
+-- the faults with which an end refuses the other
+abbrev pub IsRefusing : SessionFault → Type 0
+IsRefusing LinkFault = Unit {0}
+IsRefusing (PeerRefused fault) = Unit {0}
+IsRefusing Memory = Unit {0}
+IsRefusing fault = ⊥
+
 -- An end goes for this reason: it said so, and this fault is how the session ends, or it said a front of that.
 abbrev pub Leaves : ℕ → PeerFault → SessionFault → (sent sent' : Option (List ℕ)) → Type 0
 Leaves reason fault (PeerRefused other) sent sent' = (other ≡ fault) × Sends sent (frame_bytes (frame.Bye reason)) sent'

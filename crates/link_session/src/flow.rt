@@ -1,4 +1,4 @@
-/// What becomes of a session at a frame that does not end it with a fault.
+/// What becomes of a session at a frame, where nothing is wrong.
 #[derive(Clone, Copy, Debug, PartialEq, Eq)]
 pub(crate) enum Flow {
     /// It goes on.

@@ -5,9 +5,10 @@ ghost use Rattle.link_frames.specs.declared.frame.Frame.{Frame as AFrame};
 ghost use Rattle.link_frames.specs.declared.frame.Frame.TheVariants as frame;
 ghost use Rattle.link_frames.specs.Frames.{bad_frame, HasSpelling};
 ghost use Rattle.link_session.specs.Incoming.{current, work_left, HasGiven};
-ghost use Rattle.link_session.specs.Session.{link_seen, HearsNoMore, Says, Leaves};
+ghost use Rattle.link_session.specs.Session.{link_seen, HearsNoMore, Says, SaysThen, Leaves};
 
 use crate::fault::{PeerFault, SessionFault};
+use crate::flow::Flow;
 use crate::incoming::Incoming;
 use host_model::Link;
 use link_frames::{BAD_FRAME, Frame, write_frame};
@@ -27,6 +28,25 @@ pub(crate) fn say<L: Link>(alloc: Global, link: &mut L, frame: &Frame) -> Result
     match link.send(bytes.as_slice()) {
         Ok(()) => Ok(()),
         Err(_) => Err(SessionFault::LinkFault),
+    }
+}
+
+/// Says a frame, after which the session goes on or is done so.
+pub(crate) fn answer_with<L: Link>(
+    alloc: Global,
+    link: &mut L,
+    frame: &Frame,
+    flow: Flow,
+) -> Result<Flow, SessionFault>
+    requires { HasSpelling frame.now }
+    ensures says { SaysThen frame.now flow result (L.sent link.old) (L.sent link.new) }
+    ensures left { L.left link.new ≡ L.left link.old }
+    ensures cause { HasCause (L.faults link.old) (L.faults link.new)
+        (IsErrOf result SessionFault.LinkFault) }
+{
+    match say(alloc, link, frame) {
+        Ok(()) => Ok(flow),
+        Err(fault) => Err(fault),
     }
 }
 
