@@ -18,7 +18,7 @@ use Rattle.link_session.specs.Session.{says_all, bye_for, HearsNoMore, IsBrokenB
 use Rattle.link_session.proofs.LinkLemmas.{sends-nothing, silent-front}
 
 -- ---- one frame is said
-one-bytes : (f : Frame) → flat_map frame_bytes (f ∷ []) ≡ frame_bytes f
+pub one-bytes : (f : Frame) → flat_map frame_bytes (f ∷ []) ≡ frame_bytes f
 one-bytes f = flat_map-cons frame_bytes f [] ∙ append-nil (frame_bytes f)
 
 pub said-one : (all : Bool) (f : Frame) (sent sent' : Option (List ℕ)) → Sends sent (frame_bytes f) sent' → SaysFront all (f ∷ []) sent sent'

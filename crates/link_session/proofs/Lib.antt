@@ -6,3 +6,4 @@ pub mod SpellingLemmas
 pub mod SendingLemmas
 pub mod StepLemmas
 pub mod ChildLemmas
+pub mod SendLemmas
