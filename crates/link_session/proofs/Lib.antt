@@ -7,3 +7,7 @@ pub mod SendingLemmas
 pub mod StepLemmas
 pub mod ChildLemmas
 pub mod SendLemmas
+pub mod AckLemmas
+pub mod EventLemmas
+pub mod ExtendsLemmas
+pub mod StoreLemmas

@@ -5,3 +5,4 @@ pub mod Keeps
 pub mod Parent
 pub mod Session
 pub mod Sending
+pub mod Receiving
