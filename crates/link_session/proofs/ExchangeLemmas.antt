@@ -59,7 +59,7 @@ module _ {S : Type 0} where
 
     module _ (link : LinkSeen) (frames : List Frame) (now : S) (b : Option (List ℕ)) (talks : Talks does begin frames now link.sent b) where
       -- what an end that goes on does with one more frame
-      done-next : (f : Frame) → done_by (frames ++ f ∷ []) ≡ both (done_by frames) (does now f)
+      pub done-next : (f : Frame) → done_by (frames ++ f ∷ []) ≡ both (done_by frames) (does now f)
       done-next f =
           fold-append (λ (course : Course S) (f : Frame). then_does course (λ now. does now f)) begin frames (f ∷ [])
           ∙ then-goes (done_by frames) (λ now. does now f) talks.goes_on ∙ ap (λ (s : S). both (done_by frames) (does s f)) talks.now_is

@@ -11,3 +11,4 @@ pub mod AckLemmas
 pub mod EventLemmas
 pub mod ExtendsLemmas
 pub mod StoreLemmas
+pub mod ReceiveLemmas

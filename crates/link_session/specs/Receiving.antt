@@ -1,5 +1,5 @@
 -- What `receive` promises.
-use Rattle.std.specs.Prelude.{◌≡◌, ◌⊎◌, ℕ, ◌<◌, Bool, true, false, List, [], ◌++◌, length, Option, None, Some, Result, Ok, Err, IfErr, IsErrOf, take}
+use Rattle.std.specs.Prelude.{◌≡◌, ◌⊎◌, ℕ, ◌<◌, Bool, true, false, List, [], ◌∷◌, ◌++◌, length, Option, None, Some, Result, Ok, Err, IfErr, IsErrOf, take}
 use Rattle.host_model.specs.declared.file.File.{File}
 use Rattle.host_model.specs.declared.file.File.TheVariants.{JournalA}
 use Rattle.host_model.specs.Cause.{HasCause}
@@ -9,7 +9,8 @@ use Rattle.host_model.specs.Past.{of, told, Event, IsOther, MayAdd, Told}
 use Rattle.host_model.specs.Seen.{Seen}
 use Rattle.history.specs.History.{Beat}
 use Rattle.plugin_text.specs.Lines.{rest}
-use Rattle.link_frames.specs.declared.frame.Frame.{Frame}
+use Rattle.link_frames.specs.declared.frame.Frame.TheVariants as frame
+use Rattle.link_frames.specs.Frames.{bad_frame, done}
 use Rattle.entry_codec.specs.declared.entry.Settings.{Settings}
 use Rattle.store_core.specs.declared.fault.Why.{Why}
 use Rattle.agent_core.specs.declared.fault.AgentFault.{AgentFault}
@@ -18,12 +19,14 @@ use Rattle.agent_core.specs.Agent.{id_of, AgentIsReady, AgentState, IsAgentOf}
 use Rattle.agent_core.specs.Kept.{StandsForHistory}
 use Rattle.link_session.specs.declared.fault.SessionFault.{SessionFault}
 use Rattle.link_session.specs.declared.fault.SessionFault.TheVariants.{LinkFault, Agent, PeerRefused, Ended, InputLimit, TellFault, Memory}
+use Rattle.link_session.specs.declared.fault.PeerFault.TheVariants.{BadFrame}
 use Rattle.link_session.specs.declared.flow.Flow.{Flow}
+use Rattle.link_session.specs.declared.flow.Flow.TheVariants.{GoesOn, Done}
 use Rattle.link_session.specs.Exchange.{exchange, Course, SessionResult}
 use Rattle.link_session.specs.Keeps.{Extends, IsAckedUpTo, Keeps}
 use Rattle.link_session.specs.Parent.{parent_begins, parent_does, Parent}
 use Rattle.link_session.specs.Sending.{spent_by}
-use Rattle.link_session.specs.Session.{is_refusal, result_of, DoesSo, Exchanges, LinkSeen}
+use Rattle.link_session.specs.Session.{is_refusal, result_of, DoesSo, Exchanges, Leaves, LinkSeen, SaysThen}
 
 -- ---- what was told and stored
 
@@ -115,3 +118,15 @@ pub record ReceivesHistory (honest : Type 0) (host : Seen) (agent : AgentState) 
 -- the telling of a text failed, or there was no memory to make it
 abbrev pub IsCutShort : SessionFault → (honest : Type 0) → (text : List ℕ) → (old new : List Event) → Type 0
 IsCutShort fault honest text old new = ((fault ≡ TellFault) × (honest → MayAdd (λ (n : ℕ). Told (take n text)) old new)) ⊎ ((fault ≡ Memory) × (honest → new ≡ old))
+
+-- the text was told and the Have was said, or a front of both, in this order
+abbrev pub SaysHave : (honest : Type 0) → (text : List ℕ) → (last : ℕ) → Result Flow SessionFault → (old new : List Event) → (sent sent' : Option (List ℕ)) → Type 0
+SaysHave honest text last result old new sent sent' =
+    ((fault : SessionFault) × (result ≡ Err fault) × IsCutShort fault honest text old new × (sent' ≡ sent))
+    ⊎ ((honest → new ≡ Told text ∷ old) × SaysThen (frame.Have last) GoesOn result sent sent')
+
+-- the child went for this reason, and the session is done, or that was refused
+abbrev pub GoesSo : ℕ → Result Flow SessionFault → (sent sent' : Option (List ℕ)) → Type 0
+GoesSo reason (Ok GoesOn) sent sent' = ⊥
+GoesSo reason (Ok Done) sent sent' = (reason ≡ done) × (sent' ≡ sent)
+GoesSo reason (Err fault) sent sent' = (reason ≡ done → ⊥) × Leaves bad_frame BadFrame fault sent sent'

@@ -5,7 +5,9 @@ mod child;
 mod fault;
 mod flow;
 mod incoming;
+mod parent;
 mod saying;
 
 pub use child::send;
 pub use fault::{PeerFault, SessionFault};
+pub use parent::receive;
