@@ -12,3 +12,5 @@ pub mod EventLemmas
 pub mod ExtendsLemmas
 pub mod StoreLemmas
 pub mod ReceiveLemmas
+pub mod ParentLemmas
+pub mod DataLemmas

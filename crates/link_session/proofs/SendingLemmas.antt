@@ -43,7 +43,7 @@ refusing-outside Ended is agents = agents
 refusing-outside InputLimit is agents = agents
 refusing-outside TellFault is agents = agents
 
-spent-none : {T : Type 0} (before : Option Why) (result : Result T SessionFault) → (IsAgents result → ⊥) → spent_by before result ≡ before
+pub spent-none : {T : Type 0} (before : Option Why) (result : Result T SessionFault) → (IsAgents result → ⊥) → spent_by before result ≡ before
 spent-none before (Ok value) other = refl
 spent-none before (Err LinkFault) other = refl
 spent-none before (Err (Agent fault)) other = absurd (other tt)

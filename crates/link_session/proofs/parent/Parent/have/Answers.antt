@@ -1,0 +1,4 @@
+use Rattle.link_session.proofs.parent.Parent.have.Goals as goal
+
+pub answer_with-requires : goal.answer_with-requires
+answer_with-requires g c = ?
