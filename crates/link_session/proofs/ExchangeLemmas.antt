@@ -25,7 +25,7 @@ all-front : (fs gs : List Frame) → AllByRecursion HasSpelling (fs ++ gs) → A
 all-front [] gs all = tt
 all-front (f ∷ fs) gs all = (all.0, all-front fs gs all.1)
 
-front-handed : (bytes rest : List ℕ) (fs gs : List Frame) → HandsOut bytes [] (fs ++ gs) rest → HandsOut bytes [] fs (flat_map frame_bytes gs ++ rest)
+pub front-handed : (bytes rest : List ℕ) (fs gs : List Frame) → HandsOut bytes [] (fs ++ gs) rest → HandsOut bytes [] fs (flat_map frame_bytes gs ++ rest)
 front-handed bytes rest fs gs cut = record {
   found = fs;
   handed = refl;
@@ -35,7 +35,7 @@ front-handed bytes rest fs gs cut = record {
 }
 
 -- ---- how a session ends at a frame
-ends-for : (result : Result Flow SessionFault) (ended : Option SessionResult) (taken rest : List ℕ) (left : Option (List ℕ)) → (result ≡ Ok GoesOn → ⊥) → ClosesSo result ended → IsEndFor (result_of result) ended taken rest left
+pub ends-for : (result : Result Flow SessionFault) (ended : Option SessionResult) (taken rest : List ℕ) (left : Option (List ℕ)) → (result ≡ Ok GoesOn → ⊥) → ClosesSo result ended → IsEndFor (result_of result) ended taken rest left
 ends-for (Ok GoesOn) ended taken rest left over closes = absurd (over refl)
 ends-for (Ok Done) ended taken rest left over closes = closes
 ends-for (Err LinkFault) ended taken rest left over closes = tt
@@ -75,7 +75,7 @@ module _ {S : Type 0} where
               (all-said (says_all (result_of result)) (does now f).sent b c so.says (ap (λ (r : Result Flow SessionFault). says_all (result_of r)) going)));
         }
 
-        pub frame-ends : (incoming : Incoming) (link' : LinkSeen) → DoesSo (does now f) now' result b link'.sent → HasGiven incoming link.left link'.left (frames ++ f ∷ []) → (result ≡ Ok GoesOn → ⊥)
+        abbrev pub frame-ends : (incoming : Incoming) (link' : LinkSeen) → DoesSo (does now f) now' result b link'.sent → HasGiven incoming link.left link'.left (frames ++ f ∷ []) → (result ≡ Ok GoesOn → ⊥)
             → Exchanges does begin (result_of result) link link'
         frame-ends incoming link' so given over =
             let all = frames ++ f ∷ [] in
@@ -96,14 +96,14 @@ module _ {S : Type 0} where
             }
 
       -- no frame is heard
-      said-of : (broken : Option PeerFault) → (broken_by broken (done_by frames)).sent ≡ (done_by frames).sent ++ bye_for broken
+      pub said-of : (broken : Option PeerFault) → (broken_by broken (done_by frames)).sent ≡ (done_by frames).sent ++ bye_for broken
       said-of None = sym (append-nil (done_by frames).sent)
       said-of (Some why) = ap (λ (course : Course S). course.sent) (then-goes (done_by frames) (refuses why) talks.goes_on)
 
       ended-none : (broken : Option PeerFault) → broken ≡ None → (broken_by broken (done_by frames)).ended ≡ None
       ended-none broken is = ap (λ (b : Option PeerFault). (broken_by b (done_by frames)).ended) is ∙ talks.goes_on
 
-      silence-for : (fault : SessionFault) (broken : Option PeerFault) (taken rest : List ℕ) (left : Option (List ℕ)) → IsSilentFor fault broken taken rest left → IsEndFor (Err fault) (broken_by broken (done_by frames)).ended taken rest left
+      pub silence-for : (fault : SessionFault) (broken : Option PeerFault) (taken rest : List ℕ) (left : Option (List ℕ)) → IsSilentFor fault broken taken rest left → IsEndFor (Err fault) (broken_by broken (done_by frames)).ended taken rest left
       silence-for LinkFault broken taken rest left silent = tt
       silence-for (Agent fault) broken taken rest left silent = absurd silent
       silence-for (PeerRefused fault) broken taken rest left silent =
@@ -113,7 +113,7 @@ module _ {S : Type 0} where
       silence-for TellFault broken taken rest left silent = absurd silent
       silence-for Memory broken taken rest left silent = tt
 
-      pub silence-ends : (fault : SessionFault) (middle link' : LinkSeen) → middle.sent ≡ b → HearsNoMore fault frames link.left middle link' → Exchanges does begin (Err fault) link link'
+      abbrev pub silence-ends : (fault : SessionFault) (middle link' : LinkSeen) → middle.sent ≡ b → HearsNoMore fault frames link.left middle link' → Exchanges does begin (Err fault) link link'
       silence-ends fault middle link' from hears = record {
         taken = hears.taken;
         takes = hears.takes;

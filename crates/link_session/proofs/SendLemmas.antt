@@ -95,7 +95,7 @@ module _ (honest : Type 0) (host : Seen) (agent : AgentState) (host' : Seen) (ag
       back Memory is = is
 
 -- ---- no frame is heard
-silent-outside : (fault : SessionFault) (broken : Option PeerFault) (taken rest : List ℕ) (left : Option (List ℕ)) → IsSilentFor fault broken taken rest left → IsAgents {T = Unit {0}} (Err fault) → ⊥
+pub silent-outside : (fault : SessionFault) (broken : Option PeerFault) (taken rest : List ℕ) (left : Option (List ℕ)) → IsSilentFor fault broken taken rest left → IsAgents {T = Unit {0}} (Err fault) → ⊥
 silent-outside (Agent fault) broken taken rest left silent is = silent
 silent-outside LinkFault broken taken rest left silent is = is
 silent-outside (PeerRefused fault) broken taken rest left silent is = is
