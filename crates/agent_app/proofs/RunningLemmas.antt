@@ -42,7 +42,7 @@ agent-told sent past agent set h is_of = record {
   };
   last_is = is_of.last_is;
   count = is_of.count;
-  copies = is_of.copies;
+  role = is_of.role;
   alarms = is_of.alarms;
   going = is_of.going;
 }

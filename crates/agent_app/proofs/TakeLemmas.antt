@@ -41,6 +41,7 @@ use Rattle.host_model.specs.Seen.{Seen}
 use Rattle.agent_core.specs.Faults.{LeavesAll, RefusedBy}
 use Rattle.agent_core.specs.Kept.{StandsForOneOf}
 use Rattle.agent_core.specs.Replies.{reply_text}
+use Rattle.agent_core.specs.Roles.{copies}
 use Rattle.agent_core.specs.Rules.{history_with, line_refusal}
 use Rattle.agent_core.specs.Said.{Answers, IsSaid, TellsEvents}
 use Rattle.store_core.specs.Store.{counted}
@@ -52,6 +53,7 @@ use Rattle.agent_app.specs.Running.{Counts, DiskRose, EndsRun, IsCutShort, IsRun
 use Rattle.agent_app.proofs.AckLemmas.{stored-some}
 use Rattle.agent_app.proofs.CauseLemmas.{apart, both-counts, cause-as, counts-none, ended-as, ended-counts, ended_so, going-counts, is_outside, refusal-inside, same-counts, stayed, went_on}
 use Rattle.agent_core.proofs.ClosedLemmas.{text-line}
+use Rattle.agent_core.proofs.KeptLemmas.{copies-child}
 use Rattle.agent_app.proofs.EventLemmas.{acked-told, closed-told}
 use Rattle.agent_app.proofs.ExtendsLemmas.{extends-length, extends-start, extends-text, lines-after}
 use Rattle.agent_app.proofs.HasReadLemmas.{read-ended, read-long, read-next, read-over, read-refused, read-unfinished, says-all, says-long, says-over, says-refused}
@@ -194,7 +196,7 @@ module _ (honest : Type 0) (running : Running) (host : Seen) (number : ℕ) (byt
     now = record running { agent = agent; feed = feed }
 
     abbrev reason : ℕ → List Line → Option BlockFault
-    reason every read = line_refusal running.agent.registry running.agent.copies running.agent.last every read said
+    reason every read = line_refusal running.agent.registry (copies running.agent.role) running.agent.last every read said
 
     lined-tell : (tell : Type 0) → (tell → ⊥) → HasCause host.tell_faults middle.tell_faults tell
     lined-tell tell never = stayed host.tell_faults middle.tell_faults tell lined.tells never
@@ -211,7 +213,7 @@ module _ (honest : Type 0) (running : Running) (host : Seen) (number : ℕ) (byt
 
     module _ (h : honest) (every : ℕ) (set : Settings) (h0 : List Beat) (start : List Event) (read : List Line) (made : List ℕ) (at : RunsAt host.past running every set h0 start read made) where
       reason-is : reason every read ≡ refusal_at every h0 read said
-      reason-is = (λ i. line_refusal (at.agent.holds.registry_is i) (at.agent.copies i) (at.agent.last_is i) every read said) ∙ text-line every h0 at.within read said at.accepted
+      reason-is = (λ i. line_refusal (at.agent.holds.registry_is i) (copies-child host.past running.agent set (history_at every h0 read) at.agent i) (at.agent.last_is i) every read said) ∙ text-line every h0 at.within read said at.accepted
 
       refused-by : RefusedBy (reason every read) result
       refused-by = lined.refused at.agent.going every read at.feed (counts-at running.feed running.agent.registry said at.counts)
