@@ -1,11 +1,11 @@
 -- What a parent makes of a Data.
-use Rattle.std.proofs.Common.{◌≡◌, ◌⊎◌, inl, inr, ℕ, ◌+◌, ◌^◌, ◌<◌, ◌≤◌, Bool, true, false, ◌&&◌, List, [], ◌∷◌, ◌++◌, length, take, Option, Some, None, is_none, Result, Ok, Err, IfErr, IfOk, IsErrOf, OnOk, refl, sym, ap, subst, ◌∙◌, append-nil, true≢false, arith, if◌then◌else◌}
+use Rattle.std.proofs.Common.{◌≡◌, inl, inr, ℕ, Bool, false, List, [], ◌∷◌, ◌++◌, length, take, Option, Some, None, Result, Ok, Err, IfErr, IsErrOf, refl, sym, ap, subst, ◌∙◌, true≢false, arith}
 use Rattle.host_model.specs.declared.file.File.{File}
 use Rattle.host_model.specs.declared.file.File.TheVariants.{JournalA}
 use Rattle.host_model.specs.Cause.{HasCause}
 use Rattle.host_model.specs.Disks.{EveryDisk}
 use Rattle.host_model.specs.Moments.{EveryStop, Throughout}
-use Rattle.host_model.specs.Past.{of, told, Event, IsOther, MayAdd, Told}
+use Rattle.host_model.specs.Past.{of, told, Event, MayAdd, Told}
 use Rattle.host_model.specs.Seen.{Seen}
 use Rattle.history.specs.declared.fault.BlockFault.{BlockFault}
 use Rattle.history.specs.History.{Beat, child, last, registry_of}
@@ -25,9 +25,9 @@ use Rattle.agent_core.specs.declared.fault.AgentFault.{AgentFault}
 use Rattle.agent_core.specs.declared.fault.AgentFault.TheVariants as agent_fault
 use Rattle.agent_core.specs.declared.left.Role.{Role}
 use Rattle.agent_core.specs.declared.reply.Reply.{Reply}
-use Rattle.agent_core.specs.Agent.{id_of, AgentIsReady, AgentState, IsAgentOf}
+use Rattle.agent_core.specs.Agent.{AgentIsReady, AgentState, IsAgentOf}
 use Rattle.agent_core.specs.Calls.{agent_adds, agent_verdict, TakesData}
-use Rattle.agent_core.specs.Copying.{added_by, added_to, copy_refusal, events_onto, refusal_by, verdict_of}
+use Rattle.agent_core.specs.Copying.{added_by, added_to, events_onto, refusal_by, verdict_of}
 use Rattle.agent_core.specs.Faults.{fault_after, LeavesAll, RefusedBy, ReopensWith}
 use Rattle.agent_core.specs.Kept.{onto, StandsForFront}
 use Rattle.agent_core.specs.Replies.{event_lines, reply_text, stored_line}
@@ -36,17 +36,17 @@ use Rattle.agent_core.proofs.KeptLemmas.{child-is}
 use Rattle.link_session.specs.declared.fault.SessionFault.{SessionFault}
 use Rattle.link_session.specs.declared.fault.SessionFault.TheVariants.{LinkFault, Agent, PeerRefused, Ended, InputLimit, TellFault, Memory}
 use Rattle.link_session.specs.declared.flow.Flow.{Flow}
-use Rattle.link_session.specs.declared.flow.Flow.TheVariants.{GoesOn, Done}
+use Rattle.link_session.specs.declared.flow.Flow.TheVariants.{GoesOn}
 use Rattle.link_session.specs.Exchange.{ends, Course}
 use Rattle.link_session.specs.Keeps.{IsAckedUpTo, Keeps}
 use Rattle.link_session.specs.Parent.{copies, stores, stores_unless, takes_by, Parent}
 use Rattle.link_session.specs.Receiving.{keeps_all, CopiesSo, IsAgentsReceiving, IsCutShort, IsReceiving, ParentTakes, SaysHave, StoresAt, StoresOnly, TellsFront}
-use Rattle.link_session.specs.Sending.{spent_by, IsAgents}
-use Rattle.link_session.specs.Session.{is_refusal, result_of, says_all, ClosesSo, DoesSo, IsAgentEnd, IsRefusing, SaysThen}
+use Rattle.link_session.specs.Sending.{IsAgents}
+use Rattle.link_session.specs.Session.{is_refusal, result_of, says_all, ClosesSo, IsAgentEnd, IsRefusing, SaysThen}
 use Rattle.link_session.proofs.EventLemmas.{acked-told, closed-told}
-use Rattle.link_session.proofs.ParentLemmas.{no-cause, refusing-receives, still-copies, takes-still, IsStill}
+use Rattle.link_session.proofs.ParentLemmas.{no-cause, still-copies, takes-still, IsStill}
 use Rattle.link_session.proofs.SendingLemmas.{spent-none}
-use Rattle.link_session.proofs.StepLemmas.{failed-does, said-does, said-refusing, silent-does}
+use Rattle.link_session.proofs.StepLemmas.{failed-does, said-does, silent-does}
 use Rattle.link_session.proofs.StoreLemmas.{beats-stored, front-stops, silent-front, tells-all, text-told, torn-front, torn-stops}
 
 -- ---- what the agent says of it is what its history does

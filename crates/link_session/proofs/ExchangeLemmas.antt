@@ -1,11 +1,10 @@
 -- How a session goes on from frame to frame, and ends.
-use Rattle.std.proofs.Common.{◌≡◌, ℕ, ◌≤◌, Bool, true, List, [], ◌∷◌, ◌++◌, Option, Some, None, Result, Ok, Err, OnOk, refl, sym, ap, subst, ◌∙◌, append_assoc, append-nil, arith}
+use Rattle.std.proofs.Common.{◌≡◌, ℕ, List, [], ◌∷◌, ◌++◌, Option, Some, None, Result, Ok, Err, OnOk, refl, sym, ap, subst, ◌∙◌, append_assoc, append-nil, arith}
 use Rattle.std.specs.List.{flat_map, AllByRecursion}
 use Rattle.std.specs.Option.{option_map_or}
 use Rattle.std.proofs.lemmas.Grind.{flat_map-append}
 use Rattle.std.proofs.lemmas.List.Sums.{fold-append}
 use Rattle.host_model.specs.Link.{Sends}
-use Rattle.line_stream.specs.Run.{input_limit}
 use Rattle.link_frames.specs.declared.frame.Frame.{Frame}
 use Rattle.link_frames.specs.Frames.{frame_bytes, HasSpelling}
 use Rattle.link_frames.specs.Stream.{HandsOut}
@@ -21,7 +20,7 @@ use Rattle.link_session.specs.Session.{bye_for, result_of, says_all, ClosesSo, D
 use Rattle.link_session.proofs.LinkLemmas.{all-said, joined-front, sends-both}
 
 -- ---- the frames that were given
-all-front : (fs gs : List Frame) → AllByRecursion HasSpelling (fs ++ gs) → AllByRecursion HasSpelling fs
+pub all-front : (fs gs : List Frame) → AllByRecursion HasSpelling (fs ++ gs) → AllByRecursion HasSpelling fs
 all-front [] gs all = tt
 all-front (f ∷ fs) gs all = (all.0, all-front fs gs all.1)
 

@@ -14,3 +14,4 @@ pub mod StoreLemmas
 pub mod ReceiveLemmas
 pub mod ParentLemmas
 pub mod DataLemmas
+pub mod CopyLemmas

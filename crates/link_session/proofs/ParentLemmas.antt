@@ -1,56 +1,32 @@
 -- What a parent does at each frame.
-use Rattle.std.proofs.Common.{◌≡◌, ◌⊎◌, inl, inr, ◌==◌, ℕ, ◌+◌, ◌^◌, ◌<◌, ◌≤◌, Bool, true, false, not, ◌&&◌, List, [], ◌∷◌, ◌++◌, length, Option, Some, None, is_none, Result, Ok, Err, IfErr, IfOk, IsErrOf, OnOk, refl, sym, ap, subst, ◌∙◌, append-nil, arith, if◌then◌else◌}
-use Rattle.std.specs.Option.{option_map_or}
+use Rattle.std.proofs.Common.{◌≡◌, ℕ, Bool, true, false, List, [], ◌++◌, Option, Some, Result, Ok, Err, IfErr, IsErrOf, refl, sym, ap, subst, ◌∙◌, append-nil, arith, if◌then◌else◌}
 use Rattle.std.proofs.lemmas.Bool.{eq-eqb, ne_eqb}
-use Rattle.host_model.specs.declared.file.File.{File}
-use Rattle.host_model.specs.declared.file.File.TheVariants.{JournalA}
-use Rattle.host_model.specs.Cause.{HasCause, Rose}
-use Rattle.host_model.specs.Disks.{EveryDisk}
+use Rattle.host_model.specs.Cause.{HasCause}
 use Rattle.host_model.specs.Moments.{EveryStop, Throughout}
-use Rattle.host_model.specs.Past.{of, told, Event, IsOther, MayAdd, Told}
+use Rattle.host_model.specs.Past.{told, Event}
 use Rattle.host_model.specs.Seen.{Seen}
-use Rattle.history.specs.declared.fault.BlockFault.{BlockFault}
-use Rattle.history.specs.History.{Beat, child, last, registry_of}
-use Rattle.history.specs.Registry.{Registry}
-use Rattle.replication.specs.declared.message.Data.{Data}
-use Rattle.replication.specs.declared.verdict.Verdict.{Verdict}
-use Rattle.replication.specs.declared.verdict.Verdict.TheVariants as verdict
-use Rattle.replication.specs.Verdict.{is_stored, verdict_by}
+use Rattle.history.specs.History.{Beat, last}
 use Rattle.link_frames.specs.declared.frame.Frame.{Frame}
 use Rattle.link_frames.specs.declared.frame.Frame.TheVariants as frame
 use Rattle.link_frames.specs.Frames.{bad_frame, done, wrong_child}
-use Rattle.alarm_events.specs.declared.event.Event.{Event as AlarmEvent}
 use Rattle.entry_codec.specs.declared.entry.Settings.{Settings}
-use Rattle.store_core.specs.declared.fault.Why.{Why}
-use Rattle.store_core.specs.Store.{counted}
 use Rattle.agent_core.specs.declared.fault.AgentFault.{AgentFault}
 use Rattle.agent_core.specs.declared.fault.AgentFault.TheVariants as agent_fault
-use Rattle.agent_core.specs.declared.left.Role.{Role}
-use Rattle.agent_core.specs.declared.reply.Reply.{Reply}
-use Rattle.agent_core.specs.Agent.{id_of, AgentIsReady, AgentState, IsAgentOf}
-use Rattle.agent_core.specs.Calls.{agent_adds, agent_verdict, TakesData}
-use Rattle.agent_core.specs.Copying.{added_by, added_to, copy_refusal, events_onto, refusal_by, verdict_of}
-use Rattle.agent_core.specs.Faults.{fault_after, RefusedBy}
-use Rattle.agent_core.specs.Kept.{onto, StandsForFront}
-use Rattle.agent_core.specs.Replies.{reply_text}
-use Rattle.agent_core.specs.Roles.{child_in, role_of}
-use Rattle.agent_core.proofs.KeptLemmas.{child-is}
-use Rattle.link_session.specs.declared.fault.PeerFault.{PeerFault}
+use Rattle.agent_core.specs.Agent.{AgentIsReady, AgentState, IsAgentOf}
 use Rattle.link_session.specs.declared.fault.PeerFault.TheVariants.{BadFrame, WrongChild}
 use Rattle.link_session.specs.declared.fault.SessionFault.{SessionFault}
 use Rattle.link_session.specs.declared.fault.SessionFault.TheVariants.{LinkFault, Agent, PeerRefused, Ended, InputLimit, TellFault, Memory}
 use Rattle.link_session.specs.declared.flow.Flow.{Flow}
 use Rattle.link_session.specs.declared.flow.Flow.TheVariants.{GoesOn, Done}
-use Rattle.link_session.specs.Exchange.{ends, leaves, nothing, refuses, Course}
-use Rattle.link_session.specs.Keeps.{no_more, Keeps}
-use Rattle.link_session.specs.Parent.{asks, copies, copies_other, hears_first, hears_next, stores, stores_unless, takes_by, waits, Parent}
-use Rattle.link_session.specs.Receiving.{keeps_all, CopiesSo, GoesSo, IsCutShort, IsReceiving, ParentTakes, SaysHave, StoresAt, StoresOnly, TellsFront}
-use Rattle.link_session.specs.Sending.{spent_by, IsAgents}
-use Rattle.link_session.specs.Session.{result_of, says_all, DoesSo, IsRefusing, Leaves, SaysThen}
-use Rattle.link_session.proofs.EventLemmas.{acked-told, closed-told}
+use Rattle.link_session.specs.Exchange.{ends, leaves, refuses, Course}
+use Rattle.link_session.specs.Keeps.{Keeps}
+use Rattle.link_session.specs.Parent.{asks, copies, copies_other, hears_first, hears_next, waits, Parent}
+use Rattle.link_session.specs.Receiving.{keeps_all, CopiesSo, GoesSo, IsReceiving, ParentTakes, StoresAt, StoresOnly, TellsFront}
+use Rattle.link_session.specs.Sending.{IsAgents}
+use Rattle.link_session.specs.Session.{result_of, DoesSo, IsRefusing, Leaves, SaysThen}
 use Rattle.link_session.proofs.SendingLemmas.{spent-none}
-use Rattle.link_session.proofs.StepLemmas.{failed-does, leaves-does, leaves-refusing, said-does, said-refusing, silent-does}
-use Rattle.link_session.proofs.StoreLemmas.{beats-stored, front-stops, silent-front, tells-all, text-told, torn-front, torn-stops}
+use Rattle.link_session.proofs.StepLemmas.{leaves-does, leaves-refusing, said-does, silent-does}
+use Rattle.link_session.proofs.StoreLemmas.{tells-all}
 
 -- ---- faults
 pub refusing-receives : (result : Result Flow SessionFault) → IfErr result IsRefusing → IfErr result IsReceiving

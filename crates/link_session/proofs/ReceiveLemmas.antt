@@ -1,7 +1,6 @@
 -- How a parent's session goes on, and ends.
-use Rattle.std.proofs.Common.{◌≡◌, ℕ, Bool, true, false, List, [], ◌∷◌, ◌++◌, length, drop, append-nil, Option, Some, None, Result, Ok, Err, IfErr, IsErrOf, refl, sym, ap, subst, ◌∙◌}
+use Rattle.std.proofs.Common.{◌≡◌, ℕ, true, List, [], ◌∷◌, ◌++◌, length, drop, append-nil, Option, None, Result, Ok, Err, IfErr, IsErrOf, refl, sym, ap, subst, ◌∙◌}
 use Rattle.host_model.specs.Cause.{HasCause}
-use Rattle.host_model.specs.Disks.{EveryDisk}
 use Rattle.std.specs.List.{AllByRecursion}
 use Rattle.host_model.specs.Moments.{begins, EveryStop, Throughout}
 use Rattle.host_model.specs.Past.{told, Event, IsText}
@@ -9,16 +8,16 @@ use Rattle.host_model.specs.Seen.{Seen}
 use Rattle.history.specs.History.{Beat}
 use Rattle.link_frames.specs.declared.frame.Frame.{Frame}
 use Rattle.link_frames.specs.Frames.{HasSpelling}
+use Rattle.link_frames.specs.Stream.{HandsOut}
 use Rattle.entry_codec.specs.declared.entry.Settings.{Settings}
 use Rattle.store_core.specs.declared.fault.Why.{Why}
 use Rattle.agent_core.specs.declared.fault.AgentFault.TheVariants as agent_fault
 use Rattle.agent_core.specs.Agent.{AgentIsReady, AgentState, IsAgentOf}
-use Rattle.agent_core.specs.Kept.{StandsForHistory}
 use Rattle.link_session.specs.declared.fault.PeerFault.{PeerFault}
 use Rattle.link_session.specs.declared.fault.SessionFault.{SessionFault}
 use Rattle.link_session.specs.declared.fault.SessionFault.TheVariants.{LinkFault, Agent, PeerRefused, Ended, InputLimit, TellFault, Memory}
 use Rattle.link_session.specs.declared.flow.Flow.{Flow}
-use Rattle.link_session.specs.declared.flow.Flow.TheVariants.{GoesOn, Done}
+use Rattle.link_session.specs.declared.flow.Flow.TheVariants.{GoesOn}
 use Rattle.link_session.specs.declared.incoming.Incoming.{Incoming}
 use Rattle.link_session.specs.Exchange.{both, exchange, Course, SessionResult}
 use Rattle.link_session.specs.Incoming.{waiting, HasGiven}
@@ -26,9 +25,10 @@ use Rattle.link_session.specs.Keeps.{no_more, IsAckedUpTo, Keeps}
 use Rattle.link_session.specs.Parent.{parent_begins, parent_does, Parent}
 use Rattle.link_session.specs.Receiving.{keeps_all, Copies, CopiesSo, IsReceiving, ParentTakes, ReceivesHistory, StoresAt, StoresOnly, TellsFront}
 use Rattle.link_session.specs.Sending.{spent_by, IsAgents}
-use Rattle.link_session.specs.Session.{result_of, DoesSo, Exchanges, HearsNoMore, IsSilentFor, LinkSeen, Talks}
+use Rattle.link_session.specs.Session.{result_of, HearsNoMore, IsSilentFor, LinkSeen, Talks}
 use Rattle.link_session.proofs.AckLemmas.{acked-nothing, acked-since, text-front}
-use Rattle.link_session.proofs.ExchangeLemmas.{done-next, frame-ends, silence-ends, talks-first, talks-next}
+use Rattle.link_session.proofs.CopyLemmas.{stops-copy}
+use Rattle.link_session.proofs.ExchangeLemmas.{all-front, done-next, frame-ends, silence-ends, talks-first, talks-next}
 use Rattle.link_session.proofs.LinkLemmas.{sends-nothing}
 use Rattle.link_session.proofs.ParentLemmas.{no-cause}
 use Rattle.link_session.proofs.SendingLemmas.{spent-none}
@@ -136,6 +136,9 @@ module _ (honest : Type 0) (host : Seen) (agent : AgentState) where
       spent-of before (Err TellFault) = refl
       spent-of before (Err Memory) = refl
 
+all-spelt : (bytes rest : List ℕ) (frames : List Frame) → HandsOut bytes [] frames rest → AllByRecursion HasSpelling frames
+all-spelt bytes rest frames cut = subst (AllByRecursion HasSpelling) (sym cut.handed) cut.frames
+
 receives-of : (result : Result Flow SessionFault) → IfErr result IsReceiving → IfErr (result_of result) IsReceiving
 receives-of (Ok flow) is = tt
 receives-of (Err fault) is = is
@@ -194,6 +197,7 @@ module _ (honest : Type 0) (host : Seen) (agent : AgentState) (link : LinkSeen) 
                 stops = goes.at.stops;
                 ends = λ _. stands-all host'.past agent' set (done_by set h on.frames).now.history goes.at.agent_of;
                 output = tells-all host'.past agent' set h (done_by set h on.frames).now.history host.past (done_by set h on.frames).told goes.at (keeps_all (failing_with fault));
+                copy = λ floors child rises copy truth. stops-copy set floors child rises h on.frames host.past host'.past (all-spelt hears.taken hears.rest on.frames hears.cut) truth copy goes.at.stops;
               };
           stores = stores-silent honest host agent host' agent' on.stores fault (silent-outside fault hears.broken hears.taken hears.rest link'.left hears.why) keeps.1;
           faults = keeps.0;
@@ -252,6 +256,9 @@ module _ (honest : Type 0) (host : Seen) (agent : AgentState) (link : LinkSeen) 
           stops = subst (λ (g : List Beat). Throughout (EveryStop (Keeps set h g (told host.past))) host.past host''.past) (sym history-is) so.stops;
           ends = λ all. stands-all host''.past agent'' set (done_by set h (on.frames ++ f ∷ [])).now.history (at-then all).agent_of;
           output = subst (λ (t : List ℕ). TellsFront (keeps_all (result_of result)) t host.past host''.past) (sym told-is) so.output;
+          copy = λ floors child rises copy truth.
+              stops-copy set floors child rises h (on.frames ++ f ∷ []) host.past host''.past (all-front (on.frames ++ f ∷ []) (waiting incoming') (subst (AllByRecursion HasSpelling) (sym given-then.cut.handed) given-then.cut.frames)) truth copy
+              (subst (λ (g : List Beat). Throughout (EveryStop (Keeps set h g (told host.past))) host.past host''.past) (sym history-is) so.stops);
         }
 
       pub goes-on : result ≡ Ok GoesOn → IsUnderWay honest host agent link incoming' peer' host'' agent'' link'

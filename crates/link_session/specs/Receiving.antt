@@ -1,5 +1,6 @@
 -- What `receive` promises.
-use Rattle.std.specs.Prelude.{◌≡◌, ◌⊎◌, ℕ, ◌<◌, Bool, true, false, List, [], ◌∷◌, ◌++◌, length, Option, None, Some, Result, Ok, Err, IfErr, IsErrOf, take}
+use Rattle.std.specs.Prelude.{◌≡◌, ◌⊎◌, ℕ, Bool, true, false, List, [], ◌∷◌, ◌++◌, length, Option, Some, Result, Ok, Err, IfErr, IsErrOf, take}
+use Rattle.std.specs.List.{AllByRecursion}
 use Rattle.host_model.specs.declared.file.File.{File}
 use Rattle.host_model.specs.declared.file.File.TheVariants.{JournalA}
 use Rattle.host_model.specs.Cause.{HasCause}
@@ -9,6 +10,8 @@ use Rattle.host_model.specs.Past.{of, told, Event, IsOther, MayAdd, Told}
 use Rattle.host_model.specs.Seen.{Seen}
 use Rattle.history.specs.History.{Beat}
 use Rattle.plugin_text.specs.Lines.{rest}
+use Rattle.replication.specs.Copies.{RisesFrom}
+use Rattle.link_frames.specs.declared.frame.Frame.{Frame}
 use Rattle.link_frames.specs.declared.frame.Frame.TheVariants as frame
 use Rattle.link_frames.specs.Frames.{bad_frame, done}
 use Rattle.entry_codec.specs.declared.entry.Settings.{Settings}
@@ -16,9 +19,10 @@ use Rattle.store_core.specs.declared.fault.Why.{Why}
 use Rattle.agent_core.specs.declared.fault.AgentFault.{AgentFault}
 use Rattle.agent_core.specs.declared.fault.AgentFault.TheVariants as agent_fault
 use Rattle.agent_core.specs.Agent.{id_of, AgentIsReady, AgentState, IsAgentOf}
+use Rattle.agent_core.specs.Copies.{seen_moment, IsCopyOfChild, IsTrueOfChild, SeenBeat}
 use Rattle.agent_core.specs.Kept.{StandsForHistory}
 use Rattle.link_session.specs.declared.fault.SessionFault.{SessionFault}
-use Rattle.link_session.specs.declared.fault.SessionFault.TheVariants.{LinkFault, Agent, PeerRefused, Ended, InputLimit, TellFault, Memory}
+use Rattle.link_session.specs.declared.fault.SessionFault.TheVariants.{LinkFault, Agent, TellFault, Memory}
 use Rattle.link_session.specs.declared.fault.PeerFault.TheVariants.{BadFrame}
 use Rattle.link_session.specs.declared.flow.Flow.{Flow}
 use Rattle.link_session.specs.declared.flow.Flow.TheVariants.{GoesOn, Done}
@@ -99,6 +103,14 @@ pub record ParentTakes (honest : Type 0) (host : Seen) (agent : AgentState) (cou
   pub stores : StoresOnly honest host agent result host' agent'
   pub faults : IfErr result IsReceiving
 
+-- what a child says is true of one that is these beats and had these floors
+abbrev pub IsTrueFrame : (floors : List ℕ) (child : List SeenBeat) → Frame → Type 0
+IsTrueFrame floors child (frame.Data message) = IsTrueOfChild floors child message
+IsTrueFrame floors child f = Unit {0}
+
+abbrev pub AreTrueOf : (floors : List ℕ) (child : List SeenBeat) → List Frame → Type 0
+AreTrueOf floors child frames = AllByRecursion (IsTrueFrame floors child) frames
+
 -- The session of a parent with this history: it did what a parent does with the frames that came, and of that the disk
 -- holds what was acknowledged at any moment, and all of it in the end, unless something failed.
 pub record Copies (set : Settings) (h0 : List Beat) (result : SessionResult) (old new : List Event) (link link' : LinkSeen) : Type 0 where
@@ -106,6 +118,9 @@ pub record Copies (set : Settings) (h0 : List Beat) (result : SessionResult) (ol
   pub stops : Throughout (EveryStop (Keeps set h0 (exchange (parent_does set) (parent_begins h0) exchanges.frames).now.history (told old))) old new
   pub ends : keeps_all result ≡ true → EveryDisk (StandsForHistory set (exchange (parent_does set) (parent_begins h0) exchanges.frames).now.history) new
   pub output : TellsFront (keeps_all result) (exchange (parent_does set) (parent_begins h0) exchanges.frames).told old new
+  -- a history that was a copy of a child is one at every moment, where each Data that came is true of the child
+  pub copy : (floors : List ℕ) (child : List SeenBeat) → RisesFrom seen_moment 0 child → IsCopyOfChild floors child h0 → AreTrueOf floors child exchanges.frames
+      → Throughout (EveryDisk (λ disk. (h : List Beat) × StandsForHistory set h disk × IsCopyOfChild floors child h)) old new
 
 -- `receive` with this result left the host, the agent and the link so
 pub record ReceivesHistory (honest : Type 0) (host : Seen) (agent : AgentState) (link : LinkSeen) (result : SessionResult) (host' : Seen) (agent' : AgentState) (link' : LinkSeen) : Type 0 where

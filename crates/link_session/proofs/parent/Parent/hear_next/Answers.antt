@@ -1,6 +1,5 @@
 use Rattle.std.proofs.Common.{Some, refl, ap, subst, sym}
 use Rattle.link_frames.specs.declared.frame.Frame.{Frame}
-use Rattle.link_frames.specs.Frames.{HasSpelling}
 use Rattle.link_session.specs.Parent.{copies, hears_next}
 use Rattle.link_session.specs.Receiving.{ParentTakes}
 use Rattle.link_session.proofs.ParentLemmas.{gone-refusing, still-gone, still-refused, takes-still, IsStill}
