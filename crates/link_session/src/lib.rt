@@ -1,0 +1,13 @@
+//! A session each way over a link: a child sends its history, and a parent receives it.
+#![tactic(auto)]
+
+mod child;
+mod fault;
+mod flow;
+mod incoming;
+mod parent;
+mod saying;
+
+pub use child::send;
+pub use fault::{PeerFault, SessionFault};
+pub use parent::receive;
