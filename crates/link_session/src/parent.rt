@@ -66,8 +66,8 @@ fn copies_other(agent: &Agent, id: u64) -> bool
 impl Parent {
     /// Asks for what comes behind the history.
     fn ask<L: Link>(&self, agent: &Agent, link: &mut L, id: u64) -> Result<Flow, SessionFault>
-        ensures says { SaysThen (frame.Ask (record { child = id; last = agent.now.last })) Flow.GoesOn
-            result (L.sent link.old) (L.sent link.new) }
+        ensures says { SaysThen (frame.Ask (record { child = id; last = agent.now.last }))
+            Flow.GoesOn result (L.sent link.old) (L.sent link.new) }
         ensures left { L.left link.new ≡ L.left link.old }
         ensures cause { HasCause (L.faults link.old) (L.faults link.new)
             (IsErrOf result SessionFault.LinkFault) }
@@ -220,10 +220,10 @@ impl Parent {
 
 /// Receives the history of a child over a link, and stores it behind what it has of it.
 ///
-/// It waits for the id of the child, and asks from its last moment on. A Data that begins there is stored, told as
-/// `STORED` with the number of its last beat and the lines of its events, and answered. `Agent` with `Refused` comes where
-/// the history does not take it, and then nothing is said for it. After `Agent` with another fault the agent must be
-/// opened again.
+/// It waits for the id of the child, and asks from its last moment on. A Data that begins there is
+/// stored, told as `STORED` with the number of its last beat and the lines of its events, and
+/// answered. `Agent` with `Refused` comes where the history does not take it, and then nothing is
+/// said for it. After `Agent` with another fault the agent must be opened again.
 pub fn receive<H: Host, L: Link>(
     alloc: Global,
     agent: &mut Agent,
@@ -233,7 +233,8 @@ pub fn receive<H: Host, L: Link>(
     requires { AgentIsReady H.honest (H.seen host.old).past agent.old }
     ensures { ReceivesHistory H.honest (H.seen host.old) agent.old
         (link_seen (L.sent link.old) (L.left link.old) (L.faults link.old)) result
-        (H.seen host.new) agent.new (link_seen (L.sent link.new) (L.left link.new) (L.faults link.new)) }
+        (H.seen host.new) agent.new
+        (link_seen (L.sent link.new) (L.left link.new) (L.faults link.new)) }
 {
     let mut parent = Parent { alloc, peer: None };
     let mut incoming = Incoming::new(alloc);
