@@ -334,9 +334,11 @@ module _ (honest : Type 0) (host : Seen) (agent : AgentState) (message : Data) (
             stops = after.stops;
             output = tells-all new.past agent' set h0 (onto h more) start (made ++ course.told) after (keeps_all (result_of result));
             stored = λ _. after;
-            unsaid = λ short. (said-unsaid (frame.Have (last (onto h more))) GoesOn result a b said short,
-                stored-since set h (onto h more) start new.past made (extends-onto h more) (torn-stored middle.past agent' set h0 (onto h more) start made at-middle course.told acked new.past
-                (inr (length course.told, told hon ∙ ap (λ (t : List ℕ). Told t ∷ middle.past) (sym (take-length course.told))))));
+            unsaid = λ short. (
+              said-unsaid (frame.Have (last (onto h more))) GoesOn result a b said short,
+              stored-since set h (onto h more) start new.past made (extends-onto h more) (torn-stored middle.past agent' set h0 (onto h more) start made at-middle course.told acked new.past
+                  (inr (length course.told, told hon ∙ ap (λ (t : List ℕ). Told t ∷ middle.past) (sym (take-length course.told))))),
+            );
           }
 
       have-copies : SaysHave honest course.told (last (onto h more)) result middle.past new.past a b → Has result new.past b

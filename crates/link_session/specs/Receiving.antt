@@ -57,8 +57,8 @@ pub record HasStored (set : Settings) (h : List Beat) (start : List Event) (made
   pub tells : told new ≡ told start ++ (made ++ more)
   pub stands : EveryDisk (λ disk. (g : List Beat) × Extends h g × StandsForHistory set g disk) new
 
--- What was said answers the first n of these frames, and all that they were to store and tell was stored and told. Only
--- where these are all does it answer what broke the bytes behind them.
+-- What was said answers the first n of these frames, and all that they were to store and tell was stored and told. What
+-- broke the bytes is answered behind all of them.
 pub record AnswersStored (set : Settings) (h0 : List Beat) (frames : List Frame) (broken : Option PeerFault) (old new : List Event) (sent sent' : Option (List ℕ)) : Type 0 where
   pub n : ℕ
   pub all : IfSome broken (λ _. length frames ≤ n)
@@ -111,7 +111,7 @@ pub record CopiesSo (set : Settings) (h0 h : List Beat) (start : List Event) (ma
   pub stops : Throughout (EveryStop (Keeps set h0 course.now.history (told start))) start new
   pub output : TellsFront (keeps_all (result_of result)) (made ++ course.told) start new
   pub stored : keeps_all (result_of result) ≡ true → StoresAt new agent' set h0 course.now.history start (made ++ course.told)
-  -- until it has stored and told all of it, it says nothing
+  -- where not all of it was stored and told, nothing was said, and what had been stored and told still is
   pub unsaid : keeps_all (result_of result) ≡ false → (sent' ≡ sent) × HasStored set h start made new
 
 -- a parent did this at a frame, which depends on the history that its agent is of
@@ -136,7 +136,7 @@ pub record Copies (set : Settings) (h0 : List Beat) (result : SessionResult) (ol
   pub stops : Throughout (EveryStop (Keeps set h0 (exchange (parent_does set) (parent_begins h0) exchanges.frames).now.history (told old))) old new
   pub ends : keeps_all result ≡ true → EveryDisk (StandsForHistory set (exchange (parent_does set) (parent_begins h0) exchanges.frames).now.history) new
   pub output : TellsFront (keeps_all result) (exchange (parent_does set) (parent_begins h0) exchanges.frames).told old new
-  -- what it said answers frames of which all is stored and told
+  -- what was said answers frames of which all was stored and told
   pub heard : AnswersStored set h0 exchanges.frames exchanges.broken old new link.sent link'.sent
   -- a history that was a copy of a child is one at every moment, where each Data that came is true of the child
   pub copy : (floors : List ℕ) (child : List SeenBeat) → RisesFrom seen_moment 0 child → IsCopyOfChild floors child h0 → AreTrueOf floors child exchanges.frames
