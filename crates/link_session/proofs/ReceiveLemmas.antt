@@ -200,9 +200,6 @@ module _ (honest : Type 0) (host : Seen) (agent : AgentState) (link : LinkSeen) 
               let goes = on.goes hon set h is_of in
               record {
                 exchanges = silence-ends (parent_does set) (parent_begins h) link on.frames (parent_at set h on.frames peer) between.sent goes.talks fault between link' refl hears;
-                stops = goes.at.stops;
-                ends = λ _. stands-all host'.past agent' set (done_by set h on.frames).now.history goes.at.agent_of;
-                output = tells-all host'.past agent' set h (done_by set h on.frames).now.history host.past (done_by set h on.frames).told goes.at (keeps_all (failing_with fault));
                 heard = record {
                   n = length on.frames;
                   all = some-all hears.broken (length on.frames);
@@ -212,6 +209,9 @@ module _ (honest : Type 0) (host : Seen) (agent : AgentState) (link : LinkSeen) 
                   stored = subst (λ (fs : List Frame). HasStored set (done_by set h fs).now.history host.past (done_by set h fs).told host'.past) (sym (take-length on.frames))
                       (all-stored host'.past agent' set h (done_by set h on.frames).now.history host.past (done_by set h on.frames).told goes.at);
                 };
+                stops = goes.at.stops;
+                ends = λ _. stands-all host'.past agent' set (done_by set h on.frames).now.history goes.at.agent_of;
+                output = tells-all host'.past agent' set h (done_by set h on.frames).now.history host.past (done_by set h on.frames).told goes.at (keeps_all (failing_with fault));
                 copy = λ floors child rises copy truth. stops-copy set floors child rises h on.frames host.past host'.past (all-spelt hears.taken hears.rest on.frames hears.cut) truth copy goes.at.stops;
               };
           stores = stores-silent honest host agent host' agent' on.stores fault (silent-outside fault hears.broken hears.taken hears.rest link'.left hears.why) keeps.1;
@@ -288,11 +288,11 @@ module _ (honest : Type 0) (host : Seen) (agent : AgentState) (link : LinkSeen) 
         copies-then : (result ≡ Ok GoesOn → ⊥) → Copies set h (result_of result) host.past host''.past link link'
         copies-then over = record {
           exchanges = frame-ends (parent_does set) (parent_begins h) link on.frames now between.sent goes.talks f (record { history = course.now.history; peer = peer' }) result incoming' link' so.does given-then over;
+          heard = answers (keeps_all (result_of result)) refl
+              (frame-ends (parent_does set) (parent_begins h) link on.frames now between.sent goes.talks f (record { history = course.now.history; peer = peer' }) result incoming' link' so.does given-then over).says;
           stops = subst (λ (g : List Beat). Throughout (EveryStop (Keeps set h g (told host.past))) host.past host''.past) (sym history-is) so.stops;
           ends = λ all. stands-all host''.past agent'' set (done_by set h (on.frames ++ f ∷ [])).now.history (at-then all).agent_of;
           output = subst (λ (t : List ℕ). TellsFront (keeps_all (result_of result)) t host.past host''.past) (sym told-is) so.output;
-          heard = answers (keeps_all (result_of result)) refl
-              (frame-ends (parent_does set) (parent_begins h) link on.frames now between.sent goes.talks f (record { history = course.now.history; peer = peer' }) result incoming' link' so.does given-then over).says;
           copy = λ floors child rises copy truth.
               stops-copy set floors child rises h (on.frames ++ f ∷ []) host.past host''.past (all-front (on.frames ++ f ∷ []) (waiting incoming') (subst (AllByRecursion HasSpelling) (sym given-then.cut.handed) given-then.cut.frames)) truth copy
               (subst (λ (g : List Beat). Throughout (EveryStop (Keeps set h g (told host.past))) host.past host''.past) (sym history-is) so.stops);

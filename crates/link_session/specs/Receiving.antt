@@ -133,11 +133,11 @@ AreTrueOf floors child frames = AllByRecursion (IsTrueFrame floors child) frames
 -- holds what was acknowledged at any moment, and all of it in the end, unless something failed.
 pub record Copies (set : Settings) (h0 : List Beat) (result : SessionResult) (old new : List Event) (link link' : LinkSeen) : Type 0 where
   pub exchanges : Exchanges (parent_does set) (parent_begins h0) result link link'
+  -- what was said answers frames of which all was stored and told
+  pub heard : AnswersStored set h0 exchanges.frames exchanges.broken old new link.sent link'.sent
   pub stops : Throughout (EveryStop (Keeps set h0 (exchange (parent_does set) (parent_begins h0) exchanges.frames).now.history (told old))) old new
   pub ends : keeps_all result ≡ true → EveryDisk (StandsForHistory set (exchange (parent_does set) (parent_begins h0) exchanges.frames).now.history) new
   pub output : TellsFront (keeps_all result) (exchange (parent_does set) (parent_begins h0) exchanges.frames).told old new
-  -- what was said answers frames of which all was stored and told
-  pub heard : AnswersStored set h0 exchanges.frames exchanges.broken old new link.sent link'.sent
   -- a history that was a copy of a child is one at every moment, where each Data that came is true of the child
   pub copy : (floors : List ℕ) (child : List SeenBeat) → RisesFrom seen_moment 0 child → IsCopyOfChild floors child h0 → AreTrueOf floors child exchanges.frames
       → Throughout (EveryDisk (λ disk. (h : List Beat) × StandsForHistory set h disk × IsCopyOfChild floors child h)) old new
