@@ -1,5 +1,6 @@
 -- What a parent makes of a Data.
 use Rattle.std.proofs.Common.{◌≡◌, inl, inr, ℕ, Bool, false, List, [], ◌∷◌, ◌++◌, length, take, Option, Some, None, Result, Ok, Err, IfErr, IsErrOf, refl, sym, ap, subst, ◌∙◌, true≢false, arith}
+use Rattle.std.proofs.Math.Seq.{take-length}
 use Rattle.host_model.specs.declared.file.File.{File}
 use Rattle.host_model.specs.declared.file.File.TheVariants.{JournalA}
 use Rattle.host_model.specs.Cause.{HasCause}
@@ -40,14 +41,15 @@ use Rattle.link_session.specs.declared.flow.Flow.TheVariants.{GoesOn}
 use Rattle.link_session.specs.Exchange.{ends, Course}
 use Rattle.link_session.specs.Keeps.{IsAckedUpTo, Keeps}
 use Rattle.link_session.specs.Parent.{copies, stores, stores_unless, takes_by, Parent}
-use Rattle.link_session.specs.Receiving.{keeps_all, CopiesSo, IsAgentsReceiving, IsCutShort, IsReceiving, ParentTakes, SaysHave, StoresAt, StoresOnly, TellsFront}
+use Rattle.link_session.specs.Receiving.{keeps_all, CopiesSo, HasStored, IsAgentsReceiving, IsCutShort, IsReceiving, ParentTakes, SaysHave, StoresAt, StoresOnly, TellsFront}
 use Rattle.link_session.specs.Sending.{IsAgents}
 use Rattle.link_session.specs.Session.{is_refusal, result_of, says_all, ClosesSo, IsAgentEnd, IsRefusing, SaysThen}
 use Rattle.link_session.proofs.EventLemmas.{acked-told, closed-told}
+use Rattle.link_session.proofs.ExtendsLemmas.{extends-onto}
 use Rattle.link_session.proofs.ParentLemmas.{no-cause, still-copies, takes-still, IsStill}
 use Rattle.link_session.proofs.SendingLemmas.{spent-none}
-use Rattle.link_session.proofs.StepLemmas.{failed-does, said-does, silent-does}
-use Rattle.link_session.proofs.StoreLemmas.{beats-stored, front-stops, silent-front, tells-all, text-told, torn-front, torn-stops}
+use Rattle.link_session.proofs.StepLemmas.{failed-does, said-does, said-unsaid, silent-does}
+use Rattle.link_session.proofs.StoreLemmas.{all-stored, beats-stored, front-stops, silent-front, still-stored, stored-since, tells-all, text-told, torn-front, torn-stops, torn-stored}
 
 -- ---- what the agent says of it is what its history does
 module _ (past : List Event) (agent : AgentState) (set : Settings) (h : List Beat) (is_of : IsAgentOf past agent set h) (message : Data) where
@@ -150,7 +152,7 @@ module _ (honest : Type 0) (host : Seen) (agent : AgentState) (message : Data) (
 
     module _ (hon : honest) (set : Settings) (h0 h : List Beat) (start : List Event) (made : List ℕ) (at : StoresAt host.past agent set h0 h start made) (a : Option (List ℕ)) where
       abbrev CopiesBadly : AgentFault → Type 0
-      CopiesBadly fault = CopiesSo set h0 start made (taking set h) (Some id) (failed fault) agent' middle.past a a
+      CopiesBadly fault = CopiesSo set h0 h start made (taking set h) (Some id) (failed fault) agent' middle.past a a
 
       refused-for : (reason : Option BlockFault) → refusal_by (agent_verdict agent message) agent.registry agent.role message ≡ reason → refusal_by (verdict_of h message) (registry_of h) (role_of h) message ≡ reason
       refused-for reason is = sym (refusal-is host.past agent set h at.agent_of message) ∙ is
@@ -159,10 +161,10 @@ module _ (honest : Type 0) (host : Seen) (agent : AgentState) (message : Data) (
       refused-copies why is same stays =
           let course-is = refused-by set id h message (verdict_of h message) why (refused-for (Some why) is) in
           let over = ends (Err (Agent (agent_fault.Refused why))) (copies id h) in
-          subst (λ (x : AgentState). CopiesSo set h0 start made (taking set h) (Some id) (failed (agent_fault.Refused why)) x middle.past a a) (sym same)
-          (subst (λ (x : Seen). CopiesSo set h0 start made (taking set h) (Some id) (failed (agent_fault.Refused why)) agent x.past a a) (sym stays)
-          (subst (λ (course : Course Parent). CopiesSo set h0 start made course (Some id) (failed (agent_fault.Refused why)) agent host.past a a) (sym course-is)
-          (still-copies honest host agent set h0 h start made at over (Some id) (failed (agent_fault.Refused why)) a a refl refl (silent-does over (copies id h) (failed (agent_fault.Refused why)) a refl refl tt))))
+          subst (λ (x : AgentState). CopiesSo set h0 h start made (taking set h) (Some id) (failed (agent_fault.Refused why)) x middle.past a a) (sym same)
+          (subst (λ (x : Seen). CopiesSo set h0 h start made (taking set h) (Some id) (failed (agent_fault.Refused why)) agent x.past a a) (sym stays)
+          (subst (λ (course : Course Parent). CopiesSo set h0 h start made course (Some id) (failed (agent_fault.Refused why)) agent host.past a a) (sym course-is)
+          (still-copies honest host agent set h0 h start made at over (Some id) (failed (agent_fault.Refused why)) a a refl refl (silent-does over (copies id h) (failed (agent_fault.Refused why)) a refl refl tt) (λ e. cc))))
 
       failed-copies : (fault : AgentFault) → refusal_by (agent_verdict agent message) agent.registry agent.role message ≡ None → is_refusal fault ≡ false → IsAgentEnd fault (taking set h).ended → CopiesBadly fault
       failed-copies fault free short closes =
@@ -175,6 +177,7 @@ module _ (honest : Type 0) (host : Seen) (agent : AgentState) (message : Data) (
             stops = subst (λ (g : List Beat). Throughout (EveryStop (Keeps set h0 g (told start))) start middle.past) (sym history) (front-stops host.past agent set h0 h start made at adds middle.past moments silent);
             output = subst (λ (all : Bool). TellsFront all (made ++ (taking set h).told) start middle.past) (sym short) (silent-front host.past agent set h0 h start made at adds middle.past moments silent (taking set h).told);
             stored = λ all. absurd (true≢false (sym all ∙ short));
+            unsaid = λ _. (refl, still-stored host.past agent set h0 h start made at adds middle.past moments silent);
           }
 
       badly-copies : (fault : AgentFault) → RefusedBy {T = Verdict × Reply} (refusal_by (agent_verdict agent message) agent.registry agent.role message) (Err fault) → ReopensWith agent.fault fault
@@ -299,26 +302,29 @@ module _ (honest : Type 0) (host : Seen) (agent : AgentState) (message : Data) (
       whole = closed-told (length (onto h more)) (counted (length (onto h more))) set h more at-middle.agent_of.holds.beats at-middle.agent_of.holds.are
 
       abbrev Has : Result Flow SessionFault → List Event → Option (List ℕ) → Type 0
-      Has r past sent' = CopiesSo set h0 start made course (Some id) r agent' past a sent'
+      Has r past sent' = CopiesSo set h0 h start made course (Some id) r agent' past a sent'
 
       cut-copies : (fault : SessionFault) → says_all (Err fault) ≡ false → keeps_all (Err fault) ≡ false → ClosesSo (Err fault) None → Throughout (EveryStop (Keeps set h0 (onto h more) (told start))) start new.past
-          → TellsFront false (made ++ course.told) start new.past → Has (Err fault) new.past a
-      cut-copies fault short shorter closes stops output = record {
+          → TellsFront false (made ++ course.told) start new.past → HasStored set (onto h more) start made new.past → Has (Err fault) new.past a
+      cut-copies fault short shorter closes stops output has = record {
         does = failed-does course (copies id (onto h more)) fault a short closes;
         stops = stops;
         output = subst (λ (all : Bool). TellsFront all (made ++ course.told) start new.past) (sym shorter) output;
         stored = λ all. absurd (true≢false (sym all ∙ shorter));
+        unsaid = λ _. (refl, stored-since set h (onto h more) start new.past made (extends-onto h more) has);
       }
 
       cut-short : (fault : SessionFault) → IsCutShort fault honest course.told middle.past new.past → Has (Err fault) new.past a
       cut-short fault (inl (is, torn)) =
           subst (λ (f : SessionFault). Has (Err f) new.past a) (sym is)
           (cut-copies TellFault refl refl tt (torn-stops middle.past agent' set h0 (onto h more) start made at-middle course.told acked new.past (torn hon))
-          (torn-front middle.past agent' set h0 (onto h more) start made at-middle course.told acked new.past (torn hon)))
+          (torn-front middle.past agent' set h0 (onto h more) start made at-middle course.told acked new.past (torn hon))
+          (torn-stored middle.past agent' set h0 (onto h more) start made at-middle course.told acked new.past (torn hon)))
       cut-short fault (inr (is, same)) =
           subst (λ (f : SessionFault). Has (Err f) new.past a) (sym is)
           (cut-copies Memory refl refl tt (subst (λ (p : List Event). Throughout (EveryStop (Keeps set h0 (onto h more) (told start))) start p) (sym (same hon)) at-middle.stops)
-          (record { said = made; unsaid = course.told; whole = refl; tells = ap told (same hon) ∙ at-middle.tells; complete = λ e. cc }))
+          (record { said = made; unsaid = course.told; whole = refl; tells = ap told (same hon) ∙ at-middle.tells; complete = λ e. cc })
+          (subst (HasStored set (onto h more) start made) (sym (same hon)) (all-stored middle.past agent' set h0 (onto h more) start made at-middle)))
 
       have-said : (honest → new.past ≡ Told course.told ∷ middle.past) → SaysThen (frame.Have (last (onto h more))) GoesOn result a b → Has result new.past b
       have-said told said =
@@ -328,15 +334,20 @@ module _ (honest : Type 0) (host : Seen) (agent : AgentState) (message : Data) (
             stops = after.stops;
             output = tells-all new.past agent' set h0 (onto h more) start (made ++ course.told) after (keeps_all (result_of result));
             stored = λ _. after;
+            unsaid = λ short. (
+              said-unsaid (frame.Have (last (onto h more))) GoesOn result a b said short,
+              stored-since set h (onto h more) start new.past made (extends-onto h more) (torn-stored middle.past agent' set h0 (onto h more) start made at-middle course.told acked new.past
+                  (inr (length course.told, told hon ∙ ap (λ (t : List ℕ). Told t ∷ middle.past) (sym (take-length course.told))))),
+            );
           }
 
       have-copies : SaysHave honest course.told (last (onto h more)) result middle.past new.past a b → Has result new.past b
       have-copies (inl (fault, is, short, same)) = subst (λ (r : Result Flow SessionFault). Has r new.past b) (sym is) (subst (λ (s : Option (List ℕ)). Has (Err fault) new.past s) (sym same) (cut-short fault short))
       have-copies (inr (told, said)) = have-said told said
 
-      stored-copies : CopiesSo set h0 start made (taking set h) (Some id) result agent' new.past a b
+      stored-copies : CopiesSo set h0 h start made (taking set h) (Some id) result agent' new.past a b
       stored-copies =
-          subst (λ (c : Course Parent). CopiesSo set h0 start made c (Some id) result agent' new.past a b) (sym course-is)
+          subst (λ (c : Course Parent). CopiesSo set h0 h start made c (Some id) result agent' new.past a b) (sym course-is)
           (have-copies (subst (λ (n : ℕ). SaysHave honest course.told n result middle.past new.past a b) at-middle.agent_of.last_is
           (subst (λ (text : List ℕ). SaysHave honest text agent'.last result middle.past new.past a b) text-is says)))
 

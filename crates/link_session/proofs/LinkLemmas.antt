@@ -1,8 +1,9 @@
 -- What is sent over a link and taken of it, part by part.
-use Rattle.std.proofs.Common.{◌≡◌, ℕ, Bool, true, List, [], ◌++◌, Option, Some, None, option_map, refl, sym, ap, subst, ◌∙◌, append_assoc, append-nil}
+use Rattle.std.proofs.Common.{◌≡◌, ℕ, Bool, true, List, [], ◌++◌, length, take, Option, Some, None, option_map, refl, sym, ap, subst, ◌∙◌, append_assoc, append-nil}
 use Rattle.std.specs.List.{flat_map}
+use Rattle.std.proofs.Math.Seq.{take-append_seam, take-length}
 use Rattle.std.proofs.lemmas.Grind.{flat_map-append}
-use Rattle.host_model.specs.Link.{Sends}
+use Rattle.host_model.specs.Link.{Sends, SendsFront}
 use Rattle.host_model.specs.Source.{Takes}
 use Rattle.link_frames.specs.declared.frame.Frame.{Frame}
 use Rattle.link_frames.specs.Frames.{frame_bytes}
@@ -42,3 +43,11 @@ joined-front all first more a b c said front = record {
 pub all-said : (all : Bool) (frames : List Frame) (a b : Option (List ℕ)) → SaysFront all frames a b → all ≡ true → Sends a (flat_map frame_bytes frames) b
 all-said all frames a b front is =
     subst (λ (bytes : List ℕ). Sends a bytes b) (sym (front.whole ∙ ap (λ (bytes : List ℕ). front.said ++ bytes) (front.complete is) ∙ append-nil front.said)) front.sends
+
+-- a front of their bytes was sent
+pub front-sends : (all : Bool) (frames : List Frame) (a b : Option (List ℕ)) → SaysFront all frames a b → SendsFront a (flat_map frame_bytes frames) b
+front-sends all frames a b front =
+    (length front.said, subst (λ (bytes : List ℕ). Sends a bytes b) (sym (ap (take (length front.said)) front.whole ∙ take-append_seam front.said front.unsaid)) front.sends)
+
+pub all-sends : (bytes : List ℕ) (a b : Option (List ℕ)) → Sends a bytes b → SendsFront a bytes b
+all-sends bytes a b sends = (length bytes, subst (λ (sent : List ℕ). Sends a sent b) (sym (take-length bytes)) sends)

@@ -25,8 +25,8 @@ use Rattle.link_session.specs.Receiving.{keeps_all, CopiesSo, GoesSo, IsReceivin
 use Rattle.link_session.specs.Sending.{IsAgents}
 use Rattle.link_session.specs.Session.{result_of, DoesSo, IsRefusing, Leaves, SaysThen}
 use Rattle.link_session.proofs.SendingLemmas.{spent-none}
-use Rattle.link_session.proofs.StepLemmas.{leaves-does, leaves-refusing, said-does, silent-does}
-use Rattle.link_session.proofs.StoreLemmas.{tells-all}
+use Rattle.link_session.proofs.StepLemmas.{leaves-does, leaves-refusing, leaves-unsaid, said-does, said-unsaid, silent-does}
+use Rattle.link_session.proofs.StoreLemmas.{all-stored, tells-all}
 
 -- ---- faults
 pub refusing-receives : (result : Result Flow SessionFault) → IfErr result IsRefusing → IfErr result IsReceiving
@@ -63,6 +63,7 @@ pub record IsStill (h : List Beat) (course : Course Parent) (peer' : Option ℕ)
   pub same : course.now.history ≡ h
   pub silent : course.told ≡ []
   pub does : DoesSo course (record { history = course.now.history; peer = peer' }) result a b
+  pub unsaid : keeps_all (result_of result) ≡ false → b ≡ a
 
 -- ---- nothing is asked of the agent
 module _ (honest : Type 0) (host : Seen) (agent : AgentState) where
@@ -78,8 +79,8 @@ module _ (honest : Type 0) (host : Seen) (agent : AgentState) where
   }
 
   pub still-copies : (set : Settings) (h0 h : List Beat) (start : List Event) (made : List ℕ) → StoresAt host.past agent set h0 h start made → (course : Course Parent) (peer' : Option ℕ) (result : Result Flow SessionFault) (a b : Option (List ℕ))
-      → course.now.history ≡ h → course.told ≡ [] → DoesSo course (record { history = course.now.history; peer = peer' }) result a b → CopiesSo set h0 start made course peer' result agent host.past a b
-  still-copies set h0 h start made at course peer' result a b same silent does =
+      → course.now.history ≡ h → course.told ≡ [] → DoesSo course (record { history = course.now.history; peer = peer' }) result a b → (keeps_all (result_of result) ≡ false → b ≡ a) → CopiesSo set h0 h start made course peer' result agent host.past a b
+  still-copies set h0 h start made at course peer' result a b same silent does unsaid =
       let all = made ++ course.told in
       let all-is : all ≡ made = ap (λ (t : List ℕ). made ++ t) silent ∙ append-nil made in
       record {
@@ -87,12 +88,13 @@ module _ (honest : Type 0) (host : Seen) (agent : AgentState) where
         stops = subst (λ (g : List Beat). Throughout (EveryStop (Keeps set h0 g (told start))) start host.past) (sym same) at.stops;
         output = subst (λ (t : List ℕ). TellsFront (keeps_all (result_of result)) t start host.past) (sym all-is) (tells-all host.past agent set h0 h start made at (keeps_all (result_of result)));
         stored = λ _. subst (λ (t : List ℕ). StoresAt host.past agent set h0 course.now.history start t) (sym all-is) (subst (λ (g : List Beat). StoresAt host.past agent set h0 g start made) (sym same) at);
+        unsaid = λ short. (unsaid short, all-stored host.past agent set h0 h start made at);
       }
 
   pub takes-still : (course : Settings → List Beat → Course Parent) (peer' : Option ℕ) (result : Result Flow SessionFault) (a b : Option (List ℕ)) → AgentIsReady honest host.past agent → IfErr result IsRefusing
       → ((set : Settings) (h : List Beat) → IsAgentOf host.past agent set h → IsStill h (course set h) peer' result a b) → ParentTakes honest host agent course result host agent peer' a b
   takes-still course peer' result a b ready refusing still = record {
-    does = λ _ set h0 h start made at. let is = still set h at.agent_of in still-copies set h0 h start made at (course set h) peer' result a b is.same is.silent is.does;
+    does = λ _ set h0 h start made at. let is = still set h at.agent_of in still-copies set h0 h start made at (course set h) peer' result a b is.same is.silent is.does is.unsaid;
     stores = still-stores result refusing ready;
     faults = refusing-receives result refusing;
   }
@@ -105,6 +107,7 @@ module _ (honest : Type 0) (host : Seen) (agent : AgentState) where
     silent = refl;
     does = said-does (asks id h) (copies id h) (frame.Ask (record { child = id; last = last h })) GoesOn result a b refl refl refl
         (subst (λ (n : ℕ). SaysThen (frame.Ask (record { child = id; last = n })) GoesOn result a b) is_of.last_is says);
+    unsaid = said-unsaid (frame.Ask (record { child = id; last = agent.last })) GoesOn result a b says;
   })
 
 -- a frame is refused
@@ -113,6 +116,7 @@ still-refused h course now peer' ended a b is same leaves = subst (λ (c : Cours
   same = same;
   silent = refl;
   does = leaves-does (refuses BadFrame now) (record { history = now.history; peer = peer' }) bad_frame BadFrame ended a b refl refl leaves;
+  unsaid = leaves-unsaid bad_frame BadFrame ended a b leaves;
 })
 
 -- another child is told to go
@@ -122,6 +126,7 @@ still-left h course now peer' ended a b is same left = subst (λ (c : Course Par
   same = same;
   silent = refl;
   does = leaves-does (leaves (frame.Bye wrong_child) (Err (PeerRefused WrongChild)) now) (record { history = now.history; peer = peer' }) wrong_child WrongChild ended a b refl refl left;
+  unsaid = leaves-unsaid wrong_child WrongChild ended a b left;
 })
 
 -- ---- the first frame
@@ -144,7 +149,7 @@ still-gone set id h reason (Ok GoesOn) a b goes = absurd goes
 still-gone set id h reason (Ok Done) a b goes =
     subst (λ (c : Course Parent). IsStill h c (Some id) (Ok Done) a b) (sym (ap (λ (t : Bool). if t then ends (Ok tt) (copies id h) else refuses BadFrame (copies id h)) (eq-eqb reason done goes.0)))
     (subst (λ (s : Option (List ℕ)). IsStill h (ends (Ok tt) (copies id h)) (Some id) (Ok Done) a s) (sym goes.1)
-    (record { same = refl; silent = refl; does = silent-does (ends (Ok tt) (copies id h)) (copies id h) (Ok Done) a refl refl refl }))
+    (record { same = refl; silent = refl; does = silent-does (ends (Ok tt) (copies id h)) (copies id h) (Ok Done) a refl refl refl; unsaid = λ e. cc }))
 still-gone set id h reason (Err fault) a b goes =
     still-refused h (hears_next set id h (frame.Bye reason)) (copies id h) (Some id) fault a b (ap (λ (t : Bool). if t then ends (Ok tt) (copies id h) else refuses BadFrame (copies id h)) (ne_eqb reason done goes.0)) refl goes.1
 

@@ -1,13 +1,15 @@
 -- How a parent's session goes on, and ends.
-use Rattle.std.proofs.Common.{◌≡◌, ℕ, true, List, [], ◌∷◌, ◌++◌, length, drop, append-nil, Option, None, Result, Ok, Err, IfErr, IsErrOf, refl, sym, ap, subst, ◌∙◌}
+use Rattle.std.proofs.Common.{◌≡◌, ℕ, ◌≤◌, Bool, true, false, List, [], ◌∷◌, ◌++◌, length, drop, append-nil, Option, Some, None, IfSome, Result, Ok, Err, arith, IfErr, IsErrOf, refl, sym, ap, subst, ◌∙◌}
 use Rattle.host_model.specs.Cause.{HasCause}
-use Rattle.std.specs.List.{AllByRecursion}
+use Rattle.std.specs.List.{flat_map, AllByRecursion}
+use Rattle.std.proofs.Math.Seq.{take-append_seam, take-length}
+use Rattle.host_model.specs.Link.{Sends, SendsFront}
 use Rattle.host_model.specs.Moments.{begins, EveryStop, Throughout}
 use Rattle.host_model.specs.Past.{told, Event, IsText}
 use Rattle.host_model.specs.Seen.{Seen}
 use Rattle.history.specs.History.{Beat}
 use Rattle.link_frames.specs.declared.frame.Frame.{Frame}
-use Rattle.link_frames.specs.Frames.{HasSpelling}
+use Rattle.link_frames.specs.Frames.{frame_bytes, HasSpelling}
 use Rattle.link_frames.specs.Stream.{HandsOut}
 use Rattle.entry_codec.specs.declared.entry.Settings.{Settings}
 use Rattle.store_core.specs.declared.fault.Why.{Why}
@@ -19,21 +21,21 @@ use Rattle.link_session.specs.declared.fault.SessionFault.TheVariants.{LinkFault
 use Rattle.link_session.specs.declared.flow.Flow.{Flow}
 use Rattle.link_session.specs.declared.flow.Flow.TheVariants.{GoesOn}
 use Rattle.link_session.specs.declared.incoming.Incoming.{Incoming}
-use Rattle.link_session.specs.Exchange.{both, exchange, Course, SessionResult}
+use Rattle.link_session.specs.Exchange.{both, broken_by, exchange, Course, SessionResult}
 use Rattle.link_session.specs.Incoming.{waiting, HasGiven}
 use Rattle.link_session.specs.Keeps.{no_more, IsAckedUpTo, Keeps}
 use Rattle.link_session.specs.Parent.{parent_begins, parent_does, Parent}
-use Rattle.link_session.specs.Receiving.{keeps_all, Copies, CopiesSo, IsReceiving, ParentTakes, ReceivesHistory, StoresAt, StoresOnly, TellsFront}
+use Rattle.link_session.specs.Receiving.{keeps_all, AnswersStored, Copies, CopiesSo, HasStored, IsReceiving, ParentTakes, ReceivesHistory, StoresAt, StoresOnly, TellsFront}
 use Rattle.link_session.specs.Sending.{spent_by, IsAgents}
-use Rattle.link_session.specs.Session.{result_of, HearsNoMore, IsSilentFor, LinkSeen, Talks}
+use Rattle.link_session.specs.Session.{result_of, says_all, HearsNoMore, IsSilentFor, LinkSeen, SaysFront, Talks}
 use Rattle.link_session.proofs.AckLemmas.{acked-nothing, acked-since, text-front}
 use Rattle.link_session.proofs.CopyLemmas.{stops-copy}
 use Rattle.link_session.proofs.ExchangeLemmas.{all-front, done-next, frame-ends, silence-ends, talks-first, talks-next}
-use Rattle.link_session.proofs.LinkLemmas.{sends-nothing}
+use Rattle.link_session.proofs.LinkLemmas.{all-sends, front-sends, sends-nothing}
 use Rattle.link_session.proofs.ParentLemmas.{no-cause}
 use Rattle.link_session.proofs.SendingLemmas.{spent-none}
 use Rattle.link_session.proofs.SendLemmas.{all_well, cause-alike, silent-outside}
-use Rattle.link_session.proofs.StoreLemmas.{stands-all, tells-all}
+use Rattle.link_session.proofs.StoreLemmas.{all-stored, stands-all, tells-all}
 
 -- what a parent with this history has done
 abbrev pub done_by : Settings → List Beat → List Frame → Course Parent
@@ -136,6 +138,10 @@ module _ (honest : Type 0) (host : Seen) (agent : AgentState) where
       spent-of before (Err TellFault) = refl
       spent-of before (Err Memory) = refl
 
+some-all : (broken : Option PeerFault) (n : ℕ) → IfSome broken (λ _. n ≤ n)
+some-all None n = tt
+some-all (Some fault) n = omega arith
+
 all-spelt : (bytes rest : List ℕ) (frames : List Frame) → HandsOut bytes [] frames rest → AllByRecursion HasSpelling frames
 all-spelt bytes rest frames cut = subst (AllByRecursion HasSpelling) (sym cut.handed) cut.frames
 
@@ -194,6 +200,15 @@ module _ (honest : Type 0) (host : Seen) (agent : AgentState) (link : LinkSeen) 
               let goes = on.goes hon set h is_of in
               record {
                 exchanges = silence-ends (parent_does set) (parent_begins h) link on.frames (parent_at set h on.frames peer) between.sent goes.talks fault between link' refl hears;
+                heard = record {
+                  n = length on.frames;
+                  all = some-all hears.broken (length on.frames);
+                  says = subst (λ (fs : List Frame). SendsFront link.sent (flat_map frame_bytes (broken_by hears.broken (done_by set h fs)).sent) link'.sent) (sym (take-length on.frames))
+                      (front-sends (says_all (failing_with fault)) (broken_by hears.broken (done_by set h on.frames)).sent link.sent link'.sent
+                      (silence-ends (parent_does set) (parent_begins h) link on.frames (parent_at set h on.frames peer) between.sent goes.talks fault between link' refl hears).says);
+                  stored = subst (λ (fs : List Frame). HasStored set (done_by set h fs).now.history host.past (done_by set h fs).told host'.past) (sym (take-length on.frames))
+                      (all-stored host'.past agent' set h (done_by set h on.frames).now.history host.past (done_by set h on.frames).told goes.at);
+                };
                 stops = goes.at.stops;
                 ends = λ _. stands-all host'.past agent' set (done_by set h on.frames).now.history goes.at.agent_of;
                 output = tells-all host'.past agent' set h (done_by set h on.frames).now.history host.past (done_by set h on.frames).told goes.at (keeps_all (failing_with fault));
@@ -225,8 +240,8 @@ module _ (honest : Type 0) (host : Seen) (agent : AgentState) (link : LinkSeen) 
         abbrev goes : GoesOnWith set h on.frames peer host.past host'.past agent' link.sent between.sent
         goes = on.goes hon set h is_of
 
-        so : CopiesSo set h host.past (done_by set h on.frames).told course peer' result agent'' host''.past between.sent link'.sent
-        so = subst (λ (sent : Option (List ℕ)). CopiesSo set h host.past (done_by set h on.frames).told course peer' result agent'' host''.past sent link'.sent) same
+        so : CopiesSo set h (done_by set h on.frames).now.history host.past (done_by set h on.frames).told course peer' result agent'' host''.past between.sent link'.sent
+        so = subst (λ (sent : Option (List ℕ)). CopiesSo set h (done_by set h on.frames).now.history host.past (done_by set h on.frames).told course peer' result agent'' host''.past sent link'.sent) same
             (takes.does hon set h (done_by set h on.frames).now.history host.past (done_by set h on.frames).told goes.at)
 
         after-is : done_by set h (on.frames ++ f ∷ []) ≡ both (done_by set h on.frames) course
@@ -250,9 +265,31 @@ module _ (honest : Type 0) (host : Seen) (agent : AgentState) (link : LinkSeen) 
           at = at-then (ap (λ (r : Result Flow SessionFault). keeps_all (result_of r)) is);
         }
 
+        -- all frames are answered, or the last is not
+        answers : (all : Bool) → keeps_all (result_of result) ≡ all → SaysFront (says_all (result_of result)) (done_by set h (on.frames ++ f ∷ [])).sent link.sent link'.sent
+            → AnswersStored set h (on.frames ++ f ∷ []) None host.past host''.past link.sent link'.sent
+        answers true all says = record {
+          n = length (on.frames ++ f ∷ []);
+          all = tt;
+          says = subst (λ (fs : List Frame). SendsFront link.sent (flat_map frame_bytes (done_by set h fs).sent) link'.sent) (sym (take-length (on.frames ++ f ∷ [])))
+              (front-sends (says_all (result_of result)) (done_by set h (on.frames ++ f ∷ [])).sent link.sent link'.sent says);
+          stored = subst (λ (fs : List Frame). HasStored set (done_by set h fs).now.history host.past (done_by set h fs).told host''.past) (sym (take-length (on.frames ++ f ∷ [])))
+              (all-stored host''.past agent'' set h (done_by set h (on.frames ++ f ∷ [])).now.history host.past (done_by set h (on.frames ++ f ∷ [])).told (at-then all));
+        }
+        answers false short says = record {
+          n = length on.frames;
+          all = tt;
+          says = subst (λ (fs : List Frame). SendsFront link.sent (flat_map frame_bytes (done_by set h fs).sent) link'.sent) (sym (take-append_seam on.frames (f ∷ [])))
+              (all-sends (flat_map frame_bytes (done_by set h on.frames).sent) link.sent link'.sent
+              (subst (Sends link.sent (flat_map frame_bytes (done_by set h on.frames).sent)) (sym (so.unsaid short).0) goes.talks.sends));
+          stored = subst (λ (fs : List Frame). HasStored set (done_by set h fs).now.history host.past (done_by set h fs).told host''.past) (sym (take-append_seam on.frames (f ∷ []))) (so.unsaid short).1;
+        }
+
         copies-then : (result ≡ Ok GoesOn → ⊥) → Copies set h (result_of result) host.past host''.past link link'
         copies-then over = record {
           exchanges = frame-ends (parent_does set) (parent_begins h) link on.frames now between.sent goes.talks f (record { history = course.now.history; peer = peer' }) result incoming' link' so.does given-then over;
+          heard = answers (keeps_all (result_of result)) refl
+              (frame-ends (parent_does set) (parent_begins h) link on.frames now between.sent goes.talks f (record { history = course.now.history; peer = peer' }) result incoming' link' so.does given-then over).says;
           stops = subst (λ (g : List Beat). Throughout (EveryStop (Keeps set h g (told host.past))) host.past host''.past) (sym history-is) so.stops;
           ends = λ all. stands-all host''.past agent'' set (done_by set h (on.frames ++ f ∷ [])).now.history (at-then all).agent_of;
           output = subst (λ (t : List ℕ). TellsFront (keeps_all (result_of result)) t host.past host''.past) (sym told-is) so.output;

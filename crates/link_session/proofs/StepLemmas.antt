@@ -9,6 +9,7 @@ use Rattle.link_session.specs.declared.fault.SessionFault.{SessionFault}
 use Rattle.link_session.specs.declared.fault.SessionFault.TheVariants.{LinkFault, Agent, PeerRefused, Ended, InputLimit, TellFault, Memory}
 use Rattle.link_session.specs.declared.flow.Flow.{Flow}
 use Rattle.link_session.specs.Exchange.{Course}
+use Rattle.link_session.specs.Receiving.{keeps_all}
 use Rattle.link_session.specs.Session.{says_all, result_of, ClosesSo, DoesSo, IsRefusing, Leaves, SaysFront, SaysThen}
 use Rattle.link_session.proofs.HearLemmas.{said-one, torn-one, untold-one}
 use Rattle.link_session.proofs.LinkLemmas.{sends-nothing, silent-front}
@@ -54,6 +55,26 @@ module _ {S : Type 0} (course : Course S) (now : S) where
     closes = closes;
     now_is = tt;
   }
+
+-- nothing was said where not all was stored and told
+pub leaves-unsaid : (reason : ℕ) (fault : PeerFault) (ended : SessionFault) (a b : Option (List ℕ)) → Leaves reason fault ended a b → keeps_all (Err ended) ≡ false → b ≡ a
+leaves-unsaid reason fault (PeerRefused other) a b left short = cc
+leaves-unsaid reason fault LinkFault a b left short = cc
+leaves-unsaid reason fault Memory a b left short = left
+leaves-unsaid reason fault TellFault a b left short = absurd left
+leaves-unsaid reason fault Ended a b left short = absurd left
+leaves-unsaid reason fault InputLimit a b left short = absurd left
+leaves-unsaid reason fault (Agent other) a b left short = absurd left
+
+pub said-unsaid : (f : Frame) (flow : Flow) (result : Result Flow SessionFault) (a b : Option (List ℕ)) → SaysThen f flow result a b → keeps_all (result_of result) ≡ false → b ≡ a
+said-unsaid f flow (Ok became) a b said short = cc
+said-unsaid f flow (Err LinkFault) a b said short = cc
+said-unsaid f flow (Err Memory) a b said short = said
+said-unsaid f flow (Err TellFault) a b said short = absurd said
+said-unsaid f flow (Err Ended) a b said short = absurd said
+said-unsaid f flow (Err InputLimit) a b said short = absurd said
+said-unsaid f flow (Err (PeerRefused fault)) a b said short = absurd said
+said-unsaid f flow (Err (Agent fault)) a b said short = absurd said
 
 -- which faults these are
 pub leaves-refusing : (reason : ℕ) (fault : PeerFault) (ended : SessionFault) (a b : Option (List ℕ)) → Leaves reason fault ended a b → IsRefusing ended

@@ -7,7 +7,7 @@ use Rattle.host_model.specs.Moments.{Throughout, EveryStop}
 use Rattle.host_model.specs.Past.{Event, Told, told, IsText, MayAdd}
 use Rattle.host_model.proofs.CallLemmas.{may_have_moved, moved}
 use Rattle.host_model.proofs.DiskLemmas.{untold}
-use Rattle.host_model.proofs.MomentLemmas.{joined, weakened}
+use Rattle.host_model.proofs.MomentLemmas.{at_end, joined, weakened}
 use Rattle.history.specs.History.{Beat}
 use Rattle.plugin_text.specs.Lines.{rest}
 use Rattle.entry_codec.specs.declared.entry.Settings.{Settings}
@@ -15,7 +15,7 @@ use Rattle.store_core.proofs.StoreLemmas.{every_image_of, store_told}
 use Rattle.agent_core.specs.Agent.{AgentState, IsAgentOf}
 use Rattle.agent_core.specs.Kept.{onto, StandsForFront, StandsForHistory}
 use Rattle.link_session.specs.Keeps.{no_more, Extends, IsAckedUpTo, Keeps}
-use Rattle.link_session.specs.Receiving.{StoresAt, TellsFront}
+use Rattle.link_session.specs.Receiving.{HasStored, StoresAt, TellsFront}
 use Rattle.link_session.proofs.AckLemmas.{acked-more, acked-since, acked-weaker, closed-more, text-front}
 use Rattle.link_session.proofs.ExtendsLemmas.{extends-front, extends-further, extends-length, extends-onto}
 
@@ -48,6 +48,14 @@ keeps-more set h0 h whole before more start new stops =
     let kept = held disk text images by_then in
     record { stored = kept.stored; since = kept.since; within = extends-further kept.stored h whole kept.within more; stands = kept.stands; acked = kept.acked }) stops
 
+-- a history that goes on from this is stored
+pub stored-since : (set : Settings) (h g : List Beat) (start new : List Event) (made : List ℕ) → Extends h g → HasStored set g start made new → HasStored set h start made new
+stored-since set h g start new made since has = record {
+  more = has.more;
+  tells = has.tells;
+  stands = λ disk images. let (f, on, stands) = has.stands disk images in (f, extends-further h g f since on, stands);
+}
+
 module _ (past : List Event) (agent : AgentState) (set : Settings) (h0 h : List Beat) (start : List Event) (made : List ℕ) (at : StoresAt past agent set h0 h start made) where
   -- what was told by then acknowledges no more than is stored
   acked-by : (text : List ℕ) → IsText past text → IsAckedUpTo (length h) (drop (length (told start)) text)
@@ -58,6 +66,14 @@ module _ (past : List Event) (agent : AgentState) (set : Settings) (h0 h : List 
   -- all that was to be told was
   pub tells-all : (all : Bool) → TellsFront all made start past
   tells-all all = record { said = made; unsaid = []; whole = sym (append-nil made); tells = at.tells; complete = λ _. refl }
+
+  -- it is stored and told
+  pub all-stored : HasStored set h start made past
+  all-stored = record {
+    more = [];
+    tells = at.tells ∙ ap (λ (t : List ℕ). told start ++ t) (sym (append-nil made));
+    stands = λ disk images. (h, no_more, stands-all past agent set h at.agent_of disk images);
+  }
 
   -- moments at which nothing is told, and the disk holds this history with the first of these beats
   module _ (more : List Beat) (new : List Event) (moments : Throughout (EveryDisk (StandsForFront set h more)) past new) (silent : told new ≡ told past) where
@@ -82,6 +98,14 @@ module _ (past : List Event) (agent : AgentState) (set : Settings) (h0 h : List 
       closed = at.closed;
       acked = acked-weaker (length h) (length (onto h more)) made (extends-length h (onto h more) (extends-onto h more)) at.acked;
       stops = front-stops;
+    }
+
+    -- what had been stored and told is
+    pub still-stored : HasStored set h start made new
+    still-stored = record {
+      more = [];
+      tells = silent ∙ at.tells ∙ ap (λ (t : List ℕ). told start ++ t) (sym (append-nil made));
+      stands = λ disk images. let (n, stands) = at_end moments disk images in (onto h (take n more), extends-onto h (take n more), stands);
     }
 
     -- nothing more was told
@@ -125,6 +149,15 @@ module _ (past : List Event) (agent : AgentState) (set : Settings) (h0 h : List 
       whole = ap (λ (t : List ℕ). made ++ t) (sym (take-append-drop n text)) ∙ sym (append_assoc made (take n text) (drop n text));
       tells = ap told added ∙ ap (λ (t : List ℕ). t ++ take n text) at.tells ∙ append_assoc (told start) made (take n text);
       complete = λ e. cc;
+    }
+
+    pub torn-stored : (new : List Event) → MayAdd (λ (n : ℕ). Told (take n text)) past new → HasStored set h start made new
+    torn-stored new (inl same) = subst (HasStored set h start made) (sym same) all-stored
+    torn-stored new (inr (n, added)) = record {
+      more = take n text;
+      tells = ap told added ∙ ap (λ (t : List ℕ). t ++ take n text) at.tells ∙ append_assoc (told start) made (take n text);
+      stands = subst (EveryDisk (λ disk. (g : List Beat) × Extends h g × StandsForHistory set g disk)) (sym added)
+          (λ disk images. (h, no_more, stands-all (Told (take n text) ∷ past) agent set h (agent-told (take n text) past agent set h at.agent_of) disk images));
     }
 
     -- the text was told, whole lines of it

@@ -1,10 +1,11 @@
 -- What `receive` promises.
-use Rattle.std.specs.Prelude.{◌≡◌, ◌⊎◌, ℕ, Bool, true, false, List, [], ◌∷◌, ◌++◌, length, Option, Some, Result, Ok, Err, IfErr, IsErrOf, take}
-use Rattle.std.specs.List.{AllByRecursion}
+use Rattle.std.specs.Prelude.{◌≡◌, ◌⊎◌, ℕ, Bool, true, false, List, [], ◌∷◌, ◌++◌, length, Option, Some, Result, Ok, Err, IfSome, IfErr, IsErrOf, take, ◌≤◌}
+use Rattle.std.specs.List.{flat_map, AllByRecursion}
 use Rattle.host_model.specs.declared.file.File.{File}
 use Rattle.host_model.specs.declared.file.File.TheVariants.{JournalA}
 use Rattle.host_model.specs.Cause.{HasCause}
 use Rattle.host_model.specs.Disks.{EveryDisk}
+use Rattle.host_model.specs.Link.{SendsFront}
 use Rattle.host_model.specs.Moments.{EveryStop, Throughout}
 use Rattle.host_model.specs.Past.{of, told, Event, IsOther, MayAdd, Told}
 use Rattle.host_model.specs.Seen.{Seen}
@@ -13,7 +14,7 @@ use Rattle.plugin_text.specs.Lines.{rest}
 use Rattle.replication.specs.Copies.{RisesFrom}
 use Rattle.link_frames.specs.declared.frame.Frame.{Frame}
 use Rattle.link_frames.specs.declared.frame.Frame.TheVariants as frame
-use Rattle.link_frames.specs.Frames.{bad_frame, done}
+use Rattle.link_frames.specs.Frames.{bad_frame, done, frame_bytes}
 use Rattle.entry_codec.specs.declared.entry.Settings.{Settings}
 use Rattle.store_core.specs.declared.fault.Why.{Why}
 use Rattle.agent_core.specs.declared.fault.AgentFault.{AgentFault}
@@ -23,10 +24,11 @@ use Rattle.agent_core.specs.Copies.{seen_moment, IsCopyOfChild, IsTrueOfChild, S
 use Rattle.agent_core.specs.Kept.{StandsForHistory}
 use Rattle.link_session.specs.declared.fault.SessionFault.{SessionFault}
 use Rattle.link_session.specs.declared.fault.SessionFault.TheVariants.{LinkFault, Agent, TellFault, Memory}
+use Rattle.link_session.specs.declared.fault.PeerFault.{PeerFault}
 use Rattle.link_session.specs.declared.fault.PeerFault.TheVariants.{BadFrame}
 use Rattle.link_session.specs.declared.flow.Flow.{Flow}
 use Rattle.link_session.specs.declared.flow.Flow.TheVariants.{GoesOn, Done}
-use Rattle.link_session.specs.Exchange.{exchange, Course, SessionResult}
+use Rattle.link_session.specs.Exchange.{broken_by, exchange, Course, SessionResult}
 use Rattle.link_session.specs.Keeps.{Extends, IsAckedUpTo, Keeps}
 use Rattle.link_session.specs.Parent.{parent_begins, parent_does, Parent}
 use Rattle.link_session.specs.Sending.{spent_by}
@@ -48,6 +50,20 @@ pub record TellsFront (all : Bool) (text : List ℕ) (old new : List Event) : Ty
   pub whole : text ≡ said ++ unsaid
   pub tells : told new ≡ told old ++ said
   pub complete : all ≡ true → unsaid ≡ []
+
+-- at least this was told since, and at least this history is stored
+pub record HasStored (set : Settings) (h : List Beat) (start : List Event) (made : List ℕ) (new : List Event) : Type 0 where
+  pub more : List ℕ
+  pub tells : told new ≡ told start ++ (made ++ more)
+  pub stands : EveryDisk (λ disk. (g : List Beat) × Extends h g × StandsForHistory set g disk) new
+
+-- What was said answers the first n of these frames, and all that they were to store and tell was stored and told. What
+-- broke the bytes is answered behind all of them.
+pub record AnswersStored (set : Settings) (h0 : List Beat) (frames : List Frame) (broken : Option PeerFault) (old new : List Event) (sent sent' : Option (List ℕ)) : Type 0 where
+  pub n : ℕ
+  pub all : IfSome broken (λ _. length frames ≤ n)
+  pub says : SendsFront sent (flat_map frame_bytes (broken_by broken (exchange (parent_does set) (parent_begins h0) (take n frames))).sent) sent'
+  pub stored : HasStored set (exchange (parent_does set) (parent_begins h0) (take n frames)).now.history old (exchange (parent_does set) (parent_begins h0) (take n frames)).told new
 
 -- ---- an agent that stores, and a host that is told
 
@@ -89,17 +105,19 @@ pub record StoresAt (past : List Event) (agent : AgentState) (set : Settings) (h
   pub acked : IsAckedUpTo (length h) made
   pub stops : Throughout (EveryStop (Keeps set h0 h (told start))) start past
 
--- a parent did this at a frame, or something failed while it did
-pub record CopiesSo (set : Settings) (h0 : List Beat) (start : List Event) (made : List ℕ) (course : Course Parent) (peer' : Option ℕ) (result : Result Flow SessionFault) (agent' : AgentState) (new : List Event) (sent sent' : Option (List ℕ)) : Type 0 where
+-- a parent with history `h` did this at a frame, or something failed while it did
+pub record CopiesSo (set : Settings) (h0 h : List Beat) (start : List Event) (made : List ℕ) (course : Course Parent) (peer' : Option ℕ) (result : Result Flow SessionFault) (agent' : AgentState) (new : List Event) (sent sent' : Option (List ℕ)) : Type 0 where
   pub does : DoesSo course (record { history = course.now.history; peer = peer' }) result sent sent'
   pub stops : Throughout (EveryStop (Keeps set h0 course.now.history (told start))) start new
   pub output : TellsFront (keeps_all (result_of result)) (made ++ course.told) start new
   pub stored : keeps_all (result_of result) ≡ true → StoresAt new agent' set h0 course.now.history start (made ++ course.told)
+  -- where not all of it was stored and told, nothing was said, and what had been stored and told still is
+  pub unsaid : keeps_all (result_of result) ≡ false → (sent' ≡ sent) × HasStored set h start made new
 
 -- a parent did this at a frame, which depends on the history that its agent is of
 pub record ParentTakes (honest : Type 0) (host : Seen) (agent : AgentState) (course : Settings → List Beat → Course Parent) (result : Result Flow SessionFault) (host' : Seen) (agent' : AgentState) (peer' : Option ℕ) (sent sent' : Option (List ℕ)) : Type 0 where
   pub does : honest → (set : Settings) (h0 h : List Beat) (start : List Event) (made : List ℕ) → StoresAt host.past agent set h0 h start made
-      → CopiesSo set h0 start made (course set h) peer' result agent' host'.past sent sent'
+      → CopiesSo set h0 h start made (course set h) peer' result agent' host'.past sent sent'
   pub stores : StoresOnly honest host agent result host' agent'
   pub faults : IfErr result IsReceiving
 
@@ -115,6 +133,8 @@ AreTrueOf floors child frames = AllByRecursion (IsTrueFrame floors child) frames
 -- holds what was acknowledged at any moment, and all of it in the end, unless something failed.
 pub record Copies (set : Settings) (h0 : List Beat) (result : SessionResult) (old new : List Event) (link link' : LinkSeen) : Type 0 where
   pub exchanges : Exchanges (parent_does set) (parent_begins h0) result link link'
+  -- what was said answers frames of which all was stored and told
+  pub heard : AnswersStored set h0 exchanges.frames exchanges.broken old new link.sent link'.sent
   pub stops : Throughout (EveryStop (Keeps set h0 (exchange (parent_does set) (parent_begins h0) exchanges.frames).now.history (told old))) old new
   pub ends : keeps_all result ≡ true → EveryDisk (StandsForHistory set (exchange (parent_does set) (parent_begins h0) exchanges.frames).now.history) new
   pub output : TellsFront (keeps_all result) (exchange (parent_does set) (parent_begins h0) exchanges.frames).told old new

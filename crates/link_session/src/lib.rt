@@ -6,7 +6,8 @@
 //! exchange says, and all of it but where something failed; why a session ended is how the exchange ends, or where
 //! the bytes end, break or are too many. `send` writes and tells nothing. Whatever a crash leaves during `receive`,
 //! the disk has every beat whose `STORED` line was told, and a history that was a copy of a child still is one where
-//! each Data that came is true of it.
+//! each Data that came is true of it. What a parent says answers only frames of which all was stored and told: it says
+//! Have only once the beats are on the disk and told.
 //!
 //! It stands on the agent of `agent_core`, on the frames of `link_frames`, and on the limit of input of `line_stream`.
 #![tactic(auto)]

@@ -101,6 +101,17 @@ impl Parent {
         self.ask(agent, link, *id)
     }
 
+    /// Says that it has all up to this moment.
+    fn say_have<L: Link>(&self, link: &mut L, last: u32) -> Result<Flow, SessionFault>
+        ensures says { SaysThen (frame.Have last) Flow.GoesOn result
+            (L.sent link.old) (L.sent link.new) }
+        ensures left { L.left link.new ≡ L.left link.old }
+        ensures cause { HasCause (L.faults link.old) (L.faults link.new)
+            (IsErrOf result SessionFault.LinkFault) }
+    {
+        answer_with(self.alloc, link, &Frame::Have(last), Flow::GoesOn)
+    }
+
     /// Tells of beats that were stored, and says that it has them.
     fn have<H: Host, L: Link>(
         &self,
@@ -119,7 +130,7 @@ impl Parent {
             (IsErrOf result SessionFault.LinkFault) }
     {
         tell_stored(self.alloc, host, reply)?;
-        answer_with(self.alloc, link, &Frame::Have(agent.last()), Flow::GoesOn)
+        self.say_have(link, agent.last())
     }
 
     /// Takes a Data.
@@ -222,8 +233,9 @@ impl Parent {
 ///
 /// It waits for the id of the child, and asks from its last moment on. A Data that begins there is
 /// stored, told as `STORED` with the number of its last beat and the lines of its events, and
-/// answered. `Agent` with `Refused` comes where the history does not take it, and then nothing is
-/// said for it. After `Agent` with another fault the agent must be opened again.
+/// answered by a Have. It says Have only once the beats are on the disk and told. `Agent` with
+/// `Refused` comes where the history does not take it, and then nothing is said for it. After
+/// `Agent` with another fault the agent must be opened again.
 pub fn receive<H: Host, L: Link>(
     alloc: Global,
     agent: &mut Agent,

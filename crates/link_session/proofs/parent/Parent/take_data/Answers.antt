@@ -42,7 +42,7 @@ returns-in-Old-clause-takes g c =
     (subst (λ (v : Verdict). TakesData g.H.Host.honest host c.args.agent.now c.args.message.now (Ok (v, reply)) middle c.take.new.self) c.in-Old.is
     (subst (λ (r : Result (Verdict × Reply) AgentFault). TakesData g.H.Host.honest host c.args.agent.now c.args.message.now r middle c.take.new.self) c.in-Ok.is c.take.ensures))
     refl (Ok GoesOn) _ _ c.requires.ready tt
-    (λ same set h is_of. record { same = refl; silent = refl; does = silent-does (nothing (copies c.args.id h)) (copies c.args.id h) (Ok GoesOn) (g.L.Link.sent c.args.link.now) refl refl refl })
+    (λ same set h is_of. record { same = refl; silent = refl; does = silent-does (nothing (copies c.args.id h)) (copies c.args.id h) (Ok GoesOn) (g.L.Link.sent c.args.link.now) refl refl refl; unsaid = λ e. cc })
 
 pub returns-in-Ahead-clause-takes : goal.returns-in-Ahead-clause-takes
 returns-in-Ahead-clause-takes g c =
