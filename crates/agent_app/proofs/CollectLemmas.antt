@@ -1,10 +1,10 @@
 -- What `collect` promises: where the database was opened, and where it was not.
-use Rattle.std.proofs.Common.{◌≡◌, ◌⊎◌, inl, inr, ℕ, ◌≤◌, Bool, true, false, List, [], ◌∷◌, length, take, Option, Some, None, Result, Ok, Err, refl, sym, ap, subst, ◌∙◌, arith, true≢false}
+use Rattle.std.proofs.Common.{◌≡◌, ◌⊎◌, inl, inr, ℕ, ◌<◌, ◌≤◌, Bool, true, false, List, [], ◌∷◌, length, take, Option, Some, None, Result, Ok, Err, refl, sym, ap, subst, ◌∙◌, arith, true≢false}
 use Rattle.std.proofs.lemmas.List.{length-take, take_all}
 use Rattle.host_model.specs.Cause.{Rose}
 use Rattle.host_model.specs.declared.status.Status.{Status}
 use Rattle.host_model.specs.declared.status.Status.TheVariants as status
-use Rattle.host_model.specs.Disks.{reads_as}
+use Rattle.host_model.specs.Disks.{EveryDisk, reads_as}
 use Rattle.host_model.specs.Past.{Event, IsDisk}
 use Rattle.host_model.specs.Seen.{Seen}
 use Rattle.history.specs.History.{Beat, last}
@@ -34,6 +34,7 @@ use Rattle.agent_app.specs.Reading.{Ending}
 use Rattle.agent_app.specs.Run.{ends_a_run, finds_none, is_whole, run_reading, HasRunCause, Stores}
 use Rattle.agent_app.specs.Running.{opening_status, DiskRose, TellRose}
 use Rattle.agent_app.proofs.CauseLemmas.{cause-as, stayed}
+use Rattle.agent_app.proofs.ChildrenLemmas.{ends-as-children}
 use Rattle.agent_app.proofs.MadeLemmas.{made-all}
 use Rattle.agent_app.proofs.OpeningLemmas.{by-fault, disk-failed, failed_by, fault-is, found-finds, ran-since, unopened-finds, unopened-host, unopened-stores, untold-yet, Since}
 use Rattle.agent_app.proofs.RunLemmas.{is-by-end, run_acts, Over}
@@ -79,10 +80,10 @@ unstarted other e = apart e
     apart : status.Memory ≡ status.SpawnFault → ⊥
     apart e = cc
 
-pub uncollected : (honest : Type 0) (host host' : Seen) → (honest → IsDisk host.past (reads_as host.past)) → (why : AgentFault) → Opens honest host (Err why) host' → (asked : Collector) (outside : Outside)
-    → CollectsAll honest asked (opening_status why) outside outside host host'
-uncollected honest host host' first why opens asked outside = record {
-  collects = λ h set h0 stands. record {
+module _ (honest : Type 0) (host host' : Seen) (first : honest → IsDisk host.past (reads_as host.past)) (why : AgentFault) (opens : Opens honest host (Err why) host') (asked : Collector) (outside : Outside) where
+  collects-unopened : honest → (set : Settings) (h0 : List Beat) → EveryDisk (StandsForHistory set h0) host.past
+      → Collects (opening_status why) asked set h0 outside outside host.past host'.past (TellRose host host') (DiskRose host host')
+  collects-unopened h set h0 stands = record {
     taken = [];
     heard = heard-nothing asked (last h0) outside;
     ended = false;
@@ -93,26 +94,32 @@ uncollected honest host host' first why opens asked outside = record {
         (λ (f : AgentFault). why ≡ f
         → HasCollectCause (opening_status f) (heard-nothing asked (last h0) outside).answer false (run_reading asked.every set h0 false []).ending [] (Rose outside.spawn_faults outside.spawn_faults) (TellRose host host') (DiskRose host host'))
         why (opens.stands h set h0 (stands (reads_as host.past) (first h))) (λ is. opens.cause.failed (ap (λ (f : AgentFault). Err f) is)) (λ is. tt) refl;
-  };
-  resumes = λ h set h0 here. record {
-    read = host'.past;
-    before = opens.any_moment h;
-    silent = (opens.only_here h).output;
-    after =
-        inr (by-fault honest host host' first (λ (f : AgentFault). (opening_status f ≡ status.DiskFault) ⊎ (opening_status f ≡ status.Memory)) why (opens.stands h set h0 here) (inl refl) (inr refl), refl, refl);
-  };
-  finds = unopened-finds honest host host' first why opens;
-  statuses = opening-collects why;
-  leaves = λ _. (refl, unopened-host honest host host' first why opens);
-  untaken = λ h none. (refl, unopened-host honest host host' first why opens);
-  others = λ h. (opens.only_here h).others;
-  spawns = omega arith;
-  spawn_cause = λ is. absurd (unstarted why is);
-  tell_cause = stayed host.tell_faults host'.tell_faults (opening_status why ≡ status.TellFault) opens.tells (untold-yet honest host host' first why);
-  disk_cause =
-      cause-as host.disk_faults host'.disk_faults (failed_by why ≡ failed_by fault.DiskFault) (opening_status why ≡ status.DiskFault)
-      (disk-failed honest host host' first why) (λ e. ap opening_status (fault-is why fault.DiskFault e)) opens.cause;
-}
+  }
+
+  pub uncollected : CollectsAll honest asked (opening_status why) outside outside host host'
+  uncollected = record {
+    collects = collects-unopened;
+    resumes = λ h set h0 here. record {
+      read = host'.past;
+      before = opens.any_moment h;
+      silent = (opens.only_here h).output;
+      after =
+          inr (by-fault honest host host' first (λ (f : AgentFault). (opening_status f ≡ status.DiskFault) ⊎ (opening_status f ≡ status.Memory)) why (opens.stands h set h0 here) (inl refl) (inr refl), refl, refl);
+    };
+    complete = λ h set h0 stands begun coming told.
+        ends-as-children (opening_status why) asked set h0 outside outside host.past host'.past (TellRose host host') (DiskRose host host') (collects-unopened h set h0 stands) begun coming told;
+    finds = unopened-finds honest host host' first why opens;
+    statuses = opening-collects why;
+    leaves = λ _. (refl, unopened-host honest host host' first why opens);
+    untaken = λ h none. (refl, unopened-host honest host host' first why opens);
+    others = λ h. (opens.only_here h).others;
+    spawns = omega arith;
+    spawn_cause = λ is. absurd (unstarted why is);
+    tell_cause = stayed host.tell_faults host'.tell_faults (opening_status why ≡ status.TellFault) opens.tells (untold-yet honest host host' first why);
+    disk_cause =
+        cause-as host.disk_faults host'.disk_faults (failed_by why ≡ failed_by fault.DiskFault) (opening_status why ≡ status.DiskFault)
+        (disk-failed honest host host' first why) (λ e. ap opening_status (fault-is why fault.DiskFault e)) opens.cause;
+  }
 
 -- ---- the database was opened
 
@@ -174,38 +181,38 @@ module _ (answer : Result Turn RunFault) (taken : List ℕ) (spawn_rose tell_ros
   }
 
   -- a turn failed
-  failed-as : (why : RunFault) → answer ≡ Err why → (IsFault (Err why) → spawn_rose) → EndsAs status.ReadFault (halt_status (Failed why)) answer false taken (Unit {0}) spawn_rose tell_rose disk_rose
-  failed-as run_fault.SpawnFault is rose = record {
+  failed-as : (why : RunFault) → answer ≡ Err why → length taken < input_limit → (IsFault (Err why) → spawn_rose) → EndsAs status.ReadFault (halt_status (Failed why)) answer false taken (Unit {0}) spawn_rose tell_rose disk_rose
+  failed-as run_fault.SpawnFault is below rose = record {
     whole = λ _. refl;
     told = λ e. cc;
     told_back = λ e. cc;
     stored = λ e. cc;
     stored_back = λ e. cc;
-    cause = λ ending has. (refl, has.1, subst IsFault (sym is) tt, rose tt);
+    cause = λ ending has. (refl, has.1, subst IsFault (sym is) tt, below, rose tt);
     ends = refl;
     spawned = λ _. rose tt;
   }
-  failed-as run_fault.PipeFault is rose = record {
+  failed-as run_fault.PipeFault is below rose = record {
     whole = λ _. refl;
     told = λ e. cc;
     told_back = λ e. cc;
     stored = λ e. cc;
     stored_back = λ e. cc;
-    cause = λ ending has. (refl, has.1, subst IsFault (sym is) tt, rose tt);
+    cause = λ ending has. (refl, has.1, subst IsFault (sym is) tt, below, rose tt);
     ends = refl;
     spawned = λ _. rose tt;
   }
-  failed-as (run_fault.Disabled exit) is rose = record {
+  failed-as (run_fault.Disabled exit) is below rose = record {
     whole = λ _. refl;
     told = λ e. cc;
     told_back = λ e. cc;
     stored = λ e. cc;
     stored_back = λ e. cc;
-    cause = λ ending has. (refl, inr (has.1, subst IsDisabling (sym is) tt));
+    cause = λ ending has. (refl, inr (has.1, subst IsDisabling (sym is) tt, below));
     ends = refl;
     spawned = λ e. cc;
   }
-  failed-as run_fault.Memory is rose = record {
+  failed-as run_fault.Memory is below rose = record {
     whole = λ _. refl;
     told = λ e. cc;
     told_back = λ e. cc;
@@ -259,7 +266,7 @@ module _ {H : Type 0} (honest : Type 0) (seen : H → Seen) (host : Seen) (agent
         taken = taken;
         heard = record { course = course; answer = answer; turned = turned-by h set h0 here; takes = takes };
         ended = ended;
-        at_end = λ is. let made = finished is in (made.0, made.1, (over.at_end is).0);
+        at_end = λ is. let made = finished is in (made.0, made.1, (over.at_end is).0, over.plain is);
         stores = stores-as set h0 start over.stops.stores;
         cause = ends_as.cause (run_reading asked.every set h0 ended taken).ending over.stops.cause;
       }
@@ -278,6 +285,8 @@ module _ {H : Type 0} (honest : Type 0) (seen : H → Seen) (host : Seen) (agent
             stored_for = λ is. (since.resumes h set h0 here).stops.stored_for (ends_as.stored is);
           });
         };
+        complete = λ h set h0 stands begun coming told.
+            ends-as-children s asked set h0 outside outside' host.past (seen host').past Told Failing (collects-from h set h0 (stands (reads_as host.past) (first h)) host.past (since.stops h set h0 stands)) begun coming told;
         finds = found-finds honest host agent (seen middle) opens s (found-collect s ends_as.ends);
         statuses = inl ends_as.ends;
         leaves = λ none. absurd (found-collect s ends_as.ends none);
@@ -343,7 +352,7 @@ module _ {H : Type 0} (honest : Type 0) (seen : H → Seen) (host : Seen) (agent
     came-halted (Failed why) halted rose =
         let whole = halted.1 in
         let how : Ended (run_acts honest seen) status.ReadFault running middle taken running' host' some_left (Unit {0}) = at_fault refl tt whole.below whole.took whole.paused in
-        came status.ReadFault (halt_status (Failed why)) false some_left (Unit {0}) (since-by status.ReadFault some_left (Unit {0}) how) (failed-as answer taken SpawnRose Told Failing why halted.0 rose) (λ e. absurd (true≢false (sym e)))
+        came status.ReadFault (halt_status (Failed why)) false some_left (Unit {0}) (since-by status.ReadFault some_left (Unit {0}) how) (failed-as answer taken SpawnRose Told Failing why halted.0 whole.below rose) (λ e. absurd (true≢false (sym e)))
 
   pub collected : (halt : Halt)
       → Collected (run_acts honest seen) halt (new_course asked.words asked.every asked.starts agent.last) running middle running' host' outside.children outside'.children outside.readings outside'.readings

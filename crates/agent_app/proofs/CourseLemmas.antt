@@ -54,18 +54,18 @@ none-some t e = cc
 pub record StoresOn (s : Status) (input : Input) (set : Settings) (h0 : List Beat) (new read : List Event) : Type 0 where
   pub taken : List ℕ
   pub ended : Bool
-  pub gives : Gives input taken
+  pub gives : Gives input (last h0) taken
   pub stores : Stores s (every_of input) set h0 ended taken read new
 
 pub record IsRunOf (honest : Type 0) (s : Status) (input : Input) (host host' : Seen) : Type 0 where
-  pub found : honest → (HasNotes true (reads_as host.past) → ⊥) → IsHostAsFound honest host host' × Gives input []
+  pub found : honest → (HasNotes true (reads_as host.past) → ⊥) → IsHostAsFound honest host host' × ((last : ℕ) → Gives input last [])
   pub unmade : honest → is_made (reads_as host.past) ≡ false → (s ≡ status.NotADatabase) ⊎ (s ≡ status.DiskFault) ⊎ (s ≡ status.Memory)
-  pub resumes : honest → (set : Settings) (h0 : List Beat) → StandsForHistory set h0 (reads_as host.past) → OnceRead (StoresOn s input set h0 host'.past) (Gives input []) s host.past host'.past
+  pub resumes : honest → (set : Settings) (h0 : List Beat) → StandsForHistory set h0 (reads_as host.past) → OnceRead (StoresOn s input set h0 host'.past) ((last : ℕ) → Gives input last []) s host.past host'.past
 
 module _ (honest : Type 0) (host host' : Seen) where
   pub of-run : (s : Status) (left left' : Option (List ℕ)) (faults faults' : ℕ) → RunsAll honest s left left' faults faults' host host' → IsRunOf honest s (OfSource left left') host host'
   of-run s left left' faults faults' all = record {
-    found = λ h none. let found = all.untaken h none in (found.host_is, nothing found.source.0);
+    found = λ h none. let found = all.untaken h none in (found.host_is, λ last. nothing found.source.0);
     unmade = all.finds.unmade;
     resumes = λ h set h0 here. let run = all.resumes h set h0 here in record { read = run.read; before = run.before; silent = run.silent; after = by set h0 run.read run.after };
   }
@@ -75,9 +75,9 @@ module _ (honest : Type 0) (host host' : Seen) where
 
       by : (set : Settings) (h0 : List Beat) (read : List Event)
           → RunsOn s run_every set h0 left left' read host'.past (Rose faults faults') (Rose host.tell_faults host'.tell_faults) (Rose host.disk_faults host'.disk_faults) ⊎ (((s ≡ status.DiskFault) ⊎ (s ≡ status.Memory)) × (host'.past ≡ read) × (left' ≡ left))
-          → StoresOn s (OfSource left left') set h0 host'.past read ⊎ (((s ≡ status.DiskFault) ⊎ (s ≡ status.Memory)) × (host'.past ≡ read) × Takes left [] left')
+          → StoresOn s (OfSource left left') set h0 host'.past read ⊎ (((s ≡ status.DiskFault) ⊎ (s ≡ status.Memory)) × (host'.past ≡ read) × ((last : ℕ) → Takes left [] left'))
       by set h0 read (inl on) = inl (record { taken = on.runs.taken; ended = on.runs.ended; gives = on.runs.takes; stores = on.runs.stores })
-      by set h0 read (inr (short, is, same)) = inr (short, is, nothing same)
+      by set h0 read (inr (short, is, same)) = inr (short, is, λ last. nothing same)
 
   pub of-collect : (collector : Collector) (s : Status) (outside outside' : Outside) → CollectsAll honest collector s outside outside' host host' → IsRunOf honest s (OfCollector collector outside outside') host host'
   of-collect collector s outside outside' all = record {
@@ -86,13 +86,13 @@ module _ (honest : Type 0) (host host' : Seen) where
     resumes = λ h set h0 here. let run = all.resumes h set h0 here in record { read = run.read; before = run.before; silent = run.silent; after = by set h0 run.read run.after };
   }
     where
-      nothing : outside' ≡ outside → Gives (OfCollector collector outside outside') []
-      nothing same = (0, subst (λ (o : Outside). HasHeard collector 0 outside o []) (sym same) (heard-nothing collector 0 outside))
+      nothing : outside' ≡ outside → (last : ℕ) → Gives (OfCollector collector outside outside') last []
+      nothing same last = subst (λ (o : Outside). HasHeard collector last outside o []) (sym same) (heard-nothing collector last outside)
 
       by : (set : Settings) (h0 : List Beat) (read : List Event)
           → CollectsOn s collector set h0 outside outside' read host'.past (Rose host.tell_faults host'.tell_faults) (Rose host.disk_faults host'.disk_faults) ⊎ (((s ≡ status.DiskFault) ⊎ (s ≡ status.Memory)) × (host'.past ≡ read) × (outside' ≡ outside))
-          → StoresOn s (OfCollector collector outside outside') set h0 host'.past read ⊎ (((s ≡ status.DiskFault) ⊎ (s ≡ status.Memory)) × (host'.past ≡ read) × Gives (OfCollector collector outside outside') [])
-      by set h0 read (inl on) = inl (record { taken = on.collects.taken; ended = on.collects.ended; gives = (last h0, on.collects.heard); stores = on.collects.stores })
+          → StoresOn s (OfCollector collector outside outside') set h0 host'.past read ⊎ (((s ≡ status.DiskFault) ⊎ (s ≡ status.Memory)) × (host'.past ≡ read) × ((last : ℕ) → Gives (OfCollector collector outside outside') last []))
+      by set h0 read (inl on) = inl (record { taken = on.collects.taken; ended = on.collects.ended; gives = on.collects.heard; stores = on.collects.stores })
       by set h0 read (inr (short, is, same)) = inr (short, is, nothing same)
 
 module _ (starts : List (Option Database)) (tried : List Settings) (runs : List OneRun) (honest : Type 0) (h : honest) (host host' : Seen)
@@ -110,7 +110,7 @@ module _ (starts : List (Option Database)) (tried : List Settings) (runs : List 
   read-as = held (reads_as host.past) first
 
   -- where the run has stored and told nothing
-  unchanged : (ended : Option Status) (taken : List ℕ) → Gives input taken → ((t : Status) → ended ≡ Some t → is_opened t ≡ false) → ((t : Status) → ended ≡ Some t → is_whole t ≡ true → taken ≡ [])
+  unchanged : (ended : Option Status) (taken : List ℕ) → ((last : ℕ) → Gives input last taken ⊎ ((ended ≡ None) × (taken ≡ []))) → ((t : Status) → ended ≡ Some t → is_opened t ≡ false) → ((t : Status) → ended ≡ Some t → is_whole t ≡ true → taken ≡ [])
       → (disk : File → List ℕ) (text : List ℕ) → IsDisk host.past disk → IsFront text (told host.past) → Stored ended disk text
   unchanged ended taken takes unopened whole disk text images front = by here.stored here.are here.holds
     where
@@ -128,14 +128,14 @@ module _ (starts : List (Option Database)) (tried : List Settings) (runs : List 
             start = here.start;
             among = here.among;
             stored = Some (record { settings = base.settings; history = before });
-            are = one_run runs (run_as ended text) base before taken are takes no_more (extends-whole (every_of input) before taken)
+            are = one_run runs (run_as ended text) base before taken are (takes (last before)) no_more (extends-whole (every_of input) before taken)
                 (λ t is all. sym (ap (history_with_text (every_of input) before) (whole t is all))) acked;
             holds = holds;
           }
 
   -- ---- there was no database
   module _ (unmade : is_made (reads_as host.past) ≡ false) where
-    found : IsHostAsFound honest host host' × Gives input []
+    found : IsHostAsFound honest host host' × ((last : ℕ) → Gives input last [])
     found = all.found h (λ notes. true≢false (sym (stands_made notes.settings notes.beats (reads_as host.past) notes.stands) ∙ unmade))
 
     not-opened : (t : Status) → Some s ≡ Some t → is_opened t ≡ false
@@ -152,11 +152,11 @@ module _ (starts : List (Option Database)) (tried : List Settings) (runs : List 
     moments-none : Throughout (EveryStop (Stored None)) host.past host'.past
     moments-none =
         untold (found.0.output h)
-        (λ disk text images by_then. unchanged None [] found.1 (λ t is. absurd (none-some t is)) (λ t is. absurd (none-some t is)) disk text images (text-front host.past text by_then)) (found.0.any_moment h)
+        (λ disk text images by_then. unchanged None [] (λ last. inl (found.1 last)) (λ t is. absurd (none-some t is)) (λ t is. absurd (none-some t is)) disk text images (text-front host.past text by_then)) (found.0.any_moment h)
 
     end-none : EveryDisk (λ disk. Stored (Some s) disk (told host'.past)) host'.past
     end-none disk images =
-        unchanged (Some s) [] found.1 not-opened (λ t is whole. refl) disk (told host'.past) (at_end (found.0.any_moment h) disk images)
+        unchanged (Some s) [] (λ last. inl (found.1 last)) not-opened (λ t is whole. refl) disk (told host'.past) (at_end (found.0.any_moment h) disk images)
         (record { more = []; whole = append-nil (told host'.past) ∙ found.0.output h })
 
   -- ---- there was one of this history
@@ -171,15 +171,16 @@ module _ (starts : List (Option Database)) (tried : List Settings) (runs : List 
     abbrev OnIt : List Event → Type 0
     OnIt = StoresOn s input set earlier host'.past
 
-    run : OnceRead OnIt (Gives input []) s host.past host'.past
+    run : OnceRead OnIt ((last : ℕ) → Gives input last []) s host.past host'.past
     run = all.resumes h set earlier stands
 
-    opening : (taken : List ℕ) → Gives input taken → Throughout (EveryStop (Stored None)) host.past run.read
-    opening taken takes =
+    -- a stop before the database was read: the run had taken nothing
+    opening : Throughout (EveryStop (Stored None)) host.past run.read
+    opening =
         untold run.silent
-        (λ disk text images by_then. unchanged None taken takes (λ t is. absurd (none-some t is)) (λ t is. absurd (none-some t is)) disk text images (text-front host.past text by_then)) run.before
+        (λ disk text images by_then. unchanged None [] (λ last. inr (refl, refl)) (λ t is. absurd (none-some t is)) (λ t is. absurd (none-some t is)) disk text images (text-front host.past text by_then)) run.before
 
-    once-read : (ended : Option Status) (taken : List ℕ) → Gives input taken → (disk : File → List ℕ) (text : List ℕ) → (keeps : Keeps set earlier (history_with_text (every_of input) earlier taken) (told run.read) disk text)
+    once-read : (ended : Option Status) (taken : List ℕ) → Gives input (last earlier) taken → (disk : File → List ℕ) (text : List ℕ) → (keeps : Keeps set earlier (history_with_text (every_of input) earlier taken) (told run.read) disk text)
         → WhereWhole (run_as ended text) (keeps.stored ≡ history_with_text (every_of input) earlier taken) → Stored ended disk text
     once-read ended taken takes disk text keeps whole =
         let acked = subst (λ (first : List ℕ). IsAckedUpTo (length keeps.stored) (drop (length first) text)) run.silent keeps.acked in
@@ -187,18 +188,18 @@ module _ (starts : List (Option Database)) (tried : List Settings) (runs : List 
           start = start;
           among = among;
           stored = Some (record { settings = set; history = keeps.stored });
-          are = one_run runs (run_as ended text) base keeps.stored taken are takes keeps.since keeps.within whole acked;
+          are = one_run runs (run_as ended text) base keeps.stored taken are (inl takes) keeps.since keeps.within whole acked;
           holds = keeps.stands;
         }
 
     moments-some : Throughout (EveryStop (Stored None)) host.past host'.past
     moments-some = by run.after
       where
-        by : OnIt run.read ⊎ (((s ≡ status.DiskFault) ⊎ (s ≡ status.Memory)) × (host'.past ≡ run.read) × Gives input []) → Throughout (EveryStop (Stored None)) host.past host'.past
+        by : OnIt run.read ⊎ (((s ≡ status.DiskFault) ⊎ (s ≡ status.Memory)) × (host'.past ≡ run.read) × ((last : ℕ) → Gives input last [])) → Throughout (EveryStop (Stored None)) host.past host'.past
         by (inl on) =
-            joined (opening on.taken on.gives)
+            joined opening
             (weakened (λ now keeps disk text images told_by. once-read None on.taken on.gives disk text (keeps disk text images told_by) (λ t is. absurd (none-some t is))) on.stores.stops)
-        by (inr (short, is, none)) = subst (Throughout (EveryStop (Stored None)) host.past) (sym is) (opening [] none)
+        by (inr (short, is, none)) = subst (Throughout (EveryStop (Stored None)) host.past) (sym is) opening
 
     -- the run on it ended
     end-on : OnIt run.read → EveryDisk (λ disk. Stored (Some s) disk (told host'.past)) host'.past
@@ -223,9 +224,9 @@ module _ (starts : List (Option Database)) (tried : List Settings) (runs : List 
             }) (λ t is whole. refl)
 
     -- it ended before the database was read
-    end-unread : ((s ≡ status.DiskFault) ⊎ (s ≡ status.Memory)) → host'.past ≡ run.read → Gives input [] → EveryDisk (λ disk. Stored (Some s) disk (told host'.past)) host'.past
+    end-unread : ((s ≡ status.DiskFault) ⊎ (s ≡ status.Memory)) → host'.past ≡ run.read → ((last : ℕ) → Gives input last []) → EveryDisk (λ disk. Stored (Some s) disk (told host'.past)) host'.past
     end-unread short is none disk images =
-        unchanged (Some s) [] none (λ t there. sym (ap is_opened (some-same s t there)) ∙ unopened short) (λ t there whole. refl) disk (told host'.past)
+        unchanged (Some s) [] (λ last. inl (none last)) (λ t there. sym (ap is_opened (some-same s t there)) ∙ unopened short) (λ t there whole. refl) disk (told host'.past)
         (at_end run.before disk (subst (λ (p : List Event). IsDisk p disk) is images))
         (record { more = []; whole = append-nil (told host'.past) ∙ ap told is ∙ run.silent })
       where
@@ -236,7 +237,7 @@ module _ (starts : List (Option Database)) (tried : List Settings) (runs : List 
     end-some : EveryDisk (λ disk. Stored (Some s) disk (told host'.past)) host'.past
     end-some = by run.after
       where
-        by : OnIt run.read ⊎ (((s ≡ status.DiskFault) ⊎ (s ≡ status.Memory)) × (host'.past ≡ run.read) × Gives input []) → EveryDisk (λ disk. Stored (Some s) disk (told host'.past)) host'.past
+        by : OnIt run.read ⊎ (((s ≡ status.DiskFault) ⊎ (s ≡ status.Memory)) × (host'.past ≡ run.read) × ((last : ℕ) → Gives input last [])) → EveryDisk (λ disk. Stored (Some s) disk (told host'.past)) host'.past
         by (inl on) = end-on on
         by (inr (short, is, none)) = end-unread short is none
 

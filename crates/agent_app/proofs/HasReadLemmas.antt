@@ -1,13 +1,13 @@
 -- The reading of a text, line by line, whatever its rules are.
-use Rattle.std.proofs.Common.{◌≡◌, ℕ, ◌+◌, ◌-◌, ◌<◌, ◌≤◌, Bool, true, false, nat_lt, List, [], ◌∷◌, ◌++◌, length, take, Ok, Err, refl, sym, ap, subst, ◌∙◌, append_assoc, append-nil, length-append, arith}
+use Rattle.std.proofs.Common.{◌≡◌, ℕ, ◌+◌, ◌-◌, ◌<◌, ◌≤◌, Bool, true, false, not, nat_lt, List, [], ◌∷◌, ◌++◌, length, take, Result, Ok, Err, refl, sym, ap, subst, ◌∙◌, append_assoc, append-nil, length-append, arith, if◌then◌else◌}
 use Rattle.std.proofs.lemmas.List.{take_all, take-append-le}
 use Rattle.std.proofs.lemmas.Bool.Decides.{nat_tests}
 use Rattle.std.proofs.Math.Seq.{take-append-add}
 use Rattle.std.specs.List.{AllPass}
 use Rattle.plugin_text.specs.Lines.{parts, but_last, lines, rest, fits}
-use Rattle.plugin_text.proofs.LongLemmas.{IsLongAfter-append}
-use Rattle.plugin_text.proofs.PartsLemmas.{but_last-append, parts_first, parts_whole, parts-append}
-use Rattle.agent_app.specs.Reading.{Ending, GoesOn, Ends, RefusedAt, HasRead, Reading, Rules, lines_read, reading, reading_of, reads_on}
+use Rattle.plugin_text.proofs.LongLemmas.{fits-append, IsLongAfter-append}
+use Rattle.plugin_text.proofs.PartsLemmas.{but_last-append, parts_first, parts_whole, parts-append, parts-append_parts}
+use Rattle.agent_app.specs.Reading.{Ending, GoesOn, Ends, RefusedAt, HasRead, Reading, Rules, lines_read, over_after, reading, reading_line, reading_of, reads_on, refused_at}
 
 -- a line of a text is one however the text goes on
 pub record LineIn (text : List ℕ) (front : List (List ℕ)) (line : List ℕ) : Type 0 where
@@ -80,6 +80,46 @@ module _ {Line Refusal : Type 0} (rules : Rules Line Refusal) where
   reads_on-twice : (first second : List ℕ) (r : Reading Refusal) → reads_on first (reads_on second r) ≡ reads_on (first ++ second) r
   reads_on-twice first second r = ap (λ (bytes : List ℕ). record { told = bytes; ending = r.ending }) (sym (append_assoc first second r.told))
 
+  -- ---- a reading that is over, however the text goes on
+  long-reads : (past : List Line) (long : List ℕ) (more : List (List ℕ)) (ended : Bool) → fits long ≡ false → reading rules ended past (long ∷ more) ≡ record { told = []; ending = RefusedAt (length past + 1) rules.too_long }
+  long-reads past long [] ended over = rw over refl
+  long-reads past long (next ∷ more) ended over = rw over refl
+
+  module _ (ended : Bool) (ending : Ending Refusal) (over : ending ≡ GoesOn → ⊥) where
+    rest-over : (past : List Line) (r first : List ℕ) (following : List (List ℕ)) (b : Bool) → fits r ≡ b
+        → (if not b then refused_at (length past + 1) rules.too_long else record { told = []; ending = GoesOn }).ending ≡ ending
+        → (reading rules ended past ((r ++ first) ∷ following)).ending ≡ ending
+    rest-over past r first following true fit is = absurd (over (sym is))
+    rest-over past r first following false fit is = ap (λ (s : Reading Refusal). s.ending) (long-reads past (r ++ first) following ended (fits-append r first fit)) ∙ is
+
+    said-over : (past : List Line) (said : Line) (d : Bool) (one other : Reading Refusal) → (one.ending ≡ ending → other.ending ≡ ending)
+        → (if d then over_after rules past else reads_on (rules.tell past said) one).ending ≡ ending → (if d then over_after rules past else reads_on (rules.tell past said) other).ending ≡ ending
+    said-over past said true one other on is = is
+    said-over past said false one other on is = on is
+
+    line-over : (past : List Line) (b : Bool) (judged : Result Line Refusal) (one other : Line → Reading Refusal) → ((said : Line) → (one said).ending ≡ ending → (other said).ending ≡ ending)
+        → (if not b then refused_at (length past + 1) rules.too_long else reading_line rules past judged one).ending ≡ ending
+        → (if not b then refused_at (length past + 1) rules.too_long else reading_line rules past judged other).ending ≡ ending
+    line-over past false judged one other on is = is
+    line-over past true (Err why) one other on is = is
+    line-over past true (Ok said) one other on is = said-over past said (rules.lines.ends_text said) (one said) (other said) (on said) is
+
+    lines-over : (xs : List (List ℕ)) (past : List Line) (r first : List ℕ) (following : List (List ℕ)) → (reading rules false past (xs ++ r ∷ [])).ending ≡ ending
+        → (reading rules ended past (xs ++ (r ++ first) ∷ following)).ending ≡ ending
+    lines-over [] past r first following is = rest-over past r first following (fits r) refl is
+    lines-over (x ∷ []) past r first following is =
+        line-over past (fits x) (rules.lines.judge past x) (λ said. reading rules false (said ∷ past) (r ∷ [])) (λ said. reading rules ended (said ∷ past) ((r ++ first) ∷ following))
+        (λ said one. rest-over (said ∷ past) r first following (fits r) refl one) is
+    lines-over (x ∷ y ∷ xs) past r first following is =
+        line-over past (fits x) (rules.lines.judge past x) (λ said. reading rules false (said ∷ past) (y ∷ (xs ++ r ∷ []))) (λ said. reading rules ended (said ∷ past) (y ∷ (xs ++ (r ++ first) ∷ following)))
+        (λ said one. lines-over (y ∷ xs) (said ∷ past) r first following one) is
+
+    pub ending-onward : (text more : List ℕ) → (reading_of rules false text).ending ≡ ending → (reading_of rules ended (text ++ more)).ending ≡ ending
+    ending-onward text more is =
+        let some = parts_first more in
+        ap (λ (ps : List (List ℕ)). (reading rules ended [] ps).ending) (parts-append_parts text more some.0 some.1 some.2)
+        ∙ lines-over (lines text) [] (rest text) some.0 some.1 (ap (λ (ps : List (List ℕ)). (reading rules false [] ps).ending) (sym (parts_whole text)) ∙ is)
+
   module _ (front : List (List ℕ)) (past : List Line) (made : List ℕ) (has : HasRead rules front past made) where
     -- one line more was read
     pub read-next : (line : List ℕ) (said : Line) → fits line ≡ true → rules.lines.judge past line ≡ Ok said → rules.lines.ends_text said ≡ false → HasRead rules (front ++ line ∷ []) (said ∷ past) (made ++ rules.tell past said)
@@ -111,17 +151,13 @@ module _ {Line Refusal : Type 0} (rules : Rules Line Refusal) where
     says-over text line next more said whole short judged ends = ap (lines_read rules.lines []) whole ∙ has.says line (next ∷ more) ∙ rw (short, judged, ends) refl
 
     -- what follows the lines is too long
-    long-reads : (long : List ℕ) (more : List (List ℕ)) (ended : Bool) → fits long ≡ false → reading rules ended past (long ∷ more) ≡ record { told = []; ending = RefusedAt (length past + 1) rules.too_long }
-    long-reads long [] ended over = rw over refl
-    long-reads long (next ∷ more) ended over = rw over refl
-
     long-says : (long : List ℕ) (more : List (List ℕ)) → fits long ≡ false → lines_read rules.lines past (long ∷ more) ≡ past
     long-says long [] over = refl
     long-says long (next ∷ more) over = rw over refl
 
     pub read-long : (text : List ℕ) (long : List ℕ) (more : List (List ℕ)) (ended : Bool) → parts text ≡ front ++ long ∷ more → fits long ≡ false → reading_of rules ended text ≡ record { told = made; ending = RefusedAt (length front + 1) rules.too_long }
     read-long text long more ended whole over =
-        ap (reading rules ended []) whole ∙ has.onward ended long more ∙ ap (reads_on made) (long-reads long more ended over) ∙ rw (append-nil made, has.count) refl
+        ap (reading rules ended []) whole ∙ has.onward ended long more ∙ ap (reads_on made) (long-reads past long more ended over) ∙ rw (append-nil made, has.count) refl
 
     pub says-long : (text : List ℕ) (long : List ℕ) (more : List (List ℕ)) → parts text ≡ front ++ long ∷ more → fits long ≡ false → lines_read rules.lines [] (parts text) ≡ past
     says-long text long more whole over = ap (lines_read rules.lines []) whole ∙ has.says long more ∙ long-says long more over

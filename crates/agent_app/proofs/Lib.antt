@@ -1,6 +1,7 @@
 mod AckLemmas
 mod AskLemmas
 mod CauseLemmas
+mod ChildrenLemmas
 mod CollectLemmas
 mod CollectorLemmas
 mod CommandLemmas

@@ -184,7 +184,7 @@ after-end status (child ∷ earlier) before = before
 after-turn : (course : Course) (answer : Option (Result Turn RunFault)) (event : Option Event) (now after : Option Children) (faults faults' : ℕ) → Hears course answer event now after faults faults'
     → HaveEnded course.children → HaveEnded (children_after event course.children)
 after-turn course answer None now after faults faults' hears before = before
-after-turn course answer (Some Start) now after faults faults' hears before = after-start course.children hears.0 before
+after-turn course answer (Some Start) now after faults faults' hears before = after-start course.children hears.0.0 before
 after-turn course answer (Some (Bytes more)) now after faults faults' hears before = after-bytes more course.children before
 after-turn course answer (Some (End status)) now after faults faults' hears before = after-end status course.children before
 

@@ -361,6 +361,7 @@ module _ {H : Type 0} (honest : Type 0) (seen : H → Seen) (host : Seen) (agent
           let over = run-over honest seen h every set h0 start s middle text left source_rose within running going running' host' how in
           record {
             at_end = over.at_end;
+            plain = over.plain;
             stops = stops-wider s every set h0 ended text start (seen host').past source_rose (TellRose (seen middle) (seen host')) (DiskRose (seen middle) (seen host'))
                 source_rose (TellRose host (seen host')) (DiskRose host (seen host')) (λ rose. rose) tells-sooner disk-sooner over.stops;
             whole = λ more is none_read none_told none_disk. over.whole more is none_read (λ rose. none_told (tells-sooner rose)) (λ rose. none_disk (disk-sooner rose));

@@ -237,6 +237,8 @@ module _ {H : Type 0} (honest : Type 0) (seen : H → Seen) where
     -- how a run over this text ended, and that its status is that of the text where nothing outside fails
     pub record Over (s : Status) (ended : Bool) (text : List ℕ) (left : Option (List ℕ)) (new : List Event) (source_rose tell_rose disk_rose : Type 0) : Type 0 where
       pub at_end : ended ≡ true → (length text < input_limit) × IfSome left (λ bytes. bytes ≡ [])
+      -- then no line of it did
+      pub plain : ended ≡ true → (run_reading every set h0 false text).ending ≡ GoesOn
       pub stops : StopsIn s every set h0 ended text start new source_rose tell_rose disk_rose
       pub whole : (more : List ℕ) → left ≡ Some more → (source_rose → ⊥) → (tell_rose → ⊥) → (disk_rose → ⊥) → (s ≡ run_status every set h0 (text ++ more)) ⊎ (s ≡ status.Memory)
 
@@ -267,6 +269,7 @@ module _ {H : Type 0} (honest : Type 0) (seen : H → Seen) where
             → Over s false text left (seen host'').past source_rose (TellRose (seen host) (seen host'')) (DiskRose (seen host) (seen host''))
         over-onward stops = record {
           at_end = λ e. not-ended e;
+          plain = λ e. not-ended e;
           stops = subst (λ (t : List ℕ). StopsIn s every set h0 false t start (seen host'').past source_rose (TellRose (seen host) (seen host'')) (DiskRose (seen host) (seen host''))) (append-nil text)
               (over-by false (text ++ []) (stops false []));
           whole = λ more is none_read none_told none_disk.
@@ -286,6 +289,7 @@ module _ {H : Type 0} (honest : Type 0) (seen : H → Seen) where
           let reads = read-open (run_rules every set h0) (lines text) going.read going.made going.has text refl (rest-fits text short) in
           record {
             at_end = λ e. not-ended e;
+            plain = λ e. not-ended e;
             stops = whole-stop (seen host'').past running'' every set h0 start going.read going.made going.at false text source_rose (TellRose (seen host) (seen host'')) (DiskRose (seen host) (seen host'')) s untold stored
                 (ap all_told reads ∙ append-nil going.made) (ap (history_at every h0) (says-all (run_rules every set h0) (lines text) going.read going.made going.has text refl))
                 (cause (run_reading every set h0 false text).ending (ap (λ (r : Reading Refusal). r.ending) reads));
@@ -311,6 +315,7 @@ module _ {H : Type 0} (honest : Type 0) (seen : H → Seen) where
             let stop = over-by middle host'' _ _ (chain-counts running host (lines text) running' middle took.chain) step.counts true text (step.run h every set h0 text start going refl refl) in
             record {
               at_end = λ _. (below, nothing);
+              plain = λ _. ap (λ (r : Reading Refusal). r.ending) (read-open (run_rules every set h0) (lines text) going.read going.made going.has text refl (rest-fits text took.short));
               stops = stop;
               whole = λ more is none_read none_told none_disk.
                   let no_more : more ≡ [] = subst (λ (l : Option (List ℕ)). IfSome l (λ bytes. bytes ≡ [])) is nothing in
@@ -333,6 +338,7 @@ module _ {H : Type 0} (honest : Type 0) (seen : H → Seen) where
             let follows = front-followed text front took.begins in
             record {
               at_end = λ e. not-ended e;
+              plain = λ e. not-ended e;
               stops = subst (λ (a : Status). StopsIn a every set h0 false text start (seen host'').past source_rose (TellRose (seen host) (seen host'')) (DiskRose (seen host) (seen host''))) (sym is)
                   (want-stop (seen host'').past running'' every set h0 start going.read going.made going.at false text source_rose (TellRose (seen host) (seen host'')) (DiskRose (seen host) (seen host''))
                   (extends-text every h0 set front going.read going.made going.has text follows.next follows.more follows.whole)

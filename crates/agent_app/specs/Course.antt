@@ -7,7 +7,7 @@ use Rattle.host_model.specs.Disks.{EveryDisk, reads_as}
 use Rattle.host_model.specs.Past.{told}
 use Rattle.host_model.specs.Seen.{Seen}
 use Rattle.host_model.specs.Source.{Takes}
-use Rattle.history.specs.History.{Beat}
+use Rattle.history.specs.History.{Beat, last}
 use Rattle.entry_codec.specs.declared.entry.Settings.{Settings}
 use Rattle.store_core.specs.Stands.{is_made}
 use Rattle.agent_core.specs.Kept.{StandsForHistory}
@@ -29,16 +29,20 @@ abbrev pub every_of : Input → ℕ
 every_of (OfSource left left_after) = run_every
 every_of (OfCollector collector outside outside_after) = collector.every
 
--- these bytes were taken of it, by a collector above some last moment
-abbrev pub Gives : Input → List ℕ → Type 0
-Gives (OfSource left left_after) taken = Takes left taken left_after
-Gives (OfCollector collector outside outside_after) taken = (last : ℕ) × HasHeard collector last outside outside_after taken
+-- these bytes were taken of it, by a collector above this last moment
+abbrev pub Gives : Input → ℕ → List ℕ → Type 0
+Gives (OfSource left left_after) last taken = Takes left taken left_after
+Gives (OfCollector collector outside outside_after) last taken = HasHeard collector last outside outside_after taken
 
 -- one run: how it ended, where no stop came before; where it has its text from; and what it told
 pub record OneRun : Type 0 where
   pub status : Option Status
   pub input : Input
   pub text : List ℕ
+
+-- a run on a history with this last moment took these bytes, or a stop came before it took any
+abbrev pub TookOf : OneRun → ℕ → List ℕ → Type 0
+TookOf run last taken = Gives run.input last taken ⊎ ((run.status ≡ None) × (taken ≡ []))
 
 -- what was told since
 abbrev pub told_since : Seen → Seen → List ℕ
@@ -96,7 +100,7 @@ pub data AreStored (tried : List Settings) (start : Option Database) : List OneR
   no_run : AreStored tried start [] start
   none_found : (runs : List OneRun) (run : OneRun) → AreStored tried start runs None → MayHaveFoundNone run → run.text ≡ [] → AreStored tried start (run ∷ runs) None
   now_made : (runs : List OneRun) (set : Settings) → Contains tried set → AreStored tried start runs None → AreStored tried start runs (Some (record { settings = set; history = [] }))
-  one_run : (runs : List OneRun) (run : OneRun) (base : Database) (stored : List Beat) (taken : List ℕ) → AreStored tried start runs (Some base) → Gives run.input taken
+  one_run : (runs : List OneRun) (run : OneRun) (base : Database) (stored : List Beat) (taken : List ℕ) → AreStored tried start runs (Some base) → TookOf run (last base.history) taken
       → Extends base.history stored → Extends stored (history_with_text (every_of run.input) base.history taken) → WhereWhole run (stored ≡ history_with_text (every_of run.input) base.history taken)
       → IsAckedUpTo (length stored) run.text → AreStored tried start (run ∷ runs) (Some (record { settings = base.settings; history = stored }))
 

@@ -1,5 +1,5 @@
 -- Alarms that follow the beats of a history.
-use Rattle.std.proofs.Common.{◌≡◌, ℕ, List, [], ◌∷◌, map, Result, Ok, Err, IfOk, OnOk, refl, sym, ap, ◌∙◌, arith}
+use Rattle.std.proofs.Common.{◌≡◌, ℕ, Bool, List, [], ◌∷◌, map, Result, Ok, Err, IfOk, OnOk, refl, sym, ap, ◌∙◌, arith}
 use Rattle.health_config.specs.declared.config.Config.{Config}
 use Rattle.health_config.specs.ConfigOf.{entities_of, text_of}
 use Rattle.health_config.specs.Entity.{alarm_of}
@@ -45,7 +45,7 @@ pub told-by : (past : List PastEvent) (store : StoreState) (set : Settings) (bea
     → ((told : ℕ → List Point) → Tells store told → new ≡ part (stepped_by old (seen_by moment registry latest (tier_floor store.tiers 0) told)))
     → new ≡ part (stepped_by old (seen_by moment registry latest (floor_at set beats 0) (points_of beats)))
 told-by past store set beats rest is_at moment registry latest old part new says =
-    says (points_of beats) (record { past = past; set = set; beats = beats; rest = rest; is_at = is_at; told_is = refl })
+    says (points_of beats) (record { set = set; beats = beats; has = is_at.tiers; told_is = refl })
     ∙ ap (λ (floor : ℕ). part (stepped_by old (seen_by moment registry latest floor (points_of beats)))) (floor_is set beats store.tiers is_at.tiers 0 (omega arith))
 
 -- ---- what a beat makes of the alarms
@@ -58,13 +58,13 @@ beat-is set h beat beats registry latest are registry_is latest_is before moment
     let told = told-is set (beat ∷ h) beats are in
     λ i. seen_by (same i) (registry_is i) (seen i) (floor i) (told i)
 
-outcome-of : (set : Settings) (h : List Beat) (beat : Beat) (old : Held) (now : AlarmBeat) (moment : ℕ) → old ≡ alarms_at set h → IsSteppingOf beat (stepping.Beat moment)
+outcome-of : (set : Settings) (h : List Beat) (beat : Beat) (old : Held) (now : AlarmBeat) (moment : ℕ) (defines : Bool) → old ≡ alarms_at set h → IsSteppingOf beat (stepping.Beat moment defines)
     → ((at : ℕ) → moment ≡ at → now ≡ alarm_beat set (last h) at (beat ∷ h)) → stepped_by old now ≡ alarms_by set (beat ∷ h)
 unfolding alarms_by
-outcome-of set h (collected at beat) old now moment was does seen = λ i. stepped_by (was i) (seen at does i)
-outcome-of set h (copied copy) old now moment was does seen = λ i. stepped_by (was i) (seen copy.moment does i)
-outcome-of set h (health text) old now moment was does seen = absurd does
-outcome-of set h (missing gap) old now moment was does seen = absurd does
+outcome-of set h (collected at beat) old now moment defines was does seen = λ i. stepped_by (was i) (seen at does i)
+outcome-of set h (copied copy) old now moment defines was does seen = λ i. stepped_by (was i) (seen copy.moment does i)
+outcome-of set h (health text) old now moment defines was does seen = absurd does
+outcome-of set h (missing gap) old now moment defines was does seen = absurd does
 
 followed-by : (set : Settings) (h : List Beat) (out : Outcome) (new : Held) (events : List Event) → out ≡ alarms_by set h → new ≡ out.held → events ≡ out.events → HaveFollowed set h new events
 followed-by set h out new events is held told = record {
@@ -73,13 +73,13 @@ followed-by set h out new events is held told = record {
 }
 
 pub beat-followed : (set : Settings) (h : List Beat) (beat : Beat) (beats : List StoreBeat) (registry : Registry) (latest : Latest) → AreBeatsOf (beat ∷ h) beats → registry ≡ registry_of (beat ∷ h)
-    → IsLatestOf latest (beat ∷ h) → latest.before ≡ last h → (old new : Held) (events : List Event) (moment : ℕ) → old ≡ alarms_at set h → IsSteppingOf beat (stepping.Beat moment)
+    → IsLatestOf latest (beat ∷ h) → latest.before ≡ last h → (old new : Held) (events : List Event) (moment : ℕ) (defines : Bool) → old ≡ alarms_at set h → IsSteppingOf beat (stepping.Beat moment defines)
     → new ≡ (stepped_by old (seen_by moment registry latest (floor_at set beats 0) (points_of beats))).held
     → events ≡ (stepped_by old (seen_by moment registry latest (floor_at set beats 0) (points_of beats))).events → HaveFollowed set (beat ∷ h) new events
-beat-followed set h beat beats registry latest are registry_is latest_is before old new events moment was does held told =
+beat-followed set h beat beats registry latest are registry_is latest_is before old new events moment defines was does held told =
     let now = seen_by moment registry latest (floor_at set beats 0) (points_of beats) in
     followed-by set (beat ∷ h) (stepped_by old now) new events
-    (outcome-of set h beat old now moment was does (beat-is set h beat beats registry latest are registry_is latest_is before moment)) held told
+    (outcome-of set h beat old now moment defines was does (beat-is set h beat beats registry latest are registry_is latest_is before moment)) held told
 
 config-of : (set : Settings) (h : List Beat) (beat : Beat) (old : Held) (registry : Registry) (moment : ℕ) (config : Config) → old ≡ alarms_at set h → IsSteppingOf beat (stepping.Configuration config)
     → registry ≡ registry_of (beat ∷ h) → moment ≡ last h → configured old (text_of config) (map alarm_of (entities_of config)) registry moment ≡ alarms_by set (beat ∷ h)

@@ -99,7 +99,7 @@ rises-back names low [] rises = tt
 rises-back names low (beat ∷ beats) rises = (rises.0, rises-back names beat.moment beats rises.1)
 
 -- ---- kept beats as they are seen
-points-below : (registry : Registry) (h : List Beat) (moment : ℕ) (beat : OpenBeat) → AllByRecursion (λ (word : Word). word.series < length registry.dimensions) (map word_of_point (beat_points registry h moment beat))
+pub points-below : (registry : Registry) (h : List Beat) (moment : ℕ) (beat : OpenBeat) → AllByRecursion (λ (word : Word). word.series < length registry.dimensions) (map word_of_point (beat_points registry h moment beat))
 points-below registry h moment beat =
     as-words (beat_points registry h moment beat) (all-places (λ (point : PointWord). point.series < length registry.dimensions)
     (λ (place : ℕ × OpenDim). option_map (λ (word : ℕ). record { series = place.0; word = word }) (word_at packed registry h moment beat place.1)) registry.dimensions
@@ -227,7 +227,7 @@ module _ (set : Settings) (h : List Beat) (beats : List StoreBeat) (are : AreBea
       kept_list : Registry → List TierBeat
       kept_list registry = reverse (filter (λ (beat : TierBeat). has_points beat && is_kept (floor_of_history set h 0) beat) (tier_beats h))
 
-  sent-rises : RisesFrom beat_moment 0 sent_beats
+  pub sent-rises : RisesFrom beat_moment 0 sent_beats
   sent-rises = rises-back names 0 sent_beats (subst (RisesFrom seen_moment 0) (sym sent-seen) (rises-filter seen_moment from_now 0 (seen h) (seen-rises h beats are).0))
 
   -- above where an answer begins are all that are seen there

@@ -1,6 +1,7 @@
 pub mod AlarmLemmas
 pub mod AnswerLemmas
 pub mod AnswerTruth
+pub mod AskLemmas
 pub mod CallLemmas
 pub mod ClosedLemmas
 pub mod CopyCalls
@@ -30,6 +31,8 @@ pub mod PointLemmas
 pub mod ReplayLemmas
 pub mod ReplyLemmas
 pub mod SeenLemmas
+pub mod SentBeats
+pub mod SentNames
 pub mod Sound
 pub mod StepLemmas
 pub mod StoringLemmas

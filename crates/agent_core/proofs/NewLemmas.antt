@@ -17,6 +17,7 @@ use Rattle.store_core.specs.Stands.{StandsIfMade}
 use Rattle.store_core.specs.Store.{IsNew, IsReady, IsStoreOf, StoreState}
 use Rattle.alarm_core.specs.declared.latest.Latest.{Latest}
 use Rattle.alarm_core.specs.declared.alarms.Alarms.{Alarms}
+use Rattle.alarm_core.specs.UpTo.{IsUpTo}
 use Rattle.alarm_core.specs.Course.{held, nothing}
 use Rattle.agent_core.specs.declared.left.Role.TheVariants.{Undecided}
 use Rattle.agent_core.specs.Agent.{AgentState, Fits, IsAgentOf}
@@ -57,12 +58,13 @@ module _ (store : StoreState) (registry : Registry) (lasts : List (Option Last))
     going = refl;
   }
 
-  pub new_fits : (honest : Type 0) (past : List Event) → IsReady honest past store → IsNew set store → Fits honest past (new_agent store registry lasts latest alarms)
-  new_fits honest past ready new = record {
+  pub new_fits : (honest : Type 0) (past : List Event) → IsReady honest past store → IsNew set store → IsUpTo alarms registry → Fits honest past (new_agent store registry lasts latest alarms)
+  new_fits honest past ready new up_to = record {
     store = ready;
     replayed = new.waiting;
     going = new.fault;
     same_last = new.last;
+    up_to = up_to;
     charts = subst (λ (r : Registry). AreApart same_chart r.charts) (sym is_empty) tt;
     dimensions = subst (λ (r : Registry). AreApart same_dimension r.dimensions) (sym is_empty) tt;
     limits = subst HasLimits (sym is_empty) none-limits;

@@ -169,17 +169,17 @@ parts-after g beats beat kept left left' lasts lasts' latest latest' found are o
 
 -- what its entry does to alarms, it does
 does-by : (g : List Beat) (beat : Beat) (does : Stepping) → IsDoneBy (entry_for g beat) does → IsSteppingOf beat does
-does-by g (collected moment beat) (stepping.Beat at) done = done
-does-by g (copied copy) (stepping.Beat at) done = done
+does-by g (collected moment beat) (stepping.Beat at defines) done = done
+does-by g (copied copy) (stepping.Beat at defines) done = done
 does-by g (health text) (stepping.Configuration config) done = done
 does-by g (missing gap) stepping.Nothing done = done
 does-by g (collected moment beat) (stepping.Configuration config) done = absurd done
 does-by g (collected moment beat) stepping.Nothing done = absurd done
 does-by g (copied copy) (stepping.Configuration config) done = absurd done
 does-by g (copied copy) stepping.Nothing done = absurd done
-does-by g (health text) (stepping.Beat at) done = absurd done
+does-by g (health text) (stepping.Beat at defines) done = absurd done
 does-by g (health text) stepping.Nothing done = absurd done
-does-by g (missing gap) (stepping.Beat at) done = absurd done
+does-by g (missing gap) (stepping.Beat at defines) done = absurd done
 does-by g (missing gap) (stepping.Configuration config) done = absurd done
 
 pub does-after : (g : List Beat) (beat : Beat) (kept : StoreBeat) (found : Entry) (does : Stepping) → IsBeatOf g beat kept → entry_in kept ≡ Some found → IsDoneBy found does → IsSteppingOf beat does

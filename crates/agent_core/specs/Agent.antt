@@ -10,6 +10,7 @@ use Rattle.history.specs.Regular.{AreApart}
 use Rattle.alarm_core.specs.declared.latest.Latest.{Latest}
 use Rattle.alarm_core.specs.declared.alarms.Alarms.{Alarms}
 use Rattle.alarm_core.specs.Course.{held}
+use Rattle.alarm_core.specs.UpTo.{IsUpTo}
 use Rattle.entry_codec.specs.declared.entry.Settings.{Settings}
 use Rattle.store_core.specs.declared.beat.Beat.{Beat as StoreBeat}
 use Rattle.store_core.specs.declared.fault.Why.{Why}
@@ -69,6 +70,7 @@ pub record Fits (honest : Type 0) (past : List Event) (agent : AgentState) : Typ
   pub replayed : IsReplayed agent.store
   pub going : agent.store.fault ≡ None
   pub same_last : agent.store.last ≡ agent.last
+  pub up_to : IsUpTo agent.alarms agent.registry
   pub charts : AreApart same_chart agent.registry.charts
   pub dimensions : AreApart same_dimension agent.registry.dimensions
   pub limits : HasLimits agent.registry

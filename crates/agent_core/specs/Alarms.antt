@@ -1,5 +1,5 @@
 -- The alarms of a history: how they stand, and their log. A history has its newest beat first.
-use Rattle.std.specs.Prelude.{◌≡◌, ℕ, List, [], ◌∷◌, ◌++◌, Ok}
+use Rattle.std.specs.Prelude.{◌≡◌, ℕ, false, List, [], ◌∷◌, ◌++◌, Ok}
 use Rattle.health_config.specs.declared.config.Config.{Config}
 use Rattle.health_config.specs.Config.{config_read}
 use Rattle.health_config.specs.ConfigOf.{configuration_of, text_of}
@@ -61,11 +61,17 @@ pub record IsReadOf (text : List ℕ) (config : Config) : Type 0 where
 
 -- this is what a beat does to alarms
 abbrev pub IsSteppingOf : Beat → Stepping → Type 0
-IsSteppingOf (collected moment beat) (stepping.Beat at) = at ≡ moment
-IsSteppingOf (copied copy) (stepping.Beat at) = at ≡ copy.moment
+IsSteppingOf (collected moment beat) (stepping.Beat at defines) = at ≡ moment
+IsSteppingOf (copied copy) (stepping.Beat at defines) = at ≡ copy.moment
 IsSteppingOf (health text) (stepping.Configuration config) = IsReadOf text config
 IsSteppingOf (missing gap) stepping.Nothing = Unit {0}
 IsSteppingOf beat does = ⊥
+
+-- it leaves the charts and dimensions as they were, and the alarms are not configured
+abbrev pub DefinesNothing : Stepping → Type 0
+DefinesNothing (stepping.Beat at defines) = defines ≡ false
+DefinesNothing (stepping.Configuration config) = ⊥
+DefinesNothing stepping.Nothing = Unit {0}
 
 -- the alarms have followed a history, and told these events of its last beat
 pub record HaveFollowed (set : Settings) (h : List Beat) (held : Held) (events : List Event) : Type 0 where

@@ -11,6 +11,7 @@ use Rattle.history.specs.Regular.{AreApart, IsRegular}
 use Rattle.history.specs.declared.numbered.NumberedBeat.{NumberedBeat}
 use Rattle.alarm_core.specs.declared.latest.Latest.{Latest}
 use Rattle.alarm_core.specs.Course.{Held}
+use Rattle.alarm_core.specs.UpTo.{IsUpTo}
 use Rattle.entry_codec.specs.declared.entry.Entry.{Entry}
 use Rattle.entry_codec.specs.declared.entry.Entry.TheVariants as entry
 use Rattle.entry_codec.specs.declared.entry.Settings.{Settings}
@@ -82,8 +83,8 @@ IsEntryThere registry found = Unit {0}
 
 -- ---- what an entry does to alarms
 abbrev pub IsDoneBy : Entry → Stepping → Type 0
-IsDoneBy (entry.Collected found) (stepping.Beat at) = at ≡ found.moment
-IsDoneBy (entry.Copied found) (stepping.Beat at) = at ≡ found.moment
+IsDoneBy (entry.Collected found) (stepping.Beat at defines) = at ≡ found.moment
+IsDoneBy (entry.Copied found) (stepping.Beat at defines) = at ≡ found.moment
 IsDoneBy (entry.Health text) (stepping.Configuration config) = IsReadOf text config
 IsDoneBy (entry.Gap gap) stepping.Nothing = Unit {0}
 IsDoneBy found does = ⊥
@@ -137,6 +138,7 @@ pub record HasReplayed (store : StoreState) (agent : AgentState) : Type 0 where
   pub replayed : IsReplayed agent.store
   pub same_last : agent.store.last ≡ agent.last
   pub going : agent.fault ≡ None
+  pub up_to : IsUpTo agent.alarms agent.registry
   pub charts : AreApart same_chart agent.registry.charts
   pub dimensions : AreApart same_dimension agent.registry.dimensions
   pub limits : HasLimits agent.registry

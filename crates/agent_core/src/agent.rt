@@ -19,7 +19,8 @@ ghost use Rattle.link_frames.specs.Frames.{HasSpelling};
 ghost use Rattle.agent_core.specs.Answers.{floor_of_history, kept_of_history, reply_of};
 ghost use Rattle.agent_core.specs.Agent.{Holds};
 ghost use Rattle.alarm_core.specs.Course.{held};
-ghost use Rattle.agent_core.specs.Alarms.{alarms_at, events_at, HaveFollowed, IsSteppingOf};
+ghost use Rattle.alarm_core.specs.UpTo.{IsUpTo};
+ghost use Rattle.agent_core.specs.Alarms.{alarms_at, events_at, DefinesNothing, HaveFollowed, IsSteppingOf};
 ghost use Rattle.agent_core.specs.Calls.{agent_adds, agent_verdict, AnswersAsk, Beats, Creates, Keeps, Lines, Logs, Opens, Queries, SetsHealth, TakesData};
 ghost use Rattle.agent_core.specs.Copies.{data_of_history};
 ghost use Rattle.agent_core.specs.Copying.{beats_of, copy_refusal, events_onto, refusal_by};
@@ -34,10 +35,9 @@ ghost use Rattle.agent_core.specs.Rules.{beat_refusal, IsOpenBeat};
 ghost use Rattle.agent_core.specs.Steps.{IsOpenStep, Takes};
 
 use crate::alarming::{Stepping, follow};
-use crate::answering;
 use crate::copying::{beats_in, is_stored};
 use crate::fault::{AgentFault, store_fault};
-use crate::keeping::{add, add_health};
+use crate::keeping::{add, add_health, defines_some};
 use crate::last_seen::nothing_seen;
 use crate::left::{Left, Role};
 use crate::names::copy_refusal;
@@ -45,6 +45,7 @@ use crate::refusal::refusal;
 use crate::replaying::{open_store, replay_all};
 use crate::reply::{Reply, Said};
 use crate::storing::add_message;
+use crate::{answering, asking};
 use alarm_core::{Alarms, EventList, Latest, Log};
 use beat_points::LastRows;
 use chart_registry::Registry;
@@ -479,7 +480,10 @@ impl Agent {
             beat,
             moment,
         ) {
-            Ok(()) => self.tell(host, Stepping::Beat(moment), moment, Role::Collects),
+            Ok(()) => {
+                let stepping = Stepping::Beat(moment, defines_some(beat));
+                self.tell(host, stepping, moment, Role::Collects)
+            }
             Err(fault) => {
                 self.fault = fault.cause();
                 Err(fault)
@@ -497,6 +501,7 @@ impl Agent {
     ) -> Result<Reply, AgentFault>
         requires going { self.old.fault ≡ None }
         requires store_going { self.old.store.fault ≡ None }
+        requires same { DefinesNothing stepping → IsUpTo self.old.alarms self.old.registry }
         ensures followed { IfOk result (λ reply. (past : List Event) (set : ASettings)
             (h : List HistoryBeat) (beat : HistoryBeat)
             → Holds past self.old.store self.old.registry self.old.last_rows self.old.latest set
@@ -511,6 +516,7 @@ impl Agent {
           role = role;
           count = raised self.old.count;
         }) }
+        ensures up_to { OnOk result (IsUpTo self.new.alarms self.new.registry) }
         ensures spent { OnErr result (self.new ≡ record self.old {
           alarms = self.new.alarms;
           fault = self.new.fault;
@@ -880,30 +886,35 @@ impl Agent {
         self.answer(host, ask)
     }
 
-    fn answer<H: Host>(&mut self, _host: &mut H, _ask: &Ask) -> Result<Option<Data>, AgentFault>
-        requires { AgentIsReady H.honest (H.seen _host.old).past self.old }
+    fn answer<H: Host>(&mut self, host: &mut H, ask: &Ask) -> Result<Option<Data>, AgentFault>
+        requires { AgentIsReady H.honest (H.seen host.old).past self.old }
         ensures answered { IfOk result (λ answer. (set : ASettings) (h : List HistoryBeat)
-            → IsAgentOf (H.seen _host.old).past self.old set h
-            → answer ≡ data_of_history set h _ask.now) }
+            → IsAgentOf (H.seen host.old).past self.old set h
+            → answer ≡ data_of_history set h ask.now) }
         ensures form { IfOk result
             (λ answer. IfSome answer (λ message. HasSpelling (frame.Data message))) }
         ensures asked { IfOk result (λ answer. IfSome answer
-            (λ message. (message.child ≡ id_of self.old) × (message.prev ≡ _ask.now.last))) }
-        ensures host { H.seen _host.new ≡ H.seen _host.old }
+            (λ message. (message.child ≡ id_of self.old) × (message.prev ≡ ask.now.last))) }
+        ensures host { H.seen host.new ≡ H.seen host.old }
         ensures done { OnOk result (self.new ≡ self.old) }
         ensures unchanged { IfErr result (λ fault. LeavesAll fault → self.new ≡ self.old) }
         ensures faults { IfErr result IsReading }
         ensures fault { self.new.fault ≡ fault_after self.old.fault result }
         ensures reopens { Reopens self.old.fault result }
         ensures stays { self.new ≡ record self.old { fault = self.new.fault } }
-        ensures cause { HasCause (H.seen _host.old).disk_faults (H.seen _host.new).disk_faults
+        ensures cause { HasCause (H.seen host.old).disk_faults (H.seen host.new).disk_faults
             (IsErrOf result AgentFault.DiskFault) }
     {
         if let Some(cause) = self.fault {
             return Err(AgentFault::Reopen(cause));
         }
-        self.fault = Some(Why::Memory);
-        Err(AgentFault::Memory)
+        match asking::answer(self.alloc, &mut self.store, &self.registry, host, ask) {
+            Ok(answer) => Ok(answer),
+            Err(fault) => {
+                self.fault = fault.cause();
+                Err(fault)
+            }
+        }
     }
 
     /// The child that it copies, if it copies.

@@ -1,17 +1,20 @@
 //! The alarms of an agent follow the beats that are stored.
 
-ghost use Rattle.std.specs.Prelude.{◌≡◌, ◌∷◌, List, map, None, IfOk, IfErr, OnOk};
+ghost use Rattle.std.specs.Prelude.{◌≡◌, ◌⊎◌, ℕ, ◌∷◌, List, map, false, None, IfOk, IfErr, IsErrOf, OnOk};
 ghost use Rattle.health_config.specs.ConfigOf.{entities_of, text_of};
 ghost use Rattle.health_config.specs.Entity.{alarm_of};
 ghost use Rattle.host_model.specs.Past.{Event as AnEvent};
 ghost use Rattle.history.specs.History.{Beat as HistoryBeat, last, registry_of};
 ghost use Rattle.alarm_core.specs.Course.{configured, held, stepped_by};
+ghost use Rattle.alarm_core.specs.UpTo.{IsUpTo};
+ghost use Rattle.host_model.specs.Cause.{HasCause};
+ghost use Rattle.tier_rollup.specs.declared.point.Point.{Point as APoint};
 ghost use Rattle.entry_codec.specs.declared.entry.Settings.{Settings as ASettings};
 ghost use Rattle.store_core.specs.declared.beat.Beat.{Beat as StoreBeat};
 ghost use Rattle.store_core.specs.Store.{IsStoreAt};
 ghost use Rattle.store_core.specs.Tiers.{floor_at};
 ghost use Rattle.store_core.specs.View.{points_of};
-ghost use Rattle.agent_core.specs.Alarms.{alarms_at, HaveFollowed, IsSteppingOf};
+ghost use Rattle.agent_core.specs.Alarms.{alarms_at, DefinesNothing, HaveFollowed, IsSteppingOf};
 ghost use Rattle.agent_core.specs.Kept.{AreBeatsOf};
 ghost use Rattle.agent_core.specs.LastSeen.{IsLatestOf};
 
@@ -20,18 +23,61 @@ use alarm_core::{AlarmFault, Alarms, EventList, Latest};
 use chart_registry::Registry;
 use health_config::Config;
 use host_model::Host;
+use query_engine::Points;
 use std::alloc::Global;
 use store_core::{Store, StoreView};
 
 /// What a beat does to alarms.
 #[derive(Drop)]
 pub enum Stepping {
-    /// They are stepped on a beat at this moment.
-    Beat(u32),
+    /// They are stepped on a beat at this moment. Whether it defines charts or dimensions.
+    Beat(u32, bool),
     /// They get another configuration.
     Configuration(Config),
     /// Nothing.
     Nothing,
+}
+
+/// Steps alarms on a beat at a moment. The charts and dimensions are those of the call before, unless the beat
+/// defines some. After an `Err` nothing is known of the alarms.
+fn step_on<P: Points>(
+    alarms: &mut Alarms,
+    points: &mut P,
+    registry: &Registry,
+    latest: &Latest,
+    moment: u32,
+    defines: bool,
+) -> Result<EventList, AlarmFault>
+    requires same { defines ≡ false → IsUpTo alarms.old registry.now }
+    ensures held { OnOk result ((told : ℕ → List APoint) → P.tells points.old told
+        → held alarms.new ≡ (stepped_by (held alarms.old) (record {
+          moment = moment;
+          registry = registry.now;
+          latest = latest.now;
+          floor = (P.tiers points.old).floor 0;
+          told = told;
+        })).held) }
+    ensures events { IfOk result (λ events. (told : ℕ → List APoint)
+        → P.tells points.old told
+        → events ≡ (stepped_by (held alarms.old) (record {
+          moment = moment;
+          registry = registry.now;
+          latest = latest.now;
+          floor = (P.tiers points.old).floor 0;
+          told = told;
+        })).events) }
+    ensures up_to { OnOk result (IsUpTo alarms.new registry.now) }
+    ensures points_held { P.held points.new ≡ P.held points.old }
+    ensures cause { HasCause (P.faults points.old) (P.faults points.new)
+        (IsErrOf result AlarmFault.Disk) }
+    ensures faults { IfErr result
+        (λ fault. (fault ≡ AlarmFault.Disk) ⊎ (fault ≡ AlarmFault.Memory)) }
+{
+    if defines {
+        alarms.step(moment, registry, latest, points)
+    } else {
+        alarms.step_again(moment, registry, latest, points)
+    }
 }
 
 /// Steps alarms on a beat at a moment, by what a store tells. After an `Err` nothing is known of the alarms.
@@ -42,8 +88,10 @@ fn step<H: Host>(
     registry: &Registry,
     latest: &Latest,
     moment: u32,
+    defines: bool,
 ) -> Result<EventList, AgentFault>
-    requires { store.old.fault ≡ None }
+    requires going { store.old.fault ≡ None }
+    requires same { defines ≡ false → IsUpTo alarms.old registry.now }
     ensures held { OnOk result
         ((past : List AnEvent) (set : ASettings) (beats rest : List StoreBeat)
         → IsStoreAt past store.old set beats rest → held alarms.new
@@ -64,12 +112,13 @@ fn step<H: Host>(
           floor = floor_at set beats 0;
           told = points_of beats;
         })).events) }
+    ensures up_to { OnOk result (IsUpTo alarms.new registry.now) }
     ensures store { store.new ≡ store.old }
     ensures host { H.seen host.new ≡ H.seen host.old }
     ensures memory { IfErr result (λ fault. fault ≡ AgentFault.Memory) }
 {
     let mut view = StoreView { store, host };
-    match alarms.step(moment, registry, latest, &mut view) {
+    match step_on(alarms, &mut view, registry, latest, moment, defines) {
         Ok(events) => Ok(events),
         // No point of a store is read from the disk.
         Err(AlarmFault::Disk) => unreachable!(),
@@ -90,6 +139,7 @@ fn configure(
     ensures events { IfOk result (λ events. events
         ≡ (configured (held alarms.old) (text_of config)
         (map alarm_of (entities_of config)) registry.now moment).events) }
+    ensures up_to { OnOk result (IsUpTo alarms.new registry.now) }
     ensures memory { IfErr result (λ fault. fault ≡ AgentFault.Memory) }
 {
     match alarms.configure(config, registry, moment) {
@@ -110,7 +160,8 @@ pub(crate) fn follow<H: Host>(
     latest: &Latest,
     stepping: Stepping,
 ) -> Result<EventList, AgentFault>
-    requires { store.old.fault ≡ None }
+    requires going { store.old.fault ≡ None }
+    requires same { DefinesNothing stepping → IsUpTo alarms.old registry.now }
     ensures followed { IfOk result
         (λ events. (past : List AnEvent) (set : ASettings) (h : List HistoryBeat)
         (beat : HistoryBeat) (beats rest : List StoreBeat) → AreBeatsOf (beat ∷ h) beats
@@ -118,12 +169,15 @@ pub(crate) fn follow<H: Host>(
         → IsLatestOf latest.now (beat ∷ h) → latest.now.before ≡ last h
         → held alarms.old ≡ alarms_at set h → IsSteppingOf beat stepping
         → HaveFollowed set (beat ∷ h) (held alarms.new) events) }
+    ensures up_to { OnOk result (IsUpTo alarms.new registry.now) }
     ensures store { store.new ≡ store.old }
     ensures host { H.seen host.new ≡ H.seen host.old }
     ensures memory { IfErr result (λ fault. fault ≡ AgentFault.Memory) }
 {
     match stepping {
-        Stepping::Beat(moment) => step(alarms, store, host, registry, latest, moment),
+        Stepping::Beat(moment, defines) => {
+            step(alarms, store, host, registry, latest, moment, defines)
+        }
         Stepping::Configuration(config) => configure(alarms, config, registry, latest.before),
         Stepping::Nothing => Ok(EventList::new(alloc)),
     }

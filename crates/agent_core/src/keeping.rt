@@ -1,6 +1,6 @@
 //! What a store keeps of a beat, and how it is added to a history.
 
-ghost use Rattle.std.specs.Prelude.{◌≡◌, ◌<◌, ◌≤◌, ◌^◌, [], ◌∷◌, ◌⊎◌, ℕ, List, Option, Some, None, true, false, length, All, IfOk, IfErr, IfSome, OnOk, IsErrOf};
+ghost use Rattle.std.specs.Prelude.{◌≡◌, ◌↔◌, ◌<◌, ◌≤◌, ◌^◌, [], ◌∷◌, ◌⊎◌, ℕ, List, Option, Some, None, true, false, length, All, IfOk, IfErr, IfSome, OnOk, IsErrOf};
 ghost use Rattle.algorithms.specs.declared.last.Last.{Last as ALast};
 ghost use Rattle.alarm_core.specs.declared.latest.Latest.{Latest as ALatest};
 ghost use Rattle.host_model.specs.declared.file.File.TheVariants.{JournalA};
@@ -330,6 +330,13 @@ fn see_beat(
     }
 }
 
+/// Whether a beat defines charts or dimensions.
+pub(crate) fn defines_some(beat: &OpenBeat) -> bool
+    ensures { (result ≡ false) ↔ ((beat.now.charts ≡ []) × (beat.now.dimensions ≡ [])) }
+{
+    !beat.charts.is_empty() || !beat.dimensions.is_empty()
+}
+
 /// Adds a beat that may follow the history to the parts of an agent. At every moment a stop leaves the
 /// history with the beat or without it. After an `Err` the parts are of no more use.
 pub(crate) fn add<H: Host>(
@@ -374,6 +381,8 @@ pub(crate) fn add<H: Host>(
     ensures charts { OnOk result (AreApart same_chart registry.new.charts) }
     ensures dimensions { OnOk result (AreApart same_dimension registry.new.dimensions) }
     ensures limits { OnOk result (HasLimits registry.new) }
+    ensures same { OnOk result ((beat.now.charts ≡ []) × (beat.now.dimensions ≡ [])
+        → registry.new ≡ registry.old) }
     ensures before { OnOk result (latest.new.before ≡ store.old.last) }
     ensures settings { store.new.settings ≡ store.old.settings }
     ensures faults { IfErr result IsSpending }

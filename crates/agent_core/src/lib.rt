@@ -35,6 +35,7 @@
 mod agent;
 mod alarming;
 mod answering;
+mod asking;
 mod beat_index;
 mod copying;
 mod definitions;

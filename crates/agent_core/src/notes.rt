@@ -1,6 +1,6 @@
 //! What is taken of the note of a kept beat.
 
-ghost use Rattle.std.specs.Prelude.{◌≡◌, ◌⊎◌, ◌∷◌, List, Some, None, is_none, true, false, IfOk, IfErr, OnOk};
+ghost use Rattle.std.specs.Prelude.{◌≡◌, ◌↔◌, ◌⊎◌, [], ◌∷◌, List, Some, None, is_none, true, false, IfOk, IfErr, OnOk};
 ghost use Rattle.history.specs.History.{Beat as HistoryBeat};
 ghost use Rattle.history.specs.Numbered.{IsThere};
 ghost use Rattle.history.specs.Registry.{same_chart, same_dimension};
@@ -12,7 +12,7 @@ ghost use Rattle.store_core.specs.declared.beat.Beat.{Beat as StoreBeat};
 ghost use Rattle.agent_core.specs.Kept.{AreBeatsOf, IsBeatOf};
 ghost use Rattle.agent_core.specs.Notes.{entry_goes_on, entry_in, moment_of, names_series, takes_note, with_entry, with_note};
 ghost use Rattle.agent_core.specs.Roles.{may_copy};
-ghost use Rattle.agent_core.specs.Alarms.{IsReadOf, IsSteppingOf};
+ghost use Rattle.agent_core.specs.Alarms.{DefinesNothing, IsReadOf, IsSteppingOf};
 ghost use Rattle.agent_core.specs.Health.{health_refusal};
 ghost use Rattle.agent_core.specs.Replay.{ArePartsOf, HasRows, HasSeen, IsDoneBy, IsEntryThere};
 ghost use Rattle.agent_core.specs.Rules.{HasLimits};
@@ -203,6 +203,20 @@ fn read_health(alloc: Global, text: &[u8]) -> Result<Config, AgentFault>
     }
 }
 
+/// Whether a collected beat defines charts or dimensions.
+fn defines_some(entry: &NumberedBeat) -> bool
+    ensures { (result ≡ false) ↔ ((entry.now.charts ≡ []) × (entry.now.dimensions ≡ [])) }
+{
+    !entry.charts.is_empty() || !entry.dimensions.is_empty()
+}
+
+/// Whether a copied beat does.
+fn copy_defines(entry: &Copied) -> bool
+    ensures { (result ≡ false) ↔ ((entry.now.charts ≡ []) × (entry.now.dimensions ≡ [])) }
+{
+    !entry.charts.is_empty() || !entry.dimensions.is_empty()
+}
+
 /// Takes the entry of a beat, which settings are not, and says what the beat does to alarms.
 fn take_entry(
     alloc: Global,
@@ -212,6 +226,8 @@ fn take_entry(
 ) -> Result<Stepping, AgentFault>
     ensures does { IfOk result (IsDoneBy entry.now) }
     ensures there { OnOk result (IsEntryThere left.new.registry entry.now) }
+    ensures same { IfOk result
+        (λ does. DefinesNothing does → left.new.registry ≡ left.old.registry) }
     ensures left { OnOk result (left.new ≡ with_entry left.old entry.now) }
     ensures rows { OnOk result (HasRows left.new.registry last_rows.old last_rows.new entry.now) }
     ensures next { OnOk result (entry_goes_on left.old entry.now ≡ true) }
@@ -224,11 +240,11 @@ fn take_entry(
         Entry::Settings(_) => Err(AgentFault::Damaged(5)),
         Entry::Collected(found) => {
             take_collected(left, last_rows, found)?;
-            Ok(Stepping::Beat(found.moment))
+            Ok(Stepping::Beat(found.moment, defines_some(found)))
         }
         Entry::Copied(found) => {
             take_copied(alloc, left, last_rows, found)?;
-            Ok(Stepping::Beat(found.moment))
+            Ok(Stepping::Beat(found.moment, copy_defines(found)))
         }
         Entry::Health(text) => {
             let config = read_health(alloc, text.as_slice())?;
@@ -305,6 +321,8 @@ pub(crate) fn replay_beat(
     ensures does { IfOk result
         (λ does. (g : List HistoryBeat) (beat : HistoryBeat) → IsBeatOf g beat kept.now
         → IsSteppingOf beat does) }
+    ensures same { IfOk result
+        (λ does. DefinesNothing does → left.new.registry ≡ left.old.registry) }
     ensures before { OnOk result (latest.new.before ≡ before) }
 
     // Where the beat is kept for one that follows the history, only memory can be short.

@@ -15,6 +15,7 @@ ghost use Rattle.store_core.specs.declared.beat.Beat.{Beat as StoreBeat};
 ghost use Rattle.store_core.specs.Stands.{is_made, IsDamaged, Stands};
 ghost use Rattle.store_core.specs.Store.{IsReady, IsReplayed, IsStoreAt, OpensAt, Replays, TakesFirst};
 ghost use Rattle.alarm_core.specs.Course.{held};
+ghost use Rattle.alarm_core.specs.UpTo.{IsUpTo};
 ghost use Rattle.agent_core.specs.Faults.{IsOpening};
 ghost use Rattle.agent_core.specs.Notes.{beats_go_on};
 ghost use Rattle.agent_core.specs.Replay.{HasTaken, IsReplaying};
@@ -103,6 +104,7 @@ fn replay_next<H: Host>(
     requires charts { AreApart same_chart left.old.registry.charts }
     requires dimensions { AreApart same_dimension left.old.registry.dimensions }
     requires limits { HasLimits left.old.registry }
+    requires up_to { IsUpTo alarms.old left.old.registry }
     ensures replaying { OnOk result
         ((past : List Event) (set : ASettings) (h : List HistoryBeat)
         → IsReplaying past store.old left.old last_rows.old latest.old
@@ -135,6 +137,7 @@ fn replay_next<H: Host>(
     ensures charts { OnOk result (AreApart same_chart left.new.registry.charts) }
     ensures dimensions { OnOk result (AreApart same_dimension left.new.registry.dimensions) }
     ensures limits { OnOk result (HasLimits left.new.registry) }
+    ensures up_to { OnOk result (IsUpTo alarms.new left.new.registry) }
     ensures host { H.seen host.new ≡ H.seen host.old }
     ensures faults { IfErr result
         (λ fault. (fault ≡ AgentFault.Memory) ⊎ (fault ≡ AgentFault.Damaged 5)) }
@@ -164,6 +167,7 @@ pub(crate) fn replay_all<H: Host>(
     requires charts { AreApart same_chart left.old.registry.charts }
     requires dimensions { AreApart same_dimension left.old.registry.dimensions }
     requires limits { HasLimits left.old.registry }
+    requires up_to { IsUpTo alarms.old left.old.registry }
     ensures replaying { OnOk result
         ((past : List Event) (set : ASettings) (h : List HistoryBeat)
         → IsReplaying past store.old left.old last_rows.old latest.old
@@ -194,6 +198,7 @@ pub(crate) fn replay_all<H: Host>(
     ensures charts { OnOk result (AreApart same_chart left.new.registry.charts) }
     ensures dimensions { OnOk result (AreApart same_dimension left.new.registry.dimensions) }
     ensures limits { OnOk result (HasLimits left.new.registry) }
+    ensures up_to { OnOk result (IsUpTo alarms.new left.new.registry) }
     ensures host { H.seen host.new ≡ H.seen host.old }
     ensures faults { IfErr result
         (λ fault. (fault ≡ AgentFault.Memory) ⊎ (fault ≡ AgentFault.Damaged 5)) }

@@ -4,6 +4,7 @@ ghost use Rattle.std.specs.Prelude.{◌≡◌, ◌<◌, ◌≤◌, ◌^◌, ◌+
 ghost use Rattle.algorithms.specs.declared.last.Last.{Last as ALast};
 ghost use Rattle.alarm_core.specs.declared.latest.Latest.{Latest as ALatest};
 ghost use Rattle.alarm_core.specs.Course.{held};
+ghost use Rattle.alarm_core.specs.UpTo.{IsUpTo};
 ghost use Rattle.host_model.specs.declared.file.File.TheVariants.{JournalA};
 ghost use Rattle.host_model.specs.Disks.{EveryDisk};
 ghost use Rattle.host_model.specs.Cause.{HasCause};
@@ -174,8 +175,8 @@ fn store_copy<H: Host>(
 }
 
 /// Adds a beat of a message, whose definitions the registry has, to the other parts of an agent, and gives the
-/// events that its alarms tell. At every moment a crash leaves the history with the beat or without it. After an
-/// `Err` the parts are of no more use.
+/// events that its alarms tell. At every moment a crash leaves the history with the beat or without it. `fresh` says
+/// whether definitions came since the alarms were last stepped. After an `Err` the parts are of no more use.
 fn add_copy<H: Host>(
     alloc: Global,
     store: &mut Store,
@@ -187,6 +188,7 @@ fn add_copy<H: Host>(
     message: &Data,
     defines: &NumberedBeat,
     beat: &SentBeat,
+    fresh: bool,
 ) -> Result<EventList, AgentFault>
     requires ready { IsReady H.honest (H.seen host.old).past store.old }
     requires replayed { IsReplayed store.old }
@@ -200,6 +202,7 @@ fn add_copy<H: Host>(
     requires within { IsWithinLimits defines.now }
     requires canonical { is_collected_canonical defines.now ≡ true }
     requires no_rows { defines.now.rows ≡ [] }
+    requires same { fresh ≡ false → IsUpTo alarms.old registry.now }
     ensures any_moment { H.honest → (before : ARegistry) (set : ASettings)
         (g : List HistoryBeat) (copy : Copy)
         → Holds (H.seen host.old).past store.old before last_rows.old latest.old set g
@@ -215,6 +218,7 @@ fn add_copy<H: Host>(
         → IsSentAs registry.now message.now defines.now beat.now g copy
         → ArePartsAt (H.seen host.new).past store.new registry.now last_rows.new latest.new
         (held alarms.new) set (copied copy ∷ g) × (events ≡ events_at set (copied copy ∷ g))) }
+    ensures up_to { OnOk result (IsUpTo alarms.new registry.now) }
     ensures ready { IsReady H.honest (H.seen host.new).past store.new }
     ensures replayed { IsReplayed store.new }
     ensures going { OnOk result (store.new.fault ≡ None) }
@@ -233,15 +237,8 @@ fn add_copy<H: Host>(
     store_copy(
         alloc, store, registry, last_rows, latest, host, defines, &kept, moment,
     )?;
-    follow(
-        alloc,
-        alarms,
-        store,
-        host,
-        registry,
-        latest,
-        Stepping::Beat(moment),
-    )
+    let stepping = Stepping::Beat(moment, fresh);
+    follow(alloc, alarms, store, host, registry, latest, stepping)
 }
 
 /// A beat that defines nothing and sets nothing.
@@ -293,6 +290,7 @@ fn add_later<H: Host>(
     requires going { store.old.fault ≡ None }
     requires own { AreApart same_dimension registry.now.dimensions }
     requires registry { HasLimits registry.now }
+    requires up_to { IsUpTo alarms.old registry.now }
     requires sent { AreSent store.old.last message.now beats.now }
     ensures any_moment { H.honest → (set : ASettings) (g : List HistoryBeat)
         → let more = later_copies registry.now message.now beats.now in
@@ -307,6 +305,7 @@ fn add_later<H: Host>(
         (held alarms.old) set g → MayTakeAll g more
         → ArePartsAt (H.seen host.new).past store.new registry.now last_rows.new latest.new
         (held alarms.new) set (onto g more) × (events ≡ events_onto set g more)) }
+    ensures up_to { OnOk result (IsUpTo alarms.new registry.now) }
     ensures ready { IsReady H.honest (H.seen host.new).past store.new }
     ensures replayed { IsReplayed store.new }
     ensures going { OnOk result (store.new.fault ≡ None) }
@@ -323,7 +322,7 @@ fn add_later<H: Host>(
     let mut events = EventList::new(alloc);
     for beat in beats {
         let more = add_copy(
-            alloc, store, registry, last_rows, latest, alarms, host, message, &defines, beat,
+            alloc, store, registry, last_rows, latest, alarms, host, message, &defines, beat, false,
         )?;
         add_events(&mut events, more)?;
     }
@@ -375,6 +374,7 @@ fn add_beats<H: Host>(
         → MayTakeAll g more → 0 < length beats.now
         → ArePartsAt (H.seen host.new).past store.new registry.now last_rows.new latest.new
         (held alarms.new) set (onto g more) × (events ≡ events_onto set g more)) }
+    ensures up_to { OnOk result (0 < length beats.now → IsUpTo alarms.new registry.now) }
     ensures ready { IsReady H.honest (H.seen host.new).past store.new }
     ensures replayed { IsReplayed store.new }
     ensures going { OnOk result (store.new.fault ≡ None) }
@@ -391,7 +391,7 @@ fn add_beats<H: Host>(
         return Ok(EventList::new(alloc));
     };
     let mut events = add_copy(
-        alloc, store, registry, last_rows, latest, alarms, host, message, defines, first,
+        alloc, store, registry, last_rows, latest, alarms, host, message, defines, first, true,
     )?;
     let more = add_later(
         alloc, store, registry, last_rows, latest, alarms, host, message, rest,
@@ -524,6 +524,7 @@ pub(crate) fn add_message<H: Host>(
         (held alarms.old) set h → may_copy (role_of h) ≡ true
         → ArePartsAt (H.seen host.new).past store.new registry.new last_rows.new latest.new
         (held alarms.new) set (onto h more) × (events ≡ events_onto set h more)) }
+    ensures up_to { OnOk result (IsUpTo alarms.new registry.new) }
     ensures ready { IsReady H.honest (H.seen host.new).past store.new }
     ensures replayed { IsReplayed store.new }
     ensures going { OnOk result (store.new.fault ≡ None) }

@@ -1,13 +1,16 @@
 -- Whole alarms are read again from their bytes.
-use Rattle.std.proofs.Common.{◌≡◌, ℕ, ◌<◌, ◌==◌, Bool, true, false, cond, ltb, List, [], ◌∷◌, ◌++◌, length, map, find, Option, Some, None, Result, Ok, refl, sym, ap, ◌∙◌, append_assoc, append-nil}
+use Rattle.std.proofs.Common.{◌≡◌, ℕ, ◌+◌, ◌<◌, ◌==◌, Bool, true, false, cond, ltb, List, [], ◌∷◌, length, map, find, take, Option, Some, None, Result, Ok, refl, sym, ap, ◌∙◌}
 use Rattle.std.specs.Prelude.{slice_get, option_and_then}
-use Rattle.std.specs.List.{AllByRecursion, fold, list_all}
-use Rattle.std.specs.Option.{option_map_or}
-use Rattle.std.specs.Str.{bytes_eq}
+use Rattle.std.specs.List.{AllByRecursion, enumerate_from, list_all}
+use Rattle.std.specs.Option.{is_none, option_map_or}
+use Rattle.std.specs.Str.{bytes_eq, chars, is_utf8}
 use Rattle.std.proofs.lemmas.Bool.{and_from, and_parts, eqb-true, lt-ltb}
 use Rattle.std.proofs.lemmas.Option.{slice_get_within}
 use Rattle.std.proofs.lemmas.Slice.Eq.{bytes_eq-Decides}
-use Rattle.health_config.specs.Config.{Configuration}
+use Rattle.health_config.specs.Config.{Configuration, config_read}
+use Rattle.health_config.specs.Key.{begins, key_value}
+use Rattle.health_config.specs.Lines.{lines}
+use Rattle.health_config.specs.Setting.{line_read}
 use Rattle.health_config.specs.Entity.{Alarm}
 use Rattle.health_config.specs.declared.fault.ConfigFault.{ConfigFault}
 use Rattle.history.specs.Registry.{Registry}
@@ -24,10 +27,10 @@ use Rattle.alarm_core.specs.declared.state.State.{State}
 use Rattle.alarm_core.specs.declared.step.Step.{Step}
 use Rattle.alarm_core.specs.Beats.{Beat, after_step, step_of, states_after}
 use Rattle.alarm_core.specs.Charts.{owner, owner_of}
-use Rattle.alarm_core.specs.Course.{Held, configured, stepped_by, states_of_pairs}
-use Rattle.alarm_core.specs.Kept.{kept, kept_state, is_named, is_pair_of, state_by, found_one, restored_one, restored_states, held_with, held_from, is_known, of_config, of_kept, restored}
+use Rattle.alarm_core.specs.Course.{Held, nothing, configured, stepped_by, states_of_pairs}
+use Rattle.alarm_core.specs.Kept.{kept, kept_state, is_named, is_pair_of, lost_among, holder_of, state_by, state_at, restored_states, held_with, held_from, is_known, of_config, of_kept, restored}
 use Rattle.alarm_core.specs.Pairing.{is_of, state_of, states_of, fresh}
-use Rattle.alarm_core.specs.Pairs.{wanted}
+use Rattle.alarm_core.specs.Pairs.{first_pairs, wanted}
 use Rattle.alarm_core.specs.Whole.{IsTextOf, IsWhole}
 use Rattle.alarm_core.proofs.SameLemmas.{bytes_back, number_back}
 use Rattle.alarm_core.proofs.WantedLemmas.{After, Rise, IsComputed, wanted_each, wanted_rise, chart_of_pair, alarm_of_place, pairs_apart, false_unless, some_passes}
@@ -102,22 +105,32 @@ all_found alarms charts (p ∷ ps) (s ∷ ss) each rise at =
 
 -- ---- the states of kept ones
 
-restored_with : (alarms : List Alarm) (all ps : List Pair) (ss front : List State) (lost : List (List ℕ)) → map owner ss ≡ map owner_of ps → Found alarms all ps ss
-    → fold (restored_one alarms all) (record { states = front; lost = lost }) (map (kept_one alarms) ss) ≡ record { states = front ++ ss; lost = lost }
+none_lost : (alarms : List Alarm) (all ps : List Pair) (ss : List State) → map owner ss ≡ map owner_of ps → Found alarms all ps ss
+    → lost_among alarms all (map (kept_one alarms) ss) ≡ []
 unfolding Found
-restored_with alarms all [] [] front lost at found = ap (λ (states : List State). record { states = states; lost = lost }) (sym (append-nil front))
-restored_with alarms all [] (s ∷ ss) front lost at found = absurd cc
-restored_with alarms all (p ∷ ps) [] front lost at found = absurd cc
-restored_with alarms all (p ∷ ps) (s ∷ ss) front lost at found =
+none_lost alarms all [] [] at found = refl
+none_lost alarms all [] (s ∷ ss) at found = absurd cc
+none_lost alarms all (p ∷ ps) [] at found = absurd cc
+none_lost alarms all (p ∷ ps) (s ∷ ss) at found =
+    let tail : map owner ss ≡ map owner_of ps = cc in
+    let rest : List KeptState = lost_among alarms all (map (kept_one alarms) ss) in
+    ap (λ (o : Option Pair). cond (is_none o) (kept_one alarms s ∷ rest) rest) found.0 ∙ none_lost alarms all ps ss tail found.1
+
+states_again : (alarms : List Alarm) (all ps : List Pair) (ss : List State) (kepts : List KeptState) (n : ℕ) → map owner ss ≡ map owner_of ps → Found alarms all ps ss
+    → map (state_at alarms all kepts) (enumerate_from n (map (kept_one alarms) ss)) ≡ ss
+unfolding Found
+states_again alarms all [] [] kepts n at found = refl
+states_again alarms all [] (s ∷ ss) kepts n at found = absurd cc
+states_again alarms all (p ∷ ps) [] kepts n at found = absurd cc
+states_again alarms all (p ∷ ps) (s ∷ ss) kepts n at found =
     let head : owner s ≡ owner_of p = cc in
     let tail : map owner ss ≡ map owner_of ps = cc in
-    let before : Restored = record { states = front; lost = lost } in
-    let one : found_one before (kept_one alarms s) (find (is_pair_of alarms (kept_one alarms s)) all) ≡ record { states = front ++ s ∷ []; lost = lost } =
-    ap (found_one before (kept_one alarms s)) found.0
-    ∙ ap (λ (h : Holder). record { states = front ++ state_by h (kept_one alarms s) ∷ []; lost = lost }) (sym (ap (λ (o : Holder × ℕ). o.0) head)) in
-    ap (λ (restored : Restored). fold (restored_one alarms all) restored (map (kept_one alarms) ss)) one
-    ∙ restored_with alarms all ps ss (front ++ s ∷ []) lost tail found.1
-    ∙ ap (λ (states : List State). record { states = states; lost = lost }) (append_assoc front (s ∷ []) ss)
+    let before : ℕ = length (lost_among alarms all (take n kepts)) in
+    let one : state_at alarms all kepts (n, kept_one alarms s) ≡ s =
+    ap (λ (o : Option Pair). state_by (holder_of before o) (kept_one alarms s)) found.0
+    ∙ ap (λ (h : Holder). state_by h (kept_one alarms s)) (sym (ap (λ (o : Holder × ℕ). o.0) head)) in
+    ap (λ (first : State). first ∷ map (state_at alarms all kepts) (enumerate_from (n + 1) (map (kept_one alarms) ss))) one
+    ∙ ap (λ (others : List State). s ∷ others) (states_again alarms all ps ss kepts (n + 1) tail found.1)
 
 -- ---- the whole
 
@@ -143,8 +156,13 @@ of_states held registry none at =
     let pairs : List Pair = wanted alarms registry.charts in
     let each = wanted_each alarms registry.charts in
     let k : List (List ℕ) → KeptAlarms = λ (lost : List (List ℕ)). kept (record held { lost = lost }) in
-    let states : restored_states alarms pairs (map (kept_one alarms) held.states) ≡ record { states = held.states; lost = [] } =
-    restored_with alarms pairs pairs held.states [] [] at (all_found alarms registry.charts pairs held.states each (wanted_rise alarms registry.charts) at) in
+    let kepts : List KeptState = map (kept_one alarms) held.states in
+    let found : Found alarms pairs pairs held.states = all_found alarms registry.charts pairs held.states each (wanted_rise alarms registry.charts) at in
+    let states : restored_states alarms pairs kepts ≡ record { states = held.states; lost = [] } =
+    ap (λ (states : List State). record { states = states; lost = map (λ (kept : KeptState). kept.alarm) (lost_among alarms pairs kepts) })
+    (states_again alarms pairs pairs held.states kepts 0 at found)
+    ∙ ap (λ (lost : List KeptState). record { states = held.states; lost = map (λ (kept : KeptState). kept.alarm) lost })
+    (none_lost alarms pairs pairs held.states at found) in
     ap (λ (lost : List (List ℕ)). of_config registry (k lost) (Ok (record { alarms = alarms; skipped = 0 }))) none
     ∙ ap (λ (b : Bool). cond b (Some (held_from (k []) alarms registry)) None) (all_known alarms registry pairs held.states each at)
     ∙ ap (λ (restored : Restored). Some (held_with (k []) alarms restored)) states
@@ -213,3 +231,12 @@ whole_stepped held beat is = record {
       ∙ pair_owners held.alarms held.alarms held.states (wanted held.alarms beat.registry.charts);
   none_lost = refl;
 }
+
+no_text_read : config_read [] ≡ Ok (record { alarms = []; skipped = 0 })
+unfolding config_read lines begins key_value line_read is_utf8 chars
+no_text_read = refl
+
+-- and so are those without a call
+pub whole_nothing : (registry : Registry) → IsWhole nothing registry
+unfolding first_pairs
+whole_nothing registry = record { text = (0, no_text_read); states = refl; none_lost = refl }

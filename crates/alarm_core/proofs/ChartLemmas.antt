@@ -53,6 +53,15 @@ pub owners_done : {A B C : Type 0} (f : A → C) (g : B → C) (xs : List A) (ys
     → map f (take i xs) ≡ map g (take i ys) → map f xs ≡ map g ys
 owners_done {A} {B} {C} f g xs ys i end too so_far = sym (ap (map f) (take_all i xs end)) ∙ so_far ∙ ap (map g) (take_all i ys too)
 
+-- lists that agree whole agree at each place
+pub owners_at : {A B C : Type 0} (f : A → C) (g : B → C) (xs : List A) (ys : List B) (i : ℕ) (d : A) (e : B) → i < length xs → i < length ys → map f xs ≡ map g ys
+    → f (get_or xs i d) ≡ g (get_or ys i e)
+owners_at f g [] ys i d e inside too same = absurd (omega (arith, inside))
+owners_at f g (x ∷ xs) [] i d e inside too same = absurd (omega (arith, too))
+owners_at f g (x ∷ xs) (y ∷ ys) zero d e inside too same = let head : f x ≡ g y = cc in head
+owners_at f g (x ∷ xs) (y ∷ ys) (suc i) d e inside too same =
+    let tail : map f xs ≡ map g ys = cc in owners_at f g xs ys i d e (omega (arith, inside)) (omega (arith, too)) tail
+
 -- ---- pairs by what alarms say of charts
 
 same_pair : (alarms : List Alarm) (charts : List ChartDef) (e chart : ℕ) → is_pair alarms (map chart_with (map words_of charts)) e chart ≡ is_pair alarms charts e chart
@@ -99,3 +108,7 @@ wanted_known alarms charts =
 pub none_wanted : (alarms : List Entity) (words : List ChartWords) → alarms ≡ [] → [] ≡ wanted_on (map alarm_of alarms) words
 unfolding wanted_on first_pairs
 none_wanted alarms words none = ap (λ (all : List Entity). wanted_on (map alarm_of all) words) (sym none)
+
+pub none_wanted_now : (alarms : List Entity) (charts : List ChartDef) → alarms ≡ [] → [] ≡ wanted (map alarm_of alarms) charts
+unfolding first_pairs
+none_wanted_now alarms charts none = ap (λ (all : List Entity). wanted (map alarm_of all) charts) (sym none)

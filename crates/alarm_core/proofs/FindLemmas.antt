@@ -1,5 +1,5 @@
 -- The first that passes, in a loop.
-use Rattle.std.proofs.Common.{◌≡◌, ℕ, zero, suc, ◌+◌, ◌<◌, ◌≤◌, Bool, true, false, cond, List, [], ◌∷◌, length, get_or, take, find, Option, Some, None, arith, refl, sym, ap, ◌∙◌}
+use Rattle.std.proofs.Common.{◌≡◌, ℕ, zero, suc, ◌+◌, ◌<◌, ◌≤◌, Bool, true, false, cond, List, [], ◌∷◌, length, get_or, take, filter, find, Option, Some, None, arith, refl, sym, ap, ◌∙◌}
 use Rattle.std.proofs.lemmas.List.{take_more, take_all}
 use Rattle.std.proofs.lemmas.List.Folds.{find-append}
 use Rattle.std.specs.Option.{option_or}
@@ -27,3 +27,14 @@ find_more p xs i d inside none not =
 -- none passes
 pub find_none : (p : ℕ → Bool) (xs : List ℕ) (i : ℕ) → length xs ≤ i → find p (take i xs) ≡ None → None ≡ find p xs
 find_none p xs i end none = sym none ∙ ap (find p) (take_all i xs end)
+
+-- the first is among those of a kind, where all that pass are of that kind
+pub find_among : {A : Type 0} (p q : A → Bool) → ((x : A) → p x ≡ true → q x ≡ true) → (xs : List A) → find p (filter q xs) ≡ find p xs
+find_among p q of_kind [] = refl
+find_among {A} p q of_kind (x ∷ xs) = by_tests (p x) (q x) refl refl (find_among p q of_kind xs)
+  where
+    by_tests : (a b : Bool) → p x ≡ a → q x ≡ b → find p (filter q xs) ≡ find p xs → find p (cond b (x ∷ filter q xs) (filter q xs)) ≡ cond a (Some x) (find p xs)
+    by_tests true true passes is more = ap (λ (c : Bool). cond c (Some x) (find p (filter q xs))) passes
+    by_tests false true fails is more = ap (λ (c : Bool). cond c (Some x) (find p (filter q xs))) fails ∙ more
+    by_tests true false passes other more = absurd (cc (of_kind x passes))
+    by_tests false false fails other more = more

@@ -1,4 +1,6 @@
 pub mod FindLemmas
+pub mod ByChartLemmas
+pub mod RestoreLemmas
 pub mod NameLemmas
 pub mod SeriesLemmas
 pub mod LookupLemmas

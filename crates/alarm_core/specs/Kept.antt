@@ -1,7 +1,7 @@
 -- What is kept of alarms as bytes, and the alarms that bytes stand for.
-use Rattle.std.specs.Prelude.{ℕ, ◌==◌, Bool, false, ◌&&◌, nat_lt, if◌then◌else◌, List, [], ◌∷◌, ◌++◌, length, map, find, slice_get, Option, Some, None, option_and_then, Result, Ok, Err}
-use Rattle.std.specs.List.{fold, list_all}
-use Rattle.std.specs.Option.{option_map_or}
+use Rattle.std.specs.Prelude.{ℕ, ◌==◌, Bool, false, ◌&&◌, nat_lt, if◌then◌else◌, List, length, map, filter, find, take, slice_get, Option, Some, None, option_and_then, Result, Ok, Err}
+use Rattle.std.specs.List.{enumerate_from, list_all}
+use Rattle.std.specs.Option.{is_none, option_map_or}
 use Rattle.std.specs.Str.{bytes_eq}
 use Rattle.health_config.specs.Config.{Configuration, config_read}
 use Rattle.health_config.specs.Entity.{Alarm}
@@ -51,27 +51,30 @@ is_pair_of alarms kept pair = (pair.chart == kept.chart) && is_named alarms pair
 abbrev pub state_by : Holder → KeptState → State
 state_by alarm kept = record { alarm = alarm; chart = kept.chart; value = kept.value; status = kept.status; delay = kept.delay }
 
--- a state of no pair is of an alarm that is lost
-abbrev pub lost_one : Restored → KeptState → Restored
-lost_one before kept = record {
-  states = before.states ++ state_by (holder.Lost (length before.lost)) kept ∷ [];
-  lost = before.lost ++ kept.alarm ∷ [];
-}
-
-abbrev pub found_one : Restored → KeptState → Option Pair → Restored
-found_one before kept None = lost_one before kept
-found_one before kept (Some pair) = record before { states = before.states ++ state_by (holder.Alarm pair.alarm) kept ∷ [] }
-
 -- a state is of the first of these pairs that is its own
-abbrev pub restored_one : List Alarm → List Pair → Restored → KeptState → Restored
-restored_one alarms pairs before kept = found_one before kept (find (is_pair_of alarms kept) pairs)
+abbrev pub pair_of : List Alarm → List Pair → KeptState → Option Pair
+pair_of alarms pairs kept = find (is_pair_of alarms kept) pairs
 
-abbrev pub none_restored : Restored
-none_restored = record { states = []; lost = [] }
+-- the states of no pair: each is of an alarm that is lost
+abbrev pub lost_among : List Alarm → List Pair → List KeptState → List KeptState
+lost_among alarms pairs states = filter (λ kept. is_none (pair_of alarms pairs kept)) states
 
--- the states, one after the other
+-- whose a state is, where so many are lost before it
+abbrev pub holder_of : ℕ → Option Pair → Holder
+holder_of before None = holder.Lost before
+holder_of before (Some pair) = holder.Alarm pair.alarm
+
+-- one of these states, with its place among them
+abbrev pub state_at : List Alarm → List Pair → List KeptState → ℕ × KeptState → State
+state_at alarms pairs states place =
+    state_by (holder_of (length (lost_among alarms pairs (take place.0 states))) (pair_of alarms pairs place.1)) place.1
+
+-- the states, in their order, and the names of the lost alarms
 abbrev pub restored_states : List Alarm → List Pair → List KeptState → Restored
-restored_states alarms pairs states = fold (restored_one alarms pairs) none_restored states
+restored_states alarms pairs states = record {
+  states = map (state_at alarms pairs states) (enumerate_from 0 states);
+  lost = map (λ kept. kept.alarm) (lost_among alarms pairs states);
+}
 
 -- ---- all of them
 

@@ -8,6 +8,7 @@ pub mod Delay
 pub mod Step
 pub mod Lookups
 pub mod Gathering
+pub mod ByChart
 pub mod Pairs
 pub mod Charts
 pub mod Same
@@ -15,6 +16,7 @@ pub mod Telling
 pub mod Pairing
 pub mod Beats
 pub mod Course
+pub mod UpTo
 pub mod Rows
 pub mod Faults
 pub mod Kept

@@ -11,7 +11,6 @@ use crate::latest::Latest;
 use crate::pairing::{Turn, pair_states};
 use crate::pairs::PairList;
 use crate::restore::{Restored, are_known, read_config, restore};
-use crate::series::all_series;
 use crate::sight::Sight;
 use crate::state::{NameList, StateList};
 use crate::telling::Told;
@@ -48,13 +47,18 @@ impl Alarms {
     ghost use Rattle.health_config.specs.ConfigOf.{entities_of, text_of};
     ghost use Rattle.host_model.specs.Cause.{HasCause};
     ghost use Rattle.tier_rollup.specs.declared.point.Point.{Point as APoint};
+    ghost use Rattle.alarm_core.specs.UpTo.{IsUpTo};
+    ghost use Rattle.history.specs.Registry.{Registry as ARegistry};
     ghost use Rattle.alarm_core.specs.Course.{held, nothing, configured, stepped_by, Outcome, states_of_pairs, told_of_pairs};
-    ghost use Rattle.alarm_core.specs.Beats.{Beat};
+    ghost use Rattle.alarm_core.specs.Beats.{Beat, states_after, changes};
+    ghost use Rattle.alarm_core.specs.Series.{series_of_all};
+    ghost use Rattle.alarm_core.specs.Telling.{tell_all};
     ghost use Rattle.alarm_core.specs.declared.fault.AlarmFault.TheVariants.{Memory};
 
     /// No alarms, and an empty log. It has room for all events that the log will show.
     pub fn new(alloc: Global) -> Result<Alarms, AlarmFault>
         ensures held { IfOk result (λ alarms. held alarms ≡ nothing) }
+        ensures up_to { IfOk result (λ alarms. (registry : ARegistry) → IsUpTo alarms registry) }
         ensures memory { IfErr result (λ fault. fault ≡ Memory) }
     {
         Ok(Alarms {
@@ -70,6 +74,7 @@ impl Alarms {
             pairing: Pairing {
                 charts: ChartWordsList::new(alloc),
                 pairs: PairList::new(alloc),
+                series: Vec::new(alloc),
             },
         })
     }
@@ -91,6 +96,7 @@ impl Alarms {
         ensures events { IfOk result (λ events. events
             ≡ (configured (held self.old) (text_of config)
             (map alarm_of (entities_of config)) registry.now moment).events) }
+        ensures up_to { OnOk result (IsUpTo self.new registry.now) }
         ensures memory { IfErr result (λ fault. fault ≡ Memory) }
     {
         self.told.events.clear();
@@ -113,9 +119,10 @@ impl Alarms {
         Ok(replace(&mut self.told.events, EventList::new(self.alloc)))
     }
 
-    /// Takes the charts as they are now: tells which states go, and makes new ones. Where alarms say the same
-    /// of all charts as before, nothing is worked out.
-    fn pair(&mut self, registry: &Registry, moment: u32) -> Result<(), AllocError>
+    /// Takes the charts that the alarms are paired with: tells which states go, and makes new ones. Where the
+    /// states are those of the pairs, they stay.
+    fn take_pairs(&mut self, registry: &Registry, moment: u32) -> Result<(), AllocError>
+        requires { IsUpTo self.old registry.now }
         ensures text { self.new.text ≡ self.old.text }
         ensures alarms { self.new.alarms ≡ self.old.alarms }
         ensures lost { OnOk result (self.new.lost ≡ []) }
@@ -123,10 +130,10 @@ impl Alarms {
             ≡ states_of_pairs (held self.old) (held self.old).alarms registry.now) }
         ensures told { OnOk result (self.new.told
             ≡ told_of_pairs (held self.old) (held self.old).alarms registry.now moment) }
+        ensures pairing { self.new.pairing ≡ self.old.pairing }
     {
         self.told.events.clear();
         let alarms = self.alarms.as_slice();
-        renew(self.alloc, &mut self.pairing, alarms, registry)?;
         let pairs = self.pairing.pairs.as_slice();
         let states = self.states.as_slice();
         if are_states_of(states, pairs) {
@@ -150,7 +157,6 @@ impl Alarms {
     /// before. `Ok` is what it tells: first the events to `Removed`, then those of the steps, each in the
     /// order of the states. `Disk` comes only where the count of failures of `points` rose. After an `Err`
     /// nothing is known of the alarms. Whatever the answer, `points` stands for the same as before.
-    #[tactic(auto, unfolding(crate::specs::Course::stepped_by))]
     pub fn step<P: Points>(
         &mut self,
         moment: u32,
@@ -175,6 +181,7 @@ impl Alarms {
               floor = (P.tiers points.old).floor 0;
               told = told;
             })).events) }
+        ensures up_to { OnOk result (IsUpTo self.new registry.now) }
         ensures tiers { P.tiers points.new ≡ P.tiers points.old }
         ensures points_held { P.held points.new ≡ P.held points.old }
         ensures told { (told : ℕ → List APoint) → P.tells points.old told
@@ -183,13 +190,99 @@ impl Alarms {
             (IsErrOf result AlarmFault.Disk) }
         ensures faults { IfErr result (λ fault. (fault ≡ AlarmFault.Disk) ⊎ (fault ≡ Memory)) }
     {
-        self.pair(registry, moment)?;
-        let series = all_series(self.alloc, registry)?;
+        let alarms = self.alarms.as_slice();
+        renew(self.alloc, &mut self.pairing, alarms, registry)?;
+        self.step_again(moment, registry, latest, points)
+    }
+
+    /// The same, where the charts and dimensions are those of the call before, as at a beat that defines none.
+    /// Nothing is worked out anew of them.
+    #[tactic(auto, unfolding(crate::specs::Course::stepped_by))]
+    pub fn step_again<P: Points>(
+        &mut self,
+        moment: u32,
+        registry: &Registry,
+        latest: &Latest,
+        points: &mut P,
+    ) -> Result<EventList, AlarmFault>
+        requires { IsUpTo self.old registry.now }
+        ensures held { OnOk result ((told : ℕ → List APoint) → P.tells points.old told
+            → held self.new ≡ (stepped_by (held self.old) (record {
+              moment = moment;
+              registry = registry.now;
+              latest = latest.now;
+              floor = (P.tiers points.old).floor 0;
+              told = told;
+            })).held) }
+        ensures events { IfOk result (λ events. (told : ℕ → List APoint)
+            → P.tells points.old told
+            → events ≡ (stepped_by (held self.old) (record {
+              moment = moment;
+              registry = registry.now;
+              latest = latest.now;
+              floor = (P.tiers points.old).floor 0;
+              told = told;
+            })).events) }
+        ensures up_to { OnOk result (IsUpTo self.new registry.now) }
+        ensures tiers { P.tiers points.new ≡ P.tiers points.old }
+        ensures points_held { P.held points.new ≡ P.held points.old }
+        ensures told { (told : ℕ → List APoint) → P.tells points.old told
+            → P.tells points.new told }
+        ensures cause { HasCause (P.faults points.old) (P.faults points.new)
+            (IsErrOf result AlarmFault.Disk) }
+        ensures faults { IfErr result (λ fault. (fault ≡ AlarmFault.Disk) ⊎ (fault ≡ Memory)) }
+    {
+        self.take_pairs(registry, moment)?;
+        self.step_all(moment, registry, latest, points)?;
+        Ok(replace(&mut self.told.events, EventList::new(self.alloc)))
+    }
+
+    /// Steps all states on a beat, and tells of those that change. Where there is none nothing is done.
+    fn step_all<P: Points>(
+        &mut self,
+        moment: u32,
+        registry: &Registry,
+        latest: &Latest,
+        points: &mut P,
+    ) -> Result<(), AlarmFault>
+        requires { (self.old.states ≡ [])
+            ⊎ (self.old.pairing.series.items ≡ series_of_all registry.now) }
+        ensures text { self.new.text ≡ self.old.text }
+        ensures alarms { self.new.alarms ≡ self.old.alarms }
+        ensures lost { self.new.lost ≡ self.old.lost }
+        ensures pairing { self.new.pairing ≡ self.old.pairing }
+        ensures states { OnOk result ((told : ℕ → List APoint) → P.tells points.old told
+            → self.new.states ≡ states_after (record {
+              moment = moment;
+              registry = registry.now;
+              latest = latest.now;
+              floor = (P.tiers points.old).floor 0;
+              told = told;
+            }) (map alarm_of self.old.alarms) self.old.states) }
+        ensures events { OnOk result ((told : ℕ → List APoint) → P.tells points.old told
+            → self.new.told ≡ tell_all self.old.told (changes (record {
+              moment = moment;
+              registry = registry.now;
+              latest = latest.now;
+              floor = (P.tiers points.old).floor 0;
+              told = told;
+            }) (map alarm_of self.old.alarms) self.old.states)) }
+        ensures tiers { P.tiers points.new ≡ P.tiers points.old }
+        ensures points_held { P.held points.new ≡ P.held points.old }
+        ensures told { (told : ℕ → List APoint) → P.tells points.old told
+            → P.tells points.new told }
+        ensures cause { HasCause (P.faults points.old) (P.faults points.new)
+            (IsErrOf result AlarmFault.Disk) }
+        ensures faults { IfErr result (λ fault. (fault ≡ AlarmFault.Disk) ⊎ (fault ≡ Memory)) }
+    {
+        if self.states.is_empty() {
+            return Ok(());
+        }
         let sight = Sight {
             moment,
             registry,
             latest,
-            series: series.as_slice(),
+            series: self.pairing.series.as_slice(),
         };
         let stepped = step_states(
             self.alloc,
@@ -200,7 +293,7 @@ impl Alarms {
             &mut self.told,
         )?;
         self.states = stepped;
-        Ok(replace(&mut self.told.events, EventList::new(self.alloc)))
+        Ok(())
     }
 
     /// What is kept of the alarms.
@@ -247,6 +340,7 @@ impl Alarms {
         requires text { text_of config ≡ kept.now.text }
         ensures held { IfOk result (λ alarms. held alarms
             ≡ held_from kept.now (map alarm_of (entities_of config)) registry.now) }
+        ensures up_to { IfOk result (λ alarms. IsUpTo alarms registry.now) }
         ensures memory { IfErr result (λ fault. fault ≡ Memory) }
     {
         let (text, alarms) = config.into_parts();
@@ -284,6 +378,7 @@ impl Alarms {
     ) -> Result<Alarms, AlarmFault>
         ensures held { IfOk result
             (λ alarms. restored bytes.now registry.now ≡ Some (held alarms)) }
+        ensures up_to { IfOk result (λ alarms. IsUpTo alarms registry.now) }
         ensures refused { IfErr result (λ fault. (fault ≡ Memory)
             ⊎ ((fault ≡ AlarmFault.BadBytes) × (restored bytes.now registry.now ≡ None))) }
     {

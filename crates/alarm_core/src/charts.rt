@@ -1,15 +1,18 @@
 //! What alarms say of charts: where that stays, the pairs stay.
-ghost use Rattle.std.specs.Prelude.{◌≡◌, [], ◌∷◌, ◌++◌, map, IsTrue, IfOk, OnOk};
+ghost use Rattle.std.specs.Prelude.{◌≡◌, ◌⊎◌, ◌↔◌, [], ◌∷◌, ◌++◌, map, IsTrue, IfOk, OnOk};
 ghost use Rattle.health_config.specs.Entity.{alarm_of};
 ghost use Rattle.alarm_core.specs.Charts.{words_of, wanted_on, owner, owner_of};
 ghost use Rattle.alarm_core.specs.Pairs.{wanted};
+ghost use Rattle.alarm_core.specs.Series.{series_of_all};
 
 use crate::pairs::{Pair, PairList, wanted_pairs};
+use crate::series::all_series;
 use crate::state::{Holder, State};
 use chart_registry::Registry;
 use fixed_num::{ListOf, Text};
 use health_config::Entity;
 use history::ChartDef;
+use query_engine::SeriesList;
 use std::alloc::{AllocError, Global};
 
 /// What alarms say of a chart.
@@ -28,6 +31,8 @@ pub type ChartWordsList = ListOf<ChartWords>;
 pub struct Pairing {
     pub charts: ChartWordsList,
     pub pairs: PairList,
+    /// The series of each chart, in the order of the charts.
+    pub series: Vec<SeriesList>,
 }
 
 fn chart_words(def: &ChartDef) -> Result<ChartWords, AllocError>
@@ -60,14 +65,14 @@ fn all_words(alloc: Global, registry: &Registry) -> Result<ChartWordsList, Alloc
 
 /// Whether alarms say the same of a chart.
 fn has_words(def: &ChartDef, words: &ChartWords) -> bool
-    ensures { IsTrue result → words_of def.now ≡ words.now }
+    ensures { IsTrue result ↔ (words_of def.now ≡ words.now) }
 {
     def.id == words.id && def.name == words.name && def.context == words.context
 }
 
 /// Whether alarms say the same of each chart. It compares three texts for each.
 fn have_words(registry: &Registry, words: &[ChartWords]) -> bool
-    ensures { IsTrue result → map words_of registry.now.charts ≡ words.now }
+    ensures { IsTrue result ↔ (map words_of registry.now.charts ≡ words.now) }
 {
     if words.len() != registry.charts() as usize {
         return false;
@@ -80,7 +85,8 @@ fn have_words(registry: &Registry, words: &[ChartWords]) -> bool
     true
 }
 
-/// Works out the pairs anew, where alarms say something else of the charts than before.
+/// Takes the charts and dimensions as they are now. The pairs are worked out anew only where alarms say
+/// something else of the charts than before, and without alarms nothing is.
 pub fn renew(
     alloc: Global,
     pairing: &mut Pairing,
@@ -90,9 +96,15 @@ pub fn renew(
     requires { pairing.old.pairs ≡ wanted_on (map alarm_of alarms.now) pairing.old.charts }
     ensures wanted { OnOk result
         (pairing.new.pairs ≡ wanted (map alarm_of alarms.now) registry.now.charts) }
+    ensures series { OnOk result ((alarms.now ≡ [])
+        ⊎ (pairing.new.series.items ≡ series_of_all registry.now)) }
     ensures paired { pairing.new.pairs ≡ wanted_on (map alarm_of alarms.now) pairing.new.charts }
 {
+    if alarms.is_empty() {
+        return Ok(());
+    }
     if have_words(registry, pairing.charts.as_slice()) {
+        pairing.series = all_series(alloc, registry)?;
         return Ok(());
     }
     *pairing = pairing_of(alloc, alarms, registry)?;
@@ -107,24 +119,30 @@ pub fn pairing_of(
 ) -> Result<Pairing, AllocError>
     ensures wanted { IfOk result
         (λ pairing. pairing.pairs ≡ wanted (map alarm_of alarms.now) registry.now.charts) }
+    ensures series { IfOk result (λ pairing. pairing.series.items ≡ series_of_all registry.now) }
     ensures paired { IfOk result
         (λ pairing. pairing.pairs ≡ wanted_on (map alarm_of alarms.now) pairing.charts) }
 {
     let charts = all_words(alloc, registry)?;
     let pairs = wanted_pairs(alloc, alarms, registry)?;
-    Ok(Pairing { charts, pairs })
+    let series = all_series(alloc, registry)?;
+    Ok(Pairing {
+        charts,
+        pairs,
+        series,
+    })
 }
 
 /// Whether a state is that of a pair.
 fn is_state_of(state: State, pair: Pair) -> bool
-    ensures { IsTrue result → owner state ≡ owner_of pair }
+    ensures { IsTrue result ↔ (owner state ≡ owner_of pair) }
 {
     state.alarm == Holder::Alarm(pair.alarm) && state.chart == pair.chart
 }
 
 /// Whether there is a state for each pair, in their order, and no other.
 pub fn are_states_of(states: &[State], pairs: &[Pair]) -> bool
-    ensures { IsTrue result → map owner states.now ≡ map owner_of pairs.now }
+    ensures { IsTrue result ↔ (map owner states.now ≡ map owner_of pairs.now) }
 {
     if states.len() != pairs.len() {
         return false;

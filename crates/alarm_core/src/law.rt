@@ -14,15 +14,16 @@ ghost use Rattle.alarm_core.specs.Whole.{IsTextOf, IsWhole};
 
 /// The laws of alarms. The log after any calls shows all events that they told, in their order, and these
 /// are numbered from 1; at 2^64 - 1 numbers stand still. Two alarms say the same exactly where they have
-/// the same fields, with expressions as trees. Behind a configuration that was read, and behind each beat
-/// after it, alarms are whole with the charts of that call; and whole alarms that have bytes are read again
-/// from them. The call does nothing.
+/// the same fields, with expressions as trees. Without a call alarms are whole with any charts. Behind a
+/// configuration that was read, and behind each beat after it, they are whole with the charts of that call;
+/// and whole alarms that have bytes are read again from them. The call does nothing.
 pub fn any_alarms()
     ensures log { (calls : List Call)
         → (held_after nothing calls).log ≡ shown (events_of nothing calls) }
     ensures ids { (calls : List Call) → let events = events_of nothing calls in
         map (λ event. event.id) events ≡ map counted (range_with_len 1 (length events)) }
     ensures same { (one other : Alarm) → IsTrue (is_same one other) ↔ (one ≡ other) }
+    ensures whole_nothing { (registry : Registry) → IsWhole nothing registry }
     ensures whole_configured { (held : Held) (text : List ℕ) (alarms : List Alarm)
         (registry : Registry) (moment : ℕ) → IsTextOf text alarms
         → IsWhole (configured held text alarms registry moment).held registry }

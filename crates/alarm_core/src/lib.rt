@@ -5,6 +5,7 @@
 //! what they tell is proved to be what the definitions in `specs/` say of the alarms before:
 //!
 //! - `Course.antt`: one call, and all calls
+//! - `UpTo.antt`: when a beat may take the charts and dimensions for those of the call before
 //! - `Pairs.antt`: which alarms are computed for which charts
 //! - `Same.antt`, `Pairing.antt`: which states stay, go and come
 //! - `Beats.antt`: what a beat makes of the states
@@ -32,15 +33,18 @@
 //! exact in 128 bits, and so is a percentage, whose parts are at most 10^22.
 //!
 //! What it costs: a configuration compares each alarm with each chart, and where an alarm is on a chart, its
-//! name with those of the others. So does a beat behind which there are more charts, or one has another
-//! name or context. Any other beat compares the three texts of each chart with what they were.
+//! name with those of the others. So does a `step` behind which there are more charts, or one has another
+//! name or context. Any other `step` compares the three texts of each chart with what they were, and goes once
+//! through all dimensions. `step_again`, for a beat that defines no chart and no dimension, does neither. Nor
+//! does a `step` where there is no alarm.
 //!
-//! Where the states are not those of the pairs, states go and come. That compares each state with each
-//! pair, by the number of the chart, and of one chart by all that the alarms say.
+//! Where the states are not those of the pairs, states go and come: each state is compared with the pairs of
+//! its chart, and each pair with the states of its chart, by all that the alarms say. `configure` always does
+//! that. `from_bytes` compares the name of each state with those of the pairs of its chart.
 //!
-//! A beat goes once through all states, and once through all dimensions. A state that is due costs what its
-//! expressions cost, and reads the points of its lookup. A name that is no dimension's id goes through the
-//! names of the chart's dimensions.
+//! A beat goes twice through all states, to see that they are those of the pairs and to step them. A state
+//! that is due costs what its expressions cost, and reads the points of its lookup. A name that is no
+//! dimension's id goes through the names of the chart's dimensions.
 //!
 //! It stands on `health_config` for alarms, on `health_expr` for expressions and values, on
 //! `alarm_events` for events, their log and what is kept, and on `chart_registry` for charts and dimensions.
@@ -49,6 +53,7 @@
 
 mod alarms;
 mod beats;
+mod by_chart;
 mod charts;
 mod delay;
 mod dimension;

@@ -5,6 +5,7 @@ ghost use Rattle.alarm_core.specs.Pairing as spec;
 ghost use Rattle.alarm_core.specs.Telling.{tell_some, tell_all};
 ghost use Rattle.chart_registry.specs.Defining.{chart_id};
 
+use crate::by_chart::{ByChart, by_chart};
 use crate::pairs::{Pair, alarm_in};
 use crate::same::is_same;
 use crate::state::{Holder, State, StateList};
@@ -60,8 +61,8 @@ fn is_of(alloc: Global, turn: &Turn, pair: Pair, state: State) -> Result<bool, A
     }
 }
 
-/// Whether a state is that of one of these pairs.
-fn stays(alloc: Global, turn: &Turn, pairs: &[Pair], state: State) -> Result<bool, AllocError>
+/// Whether a state is that of one of these pairs. It compares the state with each.
+fn stays_among(alloc: Global, turn: &Turn, pairs: &[Pair], state: State) -> Result<bool, AllocError>
     ensures { IfOk result
         (λ stays. stays ≡ spec.stays (map alarm_of turn.now.before.now)
         (map alarm_of turn.now.after.now) pairs.now state) }
@@ -72,6 +73,20 @@ fn stays(alloc: Global, turn: &Turn, pairs: &[Pair], state: State) -> Result<boo
         }
     }
     Ok(false)
+}
+
+/// The same, compared with those of its chart alone.
+fn stays(
+    alloc: Global,
+    turn: &Turn,
+    pairs: &ByChart<Pair>,
+    state: State,
+) -> Result<bool, AllocError>
+    ensures { IfOk result
+        (λ stays. stays ≡ spec.stays (map alarm_of turn.now.before.now)
+        (map alarm_of turn.now.after.now) pairs.now.items.now state) }
+{
+    stays_among(alloc, turn, pairs.on(state.chart), state)
 }
 
 /// The id of a chart, and nothing where there is none.
@@ -149,13 +164,14 @@ fn removal(
 fn removal_of(
     alloc: Global,
     turn: &Turn,
-    pairs: &[Pair],
+    pairs: &ByChart<Pair>,
     registry: &Registry,
     moment: u32,
     state: State,
 ) -> Result<Option<Event>, AllocError>
     ensures { IfOk result (λ event. event ≡ spec.removal_of (map alarm_of turn.now.before.now)
-        turn.now.lost.now (map alarm_of turn.now.after.now) pairs.now registry.now moment state) }
+        turn.now.lost.now (map alarm_of turn.now.after.now) pairs.now.items.now
+        registry.now moment state) }
 {
     if stays(alloc, turn, pairs, state)? {
         Ok(None)
@@ -169,14 +185,15 @@ fn tell_removal(
     alloc: Global,
     told: &mut Told,
     turn: &Turn,
-    pairs: &[Pair],
+    pairs: &ByChart<Pair>,
     registry: &Registry,
     moment: u32,
     state: State,
 ) -> Result<(), AllocError>
     ensures { OnOk result (told.new ≡ tell_some told.old
         (spec.removal_of (map alarm_of turn.now.before.now) turn.now.lost.now
-        (map alarm_of turn.now.after.now) pairs.now registry.now moment state)) }
+        (map alarm_of turn.now.after.now) pairs.now.items.now
+        registry.now moment state)) }
 {
     let event = removal_of(alloc, turn, pairs, registry, moment, state)?;
     telling::tell_some(told, event)
@@ -187,14 +204,15 @@ fn tell_removals(
     alloc: Global,
     told: &mut Told,
     turn: &Turn,
-    pairs: &[Pair],
+    pairs: &ByChart<Pair>,
     registry: &Registry,
     moment: u32,
     states: &[State],
 ) -> Result<(), AllocError>
     ensures { OnOk result (told.new ≡ tell_all told.old
         (spec.removals (map alarm_of turn.now.before.now) turn.now.lost.now
-        (map alarm_of turn.now.after.now) pairs.now registry.now moment states.now)) }
+        (map alarm_of turn.now.after.now) pairs.now.items.now
+        registry.now moment states.now)) }
 {
     for state in states {
         tell_removal(alloc, told, turn, pairs, registry, moment, *state)?;
@@ -202,8 +220,8 @@ fn tell_removals(
     Ok(())
 }
 
-/// The state of a pair before.
-fn state_before(
+/// The state of a pair among these. It compares the pair with each.
+fn state_among(
     alloc: Global,
     turn: &Turn,
     states: &[State],
@@ -221,6 +239,20 @@ fn state_before(
     Ok(None)
 }
 
+/// The state of a pair before, found among those of its chart.
+fn state_before(
+    alloc: Global,
+    turn: &Turn,
+    states: &ByChart<State>,
+    pair: Pair,
+) -> Result<Option<State>, AllocError>
+    ensures { IfOk result (λ state. state
+        ≡ find (spec.is_of (map alarm_of turn.now.before.now)
+        (map alarm_of turn.now.after.now) pair) states.now.items.now) }
+{
+    state_among(alloc, turn, states.on(pair.chart), pair)
+}
+
 /// How an alarm of a chart stands before its first step.
 fn fresh(pair: Pair) -> State
     ensures { result ≡ spec.fresh pair }
@@ -235,10 +267,15 @@ fn fresh(pair: Pair) -> State
 }
 
 /// The state of a pair: as it was, or a new one.
-fn state_of(alloc: Global, turn: &Turn, states: &[State], pair: Pair) -> Result<State, AllocError>
+fn state_of(
+    alloc: Global,
+    turn: &Turn,
+    states: &ByChart<State>,
+    pair: Pair,
+) -> Result<State, AllocError>
     ensures { IfOk result (λ state. state
         ≡ spec.state_of (map alarm_of turn.now.before.now)
-        (map alarm_of turn.now.after.now) states.now pair) }
+        (map alarm_of turn.now.after.now) states.now.items.now pair) }
 {
     match state_before(alloc, turn, states, pair)? {
         Some(state) => Ok(State {
@@ -260,12 +297,12 @@ pub fn push_state(states: &mut StateList, state: State) -> Result<(), AllocError
 fn states_of(
     alloc: Global,
     turn: &Turn,
-    states: &[State],
+    states: &ByChart<State>,
     pairs: &[Pair],
 ) -> Result<StateList, AllocError>
     ensures { IfOk result (λ made. made
         ≡ spec.states_of (map alarm_of turn.now.before.now)
-        (map alarm_of turn.now.after.now) states.now pairs.now) }
+        (map alarm_of turn.now.after.now) states.now.items.now pairs.now) }
 {
     let mut made = StateList::new(alloc);
     for pair in pairs {
@@ -275,7 +312,7 @@ fn states_of(
     Ok(made)
 }
 
-/// Tells which states go, and gives those of pairs.
+/// Tells which states go, and gives those of pairs. It compares each state with the pairs of its chart.
 pub fn pair_states(
     alloc: Global,
     told: &mut Told,
@@ -291,6 +328,8 @@ pub fn pair_states(
         (spec.removals (map alarm_of turn.now.before.now) turn.now.lost.now
         (map alarm_of turn.now.after.now) pairs.now registry.now moment states.now)) }
 {
-    tell_removals(alloc, told, turn, pairs, registry, moment, states)?;
-    states_of(alloc, turn, states, pairs)
+    let of_pairs = by_chart(alloc, pairs)?;
+    tell_removals(alloc, told, turn, &of_pairs, registry, moment, states)?;
+    let of_states = by_chart(alloc, states)?;
+    states_of(alloc, turn, &of_states, pairs)
 }

@@ -5,6 +5,7 @@ ghost use Rattle.fixed_num.specs.UnitsText.{is_dot};
 ghost use Rattle.health_config.specs.Entity.{alarm_of};
 ghost use Rattle.alarm_core.specs.Pairs as spec;
 
+use crate::by_chart::OnChart;
 use chart_registry::Registry;
 use fixed_num::ListOf;
 use health_config::Entity;
@@ -21,6 +22,14 @@ pub struct Pair {
     pub alarm: usize,
     /// The number of the chart.
     pub chart: u32,
+}
+
+impl OnChart for Pair {
+    ghost chart_of = { λ pair. pair.chart };
+
+    fn chart_number(&self) -> u32 {
+        self.chart
+    }
 }
 
 /// Alarms with the charts that they are computed for.

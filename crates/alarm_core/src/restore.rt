@@ -1,11 +1,13 @@
 //! The states of kept alarms.
-ghost use Rattle.std.specs.Prelude.{◌≡◌, ◌⊎◌, [], ◌∷◌, ◌++◌, find, map, Ok, IfOk, IfErr, IsErr, OnOk};
+ghost use Rattle.std.specs.Prelude.{◌≡◌, ◌⊎◌, [], ◌∷◌, ◌++◌, length, find, map, if◌then◌else◌, Ok, IfOk, IfErr, IsErr, OnOk};
 ghost use Rattle.std.specs.List.{list_all};
+ghost use Rattle.std.specs.Option.{is_none};
 ghost use Rattle.health_config.specs.Config.{config_read};
 ghost use Rattle.health_config.specs.ConfigOf.{configuration_of, text_of};
 ghost use Rattle.health_config.specs.Entity.{alarm_of};
 ghost use Rattle.alarm_core.specs.Kept as spec;
 
+use crate::by_chart::{ByChart, by_chart};
 use crate::fault::AlarmFault;
 use crate::pairing::push_state;
 use crate::pairs::{Pair, alarm_in};
@@ -67,8 +69,8 @@ fn is_pair_of(entities: &[Entity], kept: &KeptState, pair: Pair) -> bool
     pair.chart == kept.chart && is_named(entities, pair.alarm, kept.alarm.as_str())
 }
 
-/// The pair of a kept state.
-fn pair_of(entities: &[Entity], pairs: &[Pair], kept: &KeptState) -> Option<Pair>
+/// The pair of a kept state among these. It compares the state with each.
+fn pair_among(entities: &[Entity], pairs: &[Pair], kept: &KeptState) -> Option<Pair>
     ensures { result ≡ find (spec.is_pair_of (map alarm_of entities.now) kept.now) pairs.now }
 {
     for pair in pairs {
@@ -77,6 +79,13 @@ fn pair_of(entities: &[Entity], pairs: &[Pair], kept: &KeptState) -> Option<Pair
         }
     }
     None
+}
+
+/// The pair of a kept state, found among those of its chart.
+fn pair_of(entities: &[Entity], pairs: &ByChart<Pair>, kept: &KeptState) -> Option<Pair>
+    ensures { result ≡ spec.pair_of (map alarm_of entities.now) pairs.now.items.now kept.now }
+{
+    pair_among(entities, pairs.on(kept.chart), kept)
 }
 
 fn state_by(alarm: Holder, kept: &KeptState) -> State
@@ -97,35 +106,47 @@ fn push_name(names: &mut NameList, name: Text) -> Result<(), AllocError>
     names.push(name).map_err(|_| AllocError)
 }
 
-/// Adds a state of no pair.
-fn restore_lost(restored: &mut Restored, kept: &KeptState) -> Result<(), AllocError>
-    ensures { OnOk result (restored.new ≡ spec.lost_one restored.old kept.now) }
+/// Whose a state is: the alarm of its pair, or the next that is lost, whose name is noted.
+fn holder_of(
+    lost: &mut NameList,
+    pair: Option<Pair>,
+    kept: &KeptState,
+) -> Result<Holder, AllocError>
+    ensures holder { IfOk result (λ holder. holder ≡ spec.holder_of (length lost.old) pair) }
+    ensures lost { OnOk result (lost.new
+        ≡ lost.old ++ (if is_none pair then kept.now.alarm ∷ [] else [])) }
 {
-    let place = restored.lost.len();
-    push_name(&mut restored.lost, kept.alarm.clone()?)?;
-    push_state(&mut restored.states, state_by(Holder::Lost(place), kept))
+    let place = lost.len();
+    match pair {
+        Some(pair) => Ok(Holder::Alarm(pair.alarm)),
+        None => {
+            push_name(lost, kept.alarm.clone()?)?;
+            Ok(Holder::Lost(place))
+        }
+    }
 }
 
 /// Adds a state.
 fn restore_one(
     restored: &mut Restored,
     entities: &[Entity],
-    pairs: &[Pair],
+    pairs: &ByChart<Pair>,
     kept: &KeptState,
 ) -> Result<(), AllocError>
-    ensures { OnOk result (restored.new
-        ≡ spec.restored_one (map alarm_of entities.now) pairs.now restored.old kept.now) }
+    ensures states { OnOk result (restored.new.states ≡ restored.old.states
+        ++ spec.state_by (spec.holder_of (length restored.old.lost)
+        (spec.pair_of (map alarm_of entities.now) pairs.now.items.now kept.now)) kept.now ∷ []) }
+    ensures lost { OnOk result (restored.new.lost ≡ restored.old.lost
+        ++ map (λ kept. kept.alarm)
+        (spec.lost_among (map alarm_of entities.now) pairs.now.items.now (kept.now ∷ []))) }
 {
-    match pair_of(entities, pairs, kept) {
-        Some(pair) => {
-            let state = state_by(Holder::Alarm(pair.alarm), kept);
-            push_state(&mut restored.states, state)
-        }
-        None => restore_lost(restored, kept),
-    }
+    let pair = pair_of(entities, pairs, kept);
+    let holder = holder_of(&mut restored.lost, pair, kept)?;
+    push_state(&mut restored.states, state_by(holder, kept))
 }
 
-/// The states of kept ones: each is of the pair that is its own. It compares each with each pair.
+/// The states of kept ones: each is of the pair that is its own. It compares each with the pairs
+/// of its chart.
 pub fn restore(
     alloc: Global,
     entities: &[Entity],
@@ -139,8 +160,9 @@ pub fn restore(
         states: StateList::new(alloc),
         lost: NameList::new(alloc),
     };
+    let of_pairs = by_chart(alloc, pairs)?;
     for kept in states {
-        restore_one(&mut restored, entities, pairs, kept)?;
+        restore_one(&mut restored, entities, &of_pairs, kept)?;
     }
     Ok(restored)
 }

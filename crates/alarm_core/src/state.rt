@@ -1,4 +1,5 @@
 //! How the alarms of charts stand.
+use crate::by_chart::OnChart;
 use alarm_events::{Delay, Status};
 use fixed_num::{ListOf, Text};
 use health_expr::Value;
@@ -22,6 +23,14 @@ pub struct State {
     pub status: Status,
     /// How long its changes wait. None before the first that is told.
     pub delay: Option<Delay>,
+}
+
+impl OnChart for State {
+    ghost chart_of = { λ state. state.chart };
+
+    fn chart_number(&self) -> u32 {
+        self.chart
+    }
 }
 
 /// The states of alarms, in the order of the alarms, and of one alarm in the order of the charts.

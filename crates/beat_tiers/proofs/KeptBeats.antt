@@ -5,6 +5,7 @@ use Rattle.std.proofs.lemmas.Bool.Decides.{nat_tests}
 use Rattle.std.proofs.lemmas.List.{map-append}
 use Rattle.beat_tiers.specs.declared.item.BeatPoint.{BeatPoint}
 use Rattle.beat_tiers.specs.declared.item.Item.{Item}
+use Rattle.beat_tiers.specs.declared.item.Stepped.{Stepped}
 use Rattle.beat_tiers.specs.declared.kept.KeptBeat.{KeptBeat}
 use Rattle.beat_tiers.specs.declared.kept.KeptPoint.{KeptPoint}
 use Rattle.beat_tiers.specs.declared.tier.Tier.{Tier}
@@ -22,16 +23,16 @@ abbrev AreEarlier : ℕ → List KeptBeat → Type 0
 AreEarlier limit [] = Unit {0}
 AreEarlier limit (beat ∷ beats) = (beat.moment < limit) × AreEarlier limit beats
 
-earlier-before : (limit : ℕ) (item : Item ℕ) (beats : List KeptBeat) → item.place < limit → AreEarlier limit beats → AreEarlier limit (before_beats item beats)
+earlier-before : (limit : ℕ) (item : Item Stepped) (beats : List KeptBeat) → item.place < limit → AreEarlier limit beats → AreEarlier limit (before_beats item beats)
 earlier-before limit item [] lt e = (lt, tt)
 earlier-before limit item (beat ∷ beats) lt e = cond_both (item.place == beat.moment) _ _ (λ (bs : List KeptBeat). AreEarlier limit bs) (λ _. (e.0, e.1)) (λ _. (lt, e))
 
-earlier-in : (limit : ℕ) (items : List (Item ℕ)) → AreBelow limit items → AreEarlier limit (beats_in items)
+earlier-in : (limit : ℕ) (items : List (Item Stepped)) → AreBelow limit items → AreEarlier limit (beats_in items)
 earlier-in limit [] below = tt
 earlier-in limit (item ∷ items) below = earlier-before limit item (beats_in items) below.0 (earlier-in limit items below.1)
 
 -- an item at a later moment begins a beat
-behind-new : (beats : List KeptBeat) (item : Item ℕ) → AreEarlier item.place beats → behind_beats beats item ≡ beats ++ beat_of_item item ∷ []
+behind-new : (beats : List KeptBeat) (item : Item Stepped) → AreEarlier item.place beats → behind_beats beats item ≡ beats ++ beat_of_item item ∷ []
 behind-new [] item e = refl
 behind-new (beat ∷ []) item e = cond-false (beat.moment == item.place) _ _ (ne_eqb beat.moment item.place (λ same. omega (arith, e.0)))
 behind-new (beat ∷ next ∷ beats) item e = ap (λ rest. beat ∷ rest) (behind-new (next ∷ beats) item e.1)
@@ -41,17 +42,17 @@ behind-same : (moment : ℕ) (beats : List KeptBeat) (points : List KeptPoint) (
     → behind_all (beats ++ record { moment = moment; points = points } ∷ []) (point_items moment more) ≡ beats ++ record { moment = moment; points = points ++ map kept_point_of more } ∷ []
 behind-same moment beats points [] = ap (λ (ps : List KeptPoint). beats ++ record { moment = moment; points = ps } ∷ []) (sym (append-nil points))
 behind-same moment beats points (point ∷ more) =
-    let item : Item ℕ = record { place = moment; series = point.series; value = point.word } in
+    let item : Item Stepped = record { place = moment; series = point.series; value = record { step = point.step; word = point.word } } in
     let old : KeptBeat = record { moment = moment; points = points } in
     ap (λ (bs : List KeptBeat). behind_all bs (point_items moment more)) (behind-last beats old item ∙ ap (λ (bs : List KeptBeat). beats ++ bs) (cond-true (moment == moment) _ _ (eq-eqb moment moment refl)))
     ∙ behind-same moment beats (points ++ kept_point_of point ∷ []) more
     ∙ ap (λ (ps : List KeptPoint). beats ++ record { moment = moment; points = ps } ∷ []) (append_assoc points (kept_point_of point ∷ []) (map kept_point_of more))
 
 -- the points of a beat behind earlier ones
-run : (moment : ℕ) (items : List (Item ℕ)) (point : BeatPoint) (points : List BeatPoint) → AreBelow moment items
+run : (moment : ℕ) (items : List (Item Stepped)) (point : BeatPoint) (points : List BeatPoint) → AreBelow moment items
     → beats_in (items ++ point_items moment (point ∷ points)) ≡ beats_in items ++ kept_beat_of (beat_of (Some moment) (point ∷ points)) ∷ []
 run moment items point points below =
-    let item : Item ℕ = record { place = moment; series = point.series; value = point.word } in
+    let item : Item Stepped = record { place = moment; series = point.series; value = record { step = point.step; word = point.word } } in
     sym (behind-all-in items (point_items moment (point ∷ points)))
     ∙ ap (λ (bs : List KeptBeat). behind_all bs (point_items moment points)) (behind-new (beats_in items) item (earlier-in moment items below))
     ∙ behind-same moment (beats_in items) (kept_point_of point ∷ []) points
@@ -64,7 +65,7 @@ module _ (tier : Tier) (expired : Option ℕ) where
   abbrev kept : TierBeat → Bool
   kept beat = has_points beat && is_kept (floor_in 0 tier expired) beat
 
-  abbrev after : Group ℕ → Bool
+  abbrev after : Group Stepped → Bool
   after group = is_after expired group.moment
 
   with-points : (moment : ℕ) (point : BeatPoint) (points : List BeatPoint) → kept (beat_of (Some moment) (point ∷ points)) ≡ is_after expired moment
@@ -82,13 +83,13 @@ module _ (tier : Tier) (expired : Option ℕ) where
       by (Some moment) [] later rest = rest
       by (Some moment) (point ∷ points) later rest =
           let one : TierBeat = beat_of (Some moment) (point ∷ points) in
-          let group : Group ℕ = record { moment = moment; items = point_items moment (point ∷ points) } in
-          let groups : List (Group ℕ) = filter after (points_given beats) in
+          let group : Group Stepped = record { moment = moment; items = point_items moment (point ∷ points) } in
+          let groups : List (Group Stepped) = filter after (points_given beats) in
           let below : AreBelow moment (items_in groups) =
           placed_below moment groups (placed_to (last beats + 1) moment groups (placed_filter after (last beats + 1) (points_given beats) (points_placed beats are.1)) (omega (arith, above_last moment beats later))) in
           elim (cases_Bool (is_after expired moment)) [
             | inl is ↦
-                ap (λ (gs : List (Group ℕ)). beats_in (items_in gs)) (cond-true (is_after expired moment) (group ∷ groups) groups is)
+                ap (λ (gs : List (Group Stepped)). beats_in (items_in gs)) (cond-true (is_after expired moment) (group ∷ groups) groups is)
                 ∙ ap beats_in (items_cons group groups)
                 ∙ run moment (items_in groups) point points below
                 ∙ ap (λ (bs : List KeptBeat). bs ++ kept_beat_of one ∷ []) rest
@@ -96,7 +97,7 @@ module _ (tier : Tier) (expired : Option ℕ) where
                 ∙ ap (map kept_beat_of) (sym (reverse_cons one (filter kept beats)))
                 ∙ ap (λ (bs : List TierBeat). map kept_beat_of (reverse bs)) (sym (cond-true (kept one) (one ∷ filter kept beats) (filter kept beats) (with-points moment point points ∙ is)))
             | inr out ↦
-                ap (λ (gs : List (Group ℕ)). beats_in (items_in gs)) (cond-false (is_after expired moment) (group ∷ groups) groups out)
+                ap (λ (gs : List (Group Stepped)). beats_in (items_in gs)) (cond-false (is_after expired moment) (group ∷ groups) groups out)
                 ∙ rest
                 ∙ ap (λ (bs : List TierBeat). map kept_beat_of (reverse bs)) (sym (cond-false (kept one) (one ∷ filter kept beats) (filter kept beats) (with-points moment point points ∙ out)))
           ]

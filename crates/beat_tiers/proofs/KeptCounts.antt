@@ -5,6 +5,7 @@ use Rattle.std.proofs.lemmas.Bool.Decides.{nat_tests}
 use Rattle.std.proofs.lemmas.List.Sums.{length-filter, count_by-le-length}
 use Rattle.beat_tiers.specs.declared.item.BeatPoint.{BeatPoint}
 use Rattle.beat_tiers.specs.declared.item.Item.{Item}
+use Rattle.beat_tiers.specs.declared.item.Stepped.{Stepped}
 use Rattle.beat_tiers.specs.declared.segments.Segment.{Segment}
 use Rattle.beat_tiers.specs.declared.tier.Tier.{Tier}
 use Rattle.beat_tiers.specs.Beats.{TierBeat, last}
@@ -18,8 +19,8 @@ use Rattle.beat_tiers.proofs.KeptBeats.{after-kept}
 use Rattle.beat_tiers.proofs.SegmentLemmas.{AreLess, less_to}
 
 -- how many groups have expired
-abbrev pub gone : Option ℕ → List (Group ℕ) → ℕ
-gone expired groups = length (filter (λ (group : Group ℕ). not (is_after expired group.moment)) groups)
+abbrev pub gone : Option ℕ → List (Group Stepped) → ℕ
+gone expired groups = length (filter (λ (group : Group Stepped). not (is_after expired group.moment)) groups)
 
 less-both : (limit : ℕ) (xs ys : List ℕ) → AreLess limit xs → AreLess limit ys → AreLess limit (xs ++ ys)
 less-both limit [] ys less more = more
@@ -48,7 +49,7 @@ low-up : (expired : Option ℕ) (to moment : ℕ) → is_after expired to ≡ tr
 low-up None to moment rises out = absurd cc
 low-up (Some from) to moment rises out = le-leb moment to (omega (arith, ltb-true from to rises, ltb-false from moment out))
 
-gone-step : (a b c : Bool) (group : Group ℕ) (xs ys zs : List (Group ℕ)) → length xs ≡ length ys + length zs → c ≡ not b → (a ≡ false → b ≡ true)
+gone-step : (a b c : Bool) (group : Group Stepped) (xs ys zs : List (Group Stepped)) → length xs ≡ length ys + length zs → c ≡ not b → (a ≡ false → b ≡ true)
     → length (cond (not c) (group ∷ xs) xs) ≡ length (cond (not a) (group ∷ ys) ys) + length (cond (a && b) (group ∷ zs) zs)
 gone-step true true true group xs ys zs h e f = absurd cc
 gone-step true true false group xs ys zs h e f = omega (arith, h)
@@ -58,31 +59,31 @@ gone-step false true true group xs ys zs h e f = absurd cc
 gone-step false true false group xs ys zs h e f = omega (arith, h)
 gone-step false false c group xs ys zs h e f = absurd (let no : false ≡ true = f refl in cc)
 
-gone-more : (expired : Option ℕ) (to : ℕ) (groups : List (Group ℕ)) → is_after expired to ≡ true → gone (Some to) groups ≡ gone expired groups + length (filter (is_between_groups expired to) groups)
+gone-more : (expired : Option ℕ) (to : ℕ) (groups : List (Group Stepped)) → is_after expired to ≡ true → gone (Some to) groups ≡ gone expired groups + length (filter (is_between_groups expired to) groups)
 gone-more expired to [] rises = refl
 gone-more expired to (group ∷ groups) rises =
     gone-step (is_after expired group.moment) (leb group.moment to) (is_after (Some to) group.moment) group
-    (filter (λ (one : Group ℕ). not (is_after (Some to) one.moment)) groups) (filter (λ (one : Group ℕ). not (is_after expired one.moment)) groups) (filter (is_between_groups expired to) groups)
+    (filter (λ (one : Group Stepped). not (is_after (Some to) one.moment)) groups) (filter (λ (one : Group Stepped). not (is_after expired one.moment)) groups) (filter (is_between_groups expired to) groups)
     (gone-more expired to groups rises) (past-not to group.moment) (low-up expired to group.moment rises)
 
-gone-few : (expired : Option ℕ) (groups : List (Group ℕ)) → gone expired groups ≤ length groups
-gone-few expired groups = omega (arith, length-filter (λ (group : Group ℕ). not (is_after expired group.moment)) groups, count_by-le-length (λ (group : Group ℕ). not (is_after expired group.moment)) groups)
+gone-few : (expired : Option ℕ) (groups : List (Group Stepped)) → gone expired groups ≤ length groups
+gone-few expired groups = omega (arith, length-filter (λ (group : Group Stepped). not (is_after expired group.moment)) groups, count_by-le-length (λ (group : Group Stepped). not (is_after expired group.moment)) groups)
 
-gone-later : (expired : Option ℕ) (group : Group ℕ) (groups : List (Group ℕ)) → is_after expired group.moment ≡ true → gone expired (group ∷ groups) ≡ gone expired groups
+gone-later : (expired : Option ℕ) (group : Group Stepped) (groups : List (Group Stepped)) → is_after expired group.moment ≡ true → gone expired (group ∷ groups) ≡ gone expired groups
 gone-later expired group groups after = ap length (cond-false (not (is_after expired group.moment)) _ _ (ap not after))
 
 -- ---- a beat more
 
-module _ (tier : Tier) (segments : SegmentsOf ℕ) (group : Group ℕ) (groups : List (Group ℕ)) (sized : 1 ≤ tier.extents) (few : length groups < 2 ^ 64)
+module _ (tier : Tier) (segments : SegmentsOf Stepped) (group : Group Stepped) (groups : List (Group Stepped)) (sized : 1 ≤ tier.extents) (few : length groups < 2 ^ 64)
     (after : is_after segments.expired group.moment ≡ true) (counts : segments.before ≡ gone segments.expired groups) where
-  abbrev Counts : SegmentsOf ℕ → Type 0
+  abbrev Counts : SegmentsOf Stepped → Type 0
   Counts now = now.before ≡ gone now.expired (group ∷ groups)
 
   same-counts : segments.before ≡ gone segments.expired (group ∷ groups)
   same-counts = counts ∙ sym (gone-later segments.expired group groups after)
 
-  first-gone : (now : SegmentsOf ℕ) (unsealed : List (Item ℕ)) (beats : ℕ) (sealed : List (Segment ℕ)) (one : Segment ℕ) → now.before ≡ segments.before → now.expired ≡ segments.expired
-      → AreSplit segments.expired sealed unsealed beats groups → AreLess group.moment (map (λ (segment : Segment ℕ). segment.sealed_at) sealed)
+  first-gone : (now : SegmentsOf Stepped) (unsealed : List (Item Stepped)) (beats : ℕ) (sealed : List (Segment Stepped)) (one : Segment Stepped) → now.before ≡ segments.before → now.expired ≡ segments.expired
+      → AreSplit segments.expired sealed unsealed beats groups → AreLess group.moment (map (λ (segment : Segment Stepped). segment.sealed_at) sealed)
       → tier.extents < length (sealed ++ one ∷ []) → Counts (without_first now (sealed ++ one ∷ []))
   first-gone now unsealed beats [] one b e split less many = absurd (omega (arith, sized, many))
   first-gone now unsealed beats (first ∷ rest) one b e split less many =
@@ -94,11 +95,11 @@ module _ (tier : Tier) (segments : SegmentsOf ℕ) (group : Group ℕ) (groups :
       let sum : min (now.before + first.beats) (2 ^ 64 - 1) ≡ gone (Some first.sealed_at) groups = omega (arith, more, bound, few, b, counts) in
       sum ∙ sym later
 
-  counts-more : (items : List (Item ℕ)) → AreSplit segments.expired segments.sealed segments.unsealed segments.beats groups → AreLess group.moment (map (λ (segment : Segment ℕ). segment.sealed_at) segments.sealed)
+  counts-more : (items : List (Item Stepped)) → AreSplit segments.expired segments.sealed segments.unsealed segments.beats groups → AreLess group.moment (map (λ (segment : Segment Stepped). segment.sealed_at) segments.sealed)
       → Counts (ended tier group.moment (with_items segments items))
   counts-more items split less =
-      let whole : SegmentsOf ℕ = with_items segments items in
-      let now : SegmentsOf ℕ = sealed_at group.moment (counted whole) in
+      let whole : SegmentsOf Stepped = with_items segments items in
+      let now : SegmentsOf Stepped = sealed_at group.moment (counted whole) in
       cond_both (ltb (length whole.unsealed) tier.items) (counted whole) (expire_after tier.extents now) Counts
       (λ _. same-counts)
       (λ _. cond_both (ltb tier.extents (length now.sealed)) (without_first now now.sealed) now Counts
@@ -114,7 +115,7 @@ length-gone : (tier : Tier) (expired : Option ℕ) (beats : List TierBeat) → A
 length-gone tier expired [] are = refl
 length-gone tier expired (beat ∷ beats) are = by beat.moment beat.points are.0.timed (length-gone tier expired beats are.1)
   where
-    step : (test : Bool) (after : Bool) (group : Group ℕ) (beat : TierBeat) (ys : List TierBeat) (xs : List (Group ℕ)) → length ys ≡ length xs → test ≡ not after → length (cond test (beat ∷ ys) ys) ≡ length (cond (not after) (group ∷ xs) xs)
+    step : (test : Bool) (after : Bool) (group : Group Stepped) (beat : TierBeat) (ys : List TierBeat) (xs : List (Group Stepped)) → length ys ≡ length xs → test ≡ not after → length (cond test (beat ∷ ys) ys) ≡ length (cond (not after) (group ∷ xs) xs)
     step true true group beat ys xs h e = absurd cc
     step true false group beat ys xs h e = omega (arith, h)
     step false true group beat ys xs h e = h
@@ -127,14 +128,14 @@ length-gone tier expired (beat ∷ beats) are = by beat.moment beat.points are.0
     by (Some moment) [] timed rest = rest
     by (Some moment) (point ∷ points) timed rest =
         step (below-floor tier expired (beat_of (Some moment) (point ∷ points))) (is_after expired moment) (record { moment = moment; items = point_items moment (point ∷ points) })
-        (beat_of (Some moment) (point ∷ points)) (filter (below-floor tier expired) beats) (filter (λ (group : Group ℕ). not (is_after expired group.moment)) (points_given beats)) rest
+        (beat_of (Some moment) (point ∷ points)) (filter (below-floor tier expired) beats) (filter (λ (group : Group Stepped). not (is_after expired group.moment)) (points_given beats)) rest
         (ap (λ (b : Bool). not b && not (leb (floor_in 0 tier expired) moment)) (lt-leb (length (point ∷ points)) 0 (omega arith)) ∙ ap not (sym (after-kept tier expired moment)))
 
 pub count-gone : (tier : Tier) (expired : Option ℕ) (beats : List TierBeat) → AreBeats beats → count_by (below-floor tier expired) beats ≡ gone expired (points_given beats)
 count-gone tier expired beats are = omega (arith, length-gone tier expired beats are, length-filter (below-floor tier expired) beats)
 
 -- the count goes on with a beat
-pub before-more : (tier : Tier) (moment : Option ℕ) (points : List BeatPoint) (beats : List TierBeat) (segments : SegmentsOf ℕ) → IsTier tier → AreBeats beats → IsLater moment beats → last beats < 2 ^ 32
+pub before-more : (tier : Tier) (moment : Option ℕ) (points : List BeatPoint) (beats : List TierBeat) (segments : SegmentsOf Stepped) → IsTier tier → AreBeats beats → IsLater moment beats → last beats < 2 ^ 32
     → AreSegmentsOf tier (cuts_of 0 tier beats) (points_given beats) segments → segments.before ≡ gone segments.expired (points_given beats)
     → (at : ℕ) → moment ≡ Some at → (points_after tier at points segments).before ≡ gone (points_after tier at points segments).expired (points_given (beat_of (Some at) points ∷ beats))
 before-more tier moment [] beats segments set are later low is counts at same = counts

@@ -1,6 +1,7 @@
 -- The beats that are kept and how many came before them, with a beat more.
 use Rattle.std.proofs.Common.{◌≡◌, ℕ, ◌+◌, ◌^◌, ◌<◌, ◌&&◌, List, [], ◌∷◌, Option, Some, None, slice_get, count_by, filter, map, reverse, refl, sym, ap, ◌∙◌, arith}
 use Rattle.std.proofs.lemmas.Bool.{ltb-true}
+use Rattle.beat_tiers.specs.declared.item.Stepped.{Stepped}
 use Rattle.beat_tiers.specs.declared.item.BeatPoint.{BeatPoint}
 use Rattle.beat_tiers.specs.declared.tier.Tier.{Tier}
 use Rattle.beat_tiers.specs.Beats.{TierBeat, Follows, last}
@@ -23,7 +24,7 @@ beats_are_kept set beats state are =
     ∙ ap (λ (expired : Option ℕ). map kept_beat_of (reverse (filter (λ (beat : TierBeat). has_points beat && is_kept (floor_in 0 state.first expired) beat) beats))) are.points.expired
 
 -- the count by the floor that stands is that of the groups that have expired
-counted_by : (tier : Tier) (beats : List TierBeat) (segments : SegmentsOf ℕ) → AreBeats beats → segments.expired ≡ slice_get (cuts_of 0 tier beats).sealed tier.extents
+counted_by : (tier : Tier) (beats : List TierBeat) (segments : SegmentsOf Stepped) → AreBeats beats → segments.expired ≡ slice_get (cuts_of 0 tier beats).sealed tier.extents
     → beats_before tier beats ≡ gone segments.expired (points_given beats)
 counted_by tier beats segments are is =
     ap (λ (expired : Option ℕ). count_by (below-floor tier expired) beats) (sym is) ∙ count-gone tier segments.expired beats are

@@ -8,6 +8,7 @@ use Rattle.std.proofs.lemmas.List.Elements.{filter-append, filter_map-append}
 use Rattle.tier_rollup.specs.declared.point.Point.{Point}
 use Rattle.beat_tiers.specs.declared.item.BeatPoint.{BeatPoint}
 use Rattle.beat_tiers.specs.declared.item.Item.{Item}
+use Rattle.beat_tiers.specs.declared.item.Stepped.{Stepped}
 use Rattle.beat_tiers.specs.declared.tier.Tier.{Tier}
 use Rattle.beat_tiers.specs.Beats.{TierBeat, AreAbove, is_series, last, point_in, series_points}
 use Rattle.beat_tiers.specs.Floors.{cuts_of, floor_of}
@@ -59,12 +60,12 @@ filter_map_filter {X} {Y} h test (x ∷ xs) none =
 
 -- ---- points
 
-below_floor : (floor moment : ℕ) (points : List BeatPoint) → moment < floor → filter (λ (item : Item ℕ). nat_le floor item.place) (point_items moment points) ≡ []
+below_floor : (floor moment : ℕ) (points : List BeatPoint) → moment < floor → filter (λ (item : Item Stepped). nat_le floor item.place) (point_items moment points) ≡ []
 below_floor floor moment [] lt = refl
 below_floor floor moment (point ∷ points) lt = cond-false _ _ _ (lt-leb floor moment lt) ∙ below_floor floor moment points lt
 
 points_left : (tier : Tier) (expired : Option ℕ) (beats : List TierBeat)
-    → AreLeft (λ (group : Group ℕ). is_after expired group.moment) (λ (item : Item ℕ). nat_le (floor_in 0 tier expired) item.place) (points_given beats)
+    → AreLeft (λ (group : Group Stepped). is_after expired group.moment) (λ (item : Item Stepped). nat_le (floor_in 0 tier expired) item.place) (points_given beats)
 points_left tier expired [] = tt
 points_left tier expired (beat ∷ beats) = by beat.moment beat.points (points_left tier expired beats)
   where
@@ -73,14 +74,14 @@ points_left tier expired (beat ∷ beats) = by beat.moment beat.points (points_l
     below (Some from) moment e = omega (arith, ltb-false from moment e)
 
     more : (moment : ℕ) (points : List BeatPoint)
-        → AreLeft (λ (group : Group ℕ). is_after expired group.moment) (λ (item : Item ℕ). nat_le (floor_in 0 tier expired) item.place) (points_given beats)
-        → AreLeft (λ (group : Group ℕ). is_after expired group.moment) (λ (item : Item ℕ). nat_le (floor_in 0 tier expired) item.place) (with_group moment (point_items moment points) (points_given beats))
+        → AreLeft (λ (group : Group Stepped). is_after expired group.moment) (λ (item : Item Stepped). nat_le (floor_in 0 tier expired) item.place) (points_given beats)
+        → AreLeft (λ (group : Group Stepped). is_after expired group.moment) (λ (item : Item Stepped). nat_le (floor_in 0 tier expired) item.place) (with_group moment (point_items moment points) (points_given beats))
     more moment [] rest = rest
     more moment (point ∷ points) rest = ((λ no. below_floor (floor_in 0 tier expired) moment (point ∷ points) (below expired moment no)), rest)
 
     by : (moment : Option ℕ) (points : List BeatPoint)
-        → AreLeft (λ (group : Group ℕ). is_after expired group.moment) (λ (item : Item ℕ). nat_le (floor_in 0 tier expired) item.place) (points_given beats)
-        → AreLeft (λ (group : Group ℕ). is_after expired group.moment) (λ (item : Item ℕ). nat_le (floor_in 0 tier expired) item.place) (points_given (beat_of moment points ∷ beats))
+        → AreLeft (λ (group : Group Stepped). is_after expired group.moment) (λ (item : Item Stepped). nat_le (floor_in 0 tier expired) item.place) (points_given beats)
+        → AreLeft (λ (group : Group Stepped). is_after expired group.moment) (λ (item : Item Stepped). nat_le (floor_in 0 tier expired) item.place) (points_given (beat_of moment points ∷ beats))
     by None points rest = rest
     by (Some moment) points rest = more moment points rest
 
@@ -115,7 +116,7 @@ module _ (floor series from to : ℕ) where
       elim (cases_Bool (point.series == series)) [
         | inl is ↦
             let same : point.series ≡ series = eqb-true point.series series is in
-            ap (λ (xs : List Point). cons_option (point_at floor series from to (record { place = moment; series = point.series; value = point.word })) xs) (none_later moment (point.series + 1) points above.2 (omega arith))
+            ap (λ (xs : List Point). cons_option (point_at floor series from to (record { place = moment; series = point.series; value = record { step = point.step; word = point.word } })) xs) (none_later moment (point.series + 1) points above.2 (omega arith))
             ∙ passed (point.series == series) (nat_le floor moment) (nat_le from moment) (nat_le moment to) one is
             ∙ ap made (sym (cond-true (point.series == series) (Some point) (find (is_series series) points) is))
         | inr not ↦
@@ -145,8 +146,8 @@ module _ (floor series from to : ℕ) where
           ∙ ap (λ (xs : List Point). filter (is_between floor from to) (reverse (series_points beats series)) ++ xs) (of_beat moment 0 points above)
           ∙ sym (reversed (is_between floor from to) (point_in series (beat_of (Some moment) points)) (series_points beats series))
 
-  low_none : (item : Item ℕ) → nat_le floor item.place ≡ false → point_at floor series from to item ≡ None
-  low_none item low = by (item.series == series) (nat_le floor item.place) (nat_le from item.place) (nat_le item.place to) (record { moment = item.place; word = item.value }) low
+  low_none : (item : Item Stepped) → nat_le floor item.place ≡ false → point_at floor series from to item ≡ None
+  low_none item low = by (item.series == series) (nat_le floor item.place) (nat_le from item.place) (nat_le item.place to) (record { moment = item.place; word = item.value.word }) low
     where
       by : (t a b c : Bool) (point : Point) → a ≡ false → cond (t && a && b && c) (Some point) None ≡ None
       by true false b c point e = refl
@@ -154,18 +155,18 @@ module _ (floor series from to : ℕ) where
       by t true b c point e = absurd (cc)
 
 -- The points that are kept, at or above the floor.
-pub points_kept : (tier : Tier) (beats : List TierBeat) (segments : SegmentsOf ℕ) → AreBeats beats → AreSegmentsOf tier (cuts_of 0 tier beats) (points_given beats) segments
+pub points_kept : (tier : Tier) (beats : List TierBeat) (segments : SegmentsOf Stepped) → AreBeats beats → AreSegmentsOf tier (cuts_of 0 tier beats) (points_given beats) segments
     → (series from to : ℕ)
     → filter_map (point_at (floor_in 0 tier segments.expired) series from to) (items_of segments) ≡ filter (is_between (floor_of 0 tier beats) from to) (reverse (series_points beats series))
 points_kept tier beats segments beats_are are series from to =
     let floor : ℕ = floor_in 0 tier segments.expired in
-    let h : Item ℕ → Option Point = point_at (floor_in 0 tier segments.expired) series from to in
-    let test : Item ℕ → Bool = λ item. nat_le (floor_in 0 tier segments.expired) item.place in
-    let kept : List (Group ℕ) = filter (λ (group : Group ℕ). is_after segments.expired group.moment) (points_given beats) in
-    let low : (item : Item ℕ) → test item ≡ false → h item ≡ None = low_none (floor_in 0 tier segments.expired) series from to in
+    let h : Item Stepped → Option Point = point_at (floor_in 0 tier segments.expired) series from to in
+    let test : Item Stepped → Bool = λ item. nat_le (floor_in 0 tier segments.expired) item.place in
+    let kept : List (Group Stepped) = filter (λ (group : Group Stepped). is_after segments.expired group.moment) (points_given beats) in
+    let low : (item : Item Stepped) → test item ≡ false → h item ≡ None = low_none (floor_in 0 tier segments.expired) series from to in
     ap (filter_map h) (split_items (last beats + 1) segments.expired segments.sealed segments.unsealed segments.beats (points_given beats) (points_fall beats beats_are) are.split)
     ∙ filter_map_filter h test (items_in kept) low
-    ∙ ap (filter_map h) (left_filter (λ (group : Group ℕ). is_after segments.expired group.moment) test (points_given beats) (points_left tier segments.expired beats))
+    ∙ ap (filter_map h) (left_filter (λ (group : Group Stepped). is_after segments.expired group.moment) test (points_given beats) (points_left tier segments.expired beats))
     ∙ sym (filter_map_filter h test (items_in (points_given beats)) low)
     ∙ points_all (floor_in 0 tier segments.expired) series from to beats beats_are
     ∙ ap (λ (n : ℕ). filter (is_between n from to) (reverse (series_points beats series))) (ap (λ (o : Option ℕ). floor_in 0 tier o) are.expired)

@@ -1,3 +1,4 @@
+pub mod AboveLemmas
 pub mod BeatRuns
 pub mod BucketLemmas
 pub mod EntryLemmas

@@ -38,6 +38,14 @@ cuts_fall number tier (beat ∷ beats) are = by beat.moment are.0.later (items_a
         (λ e. falls_to (last beats + 1) (moment + 1) (cuts_of number tier beats).sealed rest (omega (arith, above)))
         (λ e. (omega arith, falls_to (last beats + 1) moment (cuts_of number tier beats).sealed rest (omega (arith, above))))
 
+falls_few : (limit : ℕ) (moments : List ℕ) → Falls limit moments → length moments ≤ limit
+falls_few limit [] falls = omega arith
+falls_few limit (moment ∷ moments) falls = omega (arith, falls.0, falls_few moment moments falls.1)
+
+-- not more segments are sealed than moments passed
+pub cuts_few : (number : ℕ) (tier : Tier) (beats : List TierBeat) → AreBeats beats → length (cuts_of number tier beats).sealed ≤ last beats + 1
+cuts_few number tier beats are = falls_few (last beats + 1) (cuts_of number tier beats).sealed (cuts_fall number tier beats are)
+
 shifted : (f : ℕ → ℕ) → ((a b : ℕ) → a ≤ b → f a ≤ f b) → (moments : List ℕ) (place moment : ℕ) → Falls moment moments
     → option_map_or f (slice_get moments place) 0 ≤ option_map_or f (slice_get (moment ∷ moments) place) 0
 shifted f rises [] zero moment less = omega arith

@@ -10,6 +10,7 @@ use Rattle.std.proofs.lemmas.List.Elements.{filter_map-append}
 use Rattle.std.specs.Option.{option_map}
 use Rattle.fixed_num.specs.declared.units.Record.{Record}
 use Rattle.beat_tiers.specs.declared.item.Item.{Item}
+use Rattle.beat_tiers.specs.declared.item.Stepped.{Stepped}
 use Rattle.beat_tiers.specs.declared.segments.Segment.{Segment}
 use Rattle.beat_tiers.specs.Searching.{is_before}
 use Rattle.beat_tiers.specs.Segments.{SegmentsOf, items_of}
@@ -115,7 +116,7 @@ test-early true true false d y e = refl
 test-early true true true d y (inl e) = absurd cc
 test-early true true true d y (inr e) = absurd cc
 
-pub point-past : (floor series from to : ℕ) (item : Item ℕ) → leb item.place to ≡ false → point_at floor series from to item ≡ None
+pub point-past : (floor series from to : ℕ) (item : Item Stepped) → leb item.place to ≡ false → point_at floor series from to item ≡ None
 point-past floor series from to item past = test-past (item.series == series) (leb floor item.place) (leb from item.place) (leb item.place to) _ past
 
 one-fails : (floor from place : ℕ) → leb (max floor from) place ≡ false → (leb floor place ≡ false) ⊎ (leb from place ≡ false)
@@ -128,14 +129,14 @@ one-fails floor from place fails =
       ]
     ]
 
-pub point-early : (floor series from to : ℕ) (item : Item ℕ) → leb (max floor from) item.place ≡ false → point_at floor series from to item ≡ None
+pub point-early : (floor series from to : ℕ) (item : Item Stepped) → leb (max floor from) item.place ≡ false → point_at floor series from to item ≡ None
 point-early floor series from to item early = test-early (item.series == series) (leb floor item.place) (leb from item.place) (leb item.place to) _ (one-fails floor from item.place early)
 
 -- what lies between two places has all points between the moments
-pub points-between : (floor series from to : ℕ) (items : List (Item ℕ)) → filter_map (point_at floor series from to) (filter (λ (item : Item ℕ). leb item.place to) (filter (λ (item : Item ℕ). leb (max floor from) item.place) items)) ≡ filter_map (point_at floor series from to) items
+pub points-between : (floor series from to : ℕ) (items : List (Item Stepped)) → filter_map (point_at floor series from to) (filter (λ (item : Item Stepped). leb item.place to) (filter (λ (item : Item Stepped). leb (max floor from) item.place) items)) ≡ filter_map (point_at floor series from to) items
 points-between floor series from to items =
-    filter_map-filter (λ (item : Item ℕ). leb item.place to) (point_at floor series from to) (λ item past. point-past floor series from to item past) (filter (λ (item : Item ℕ). leb (max floor from) item.place) items)
-    ∙ filter_map-filter (λ (item : Item ℕ). leb (max floor from) item.place) (point_at floor series from to) (λ item early. point-early floor series from to item early) items
+    filter_map-filter (λ (item : Item Stepped). leb item.place to) (point_at floor series from to) (λ item past. point-past floor series from to item past) (filter (λ (item : Item Stepped). leb (max floor from) item.place) items)
+    ∙ filter_map-filter (λ (item : Item Stepped). leb (max floor from) item.place) (point_at floor series from to) (λ item early. point-early floor series from to item early) items
 
 -- what a list gives goes behind what a part of it gave
 pub filter_map-more : {X Y : Type 0} (h : X → Option Y) (old mid new : List Y) (xs ys : List X) → mid ≡ old ++ filter_map h xs → new ≡ mid ++ filter_map h ys → new ≡ old ++ filter_map h (xs ++ ys)

@@ -1,6 +1,6 @@
 -- What is kept of the items of a tier stays what its cuts and groups say, where a later beat adds items.
-use Rattle.std.proofs.Common.{◌≡◌, ℕ, zero, suc, ◌+◌, ◌-◌, ◌^◌, ◌<◌, ◌≤◌, min, true, List, [], ◌∷◌, ◌++◌, length, filter, map, reverse, take, inl, inr, Option, Some, None, slice_get, arith, refl, sym, ap, subst, ◌∙◌}
-use Rattle.std.proofs.lemmas.Bool.{cases_lt, cond-true, cond-false, and_right, lt-leb, lt-ltb, le-ltb}
+use Rattle.std.proofs.Common.{◌≡◌, ℕ, zero, suc, ◌+◌, ◌-◌, ◌^◌, ◌<◌, ◌≤◌, min, true, nat_lt, List, [], ◌∷◌, ◌++◌, length, filter, map, reverse, take, inl, inr, Option, Some, None, slice_get, arith, refl, sym, ap, subst, ◌∙◌}
+use Rattle.std.proofs.lemmas.Bool.{cases_lt, cond-true, cond-false, cond_both, and_right, lt-leb, lt-ltb, le-ltb}
 use Rattle.std.proofs.lemmas.List.{length-append, length-map, length-reverse, map-append}
 use Rattle.std.proofs.lemmas.List.Sums.{length-filter, count_by-le-length}
 use Rattle.beat_tiers.specs.declared.item.Item.{Item}
@@ -172,6 +172,15 @@ kept_after {T} (suc e) cut moment groups segments some was none are split =
       | inr ge ↦ subst (AreKept (suc e) (moment ∷ cut) groups) (sym (cond-false _ _ _ (le-ltb (suc e) (length segments.sealed) (omega arith)))) (kept_all e cut moment groups segments ge was none are split)
     ]
 
+-- how many were sealed stays where one expires
+count_expired : {T : Type 0} (extents : ℕ) (segments : SegmentsOf T) → (expire_after extents segments).count ≡ segments.count
+count_expired {T} extents segments =
+    cond_both (nat_lt extents (length segments.sealed)) (without_first segments segments.sealed) segments (λ (s : SegmentsOf T). s.count ≡ segments.count) (λ _. first segments.sealed) (λ _. refl)
+  where
+    first : (all : List (Segment T)) → (without_first segments all).count ≡ segments.count
+    first [] = refl
+    first (one ∷ rest) = refl
+
 -- ---- a beat more
 
 -- what becomes of the segments with the items of a beat, where it has some
@@ -180,10 +189,10 @@ given tier moment [] segments = segments
 given tier moment (item ∷ items) segments = ended tier moment (and_items segments (item ∷ items))
 
 ended_more : {T : Type 0} (tier : Tier) (cuts : Cuts) (group : Group T) (groups : List (Group T)) (segments : SegmentsOf T)
-    → 1 ≤ tier.extents → AreFalling group.moment groups → AreLess group.moment cuts.sealed → group.moment < 2 ^ 32
+    → 1 ≤ tier.extents → AreFalling group.moment groups → AreLess group.moment cuts.sealed → length cuts.sealed ≤ group.moment → group.moment < 2 ^ 32
     → AreSegmentsOf tier cuts groups segments
     → AreSegmentsOf tier (cut_after tier (Some group.moment) (length group.items) cuts) (group ∷ groups) (ended tier group.moment (and_items segments group.items))
-ended_more {T} tier cuts group groups segments some falls less short are =
+ended_more {T} tier cuts group groups segments some falls less room short are =
     let size : length (segments.unsealed ++ group.items) ≡ cuts.since + length group.items = length-append segments.unsealed group.items ∙ ap (λ n. n + length group.items) are.since in
     let before : is_after segments.expired group.moment ≡ true = subst (λ o. is_after o group.moment ≡ true) (sym are.expired) (less-get group.moment tier.extents cuts.sealed less) in
     let below : AreLess group.moment (ends segments.sealed) =
@@ -193,13 +202,14 @@ ended_more {T} tier cuts group groups segments some falls less short are =
     split_more segments.expired segments.sealed segments.unsealed segments.beats groups group before below (omega arith) are.split in
     let together : SegmentsOf T = counted (and_items segments group.items) in
     let now : SegmentsOf T = sealed_at group.moment together in
+    let more : min (segments.count + 1) (2 ^ 64 - 1) ≡ length (group.moment ∷ cuts.sealed) = omega (arith, are.count, room, short) in
     let P : Cuts → SegmentsOf T → Type 0 = λ cuts segments. AreSegmentsOf tier cuts (group ∷ groups) segments in
     elim (cases_lt (cuts.since + length group.items) tier.items) [
       | inl lt ↦
           subst (λ (c : Cuts). P c (ended tier group.moment (and_items segments group.items))) (sym (cond-true _ _ _ (lt-ltb (cuts.since + length group.items) tier.items lt)))
           (subst (λ (s : SegmentsOf T). P (record cuts { since = cuts.since + length group.items }) s)
           (sym (cond-true _ _ _ (lt-ltb (length (segments.unsealed ++ group.items)) tier.items (omega arith))))
-          (record { expired = are.expired; sealed = are.sealed; since = size; split = split }))
+          (record { expired = are.expired; sealed = are.sealed; count = are.count; since = size; split = split }))
       | inr ge ↦
           let kept : AreKept tier.extents (group.moment ∷ cuts.sealed) (group ∷ groups) (expire_after tier.extents now) =
           kept_after tier.extents cuts.sealed group.moment (group ∷ groups) now some are.expired refl
@@ -208,17 +218,17 @@ ended_more {T} tier cuts group groups segments some falls less short are =
           subst (λ (c : Cuts). P c (ended tier group.moment (and_items segments group.items))) (sym (cond-false _ _ _ (le-ltb (cuts.since + length group.items) tier.items ge)))
           (subst (λ (s : SegmentsOf T). P (record { sealed = group.moment ∷ cuts.sealed; since = 0 }) s)
           (sym (cond-false _ _ _ (le-ltb (length (segments.unsealed ++ group.items)) tier.items (omega arith))))
-          (record { expired = kept.expired; sealed = kept.sealed; since = ap length kept.none; split = kept.split }))
+          (record { expired = kept.expired; sealed = kept.sealed; count = count_expired tier.extents now ∙ more; since = ap length kept.none; split = kept.split }))
     ]
 
 -- The segments of a tier with the items of a beat behind all before.
 pub given_more : {T : Type 0} (tier : Tier) (cuts : Cuts) (moment : ℕ) (items : List (Item T)) (groups : List (Group T)) (segments : SegmentsOf T)
-    → 1 ≤ tier.extents → cuts.since < tier.items → AreFalling moment groups → AreLess moment cuts.sealed → moment < 2 ^ 32
+    → 1 ≤ tier.extents → cuts.since < tier.items → AreFalling moment groups → AreLess moment cuts.sealed → length cuts.sealed ≤ moment → moment < 2 ^ 32
     → AreSegmentsOf tier cuts groups segments
     → AreSegmentsOf tier (cut_after tier (Some moment) (length items) cuts) (with_group moment items groups) (given tier moment items segments)
-given_more {T} tier cuts moment [] groups segments some few falls less short are =
+given_more {T} tier cuts moment [] groups segments some few falls less room short are =
     let same : cuts.since + 0 ≡ cuts.since = omega arith in
     let none : cut_after tier (Some moment) 0 cuts ≡ cuts = cond-true _ _ _ (lt-ltb (cuts.since + 0) tier.items (omega arith)) ∙ ap (λ n. record cuts { since = n }) same in
     subst (λ (c : Cuts). AreSegmentsOf tier c groups segments) (sym none) are
-given_more tier cuts moment (item ∷ items) groups segments some few falls less short are =
-    ended_more tier cuts (record { moment = moment; items = item ∷ items }) groups segments some falls less short are
+given_more tier cuts moment (item ∷ items) groups segments some few falls less room short are =
+    ended_more tier cuts (record { moment = moment; items = item ∷ items }) groups segments some falls less room short are

@@ -6,6 +6,7 @@ use Rattle.std.specs.Ordering.{is_lt, nat_cmp}
 use Rattle.std.proofs.lemmas.Bool.Decides.{nat_tests}
 use Rattle.fixed_num.specs.declared.units.Record.{Record}
 use Rattle.beat_tiers.specs.declared.item.Item.{Item}
+use Rattle.beat_tiers.specs.declared.item.Stepped.{Stepped}
 use Rattle.beat_tiers.specs.Searching.{is_next, is_of}
 use Rattle.beat_tiers.specs.State.{point_at}
 use Rattle.beat_tiers.specs.Tiers.{AreOrdered}
@@ -99,10 +100,10 @@ module _ {T : Type 0} where
 
 -- ---- what is asked of a series reads its items alone
 
-not_of : (floor series from to : ℕ) (item : Item ℕ) → is_of series item ≡ false → point_at floor series from to item ≡ None
-not_of floor series from to item other = ap (λ b. cond (((b && leb floor item.place) && leb from item.place) && leb item.place to) (Some (record { moment = item.place; word = item.value })) None) other
+not_of : (floor series from to : ℕ) (item : Item Stepped) → is_of series item ≡ false → point_at floor series from to item ≡ None
+not_of floor series from to item other = ap (λ b. cond (((b && leb floor item.place) && leb from item.place) && leb item.place to) (Some (record { moment = item.place; word = item.value.word })) None) other
 
-pub points_same : (floor series from to : ℕ) (run items : List (Item ℕ)) → filter (is_of series) run ≡ filter (is_of series) items
+pub points_same : (floor series from to : ℕ) (run items : List (Item Stepped)) → filter (is_of series) run ≡ filter (is_of series) items
     → filter_map (point_at floor series from to) run ≡ filter_map (point_at floor series from to) items
 points_same floor series from to run items same =
     sym (filter_map-filter (is_of series) (point_at floor series from to) (not_of floor series from to) run) ∙ ap (filter_map (point_at floor series from to)) same

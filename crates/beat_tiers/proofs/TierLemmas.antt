@@ -10,6 +10,7 @@ use Rattle.fixed_num.specs.declared.units.Record.{Record}
 use Rattle.tier_rollup.proofs.BucketLemmas.{ends_after}
 use Rattle.beat_tiers.specs.declared.item.BeatPoint.{BeatPoint}
 use Rattle.beat_tiers.specs.declared.item.Item.{Item}
+use Rattle.beat_tiers.specs.declared.item.Stepped.{Stepped}
 use Rattle.beat_tiers.specs.declared.tier.Tier.{Tier}
 use Rattle.beat_tiers.specs.Beats.{TierBeat, Follows, last, record_of, records_in, series_limit}
 use Rattle.beat_tiers.specs.Floors.{closing, cut_after, cuts_of, items_added}
@@ -20,6 +21,7 @@ use Rattle.beat_tiers.proofs.BucketLemmas.{open_more, open_none}
 use Rattle.beat_tiers.proofs.EntryLemmas.{entries_none}
 use Rattle.beat_tiers.proofs.GivenLemmas.{beat_of, above_last, bucket_rises, cuts_less, points_fall, records_fall, since_few}
 use Rattle.beat_tiers.proofs.GroupLemmas.{falling_to}
+use Rattle.beat_tiers.proofs.MoreLaws.{cuts_few}
 use Rattle.beat_tiers.proofs.SegmentLemmas.{given, given_more, less_to}
 
 pub tier_at : (beats : List TierBeat) (number place : ℕ) (states : List RecordTierState) (one : RecordTierState) → AreRecordTiersOf beats number states → slice_get states place ≡ Some one
@@ -82,7 +84,8 @@ module _ (beats : List TierBeat) (number moment : ℕ) (points : List BeatPoint)
       let more = given_more tier (cuts_of number tier beats) moment (closing_items tier.width beats moment) (records_given tier.width beats) segments
       settings.extents (since_few number tier beats settings.items)
       (falling_to (last beats + 1) moment (records_given tier.width beats) (records_fall tier.width beats beats_are) low)
-      (less_to (last beats + 1) moment (cuts_of number tier beats).sealed (cuts_less number tier beats beats_are) low) short are in
+      (less_to (last beats + 1) moment (cuts_of number tier beats).sealed (cuts_less number tier beats beats_are) low)
+      (omega (arith, cuts_few number tier beats beats_are, low)) short are in
       subst (λ (items : List (Item Record)). AreSegmentsOf tier (cuts_of number tier (beat_of (Some moment) points ∷ beats)) (records_given tier.width (beat_of (Some moment) points ∷ beats)) (given tier moment items segments)) is
       (subst (λ n. AreSegmentsOf tier (cut_after tier (Some moment) n (cuts_of number tier beats)) (records_given tier.width (beat_of (Some moment) points ∷ beats)) (given tier moment (closing_items tier.width beats moment) segments))
       (sym (count_is number tier moment points beats some)) more)
@@ -145,11 +148,11 @@ set_kept last moment points (state ∷ states) =
 
 -- ---- tier 0
 
-after_given : (tier : Tier) (moment : ℕ) (points : List BeatPoint) (segments : SegmentsOf ℕ) → points_after tier moment points segments ≡ given tier moment (point_items moment points) segments
+after_given : (tier : Tier) (moment : ℕ) (points : List BeatPoint) (segments : SegmentsOf Stepped) → points_after tier moment points segments ≡ given tier moment (point_items moment points) segments
 after_given tier moment [] segments = refl
 after_given tier moment (point ∷ points) segments = refl
 
-points_more : (beats : List TierBeat) (tier : Tier) (moment : ℕ) (points : List BeatPoint) (segments : SegmentsOf ℕ) → IsTier tier → AreBeats beats → Follows (beat_of (Some moment) points) beats
+points_more : (beats : List TierBeat) (tier : Tier) (moment : ℕ) (points : List BeatPoint) (segments : SegmentsOf Stepped) → IsTier tier → AreBeats beats → Follows (beat_of (Some moment) points) beats
     → AreSegmentsOf tier (cuts_of 0 tier beats) (points_given beats) segments
     → AreSegmentsOf tier (cuts_of 0 tier (beat_of (Some moment) points ∷ beats)) (points_given (beat_of (Some moment) points ∷ beats)) (points_after tier moment points segments)
 points_more beats tier moment points segments settings beats_are follows are =
@@ -157,10 +160,11 @@ points_more beats tier moment points segments settings beats_are follows are =
     let more = given_more tier (cuts_of 0 tier beats) moment (point_items moment points) (points_given beats) segments
     settings.extents (since_few 0 tier beats settings.items)
     (falling_to (last beats + 1) moment (points_given beats) (points_fall beats beats_are) low)
-    (less_to (last beats + 1) moment (cuts_of 0 tier beats).sealed (cuts_less 0 tier beats beats_are) low) (ltb-true moment (2 ^ 32) follows.short) are in
-    subst (λ (s : SegmentsOf ℕ). AreSegmentsOf tier (cuts_of 0 tier (beat_of (Some moment) points ∷ beats)) (points_given (beat_of (Some moment) points ∷ beats)) s) (sym (after_given tier moment points segments))
+    (less_to (last beats + 1) moment (cuts_of 0 tier beats).sealed (cuts_less 0 tier beats beats_are) low)
+    (omega (arith, cuts_few 0 tier beats beats_are, low)) (ltb-true moment (2 ^ 32) follows.short) are in
+    subst (λ (s : SegmentsOf Stepped). AreSegmentsOf tier (cuts_of 0 tier (beat_of (Some moment) points ∷ beats)) (points_given (beat_of (Some moment) points ∷ beats)) s) (sym (after_given tier moment points segments))
     (subst (λ n. AreSegmentsOf tier (cut_after tier (Some moment) n (cuts_of 0 tier beats)) (points_given (beat_of (Some moment) points ∷ beats)) (given tier moment (point_items moment points) segments))
-    (length-map points (λ (point : BeatPoint). record { place = moment; series = point.series; value = point.word })) more)
+    (length-map points (λ (point : BeatPoint). record { place = moment; series = point.series; value = record { step = point.step; word = point.word } })) more)
 
 -- ---- all tiers
 
@@ -171,7 +175,7 @@ none_records number (tier ∷ others) each = (
   record {
     settings = each.0;
     current = sym (entries_none (record_of tier.width (0 / tier.width) []) 0 series_limit (λ series. refl));
-    segments = record { expired = refl; sealed = ap reverse (sym (take-nil tier.extents)); since = refl; split = (refl, refl) };
+    segments = record { expired = refl; sealed = ap reverse (sym (take-nil tier.extents)); count = refl; since = refl; split = (refl, refl) };
   },
   none_records (number + 1) others each.1,
 )
@@ -186,7 +190,7 @@ tiers_none first others settings each = record {
   settings = settings;
   beats_are = tt;
   last_is = refl;
-  points = record { expired = refl; sealed = ap reverse (sym (take-nil first.extents)); since = refl; split = (refl, refl) };
+  points = record { expired = refl; sealed = ap reverse (sym (take-nil first.extents)); count = refl; since = refl; split = (refl, refl) };
   records = none_records 1 others each;
 }
 

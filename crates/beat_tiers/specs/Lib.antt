@@ -1,3 +1,4 @@
+pub mod Above
 pub mod Beats
 pub mod Floors
 pub mod Kept

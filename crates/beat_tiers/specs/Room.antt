@@ -4,6 +4,7 @@ use Rattle.std.specs.List.{AllByRecursion, filter_map, list_any}
 use Rattle.std.specs.Map.{keys_of}
 use Rattle.std.specs.Option.{option_map}
 use Rattle.fixed_num.specs.declared.units.Record.{Record}
+use Rattle.beat_tiers.specs.declared.item.Stepped.{Stepped}
 use Rattle.beat_tiers.specs.declared.item.BeatPoint.{BeatPoint}
 use Rattle.beat_tiers.specs.declared.tier.Tier.{Tier}
 use Rattle.beat_tiers.specs.Segments.{SegmentsOf}
@@ -58,7 +59,7 @@ HasRoomAfter last moment points held =
 pub record TiersHeld : Type 0 where
   pub last : ℕ
   pub first : Tier
-  pub points : SegmentsHeld ℕ
+  pub points : SegmentsHeld Stepped
   pub records : List RecordTierHeld
 
 abbrev pub tiers_held : TiersHeld → TiersState

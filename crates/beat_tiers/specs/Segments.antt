@@ -9,6 +9,8 @@ pub record SegmentsOf (T : Type 0) : Type 0 where
   pub expired : Option ℕ
   -- how many beats gave items that have expired: the count stands still at 2^64 - 1
   pub before : ℕ
+  -- how many segments were ever sealed: the count stands still there too
+  pub count : ℕ
   -- the segments that are sealed and kept, the earliest first
   pub sealed : List (Segment T)
   -- how many beats gave the items since the last cut, and those items
@@ -17,7 +19,7 @@ pub record SegmentsOf (T : Type 0) : Type 0 where
 
 module _ {T : Type 0} where
   abbrev pub no_segments : SegmentsOf T
-  no_segments = record { expired = None; before = 0; sealed = []; beats = 0; unsealed = [] }
+  no_segments = record { expired = None; before = 0; count = 0; sealed = []; beats = 0; unsealed = [] }
 
   abbrev pub with_item : SegmentsOf T → Item T → SegmentsOf T
   with_item segments item = record segments { unsealed = segments.unsealed ++ item ∷ [] }
@@ -41,6 +43,7 @@ module _ {T : Type 0} where
   -- the items since the last cut are cut off by a beat of this moment
   abbrev pub sealed_at : ℕ → SegmentsOf T → SegmentsOf T
   sealed_at moment segments = record segments {
+    count = min (segments.count + 1) (2 ^ 64 - 1);
     sealed = segments.sealed ++ record { sealed_at = moment; beats = segments.beats; items = segments.unsealed } ∷ [];
     beats = 0;
     unsealed = [];

@@ -12,6 +12,7 @@ use Rattle.tier_rollup.specs.declared.point.Point.{Point}
 use Rattle.tier_rollup.specs.Growing.{with_value}
 use Rattle.beat_tiers.specs.declared.item.BeatPoint.{BeatPoint}
 use Rattle.beat_tiers.specs.declared.item.Item.{Item}
+use Rattle.beat_tiers.specs.declared.item.Stepped.{Stepped}
 use Rattle.beat_tiers.specs.declared.tier.Tier.{Tier}
 use Rattle.beat_tiers.specs.Floors.{floor_after}
 use Rattle.beat_tiers.specs.Segments.{SegmentsOf, ended, items_of, no_segments, with_items}
@@ -61,17 +62,17 @@ pub record TiersState : Type 0 where
   pub last : ℕ
   -- the settings of tier 0, and its points
   pub first : Tier
-  pub points : SegmentsOf ℕ
+  pub points : SegmentsOf Stepped
   -- the other tiers
   pub records : List RecordTierState
 
 abbrev pub no_beats : Tier → List Tier → TiersState
 no_beats first others = record { last = 0; first = first; points = no_segments; records = map no_records others }
 
-abbrev pub point_items : ℕ → List BeatPoint → List (Item ℕ)
-point_items moment points = map (λ (point : BeatPoint). record { place = moment; series = point.series; value = point.word }) points
+abbrev pub point_items : ℕ → List BeatPoint → List (Item Stepped)
+point_items moment points = map (λ (point : BeatPoint). record { place = moment; series = point.series; value = record { step = point.step; word = point.word } }) points
 
-abbrev pub points_after : Tier → ℕ → List BeatPoint → SegmentsOf ℕ → SegmentsOf ℕ
+abbrev pub points_after : Tier → ℕ → List BeatPoint → SegmentsOf Stepped → SegmentsOf Stepped
 points_after tier moment [] segments = segments
 points_after tier moment (point ∷ points) segments = ended tier moment (with_items segments (point_items moment (point ∷ points)))
 
@@ -96,10 +97,10 @@ tier_floor state zero = min (floor_in 0 state.first state.points.expired) (2 ^ 3
 tier_floor state (suc place) = option_map_or (λ (one : RecordTierState). floor_in (place + 1) one.tier one.segments.expired) (slice_get state.records place) 0
 
 -- the point that an item is, where it is of this series and between these moments
-abbrev pub point_at : ℕ → ℕ → ℕ → ℕ → Item ℕ → Option Point
+abbrev pub point_at : ℕ → ℕ → ℕ → ℕ → Item Stepped → Option Point
 point_at floor series from to item =
     if item.series == series && nat_le floor item.place && nat_le from item.place && nat_le item.place to
-    then Some (record { moment = item.place; word = item.value }) else None
+    then Some (record { moment = item.place; word = item.value.word }) else None
 
 abbrev pub points_in : TiersState → ℕ → ℕ → ℕ → List Point
 points_in state series from to =

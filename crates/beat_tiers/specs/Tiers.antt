@@ -4,6 +4,7 @@ use Rattle.std.specs.Option.{option_map_or}
 use Rattle.fixed_num.specs.declared.units.Record.{Record}
 use Rattle.tier_rollup.specs.declared.point.Point.{Point}
 use Rattle.beat_tiers.specs.declared.item.Item.{Item}
+use Rattle.beat_tiers.specs.declared.item.Stepped.{Stepped}
 use Rattle.beat_tiers.specs.declared.segments.Segment.{Segment}
 use Rattle.beat_tiers.specs.declared.tier.Tier.{Tier}
 use Rattle.beat_tiers.specs.Beats.{TierBeat, Follows, last, record_of, records_in}
@@ -29,7 +30,7 @@ with_group moment [] groups = groups
 with_group moment (item ∷ items) groups = record { moment = moment; items = item ∷ items } ∷ groups
 
 -- those of tier 0: the points of each beat
-abbrev pub points_given : List TierBeat → List (Group ℕ)
+abbrev pub points_given : List TierBeat → List (Group Stepped)
 points_given [] = []
 points_given (beat ∷ beats) =
     option_map_or (λ moment. with_group moment (point_items moment beat.points) (points_given beats)) beat.moment (points_given beats)
@@ -72,6 +73,7 @@ module _ {T : Type 0} where
   pub record AreSegmentsOf (tier : Tier) (cuts : Cuts) (groups : List (Group T)) (segments : SegmentsOf T) : Type 0 where
     pub expired : segments.expired ≡ slice_get cuts.sealed tier.extents
     pub sealed : map (λ (segment : Segment T). segment.sealed_at) segments.sealed ≡ reverse (take tier.extents cuts.sealed)
+    pub count : segments.count ≡ length cuts.sealed
     pub since : length segments.unsealed ≡ cuts.since
     pub split : AreSplit segments.expired segments.sealed segments.unsealed segments.beats groups
 

@@ -14,7 +14,14 @@ pub struct BeatPoint {
     pub word: u32,
 }
 
-/// What a tier keeps of a series: the word of a point, or the record of a bucket.
+/// The word of a point, and the seconds for which it stands.
+#[derive(Clone, Copy, Debug, PartialEq, Eq)]
+pub struct Stepped {
+    pub step: u32,
+    pub word: u32,
+}
+
+/// What a tier keeps of a series: a point, or the record of a bucket.
 #[derive(Clone, Copy, Debug, PartialEq, Eq)]
 pub struct Item<T> {
     /// In tier 0 the moment, in seconds, and in other tiers the number of the bucket.

@@ -1,8 +1,9 @@
-ghost use Rattle.std.specs.Prelude.{◌≡◌, ℕ, [], ◌∷◌, ◌++◌, flat_map, IfOk, OnOk};
+ghost use Rattle.std.specs.Prelude.{◌≡◌, [], ◌∷◌, ◌++◌, flat_map, IfOk, OnOk};
+ghost use Rattle.beat_tiers.specs.declared.item.Stepped.{Stepped as AStepped};
 ghost use Rattle.beat_tiers.specs.declared.segments.Segment.{Segment as ASegment};
 ghost use Rattle.beat_tiers.specs.Kept.{beat_of_item, behind_all, behind_beats, kept_in, point_of_item};
 
-use crate::item::Item;
+use crate::item::{Item, Stepped};
 use crate::sealed::Sealed;
 use crate::segments::Segments;
 use fixed_num::ListOf;
@@ -39,17 +40,17 @@ pub struct Kept {
     pub beats: KeptBeatList,
 }
 
-fn point_of_item(item: &Item<u32>) -> KeptPoint
+fn point_of_item(item: &Item<Stepped>) -> KeptPoint
     ensures { result ≡ point_of_item item.now }
 {
     KeptPoint {
         series: item.series,
-        word: item.value,
+        word: item.value.word,
     }
 }
 
 /// The beat of one item.
-fn beat_of_item(alloc: Global, item: &Item<u32>) -> Result<KeptBeat, AllocError>
+fn beat_of_item(alloc: Global, item: &Item<Stepped>) -> Result<KeptBeat, AllocError>
     ensures { IfOk result (λ beat. beat ≡ beat_of_item item.now) }
 {
     let mut points = KeptPointList::new(alloc);
@@ -61,7 +62,7 @@ fn beat_of_item(alloc: Global, item: &Item<u32>) -> Result<KeptBeat, AllocError>
 }
 
 /// Adds an item to the beat of its moment.
-fn add_point(beat: &mut KeptBeat, item: &Item<u32>) -> Result<(), AllocError>
+fn add_point(beat: &mut KeptBeat, item: &Item<Stepped>) -> Result<(), AllocError>
     ensures { OnOk result (beat.new
         ≡ record beat.old { points = beat.old.points ++ point_of_item item.now ∷ [] }) }
 {
@@ -74,7 +75,7 @@ fn add_behind(
     alloc: Global,
     beats: &mut Vec<KeptBeat>,
     mut last: KeptBeat,
-    item: &Item<u32>,
+    item: &Item<Stepped>,
 ) -> Result<(), AllocError>
     ensures { OnOk result (beats.new.items
         ≡ beats.old.items ++ behind_beats (last ∷ []) item.now) }
@@ -90,7 +91,11 @@ fn add_behind(
 }
 
 /// Puts an item behind beats.
-fn add_item(alloc: Global, beats: &mut Vec<KeptBeat>, item: &Item<u32>) -> Result<(), AllocError>
+pub(crate) fn add_item(
+    alloc: Global,
+    beats: &mut Vec<KeptBeat>,
+    item: &Item<Stepped>,
+) -> Result<(), AllocError>
     ensures { OnOk result (beats.new.items ≡ behind_beats beats.old.items item.now) }
 {
     match beats.pop() {
@@ -106,7 +111,7 @@ fn add_item(alloc: Global, beats: &mut Vec<KeptBeat>, item: &Item<u32>) -> Resul
 fn add_items(
     alloc: Global,
     beats: &mut Vec<KeptBeat>,
-    items: &[Item<u32>],
+    items: &[Item<Stepped>],
 ) -> Result<(), AllocError>
     ensures { OnOk result (beats.new.items ≡ behind_all beats.old.items items.now) }
 {
@@ -120,10 +125,10 @@ fn add_items(
 fn add_segments(
     alloc: Global,
     beats: &mut Vec<KeptBeat>,
-    segments: &[Sealed<u32>],
+    segments: &[Sealed<Stepped>],
 ) -> Result<(), AllocError>
     ensures { OnOk result (beats.new.items ≡ behind_all beats.old.items
-        (flat_map (λ (segment : ASegment ℕ). segment.items) segments.now)) }
+        (flat_map (λ (segment : ASegment AStepped). segment.items) segments.now)) }
 {
     for segment in segments {
         add_items(alloc, beats, segment.items())?;
@@ -132,7 +137,7 @@ fn add_segments(
 }
 
 /// The beats of all items.
-fn beats_of(alloc: Global, segments: &Segments<u32>) -> Result<KeptBeatList, AllocError>
+fn beats_of(alloc: Global, segments: &Segments<Stepped>) -> Result<KeptBeatList, AllocError>
     ensures { IfOk result (λ beats. beats ≡ (kept_in segments.now.kept).beats) }
 {
     let mut beats = Vec::new(alloc);
@@ -144,7 +149,7 @@ fn beats_of(alloc: Global, segments: &Segments<u32>) -> Result<KeptBeatList, All
 }
 
 /// The beats that gave the items of segments.
-pub(crate) fn kept_of(alloc: Global, segments: &Segments<u32>) -> Result<Kept, AllocError>
+pub(crate) fn kept_of(alloc: Global, segments: &Segments<Stepped>) -> Result<Kept, AllocError>
     ensures { IfOk result (λ kept. kept ≡ kept_in segments.now.kept) }
 {
     let beats = beats_of(alloc, segments)?;

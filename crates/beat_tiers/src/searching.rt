@@ -9,7 +9,7 @@ ghost use Rattle.beat_tiers.specs.Segments.{items_of};
 ghost use Rattle.beat_tiers.specs.State.{is_item, point_at};
 ghost use Rattle.beat_tiers.specs.Tiers.{AreOrdered};
 
-use crate::item::Item;
+use crate::item::{Item, Stepped};
 use crate::sealed::Sealed;
 use crate::segments::Segments;
 use fixed_num::Record;
@@ -17,7 +17,7 @@ use std::alloc::{AllocError, Global};
 use tier_rollup::{Point, PointList};
 
 /// The items from a place on, by halves.
-fn from_place<T>(items: &[Item<T>], low: u64) -> &[Item<T>]
+pub(crate) fn from_place<T>(items: &[Item<T>], low: u64) -> &[Item<T>]
     ensures ordered { AreOrdered items.now → AreOrdered result.now }
     ensures from { AreOrdered items.now
         → result.now ≡ filter (λ (item : AnItem T). nat_le low item.place) items.now }
@@ -56,7 +56,7 @@ fn last_place<T>(segment: &Sealed<T>) -> u32
 }
 
 /// The segments that have items from a place on, by halves.
-fn from_segment<T>(segments: &[Sealed<T>], low: u64) -> &[Sealed<T>]
+pub(crate) fn from_segment<T>(segments: &[Sealed<T>], low: u64) -> &[Sealed<T>]
     requires { AllByRecursion HasItems segments.now }
     ensures ordered { AreOrdered (items_in segments.now) → AreOrdered (items_in result.now) }
     ensures full { AllByRecursion HasItems result.now }
@@ -81,7 +81,7 @@ fn to_segment<T>(segments: &[Sealed<T>], high: u32) -> &[Sealed<T>]
 }
 
 /// The point that an item is, where it is of this series and between these moments.
-fn point_at(item: &Item<u32>, floor: u64, series: u32, from: u32, to: u32) -> Option<Point>
+fn point_at(item: &Item<Stepped>, floor: u64, series: u32, from: u32, to: u32) -> Option<Point>
     ensures { result ≡ point_at floor series from to item.now }
 {
     if item.series == series
@@ -91,7 +91,7 @@ fn point_at(item: &Item<u32>, floor: u64, series: u32, from: u32, to: u32) -> Op
     {
         Some(Point {
             moment: item.place,
-            word: item.value,
+            word: item.value.word,
         })
     } else {
         None
@@ -101,7 +101,7 @@ fn point_at(item: &Item<u32>, floor: u64, series: u32, from: u32, to: u32) -> Op
 /// Adds the point that an item is.
 fn add_item(
     points: &mut PointList,
-    item: &Item<u32>,
+    item: &Item<Stepped>,
     floor: u64,
     series: u32,
     from: u32,
@@ -122,7 +122,7 @@ fn add_item(
 /// Adds the points that some items are.
 fn add_items(
     points: &mut PointList,
-    items: &[Item<u32>],
+    items: &[Item<Stepped>],
     floor: u64,
     series: u32,
     from: u32,
@@ -140,7 +140,7 @@ fn add_items(
 /// Adds the points that ordered items are, and reads those alone that lie between the moments.
 fn add_ordered(
     points: &mut PointList,
-    items: &[Item<u32>],
+    items: &[Item<Stepped>],
     floor: u64,
     series: u32,
     from: u32,
@@ -157,7 +157,7 @@ fn add_ordered(
 /// Adds the points that the items of a segment are.
 fn add_segment(
     points: &mut PointList,
-    segment: &Sealed<u32>,
+    segment: &Sealed<Stepped>,
     floor: u64,
     series: u32,
     from: u32,
@@ -172,7 +172,7 @@ fn add_segment(
 /// Adds the points that the items of segments are.
 fn add_segments(
     points: &mut PointList,
-    segments: &[Sealed<u32>],
+    segments: &[Sealed<Stepped>],
     floor: u64,
     series: u32,
     from: u32,
@@ -191,7 +191,7 @@ fn add_segments(
 /// Adds the points that the items of segments are, and reads those segments alone that have some between the moments.
 fn add_between(
     points: &mut PointList,
-    segments: &[Sealed<u32>],
+    segments: &[Sealed<Stepped>],
     floor: u64,
     series: u32,
     from: u32,
@@ -209,7 +209,7 @@ fn add_between(
 /// The points of a series at or above a floor and between two moments, these included.
 pub(crate) fn points_of(
     alloc: Global,
-    segments: &Segments<u32>,
+    segments: &Segments<Stepped>,
     floor: u64,
     series: u32,
     from: u32,

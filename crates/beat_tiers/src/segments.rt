@@ -31,6 +31,8 @@ pub(crate) struct Segments<T> {
     expired: Option<u32>,
     /// How many beats gave items that have expired. The count stands still at 2^64 - 1.
     before: u64,
+    /// How many segments were ever sealed. The count stands still there too.
+    count: u64,
     sealed: VecDeque<Sealed<T>>,
     /// How many beats gave the items since.
     beats: u64,
@@ -44,6 +46,7 @@ impl<T> Model for Segments<T> {
       kept = record {
         expired = segments.expired;
         before = segments.before;
+        count = segments.count;
         sealed = segments.sealed.items;
         beats = segments.beats;
         unsealed = segments.unsealed.items;
@@ -63,6 +66,7 @@ impl<T: Copy + Drop> Segments<T> {
             alloc,
             expired: None,
             before: 0,
+            count: 0,
             sealed: VecDeque::new(alloc),
             beats: 0,
             unsealed: Vec::new(alloc),
@@ -147,6 +151,7 @@ impl<T: Copy + Drop> Segments<T> {
         self.sealed
             .push_back_reserved(Sealed::new(self.alloc, segment));
         self.beats = 0;
+        self.count = self.count.saturating_add(1);
     }
 
     /// Drops the earliest segment where more are sealed than are kept.

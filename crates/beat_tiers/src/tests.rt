@@ -1,7 +1,7 @@
 ghost use Rattle.std.specs.Prelude.{◌≡◌, ◌≤◌};
 
 use crate::item::BeatPoint;
-use crate::kept::KeptPoint;
+use crate::kept::{KeptBeat, KeptPoint};
 use crate::tier::Tier;
 use crate::tiers::Tiers;
 use fixed_num::{Frac, Record, Units};

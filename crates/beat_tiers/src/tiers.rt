@@ -1,17 +1,18 @@
-ghost use Rattle.std.specs.Prelude.{◌≡◌, ℕ, ◌+◌, ◌-◌, ◌^◌, ◌<◌, ◌≤◌, min, ◌∷◌, ◌++◌, length, map, slice_get, Some, None, IfOk, IsNone, IsOk, OnOk};
+ghost use Rattle.std.specs.Prelude.{◌≡◌, ℕ, ◌+◌, ◌-◌, ◌^◌, ◌<◌, ◌≤◌, min, ◌∷◌, ◌++◌, filter, length, map, slice_get, take, Some, None, IfOk, IsNone, IsOk, OnOk};
 ghost use Rattle.std.specs.List.{AllByRecursion};
+ghost use Rattle.beat_tiers.specs.Above.{is_above, RiseAbove};
 ghost use Rattle.beat_tiers.specs.Kept.{kept_in};
 ghost use Rattle.beat_tiers.specs.Room.{records_held, tiers_held, HasRoom, HasRoomAfter, HasRoomFor};
 ghost use Rattle.beat_tiers.specs.Segments.{items_of, with_items};
 ghost use Rattle.beat_tiers.specs.State.{AreClosed, RecordTierState, after_beat, floor_in, no_beats, no_records, point_items, points_after, points_in, record_in, record_tier_after, tier_floor};
 ghost use Rattle.beat_tiers.specs.Tiers.{AreOrdered, IsFirstRecord, IsTier};
 
-use crate::item::{BeatPoint, Item};
-use crate::kept::{self, Kept};
+use crate::item::{BeatPoint, Item, Stepped};
+use crate::kept::{self, Kept, KeptBeatList};
 use crate::record_tier::RecordTier;
-use crate::searching;
 use crate::segments::Segments;
 use crate::tier::Tier;
+use crate::{above, searching};
 use fixed_num::Record;
 use std::alloc::{AllocError, Global};
 use std::marker::Model;
@@ -24,7 +25,7 @@ pub struct Tiers {
     /// The last moment of a beat, or 0.
     last: u32,
     first: Tier,
-    points: Segments<u32>,
+    points: Segments<Stepped>,
     records: Vec<RecordTier>,
 }
 
@@ -57,7 +58,7 @@ fn record_tiers(alloc: Global, settings: &[Tier]) -> Result<Vec<RecordTier>, All
 }
 
 /// Adds points as items, for which there is memory.
-fn push_points(segments: &mut Segments<u32>, moment: u32, points: &[BeatPoint])
+fn push_points(segments: &mut Segments<Stepped>, moment: u32, points: &[BeatPoint])
     requires { length points.now ≤ segments.old.items }
     ensures { segments.new ≡ record segments.old {
       kept = with_items segments.old.kept (point_items moment points.now);
@@ -68,13 +69,16 @@ fn push_points(segments: &mut Segments<u32>, moment: u32, points: &[BeatPoint])
         segments.push(Item {
             place: moment,
             series: point.series,
-            value: point.word,
+            value: Stepped {
+                step: point.step,
+                word: point.word,
+            },
         });
     }
 }
 
 /// Adds the points of a beat, for which there is memory, and ends it.
-fn take_points(segments: &mut Segments<u32>, tier: Tier, moment: u32, points: &[BeatPoint])
+fn take_points(segments: &mut Segments<Stepped>, tier: Tier, moment: u32, points: &[BeatPoint])
     requires room { HasRoom (length points.now) segments.old }
     requires tier { 1 ≤ tier.items }
     ensures { segments.new.kept ≡ points_after tier moment points.now segments.old.kept }
@@ -270,5 +274,18 @@ impl Tiers {
         ensures { IfOk result (λ kept. kept ≡ kept_in self.now.points.kept) }
     {
         kept::kept_of(self.alloc, &self.points)
+    }
+
+    /// The kept beats above a moment, the earliest first, and at most so many of them. It costs by
+    /// what it gives and by a search for the first of them, and not by what is kept.
+    pub fn kept_above(&self, from: u32, most: usize) -> Result<KeptBeatList, AllocError>
+        ensures kept { AreOrdered (items_of self.now.points.kept) → IfOk result (λ beats.
+            beats ≡ take most (filter (is_above from) (kept_in self.now.points.kept).beats)) }
+
+        // The same, of tiers that are of no beats.
+        ensures rises { IfOk result (RiseAbove from) }
+        ensures few { IfOk result (λ beats. length beats ≤ most) }
+    {
+        above::kept_above(self.alloc, &self.points, from, most)
     }
 }

@@ -98,3 +98,6 @@ fn main(rt: HostRuntime) -> ExitCode {
     }
     ExitCode::from(ending.status.number())
 }
+
+#[cfg(test)]
+mod tests;

@@ -18,7 +18,7 @@ use Rattle.plugin_runner.specs.declared.runner.Ending.TheVariants as ending
 use Rattle.plugin_runner.specs.declared.runner.Phase.TheVariants.{Ready, Runs, Over}
 use Rattle.plugin_runner.specs.declared.runner.Runner.{Runner}
 use Rattle.plugin_runner.specs.Bytes.{bytes, bytes_of, IsFront}
-use Rattle.plugin_runner.specs.Course.{Course, Start, Bytes, End, children_after, course_after, text_of, IsRunning, HasEnded, IsTold, Waits, Listens, Keeps, IsRunnerOf, answer_after, answer_at_end}
+use Rattle.plugin_runner.specs.Course.{Course, Start, Bytes, End, children_after, course_after, text_of, IsRunning, HasEnded, IsTold, MayStart, Waits, Listens, Keeps, IsRunnerOf, answer_after, answer_at_end}
 use Rattle.plugin_runner.specs.Follower.{Follows}
 use Rattle.plugin_runner.specs.Goes.{Advances, Goes, IsAt, Lands, ending_of}
 use Rattle.plugin_runner.specs.Looking.{beats_begun}
@@ -51,6 +51,9 @@ runner-listens runner course phase r = subst (λ p. Keeps p runner course) phase
 
 pub runner-waits : (runner : Runner) (course : Course) → runner.phase ≡ Ready → IsRunnerOf runner course → Waits runner course
 runner-waits runner course phase r = subst (λ p. Keeps p runner course) phase r.keeps
+
+pub waits-start : (runner : Runner) (course : Course) → Waits runner course → MayStart course
+waits-start runner course w = (w.ended, omega (arith, w.count))
 
 pub over-runner : (runner : Runner) (course : Course) (ending : Ending) → runner.phase ≡ Over ending
     → ((later : List ℕ) → IsTold (Some (answer_of ending)) course (text_of course later)) → IsRunnerOf runner course

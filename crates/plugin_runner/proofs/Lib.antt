@@ -9,3 +9,4 @@ pub mod RunLemmas
 pub mod SpawnerLemmas
 pub mod StepLemmas
 pub mod TurnsLemmas
+pub mod WholeLemmas

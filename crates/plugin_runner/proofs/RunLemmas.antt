@@ -1,5 +1,6 @@
 -- What was heard of children that a spawner tells.
-use Rattle.std.proofs.Common.{◌≡◌, ℕ, suc, ◌≤◌, Bool, true, false, List, [], ◌∷◌, ◌++◌, length, map, reverse, take, ℤ, pos, Option, Some, None, Result, refl, sym, ap, ◌∙◌, subst, append_assoc, append-nil, arith, if◌then◌else◌}
+use Rattle.std.proofs.Common.{◌≡◌, ℕ, suc, ◌<◌, ◌≤◌, Bool, true, false, List, [], ◌∷◌, ◌++◌, length, map, reverse, take, ℤ, pos, Option, Some, None, Result, refl, sym, ap, ◌∙◌, subst, append_assoc, append-nil, arith, if◌then◌else◌}
+use Rattle.std.specs.List.{AllByRecursion}
 use Rattle.std.specs.Option.{option_map, IfSome, IsSomeAnd}
 use Rattle.std.proofs.lemmas.Bool.Decides.{nat_tests}
 use Rattle.std.proofs.lemmas.List.{length-map, reverse-append, take-append-le}
@@ -24,7 +25,7 @@ module _ (o : Origin) (rs : List ℕ) (p : List (List ℕ)) (t : List ℕ) where
   closed-line past line true false one other on is = on is
   closed-line past line false d one other on is = is
 
-  closed-rest : (past : List (List ℕ)) (r first : List ℕ) (following : List (List ℕ)) (b : Bool) → fits r ≡ b → (if b then Open past else Closed past (take 8193 r)) ≡ Closed p t
+  pub closed-rest : (past : List (List ℕ)) (r first : List ℕ) (following : List (List ℕ)) (b : Bool) → fits r ≡ b → (if b then Open past else Closed past (take 8193 r)) ≡ Closed p t
       → hear o rs past ((r ++ first) ∷ following) ≡ Closed p t
   closed-rest past r first following true fit is =
       let never : Open past ≡ Closed p t = is in
@@ -69,20 +70,29 @@ so bytes status = record { bytes = bytes; status = status }
 some_same : {A : Type 0} (x y : A) → Some x ≡ Some y → x ≡ y
 some_same x y e = cc e
 
+abbrev pub EndedAtZero : List Child → Type 0
+EndedAtZero children = AllByRecursion (λ (child : Child). child.status ≡ pos 0) children
+
+-- these children, the latest first, may have been started: not too many, and none behind one that ended with another
+-- status than 0
+abbrev pub MayRun : ℕ → List Child → Type 0
+MayRun starts [] = Unit {0}
+MayRun starts (child ∷ earlier) = (length earlier < starts) × EndedAtZero earlier
+
 -- These children, the latest first, ended. Then there may be one of which these bytes were heard.
-pub data Stage (coming : List Child) (heard : List Heard) (now : Children) : Type 0 where
-  idle : (ran : List Child) → heard ≡ map heard_whole ran → coming ≡ reverse ran ++ now.coming → Stage coming heard now
+pub data Stage (coming : List Child) (starts : ℕ) (heard : List Heard) (now : Children) : Type 0 where
+  idle : (ran : List Child) → heard ≡ map heard_whole ran → coming ≡ reverse ran ++ now.coming → MayRun starts ran → Stage coming starts heard now
   midway : (ran : List Child) (child : Child) (bytes : List ℕ) → heard ≡ so bytes None ∷ map heard_whole ran → coming ≡ reverse ran ++ with_bytes bytes child ∷ now.coming
-      → now.running ≡ Some child → Stage coming heard now
+      → now.running ≡ Some child → MayRun starts (child ∷ ran) → Stage coming starts heard now
 
-pub data Last (coming : List Child) (heard : List Heard) : Type 0 where
-  over : (ran others : List Child) → heard ≡ map heard_whole ran → coming ≡ reverse ran ++ others → Last coming heard
+pub data Last (coming : List Child) (starts : ℕ) (heard : List Heard) : Type 0 where
+  over : (ran others : List Child) → heard ≡ map heard_whole ran → coming ≡ reverse ran ++ others → MayRun starts ran → Last coming starts heard
   within : (ran others : List Child) (child : Child) (bytes : List ℕ) → heard ≡ so bytes None ∷ map heard_whole ran
-      → coming ≡ reverse ran ++ with_bytes bytes child ∷ others → Last coming heard
+      → coming ≡ reverse ran ++ with_bytes bytes child ∷ others → MayRun starts (child ∷ ran) → Last coming starts heard
 
-last_of : (coming : List Child) (heard : List Heard) (now : Children) → Stage coming heard now → Last coming heard
-last_of coming heard now (idle ran is whole) = over ran now.coming is whole
-last_of coming heard now (midway ran child bytes is whole runs) = within ran now.coming child bytes is whole
+last_of : (coming : List Child) (starts : ℕ) (heard : List Heard) (now : Children) → Stage coming starts heard now → Last coming starts heard
+last_of coming starts heard now (idle ran is whole may) = over ran now.coming is whole may
+last_of coming starts heard now (midway ran child bytes is whole runs may) = within ran now.coming child bytes is whole may
 
 not_running : (ran : List Child) → IsRunning (map heard_whole ran) → ⊥
 not_running [] runs = runs
@@ -90,23 +100,29 @@ not_running (child ∷ ran) runs =
     let never : Some child.status ≡ None = runs in
     cc never
 
-reverse-next : (ran : List Child) (child : Child) (others : List Child) → reverse ran ++ child ∷ others ≡ reverse (child ∷ ran) ++ others
+pub reverse-next : (ran : List Child) (child : Child) (others : List Child) → reverse ran ++ child ∷ others ≡ reverse (child ∷ ran) ++ others
 reverse-next ran child others = sym (ap (λ (l : List Child). l ++ others) (reverse-append (child ∷ []) ran) ∙ append_assoc (reverse ran) (child ∷ []) others)
 
 -- ---- a start
-started : (ran : List Child) (coming : List Child) (words : List (List ℕ)) (before after : Children) (list : List Child) → before.coming ≡ list → (list ≡ [] → ⊥) → after ≡ after_start words before
-    → coming ≡ reverse ran ++ before.coming → Stage coming (so [] None ∷ map heard_whole ran) after
-started ran coming words before after [] is some same whole = absurd (some refl)
-started ran coming words before after (child ∷ more) is some same whole =
+may_next : (starts : ℕ) (ran : List Child) (child : Child) → HasEnded (map heard_whole ran) → length (map heard_whole ran) < starts → MayRun starts ran → MayRun starts (child ∷ ran)
+may_next starts [] child ended below may = (below, tt)
+may_next starts (latest ∷ ran) child ended below may =
+    (omega (arith, below, length-map ran heard_whole), (some_same latest.status (pos 0) ended, may.1))
+
+begun : (ran : List Child) (coming : List Child) (starts : ℕ) (words : List (List ℕ)) (before after : Children) (list : List Child) → before.coming ≡ list → (list ≡ [] → ⊥) → after ≡ after_start words before
+    → coming ≡ reverse ran ++ before.coming → HasEnded (map heard_whole ran) → length (map heard_whole ran) < starts → MayRun starts ran → Stage coming starts (so [] None ∷ map heard_whole ran) after
+begun ran coming starts words before after [] is some same whole ended below may = absurd (some refl)
+begun ran coming starts words before after (child ∷ more) is some same whole ended below may =
     let told : after.coming ≡ more = ap (λ (c : Children). c.coming) same ∙ ap other_children is in
     let runs : after.running ≡ Some child = ap (λ (c : Children). c.running) same ∙ ap first_child is in
-    midway ran child [] refl (whole ∙ ap (λ (l : List Child). reverse ran ++ l) (is ∙ ap (λ (l : List Child). child ∷ l) (sym told))) runs
+    midway ran child [] refl (whole ∙ ap (λ (l : List Child). reverse ran ++ l) (is ∙ ap (λ (l : List Child). child ∷ l) (sym told))) runs (may_next starts ran child ended below may)
 
-start_stage : (coming : List Child) (heard : List Heard) (words : List (List ℕ)) (before after : Children) → Stage coming heard before → HasEnded heard → (before.coming ≡ [] → ⊥) → after ≡ after_start words before
-    → Stage coming (children_after (Some Start) heard) after
-start_stage coming heard words before after (idle ran is whole) ended came same =
-    subst (λ (h : List Heard). Stage coming (so [] None ∷ h) after) (sym is) (started ran coming words before after before.coming refl came same whole)
-start_stage coming heard words before after (midway ran child bytes is whole runs) ended came same =
+start_stage : (coming : List Child) (starts : ℕ) (heard : List Heard) (words : List (List ℕ)) (before after : Children) → Stage coming starts heard before → HasEnded heard → length heard < starts → (before.coming ≡ [] → ⊥)
+    → after ≡ after_start words before → Stage coming starts (children_after (Some Start) heard) after
+start_stage coming starts heard words before after (idle ran is whole may) ended below came same =
+    subst (λ (h : List Heard). Stage coming starts (so [] None ∷ h) after) (sym is)
+    (begun ran coming starts words before after before.coming refl came same whole (subst HasEnded is ended) (subst (λ (h : List Heard). length h < starts) is below) may)
+start_stage coming starts heard words before after (midway ran child bytes is whole runs may) ended below came same =
     let never : None ≡ Some (pos 0) = subst HasEnded is ended in
     absurd (cc never)
 
@@ -140,29 +156,29 @@ bytes_heard : (ran : List Child) (bytes more : List ℕ) (heard : List Heard) �
     → children_after (Some (Bytes more)) heard ≡ so (bytes ++ more) None ∷ map heard_whole ran
 bytes_heard ran bytes more heard is = ap (children_after (Some (Bytes more))) is
 
-bytes_last : (coming : List Child) (heard : List Heard) (more : List ℕ) (before : Children) (between : Option Children) → Stage coming heard before → IsRunning heard
-    → Some before ≡ option_map (before_bytes more) between → Last coming (children_after (Some (Bytes more)) heard)
-bytes_last coming heard more before between (idle ran is whole) runs took_is = absurd (not_running ran (subst IsRunning is runs))
-bytes_last coming heard more before None (midway ran child bytes is whole running) runs took_is =
+bytes_last : (coming : List Child) (starts : ℕ) (heard : List Heard) (more : List ℕ) (before : Children) (between : Option Children) → Stage coming starts heard before → IsRunning heard
+    → Some before ≡ option_map (before_bytes more) between → Last coming starts (children_after (Some (Bytes more)) heard)
+bytes_last coming starts heard more before between (idle ran is whole may) runs took_is = absurd (not_running ran (subst IsRunning is runs))
+bytes_last coming starts heard more before None (midway ran child bytes is whole running may) runs took_is =
     let never : Some before ≡ None = took_is in
     absurd (cc never)
-bytes_last coming heard more before (Some between) (midway ran child bytes is whole running) runs took_is =
+bytes_last coming starts heard more before (Some between) (midway ran child bytes is whole running may) runs took_is =
     let t = took more child before between between.running refl (some_same before (before_bytes more between) took_is) running in
-    within ran between.coming t.rest_of (bytes ++ more) (bytes_heard ran bytes more heard is) (whole_then coming ran child bytes more before between whole t)
+    within ran between.coming t.rest_of (bytes ++ more) (bytes_heard ran bytes more heard is) (whole_then coming ran child bytes more before between whole t) may
 
-bytes_stage : (coming : List Child) (heard : List Heard) (more : List ℕ) (before after : Children) (between : Option Children) → Stage coming heard before → IsRunning heard
-    → Some before ≡ option_map (before_bytes more) between → Some after ≡ between → Stage coming (children_after (Some (Bytes more)) heard) after
-bytes_stage coming heard more before after between (idle ran is whole) runs took_is left = absurd (not_running ran (subst IsRunning is runs))
-bytes_stage coming heard more before after between (midway ran child bytes is whole running) runs took_is left =
+bytes_stage : (coming : List Child) (starts : ℕ) (heard : List Heard) (more : List ℕ) (before after : Children) (between : Option Children) → Stage coming starts heard before → IsRunning heard
+    → Some before ≡ option_map (before_bytes more) between → Some after ≡ between → Stage coming starts (children_after (Some (Bytes more)) heard) after
+bytes_stage coming starts heard more before after between (idle ran is whole may) runs took_is left = absurd (not_running ran (subst IsRunning is runs))
+bytes_stage coming starts heard more before after between (midway ran child bytes is whole running may) runs took_is left =
     let here : Some before ≡ Some (before_bytes more after) = took_is ∙ ap (option_map (before_bytes more)) (sym left) in
     let t = took more child before after after.running refl (some_same before (before_bytes more after) here) running in
-    midway ran t.rest_of (bytes ++ more) (bytes_heard ran bytes more heard is) (whole_then coming ran child bytes more before after whole t) t.runs
+    midway ran t.rest_of (bytes ++ more) (bytes_heard ran bytes more heard is) (whole_then coming ran child bytes more before after whole t) t.runs may
 
 -- ---- an end
-end_stage : (coming : List Child) (heard : List Heard) (status : ℤ) (before after : Children) → Stage coming heard before → IsRunning heard → IfSome before.running (λ (c : Child). c.left ≡ [])
-    → IsSomeAnd before.running (λ (c : Child). c.status ≡ status) → after ≡ after_end before → Stage coming (children_after (Some (End status)) heard) after
-end_stage coming heard status before after (idle ran is whole) runs silent with_status ended = absurd (not_running ran (subst IsRunning is runs))
-end_stage coming heard status before after (midway ran child bytes is whole running) runs silent with_status ended =
+end_stage : (coming : List Child) (starts : ℕ) (heard : List Heard) (status : ℤ) (before after : Children) → Stage coming starts heard before → IsRunning heard → IfSome before.running (λ (c : Child). c.left ≡ [])
+    → IsSomeAnd before.running (λ (c : Child). c.status ≡ status) → after ≡ after_end before → Stage coming starts (children_after (Some (End status)) heard) after
+end_stage coming starts heard status before after (idle ran is whole may) runs silent with_status ended = absurd (not_running ran (subst IsRunning is runs))
+end_stage coming starts heard status before after (midway ran child bytes is whole running may) runs silent with_status ended =
     let none : child.left ≡ [] = subst (λ (r : Option Child). IfSome r (λ (c : Child). c.left ≡ [])) running silent in
     let of_child : child.status ≡ status = subst (λ (r : Option Child). IsSomeAnd r (λ (c : Child). c.status ≡ status)) running with_status in
     let bytes_is : bytes ≡ bytes ++ child.left = sym (ap (λ (b : List ℕ). bytes ++ b) none ∙ append-nil bytes) in
@@ -171,26 +187,26 @@ end_stage coming heard status before after (midway ran child bytes is whole runn
     ap (λ (b : List ℕ). so b (Some status) ∷ map heard_whole ran) bytes_is
     ∙ ap (λ (s : ℤ). so (bytes ++ child.left) (Some s) ∷ map heard_whole ran) (sym of_child) in
     let told : before.coming ≡ after.coming = sym (ap (λ (c : Children). c.coming) ended) in
-    idle (with_bytes bytes child ∷ ran) (one ∙ two) (whole ∙ reverse-next ran (with_bytes bytes child) before.coming ∙ ap (λ (l : List Child). reverse (with_bytes bytes child ∷ ran) ++ l) told)
+    idle (with_bytes bytes child ∷ ran) (one ∙ two) (whole ∙ reverse-next ran (with_bytes bytes child) before.coming ∙ ap (λ (l : List Child). reverse (with_bytes bytes child ∷ ran) ++ l) told) may
 
 -- ---- a turn, and turns
-module _ (coming : List Child) (course : Course) (before after : Children) (faults faults' : ℕ) (stage : Stage coming course.children before) where
-  turn_stage : (event : Option Event) → Hears course None event (Some before) (Some after) faults faults' → Stage coming (children_after event course.children) after
-  turn_stage None hears = subst (Stage coming course.children) (sym (some_same after before hears)) stage
-  turn_stage (Some Start) hears = start_stage coming course.children (start_words course.words course.origin.every) before after stage hears.0 hears.1.came (some_same after (after_start (start_words course.words course.origin.every) before) hears.1.started)
-  turn_stage (Some (Bytes bytes)) hears = bytes_stage coming course.children bytes before after hears.1.between stage hears.0 hears.1.took hears.1.left
-  turn_stage (Some (End status)) hears = end_stage coming course.children status before after stage hears.0 hears.1.silent hears.1.with_status (some_same after (after_end before) hears.1.ended)
+module _ (coming : List Child) (course : Course) (before after : Children) (faults faults' : ℕ) (stage : Stage coming course.starts course.children before) where
+  turn_stage : (event : Option Event) → Hears course None event (Some before) (Some after) faults faults' → Stage coming course.starts (children_after event course.children) after
+  turn_stage None hears = subst (Stage coming course.starts course.children) (sym (some_same after before hears)) stage
+  turn_stage (Some Start) hears = start_stage coming course.starts course.children (start_words course.words course.origin.every) before after stage hears.0.0 hears.0.1 hears.1.came (some_same after (after_start (start_words course.words course.origin.every) before) hears.1.started)
+  turn_stage (Some (Bytes bytes)) hears = bytes_stage coming course.starts course.children bytes before after hears.1.between stage hears.0 hears.1.took hears.1.left
+  turn_stage (Some (End status)) hears = end_stage coming course.starts course.children status before after stage hears.0 hears.1.silent hears.1.with_status (some_same after (after_end before) hears.1.ended)
 
-  turn_last : (answer : Option (Result Turn RunFault)) (event : Option Event) → Hears course answer event (Some before) (Some after) faults faults' → Last coming (children_after event course.children)
-  turn_last answer None hears = last_of coming course.children before stage
+  turn_last : (answer : Option (Result Turn RunFault)) (event : Option Event) → Hears course answer event (Some before) (Some after) faults faults' → Last coming course.starts (children_after event course.children)
+  turn_last answer None hears = last_of coming course.starts course.children before stage
   turn_last answer (Some Start) hears =
-      last_of coming (children_after (Some Start) course.children) after (start_stage coming course.children (start_words course.words course.origin.every) before after stage hears.0 hears.1.came (some_same after (after_start (start_words course.words course.origin.every) before) hears.1.started))
-  turn_last answer (Some (Bytes bytes)) hears = bytes_last coming course.children bytes before hears.1.between stage hears.0 hears.1.took
+      last_of coming course.starts (children_after (Some Start) course.children) after (start_stage coming course.starts course.children (start_words course.words course.origin.every) before after stage hears.0.0 hears.0.1 hears.1.came (some_same after (after_start (start_words course.words course.origin.every) before) hears.1.started))
+  turn_last answer (Some (Bytes bytes)) hears = bytes_last coming course.starts course.children bytes before hears.1.between stage hears.0 hears.1.took
   turn_last answer (Some (End status)) hears =
-      last_of coming (children_after (Some (End status)) course.children) after (end_stage coming course.children status before after stage hears.0 hears.1.silent hears.1.with_status (some_same after (after_end before) hears.1.ended))
+      last_of coming course.starts (children_after (Some (End status)) course.children) after (end_stage coming course.starts course.children status before after stage hears.0 hears.1.silent hears.1.with_status (some_same after (after_end before) hears.1.ended))
 
-run_stage : (coming : List Child) (course : Course) (now : Children) → Run coming course now → Stage coming course.children now
-run_stage coming course now (begins words every starts last before) = idle [] refl refl
+run_stage : (coming : List Child) (course : Course) (now : Children) → Run coming course now → Stage coming course.starts course.children now
+run_stage coming course now (begins words every starts last before) = idle [] refl refl tt
 run_stage coming course now (goes_on earlier event taken added before after faults faults' run hears) =
     turn_stage coming earlier before after faults faults' (run_stage coming earlier before run) event hears
 
@@ -205,16 +221,16 @@ same_child o rs starts bytes child earlier (Open past) (Open p) last is answer =
 same_child o rs starts bytes child earlier (Open past) (Closed p t) last is answer =
     sym (ap (at_end (Some child.status) o rs) (hear-closed o rs p t past bytes child.left is))
 
-ran_of : (coming : List Child) (course : Course) (later : List ℕ) (last : Result Turn RunFault) → Last coming course.children
+pub ran_of : (coming : List Child) (course : Course) (later : List ℕ) (last : Result Turn RunFault) → Last coming course.starts course.children
     → answer_after course.starts (text_of course later) course.children ≡ Some last → Ran coming course later
-ran_of coming course later last (over ran others is whole) answer = record {
+ran_of coming course later last (over ran others is whole may) answer = record {
   ran = ran;
   others = others;
   whole = whole;
   count = sym (ap length is ∙ length-map ran heard_whole);
   same = ap (text course.origin (course.readings ++ later)) is;
 }
-ran_of coming course later last (within ran others child bytes is whole) answer =
+ran_of coming course later last (within ran others child bytes is whole may) answer =
     let rs = course.readings ++ later in
     let earlier = map heard_whole ran in
     let told : text_of course later ≡ with_child (so bytes None) course.origin rs (text course.origin rs earlier) = ap (text course.origin rs) is in
@@ -227,9 +243,13 @@ ran_of coming course later last (within ran others child bytes is whole) answer 
           (subst (λ (h : List Heard). answer_after course.starts (text_of course later) h ≡ Some last) is answer);
     }
 
+pub run_last : (coming : List Child) (course : Course) (event : Option Event) (answer : Option (Result Turn RunFault)) (before after : Children) (faults faults' : ℕ) → Run coming course before
+    → Hears course answer event (Some before) (Some after) faults faults' → Last coming course.starts (children_after event course.children)
+run_last coming course event answer before after faults faults' run hears = turn_last coming course before after faults faults' (run_stage coming course before run) answer event hears
+
 pub run_ran : (coming : List Child) (course : Course) (event : Option Event) (taken added : List ℕ) (answer : Option (Result Turn RunFault)) (before after : Children) (faults faults' : ℕ) → Run coming course before
     → Hears course answer event (Some before) (Some after) faults faults' → (later : List ℕ) (last : Result Turn RunFault)
     → answer_after course.starts (text_of (course_after event taken added course) later) (course_after event taken added course).children ≡ Some last → Ran coming (course_after event taken added course) later
 run_ran coming course event taken added answer before after faults faults' run hears later last is =
     ran_of coming (course_after event taken added course) later last
-    (turn_last coming course before after faults faults' (run_stage coming course before run) answer event hears) is
+    (run_last coming course event answer before after faults faults' run hears) is

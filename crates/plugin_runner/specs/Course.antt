@@ -1,5 +1,5 @@
 -- What a runner was given, what it has heard, and what it has told.
-use Rattle.std.specs.Prelude.{◌≡◌, ℕ, ◌+◌, ◌==◌, ◌≤◌, List, [], ◌∷◌, ◌++◌, length, ℤ, pos, Option, Some, None, Result, Ok, Err, if◌then◌else◌}
+use Rattle.std.specs.Prelude.{◌≡◌, ℕ, ◌+◌, ◌==◌, ◌<◌, ◌≤◌, List, [], ◌∷◌, ◌++◌, length, ℤ, pos, Option, Some, None, Result, Ok, Err, if◌then◌else◌}
 use Rattle.std.specs.Ordering.{int_eq}
 use Rattle.history.specs.declared.line.Line.{Line}
 use Rattle.plugin_text.specs.Lines.{parts, IsRest}
@@ -78,6 +78,10 @@ IsRunning (child ∷ earlier) = child.status ≡ None
 abbrev pub HasEnded : List Heard → Type 0
 HasEnded [] = Unit {0}
 HasEnded (child ∷ earlier) = child.status ≡ Some (pos 0)
+
+-- a child may be started: none runs, none has ended with another status than 0, and not all starts were made
+abbrev pub MayStart : Course → Type 0
+MayStart course = HasEnded course.children × (length course.children < course.starts)
 
 -- ---- the end of a text
 abbrev pub answer_at_end : Option ℤ → ℕ → ℕ → Option (Result Turn RunFault)

@@ -10,7 +10,7 @@ use Rattle.plugin_runner.specs.declared.fault.Turn.TheVariants.{More}
 use Rattle.plugin_runner.specs.declared.runner.Ending.{Ending}
 use Rattle.plugin_runner.specs.declared.runner.Ending.TheVariants as ending
 use Rattle.plugin_runner.specs.declared.runner.Runner.{Runner}
-use Rattle.plugin_runner.specs.Course.{Course, Event, Start, Bytes, End, IsRunning, HasEnded, IsTold, Listens, IsRunnerOf, course_after, text_of}
+use Rattle.plugin_runner.specs.Course.{Course, Event, Start, Bytes, End, IsRunning, IsTold, Listens, MayStart, IsRunnerOf, course_after, text_of}
 use Rattle.plugin_runner.specs.Reads.{Reads}
 use Rattle.plugin_runner.specs.Runner.{answer_of, if_lasting, lasting_answer}
 use Rattle.plugin_runner.specs.Words.{start_words}
@@ -45,7 +45,7 @@ pub record Ends (status : ℤ) (before after : Option Children) : Type 0 where
 -- the spawner did just this
 abbrev pub Hears : Course → Option (Result Turn RunFault) → Option Event → Option Children → Option Children → ℕ → ℕ → Type 0
 Hears course answer None before after faults faults' = after ≡ before
-Hears course answer (Some Start) before after faults faults' = HasEnded course.children × Starts (start_words course.words course.origin.every) before after
+Hears course answer (Some Start) before after faults faults' = MayStart course × Starts (start_words course.words course.origin.every) before after
 Hears course answer (Some (Bytes bytes)) before after faults faults' = IsRunning course.children × Wrote answer bytes before after faults faults'
 Hears course answer (Some (End status)) before after faults faults' = IsRunning course.children × Ends status before after
 
@@ -79,8 +79,8 @@ pub record Goes (result : Result Turn RunFault) (course : Course) (old new : Run
   pub event : Option Event
   pub hears : Hears course (if_lasting result) event before after faults faults'
   pub more : result ≡ Ok More → event ≢ None
-  -- a start fails where no child runs, and a read or a wait where one runs
-  pub spawn : result ≡ Err fault.SpawnFault → HasEnded course.children
+  -- a start fails where a child may be started, and a read or a wait where one runs
+  pub spawn : result ≡ Err fault.SpawnFault → MayStart course
   pub pipe : result ≡ Err fault.PipeFault → IsRunning course.children
   -- while a child runs, only what is heard brings the last turn
   pub last : IsRunning course.children → lasting_answer old ≡ None → if_lasting result ≢ None → event ≢ None

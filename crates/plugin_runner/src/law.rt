@@ -1,4 +1,4 @@
-ghost use Rattle.std.specs.Prelude.{◌≡◌, ◌≢◌, ℕ, List, Option, Some, None, Result, Err};
+ghost use Rattle.std.specs.Prelude.{◌≡◌, ◌≢◌, ℕ, List, ◌++◌, Option, Some, None, Result, Err};
 ghost use Rattle.host_model.specs.Spawner.{Child, Children};
 ghost use Rattle.plugin_runner.specs.declared.fault.RunFault.{RunFault};
 ghost use Rattle.plugin_runner.specs.declared.fault.RunFault.TheVariants as fault;
@@ -8,8 +8,9 @@ ghost use Rattle.plugin_runner.specs.Bytes.{bytes_of, IsFront};
 ghost use Rattle.plugin_runner.specs.Collected.{HasTurned};
 ghost use Rattle.plugin_runner.specs.Course.{Course, Event, IsRunnerOf, answer_after, course_after, new_course, text_of};
 ghost use Rattle.plugin_runner.specs.Goes.{Hears};
-ghost use Rattle.plugin_runner.specs.Run.{Ran, Run};
+ghost use Rattle.plugin_runner.specs.Run.{Ran, Run, whole_children};
 ghost use Rattle.plugin_runner.specs.Runner.{lasting_answer};
+ghost use Rattle.plugin_runner.specs.Text.{text};
 
 /// The laws of a runner of a course, whatever the clock gives later. It does nothing.
 pub fn any_course()
@@ -50,4 +51,30 @@ pub fn any_collected()
         (Some (record { starts = begun; running = None; coming = coming })) after ahead ahead'
         → answer_after course.starts (text_of course later) course.children ≡ Some ending
         → Ran coming course later }
+{}
+
+/// The law of `take_collected` over a spawner that tells its children, in words of those that are to come. The text
+/// of those that are started has each with all its bytes and its end. It does nothing.
+pub fn any_front()
+    // Wherever the turns ended, what was put is a prefix of that text.
+    ensures front { (coming : List Child) (words : List (List ℕ)) (every starts last : ℕ)
+        (begun : List (List (List ℕ))) (course : Course) (answer : Result Turn RunFault)
+        (after : Option Children) (ahead ahead' : Option (List ℕ)) (later : List ℕ)
+        → HasTurned answer (new_course words every starts last) course
+        (Some (record { starts = begun; running = None; coming = coming })) after ahead ahead'
+        → IsFront course.told (bytes_of (text (record { every = every; last = last })
+        (course.readings ++ later) (whole_children starts coming))) }
+
+    // Where the last turn came to an end of the text, it is that one, with its answer.
+    ensures whole { (coming : List Child) (words : List (List ℕ)) (every starts last : ℕ)
+        (begun : List (List (List ℕ))) (course : Course) (answer ending : Result Turn RunFault)
+        (after : Option Children) (ahead ahead' : Option (List ℕ)) (later : List ℕ)
+        → HasTurned answer (new_course words every starts last) course
+        (Some (record { starts = begun; running = None; coming = coming })) after ahead ahead'
+        → answer_after course.starts (text_of course later) course.children ≡ Some ending
+        → (text_of course later ≡ text (record { every = every; last = last })
+        (course.readings ++ later) (whole_children starts coming))
+        × (answer_after starts (text (record { every = every; last = last })
+        (course.readings ++ later) (whole_children starts coming))
+        (whole_children starts coming) ≡ Some ending) }
 {}

@@ -9,8 +9,8 @@
 //! that text is where a spawner tells its children.
 //!
 //! `take_collected` takes turns of a new runner to the end, and hands the lines of its text to a `Taker`. It is proved
-//! which lines those are and why it halted, for every taker. `any_collected` is its law where a spawner tells its
-//! children.
+//! which lines those are and why it halted, for every taker. `any_collected` and
+//! `any_front` are its laws where a spawner tells its children.
 //!
 //! It stands on `line_stream` for takers of lines, on `plugin_text` for lines and what they say, on `history` for
 //! questions about lines, and on `host_model` for the outside.
@@ -27,5 +27,5 @@ mod writing;
 
 pub use collecting::{Halt, take_collected};
 pub use fault::{RunFault, Turn};
-pub use law::{any_collected, any_course, any_run};
+pub use law::{any_collected, any_course, any_front, any_run};
 pub use runner::Runner;

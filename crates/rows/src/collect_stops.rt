@@ -147,6 +147,38 @@ fn collected_beats_after_a_crash_that_fills(rt: HostRuntime) -> Result<(), Fail>
     Ok(())
 }
 
+/// How a collector of a new database ends where this call on the host is refused, and whether it tells of each beat.
+fn host_fails_at(alloc: Global, fails: u64) -> Result<(Status, bool), Fail> {
+    let mut host = host_of(alloc, &[fails])?;
+    run_over(alloc, &mut host, &["new", "7"], b"", &[])?;
+    let end = collect(alloc, &mut host, CHILDREN, &[])?;
+    let told = stored(alloc, 0, CHILDREN)?;
+    Ok((end.status, end.told.as_str() == told.as_str()))
+}
+
+/// At how many of the calls the telling of a beat and the storing of the beats fail.
+fn fault_counts(alloc: Global) -> Result<(u64, u64), Fail> {
+    let (mut told, mut disk) = (0u64, 0u64);
+    for fails in 0..CALLS {
+        match host_fails_at(alloc, fails)? {
+            (Status::TellFault, false) => told = told.saturating_add(1),
+            (Status::DiskFault, false) => disk = disk.saturating_add(1),
+            _ => {}
+        }
+    }
+    Ok((told, disk))
+}
+
+/// Each of the three tellings fails once. Each beat wants a write and a sync at least.
+#[test]
+fn each_fault_of_a_collector_is_met(rt: HostRuntime) -> Result<(), Fail> {
+    let (told, disk) = fault_counts(rt.alloc())?;
+    assert_eq!(rt; told, 3);
+    assert!(rt; disk >= 6, "{disk} calls");
+    assert_eq!(rt; host_fails_at(rt.alloc(), CALLS - 1)?, (Status::Ok, true));
+    Ok(())
+}
+
 /// How a collector of a new database ends where this call of the spawner fails, and whether it left what it told of.
 fn spawner_fails_at(alloc: Global, fails: u64) -> Result<(Status, bool), Fail> {
     let mut host = host_of(alloc, &[])?;

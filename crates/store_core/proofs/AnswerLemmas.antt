@@ -52,6 +52,6 @@ pub answer_is : (past : List Event) (store : StoreState) (set : Settings) (beats
     → ((told : ℕ → List Point) → Tells store told → table ≡ table_of widths (tier_floor store.tiers) told request)
     → table ≡ table_of widths (floor_at set beats) (points_of beats) request
 answer_is past store set beats rest is_at request table answered =
-    answered (points_of beats) (record { past = past; set = set; beats = beats; rest = rest; is_at = is_at; told_is = refl })
+    answered (points_of beats) (record { set = set; beats = beats; has = is_at.tiers; told_is = refl })
     ∙ same_table (tier_floor store.tiers) (floor_at set beats) (floor_is set beats store.tiers is_at.tiers 0 (omega arith)) (floor_is set beats store.tiers is_at.tiers 1 (omega arith))
     (floor_is set beats store.tiers is_at.tiers 2 (omega arith)) (points_of beats) request

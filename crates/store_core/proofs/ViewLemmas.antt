@@ -85,7 +85,7 @@ first_told record_of width floor from to points same (Some found) is = record {
 
 module _ (store : StoreState) (told : ℕ → List Point) (tells : Tells store told) (tiers : TiersState) (same : tiers ≡ store.tiers) where
   has : HasTiers tells.set tells.beats tiers
-  has = subst (HasTiers tells.set tells.beats) (sym same) tells.is_at.tiers
+  has = subst (HasTiers tells.set tells.beats) (sym same) tells.has
 
   series_is : (series : ℕ) → points_of tells.beats series ≡ told series
   series_is series = ap (λ (all : ℕ → List Point). all series) (sym tells.told_is)

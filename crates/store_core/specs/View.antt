@@ -1,7 +1,6 @@
 -- What a view of a store answers by. A list of beats has the newest first, a list of points the earliest.
 use Rattle.std.specs.Prelude.{◌≡◌, ℕ, List, map, reverse}
 use Rattle.std.specs.Borrow.{GName}
-use Rattle.host_model.specs.Past.{Event}
 use Rattle.host_model.specs.Seen.{Seen}
 use Rattle.tier_rollup.specs.declared.point.Point.{Point}
 use Rattle.beat_tiers.specs.Beats.{series_points}
@@ -9,8 +8,8 @@ use Rattle.beat_tiers.specs.State.{tier_floor}
 use Rattle.query_engine.specs.Points.{Tiers}
 use Rattle.entry_codec.specs.declared.entry.Settings.{Settings}
 use Rattle.store_core.specs.declared.beat.Beat.{Beat}
-use Rattle.store_core.specs.Store.{IsStoreAt, StoreState}
-use Rattle.store_core.specs.Tiers.{seen}
+use Rattle.store_core.specs.Store.{StoreState}
+use Rattle.store_core.specs.Tiers.{HasTiers, seen}
 pub use Rattle.store_core.specs.Tiers.{widths}
 
 -- the widths, and the floors of what is kept
@@ -21,13 +20,11 @@ view_tiers store = record { widths = widths; floor = tier_floor store.tiers }
 abbrev pub points_of : List Beat → ℕ → List Point
 points_of beats series = reverse (series_points (map seen beats) series)
 
--- the store has applied some beats, and these are their points
+-- the tiers of the store are those of some beats, and these are their points
 pub record Tells (store : StoreState) (told : ℕ → List Point) : Type 0 where
-  pub past : List Event
   pub set : Settings
   pub beats : List Beat
-  pub rest : List Beat
-  pub is_at : IsStoreAt past store set beats rest
+  pub has : HasTiers set beats store.tiers
   pub told_is : told ≡ points_of beats
 
 -- a store and its host, and which they are

@@ -1,19 +1,21 @@
-ghost use Rattle.std.specs.Prelude.{◌≡◌, ℕ, ◌+◌, ◌<◌, ◌≤◌, ◌^◌, ◌↔◌, ◌⊎◌, true, false, List, [], ◌∷◌, length, IsTrue, IsErrOf, IsSomeAnd, IfOk, IfErr, OnOk, OnErr, Err};
+ghost use Rattle.std.specs.Prelude.{◌≡◌, ℕ, ◌+◌, ◌<◌, ◌≤◌, ◌^◌, ◌↔◌, ◌⊎◌, true, false, List, [], ◌∷◌, filter, length, take, IsTrue, IsErrOf, IsSomeAnd, IfOk, IfErr, OnOk, OnErr, Err};
 ghost use Rattle.host_model.specs.declared.file.File.{File as AFile};
 ghost use Rattle.host_model.specs.Images.{IsImage};
 ghost use Rattle.host_model.specs.Past.{Event, of, IsDisk};
 ghost use Rattle.host_model.specs.Disks.{EveryDisk, reads_as};
 ghost use Rattle.host_model.specs.Cause.{HasCause};
 ghost use Rattle.host_model.specs.Moments.{Throughout, EveryImage, OnlyOn};
+ghost use Rattle.beat_tiers.specs.Above.{is_above, RiseAbove};
 ghost use Rattle.beat_tiers.specs.Room.{tiers_held, HasRoomFor};
-ghost use Rattle.beat_tiers.specs.State.{after_beat};
+ghost use Rattle.beat_tiers.specs.Kept.{kept_in};
+ghost use Rattle.beat_tiers.specs.State.{after_beat, no_beats, tier_floor};
 ghost use Rattle.entry_codec.specs.declared.entry.Settings.{Settings as ASettings};
 ghost use Rattle.store_core.specs.declared.beat.Beat.{Beat as ABeat};
 ghost use Rattle.store_core.specs.Beats.{beat_bytes, InForm};
 ghost use Rattle.store_core.specs.Faults.{fault_after, IsCommitFault, IsCreateFault, IsOpenFault, IsReplayFault, IsStepFault, LeavesAll, Reopens};
 ghost use Rattle.store_core.specs.FirstRecord.{InLimits};
 ghost use Rattle.store_core.specs.Records.{is_later, last_after};
-ghost use Rattle.store_core.specs.Tiers.{floor_at, kept_of};
+ghost use Rattle.store_core.specs.Tiers.{first_tier, floor_at, kept_of, other_tiers};
 ghost use Rattle.store_core.specs.Stands.{is_made, IsDamaged, Stands, StandsAround, StandsIfMade};
 
 use crate::beat::Beat;
@@ -23,7 +25,7 @@ use crate::records::{is_later, last_after, read_records};
 use crate::settings::{new_tiers, write_settings};
 use crate::waiting::Waiting;
 use crate::writing::write_beat;
-use beat_tiers::{Kept, Tiers};
+use beat_tiers::{Kept, KeptBeatList, Tiers};
 use entry_codec::Settings;
 use host_model::{File, Host};
 use journal_core::{Journal, JournalFault};
@@ -151,6 +153,8 @@ impl Store {
         ensures ready { IfOk result (IsReady H.honest (H.seen host.new).past) }
         ensures going { IfOk result (λ store. store.fault ≡ None) }
         ensures new { IfOk result (λ store. (store.count ≡ 0) × (store.last ≡ 0)) }
+        ensures tiers { IfOk result (λ store.
+            store.tiers ≡ no_beats (first_tier store.settings) (other_tiers store.settings)) }
 
         // Every image at every moment is one from before, and what the files read as stays.
         ensures any_moment { H.honest
@@ -227,7 +231,8 @@ impl Store {
     /// it, in seconds, or 0 where nothing has expired.
     pub fn floor(&self, tier: u8) -> u32
         requires { tier < 3 }
-        ensures { (past : List Event) (set : ASettings) (beats rest : List ABeat)
+        ensures kept { result ≡ tier_floor self.now.tiers tier }
+        ensures applied { (past : List Event) (set : ASettings) (beats rest : List ABeat)
             → IsStoreAt past self.now set beats rest → result ≡ floor_at set beats tier }
     {
         self.tiers.floor(tier)
@@ -239,6 +244,7 @@ impl Store {
         ensures kept { (past : List Event) (set : ASettings) (beats rest : List ABeat)
             → IsStoreAt past self.old set beats rest
             → IfOk result (λ kept. kept ≡ kept_of set beats) }
+        ensures tiers { IfOk result (λ kept. kept ≡ kept_in self.old.tiers.points) }
         ensures reopens { Reopens self.old.fault result }
         ensures faults { IfErr result IsReplayFault }
         ensures same { self.new ≡ self.old }
@@ -251,6 +257,37 @@ impl Store {
             return Err(StoreFault::Memory);
         };
         Ok(kept)
+    }
+
+    /// The beats with points above a moment that are kept of those that were applied, the earliest
+    /// first, and at most so many of them. It costs by what it gives and by a search for the first
+    /// of them. Store and host are as before, whatever the answer.
+    pub fn kept_above<H: Host>(
+        &mut self,
+        _host: &mut H,
+        from: u32,
+        most: usize,
+    ) -> Result<KeptBeatList, StoreFault>
+        ensures kept { (past : List Event) (set : ASettings) (beats rest : List ABeat)
+            → IsStoreAt past self.old set beats rest
+            → IfOk result (λ found.
+            found ≡ take most (filter (is_above from) (kept_of set beats).beats)) }
+
+        // The same, of a store that is of no beats.
+        ensures rises { IfOk result (RiseAbove from) }
+        ensures few { IfOk result (λ found. length found ≤ most) }
+        ensures reopens { Reopens self.old.fault result }
+        ensures faults { IfErr result IsReplayFault }
+        ensures same { self.new ≡ self.old }
+        ensures same_host { _host.new ≡ _host.old }
+    {
+        if let Some(cause) = self.fault {
+            return Err(StoreFault::Reopen(cause));
+        }
+        let Ok(found) = self.tiers.kept_above(from, most) else {
+            return Err(StoreFault::Memory);
+        };
+        Ok(found)
     }
 
     /// What the tiers keep of the beats that were applied.

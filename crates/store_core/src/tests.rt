@@ -6,6 +6,7 @@ use host_model::{CallList, File, Host, Keep, MemoryHost};
 use std::alloc::Global;
 use std::test::Fail;
 
+mod random;
 mod view;
 
 const TIER: TierSettings = TierSettings {

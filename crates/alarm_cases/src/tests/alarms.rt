@@ -1,3 +1,6 @@
+ghost use Rattle.std.specs.Prelude.{IfOk, OnOk};
+ghost use Rattle.alarm_core.specs.UpTo.{IsUpTo};
+
 use super::*;
 
 /// Points of one series from moment 1 on, each of the word of 10.
@@ -209,6 +212,46 @@ static HIGH_BEATS: [Beat; 4] = [
 #[test]
 fn an_alarm_is_raised_and_cleared(rt: HostRuntime) -> Result<(), Fail> {
     run(&rt, rt.alloc(), HIGH, HIGH_BEATS.as_slice())
+}
+
+fn configured_with(alloc: Global, text: &str, registry: &Registry) -> Result<Alarms, Fail>
+    ensures { IfOk result (λ alarms. IsUpTo alarms registry.now) }
+{
+    let mut alarms = new_alarms(alloc)?;
+    let config = read_config(alloc, text)?;
+    alarms.configure(config, registry, 0)?;
+    Ok(alarms)
+}
+
+/// Takes a beat that defines nothing, and compares what is told.
+fn take_again(
+    rt: &impl Abort,
+    alloc: Global,
+    alarms: &mut Alarms,
+    registry: &Registry,
+    beat: &Beat,
+) -> Result<(), Fail>
+    requires { IsUpTo alarms.old registry.now }
+    ensures { OnOk result (IsUpTo alarms.new registry.now) }
+{
+    let (before, moment, values, want) = *beat;
+    let latest = latest_behind(alloc, before, moment, values.as_slice())?;
+    let mut points = source(alloc, 0)?;
+    let events = alarms.step_again(moment, registry, &latest, &mut points)?;
+    assert_eq!(rt; lines(alloc, &events)?.as_str(), want, "{moment}");
+    Ok(())
+}
+
+#[test]
+fn a_beat_that_defines_nothing_tells_the_same(rt: HostRuntime) -> Result<(), Fail> {
+    let alloc = rt.alloc();
+    let registry = one_chart(alloc)?;
+    let mut alarms = configured_with(alloc, HIGH, &registry)?;
+    let [first, second, third, fourth] = &HIGH_BEATS;
+    take_again(&rt, alloc, &mut alarms, &registry, first)?;
+    take_again(&rt, alloc, &mut alarms, &registry, second)?;
+    take_again(&rt, alloc, &mut alarms, &registry, third)?;
+    take_again(&rt, alloc, &mut alarms, &registry, fourth)
 }
 
 const DELAYED: &str =

@@ -26,7 +26,7 @@ const OPEN: &str = "delay: up 10s down 1s multiplier 2";
 const LONG: &str = "delay: up 2592000s multiplier 1000";
 
 // Worked by hand.
-static CASES: [Case; 29] = [
+static CASES: [Case; 30] = [
     (
         USUAL,
         None,
@@ -107,6 +107,14 @@ static CASES: [Case; 29] = [
         Status::Warning,
         Status::Undefined,
         None,
+    ),
+    (
+        USUAL,
+        Some((10, 60, 110)),
+        100,
+        Status::Uninitialized,
+        Status::Warning,
+        Some((15, 90, 115)),
     ),
     (
         USUAL,

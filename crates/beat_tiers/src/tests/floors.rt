@@ -165,3 +165,35 @@ fn kept_beats(rt: HostRuntime) -> Result<(), Fail> {
     }
     Ok(())
 }
+
+/// Checks the moments of the kept beats above a moment.
+fn check_above(
+    rt: &impl Abort,
+    tiers: &Tiers,
+    from: u32,
+    most: usize,
+    moments: &[u32],
+) -> Result<(), Fail> {
+    let beats = tiers.kept_above(from, most)?;
+    assert_eq!(rt; beats.len(), moments.len());
+    for (beat, moment) in beats.as_slice().iter().zip(moments) {
+        assert_eq!(rt; beat.moment, *moment);
+        assert_eq!(rt; beat.points.len(), 1);
+    }
+    Ok(())
+}
+
+#[test]
+fn kept_beats_above_a_moment(rt: HostRuntime) -> Result<(), Fail> {
+    let mut tiers = Tiers::new(rt.alloc(), tier(1, 2, 2), [].as_slice())?;
+    take_each(&mut tiers, [10, 20, 30, 40, 50, 60, 70].as_slice())?;
+    // the beats at 10 and 20 have expired
+    check_above(&rt, &tiers, 0, 9, [30, 40, 50, 60, 70].as_slice())?;
+    check_above(&rt, &tiers, 0, 2, [30, 40].as_slice())?;
+    check_above(&rt, &tiers, 39, 3, [40, 50, 60].as_slice())?;
+    check_above(&rt, &tiers, 40, 3, [50, 60, 70].as_slice())?;
+    check_above(&rt, &tiers, 69, 1, [70].as_slice())?;
+    check_above(&rt, &tiers, 70, 1, [].as_slice())?;
+    check_above(&rt, &tiers, u32::MAX, 9, [].as_slice())?;
+    check_above(&rt, &tiers, 0, 0, [].as_slice())
+}

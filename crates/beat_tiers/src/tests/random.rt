@@ -74,8 +74,33 @@ fn check_points(
     Ok(())
 }
 
+/// The points of a beat, as they are kept.
+fn kept_points(alloc: Global, beat: &Plain) -> Result<Vec<KeptPoint>, AllocError> {
+    let mut points = Vec::new(alloc);
+    for series in SERIES {
+        if let Some(word) = word_in(beat, series) {
+            points.push(KeptPoint { series, word })?;
+        }
+    }
+    Ok(points)
+}
+
+/// Checks a kept beat.
+fn check_beat(rt: &impl Abort, alloc: Global, kept: &KeptBeat, beat: &Plain) -> Result<(), Fail> {
+    let points = kept_points(alloc, beat)?;
+    assert_eq!(rt; kept.moment, beat.moment);
+    assert_eq!(rt; kept.points.as_slice(), points.as_slice());
+    Ok(())
+}
+
 /// Checks the kept beats, and how many came before them.
-fn check_kept(rt: &impl Abort, tiers: &Tiers, beats: &[Plain], floor: u32) -> Result<(), Fail> {
+fn check_kept(
+    rt: &impl Abort,
+    alloc: Global,
+    tiers: &Tiers,
+    beats: &[Plain],
+    floor: u32,
+) -> Result<(), Fail> {
     let kept = tiers.kept()?;
     let mut before: u64 = 0;
     let mut found: usize = 0;
@@ -87,13 +112,42 @@ fn check_kept(rt: &impl Abort, tiers: &Tiers, beats: &[Plain], floor: u32) -> Re
             let Some(one) = kept.beats.as_slice().get(found) else {
                 return Err(Fail::from("a kept beat is left out"));
             };
-            assert_eq!(rt; one.moment, beat.moment);
-            assert_eq!(rt; one.points.len(), count as usize);
+            check_beat(rt, alloc, one, beat)?;
             found = found.saturating_add(1);
         }
     }
     assert_eq!(rt; kept.before, before);
     assert_eq!(rt; kept.beats.len(), found);
+    Ok(())
+}
+
+/// Checks the kept beats above a moment, at most so many of them.
+fn check_above(rt: &impl Abort, tiers: &Tiers, from: u32, most: usize) -> Result<(), Fail> {
+    let kept = tiers.kept()?;
+    let above = tiers.kept_above(from, most)?;
+    let mut found: usize = 0;
+    for beat in kept.beats.as_slice() {
+        if beat.moment > from && found < most {
+            let Some(one) = above.as_slice().get(found) else {
+                return Err(Fail::from("a beat above is left out"));
+            };
+            assert_eq!(rt; one.moment, beat.moment);
+            assert_eq!(rt; one.points.as_slice(), beat.points.as_slice());
+            found = found.saturating_add(1);
+        }
+    }
+    assert_eq!(rt; above.len(), found);
+    Ok(())
+}
+
+/// Checks the kept beats above each moment, and above one before it.
+fn check_above_each(rt: &impl Abort, tiers: &Tiers, beats: &[Plain]) -> Result<(), Fail> {
+    for beat in beats {
+        for most in [0, 1, 2, 99] {
+            check_above(rt, tiers, beat.moment, most)?;
+            check_above(rt, tiers, beat.moment.saturating_sub(1), most)?;
+        }
+    }
     Ok(())
 }
 
@@ -130,7 +184,16 @@ fn check_next(rt: &impl Abort, tiers: &Tiers, beats: &[Plain], number: u8, width
     }
 }
 
-/// Checks a tier's floor and the records of its last buckets.
+/// Checks the records of each beat's bucket, and of the one behind it.
+fn check_buckets(rt: &impl Abort, tiers: &Tiers, beats: &[Plain], number: u8, width: u32) {
+    for beat in beats {
+        let bucket = beat.moment.checked_div(width).unwrap_or(0);
+        check_bucket(rt, tiers, beats, number, width, bucket);
+        check_bucket(rt, tiers, beats, number, width, bucket.saturating_add(1));
+    }
+}
+
+/// Checks a tier's floor and its records.
 fn check_tier(
     rt: &impl Abort,
     alloc: Global,
@@ -146,30 +209,33 @@ fn check_tier(
     if number == 0 {
         return Ok(());
     }
+    check_buckets(rt, tiers, beats, number, tier.width);
     let last = tiers.last().checked_div(tier.width).unwrap_or(0);
     for back in 0..8 {
-        check_bucket(
-            rt,
-            tiers,
-            beats,
-            number,
-            tier.width,
-            last.saturating_sub(back),
-        );
-        check_next(
-            rt,
-            tiers,
-            beats,
-            number,
-            tier.width,
-            last.saturating_sub(back),
-        );
+        let from = last.saturating_sub(back);
+        check_next(rt, tiers, beats, number, tier.width, from);
     }
     check_next(rt, tiers, beats, number, tier.width, 0);
     Ok(())
 }
 
-/// Takes some beats, and compares what is kept after each with what all beats say.
+/// Compares what is kept with what all beats say.
+fn check(
+    rt: &impl Abort,
+    alloc: Global,
+    tiers: &Tiers,
+    beats: &[Plain],
+    settings: [Tier; 3],
+) -> Result<(), Fail> {
+    let [first, minute, hour] = settings;
+    check_tier(rt, alloc, tiers, beats, 0, first)?;
+    check_tier(rt, alloc, tiers, beats, 1, minute)?;
+    check_tier(rt, alloc, tiers, beats, 2, hour)?;
+    check_points(rt, alloc, tiers, beats, tiers.floor(0))?;
+    check_kept(rt, alloc, tiers, beats, tiers.floor(0))
+}
+
+/// Takes some beats, of which some have no moment, and compares what is kept after each.
 fn run(
     rt: &impl Abort,
     alloc: Global,
@@ -177,46 +243,75 @@ fn run(
     count: u32,
     first: Tier,
     minute: Tier,
+    hour: Tier,
 ) -> Result<(), Fail>
     requires first { 1 ≤ first.width × 1 ≤ first.items × 1 ≤ first.extents }
     requires minute { 1 ≤ minute.width × 1 ≤ minute.items × 1 ≤ minute.extents }
+    requires hour { 1 ≤ hour.width × 1 ≤ hour.items × 1 ≤ hour.extents }
 {
     let mut state = seed;
     let mut beats = Vec::new(alloc);
-    let mut tiers = Tiers::new(alloc, first, [minute].as_slice())?;
+    let mut tiers = Tiers::new(alloc, first, [minute, hour].as_slice())?;
     for _ in 0..count {
         let beat = random_beat(&mut state, tiers.last());
         take(alloc, &mut tiers, &beat)?;
         beats.push(beat)?;
-        check_tier(rt, alloc, &tiers, beats.as_slice(), 0, first)?;
-        check_tier(rt, alloc, &tiers, beats.as_slice(), 1, minute)?;
-        check_points(rt, alloc, &tiers, beats.as_slice(), tiers.floor(0))?;
-        check_kept(rt, &tiers, beats.as_slice(), tiers.floor(0))?;
+        if next(&mut state) % 4 == 0 {
+            add(&mut tiers, None, [].as_slice())?;
+        }
+        check(rt, alloc, &tiers, beats.as_slice(), [first, minute, hour])?;
     }
-    Ok(())
+    check_above_each(rt, &tiers, beats.as_slice())
 }
 
 #[test]
 fn fifty_beats(rt: HostRuntime) -> Result<(), Fail> {
-    run(&rt, rt.alloc(), 7, 50, tier(1, 3, 2), tier(60, 2, 1))
+    let minute = tier(60, 2, 1);
+    run(
+        &rt,
+        rt.alloc(),
+        7,
+        50,
+        tier(1, 3, 2),
+        minute,
+        tier(3_600, 1, 2),
+    )
 }
 
 #[test]
 fn fifty_beats_with_small_quotas(rt: HostRuntime) -> Result<(), Fail> {
-    run(&rt, rt.alloc(), 4_711, 50, tier(1, 1, 1), tier(5, 1, 3))
+    let minute = tier(5, 1, 3);
+    run(
+        &rt,
+        rt.alloc(),
+        4_711,
+        50,
+        tier(1, 1, 1),
+        minute,
+        tier(60, 1, 1),
+    )
 }
 
 #[test]
 fn fifty_beats_with_large_quotas(rt: HostRuntime) -> Result<(), Fail> {
-    run(&rt, rt.alloc(), 99, 50, tier(1, 7, 5), tier(3_600, 5, 5))
+    let hour = tier(3_600, 5, 5);
+    run(&rt, rt.alloc(), 99, 50, tier(1, 7, 5), tier(60, 9, 7), hour)
+}
+
+/// A quota from 1 to 5.
+fn quota(number: u32) -> u32
+    ensures { 1 ≤ result }
+{
+    1 + number % 5
 }
 
 #[test]
 fn three_hundred_short_histories(rt: HostRuntime) -> Result<(), Fail> {
     for seed in 0..300 {
-        let first = tier(1, 1 + seed % 5, 1 + seed / 5 % 5);
-        let minute = tier(60, 1 + seed / 25 % 4, 1 + seed % 3);
-        run(&rt, rt.alloc(), seed * 7_919, 14, first, minute)?;
+        let first = tier(1, quota(seed), quota(seed / 5));
+        let minute = tier(60, quota(seed / 25), quota(seed / 2));
+        let hour = tier(3_600, quota(seed / 3), quota(seed / 7));
+        run(&rt, rt.alloc(), seed * 7_919, 14, first, minute, hour)?;
     }
     Ok(())
 }

@@ -48,7 +48,53 @@ fn ends_are_told(rt: HostRuntime) -> Result<(), Fail> {
     spawner.start(&words_of(rt.alloc(), &["cat"])?)?;
     spawner.stop()?;
     assert!(rt; spawner.pull(&mut [0; 1]).is_err());
-    // One that runs is ended where the spawner is dropped.
-    spawner.start(&words_of(rt.alloc(), &["cat"])?)?;
+    Ok(())
+}
+
+/// Starts a child that tells its number and does not end by itself, and gives the number.
+fn start_waiting<S: Spawner>(alloc: Global, spawner: &mut S) -> Result<String, Fail> {
+    spawner.start(&words_of(alloc, &["sh", "-c", "echo $$; exec cat"])?)?;
+    let mut piece = [0; 32];
+    let taken = spawner.pull(&mut piece)?;
+    let number = std::str::from_utf8(&piece[..taken])?;
+    Ok(String::from_str(alloc, number.trim_end())?)
+}
+
+/// Whether there is a process of this number.
+fn is_there<S: Spawner>(alloc: Global, spawner: &mut S, number: &str) -> Result<bool, Fail> {
+    let script = "kill -0 $0 2> /dev/null";
+    spawner.start(&words_of(alloc, &["sh", "-c", script, number])?)?;
+    Ok(spawner.finish()? == 0)
+}
+
+/// The number of a child that ran where its spawner was dropped.
+fn dropped(rt: &HostRuntime) -> Result<String, Fail> {
+    let mut spawner = ChildSpawner::new(rt.alloc(), rt);
+    start_waiting(rt.alloc(), &mut spawner)
+}
+
+#[test]
+fn a_child_is_gone_where_it_is_left(rt: HostRuntime) -> Result<(), Fail> {
+    let alloc = rt.alloc();
+    let mut looker = ChildSpawner::new(alloc, &rt);
+    let mut spawner = ChildSpawner::new(alloc, &rt);
+    let first = start_waiting(alloc, &mut spawner)?;
+    assert!(rt; is_there(alloc, &mut looker, first.as_str())?);
+    let second = start_waiting(alloc, &mut spawner)?;
+    assert!(rt; !is_there(alloc, &mut looker, first.as_str())?);
+    spawner.stop()?;
+    assert!(rt; !is_there(alloc, &mut looker, second.as_str())?);
+    let third = dropped(&rt)?;
+    assert!(rt; !is_there(alloc, &mut looker, third.as_str())?);
+    Ok(())
+}
+
+/// Without an open input `cat` would end before its time is up.
+#[test]
+fn the_input_of_a_child_is_open_while_it_runs(rt: HostRuntime) -> Result<(), Fail> {
+    let mut spawner = ChildSpawner::new(rt.alloc(), &rt);
+    spawner.start(&words_of(rt.alloc(), &["timeout", "0.2", "cat"])?)?;
+    assert_eq!(rt; spawner.pull(&mut [0; 1])?, 0);
+    assert_eq!(rt; spawner.finish()?, 124);
     Ok(())
 }

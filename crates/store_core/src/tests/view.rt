@@ -1,7 +1,8 @@
+ghost use Rattle.std.specs.Prelude.{◌≡◌};
 ghost use Rattle.store_core.specs.Store.{IsReady, IsReplayed};
 
 use super::*;
-use crate::StoreView;
+use crate::{KeptPoint, StoreView};
 use fixed_num::{Frac, Units};
 use query_engine::{
     Group, ListPoints, MomentList, Point, PointList, Points, Request, SeriesList, SeriesPointsList,
@@ -28,10 +29,10 @@ const FEW: Settings = Settings {
 };
 
 /// How many ten-millionths one has.
-const ONE: Units = 10_000_000;
+pub(super) const ONE: Units = 10_000_000;
 
 /// The storage number of a whole number.
-fn word(value: i32) -> u32 {
+pub(super) fn word(value: i32) -> u32 {
     pack(
         Frac {
             num: Units::from(value),
@@ -40,6 +41,31 @@ fn word(value: i32) -> u32 {
         false,
         false,
     )
+}
+
+/// Stores a beat of these points.
+pub(super) fn put_points<H: Host>(
+    alloc: Global,
+    store: &mut Store,
+    host: &mut H,
+    moment: u32,
+    points: BeatPointList,
+) -> Result<(), Fail>
+    requires ready { IsReady H.honest (H.seen host.old).past store.old }
+    requires replayed { IsReplayed store.old }
+    ensures ready { IsReady H.honest (H.seen host.new).past store.new }
+    ensures replayed { IsReplayed store.new }
+{
+    let beat = Beat {
+        moment: Some(moment),
+        points,
+        note: ByteList::new(alloc),
+    };
+    if !beat.is_in_form() || !beat.fits_a_record() {
+        return Err(Fail::from("a beat out of form"));
+    }
+    store.commit(host, &beat)?;
+    Ok(())
 }
 
 /// Stores a beat with a point of series 0.
@@ -61,16 +87,7 @@ fn put<H: Host>(
         step: 1,
         word: word(value),
     })?;
-    let beat = Beat {
-        moment: Some(moment),
-        points,
-        note: ByteList::new(alloc),
-    };
-    if !beat.is_in_form() || !beat.fits_a_record() {
-        return Err(Fail::from("a beat out of form"));
-    }
-    store.commit(host, &beat)?;
-    Ok(())
+    put_points(alloc, store, host, moment, points)
 }
 
 fn request(alloc: Global, window: u32, rows: u32, group: Group) -> Result<Request, Fail> {
@@ -167,36 +184,70 @@ fn what_expired_is_answered_by_its_record(rt: HostRuntime) -> Result<(), Fail> {
     Ok(())
 }
 
+/// Checks the kept beats, which have a point at each of these moments, and how many came before.
+fn check_kept(
+    rt: &impl Abort,
+    store: &mut Store,
+    host: &mut MemoryHost,
+    before: u64,
+    moments: &[u32],
+) -> Result<(), Fail>
+    ensures same { store.new ≡ store.old }
+    ensures same_host { host.new ≡ host.old }
+{
+    let kept = store.kept(host)?;
+    assert_eq!(rt; kept.before, before);
+    assert_eq!(rt; kept.beats.len(), moments.len());
+    for (beat, moment) in kept.beats.as_slice().iter().zip(moments) {
+        assert_eq!(rt; beat.moment, *moment);
+        let points = [KeptPoint {
+            series: 0,
+            word: word(1),
+        }];
+        assert_eq!(rt; beat.points.as_slice(), points.as_slice());
+    }
+    Ok(())
+}
+
+/// Stores a beat of a point at each of these moments.
+fn put_each<H: Host>(
+    alloc: Global,
+    store: &mut Store,
+    host: &mut H,
+    moments: &[u32],
+) -> Result<(), Fail>
+    requires ready { IsReady H.honest (H.seen host.old).past store.old }
+    requires replayed { IsReplayed store.old }
+    ensures ready { IsReady H.honest (H.seen host.new).past store.new }
+    ensures replayed { IsReplayed store.new }
+{
+    for moment in moments {
+        put(alloc, store, host, *moment, 1)?;
+    }
+    Ok(())
+}
+
 #[test]
 fn floors_and_kept_beats(rt: HostRuntime) -> Result<(), Fail> {
     let alloc = rt.alloc();
     let mut host = host_of(alloc, &[])?;
     let mut store = Store::create(alloc, &mut host, &FEW)?;
-    put(alloc, &mut store, &mut host, 1, 1)?;
-    put(alloc, &mut store, &mut host, 2, 2)?;
-    put(alloc, &mut store, &mut host, 3, 3)?;
-    put(alloc, &mut store, &mut host, 4, 4)?;
+    put_each(alloc, &mut store, &mut host, &[1, 2, 3, 4, 5, 6, 7])?;
     assert_eq!(rt; store.floor(0), 0);
-    put(alloc, &mut store, &mut host, 5, 5)?;
-    put(alloc, &mut store, &mut host, 6, 6)?;
-    put(alloc, &mut store, &mut host, 7, 7)?;
-    put(alloc, &mut store, &mut host, 8, 8)?;
+    put_each(alloc, &mut store, &mut host, &[8])?;
     assert_eq!(rt; store.floor(0), 5);
-    put(alloc, &mut store, &mut host, 9, 9)?;
-    let kept = store.kept(&mut host)?;
-    assert_eq!(rt; kept.before, 4);
-    let beats = kept.beats.as_slice();
-    assert_eq!(rt; beats.len(), 5);
-    for (beat, value) in beats.iter().zip(5..10) {
-        assert_eq!(rt; beat.moment, value);
-        assert_eq!(rt; beat.points.len(), 1);
-        assert_eq!(rt; beat.points.as_slice()[0].series, 0);
-    }
-    Ok(())
+    put_each(alloc, &mut store, &mut host, &[9])?;
+    check_kept(&rt, &mut store, &mut host, 4, &[5, 6, 7, 8, 9])?;
+    put_each(alloc, &mut store, &mut host, &[10, 11])?;
+    assert_eq!(rt; store.floor(0), 5);
+    put_each(alloc, &mut store, &mut host, &[12])?;
+    assert_eq!(rt; store.floor(0), 9);
+    check_kept(&rt, &mut store, &mut host, 8, &[9, 10, 11, 12])
 }
 
 /// The rows of two tables are the same.
 fn check_rows(rt: &impl Abort, table: &Table, plain: &Table) {
+    assert_eq!(rt; table.rows.len(), plain.rows.len());
     for (row, other) in table.rows.as_slice().iter().zip(plain.rows.as_slice()) {
         assert_eq!(rt; row.start, other.start);
         assert_eq!(rt; row.cells.as_slice(), other.cells.as_slice());

@@ -7,7 +7,7 @@ use Rattle.agent_core.proofs.alarming.follow.Goals as goal
 pub returns-in-Beat-clause-followed : goal.returns-in-Beat-clause-followed
 returns-in-Beat-clause-followed g c =
     both-ok c.step.result _ _ _ c.step.ensures.held c.step.ensures.events (λ events now told past set h beat beats rest are is_at registry latest before was does.
-    beat-followed set h beat beats c.args.registry.now c.args.latest.now are registry latest before (held c.args.alarms.now) (held c.step.new.alarms) events c.in-Beat.moment was
+    beat-followed set h beat beats c.args.registry.now c.args.latest.now are registry latest before (held c.args.alarms.now) (held c.step.new.alarms) events c.in-Beat.moment c.in-Beat.defines was
     (subst (IsSteppingOf beat) c.in-Beat.is does) (now past set beats rest is_at) (told past set beats rest is_at))
 
 pub returns-in-Configuration-clause-followed : goal.returns-in-Configuration-clause-followed

@@ -4,6 +4,7 @@ use Rattle.history.specs.History.{Beat}
 use Rattle.history.specs.Registry.{same_chart, same_dimension}
 use Rattle.history.specs.Regular.{AreApart}
 use Rattle.alarm_core.specs.Course.{held}
+use Rattle.alarm_core.specs.UpTo.{IsUpTo}
 use Rattle.entry_codec.specs.declared.entry.Settings.{Settings}
 use Rattle.store_core.specs.declared.beat.Beat.{Beat as StoreBeat}
 use Rattle.agent_core.specs.Replay.{HasTaken, IsReplaying}
@@ -24,4 +25,5 @@ invariant-loop g l = record {
   charts : AreApart same_chart l.left.registry.charts;
   dimensions : AreApart same_dimension l.left.registry.dimensions;
   limits : HasLimits l.left.registry;
+  up_to : IsUpTo l.alarms l.left.registry;
 }

@@ -3,6 +3,7 @@ use Rattle.host_model.specs.declared.file.File.TheVariants.{JournalA}
 use Rattle.host_model.specs.Moments.{OnlyOn}
 use Rattle.history.specs.History.{Beat}
 use Rattle.alarm_core.specs.Course.{held}
+use Rattle.alarm_core.specs.UpTo.{IsUpTo}
 use Rattle.entry_codec.specs.declared.entry.Settings.{Settings}
 use Rattle.replication.specs.Copies.{latest as latest_of}
 use Rattle.replication.specs.Names.{beat_moment}
@@ -19,6 +20,7 @@ invariant-loop-beat g l = record {
   ready : IsReady g.H.Host.honest (g.H.Host.seen l.host).past l.store;
   replayed : IsReplayed l.store;
   going : l.store.fault ≡ None;
+  up_to : IsUpTo l.alarms l.registry;
   last : l.store.last ≡ latest_of beat_moment l.initial.store.last (take l.beat-index l.beats);
   settings : l.store.settings ≡ l.initial.store.settings;
   only_here : g.H.Host.honest → OnlyOn JournalA (g.H.Host.seen l.initial.host).past (g.H.Host.seen l.host).past;

@@ -12,4 +12,4 @@ loop-chart-preserved c =
     let inside : chart < length charts = omega (arith, c.loop-chart-test.true, c.charts-chart-end.ensures.value) in
     let too : chart < length words = omega (arith, c.loop-chart-test.true, c.charts-chart-end.ensures.value, c.charts.ensures.value, c.if-words-charts.false) in
     words_more words_of charts words chart c.chart.result.now c.index-words-chart.result inside too c.loop-chart.invariant
-    (ap words_of (get_or_from_slice_get charts chart c.chart.result.now c.chart.result.now c.chart.ensures.value) ∙ c.if-not-has_words.ensures refl ∙ c.index-words-chart.is)
+    (ap words_of (get_or_from_slice_get charts chart c.chart.result.now c.chart.result.now c.chart.ensures.value) ∙ c.if-not-has_words.ensures.0 refl ∙ c.index-words-chart.is)

@@ -1,4 +1,4 @@
-use Rattle.alarm_core.proofs.AgainLemmas.{read_again, whole_configured, whole_stepped}
+use Rattle.alarm_core.proofs.AgainLemmas.{read_again, whole_nothing, whole_configured, whole_stepped}
 use Rattle.alarm_core.proofs.LogLemmas.{calls_shown, calls_numbered}
 use Rattle.alarm_core.proofs.SameLemmas.{alarms_alike}
 use Rattle.alarm_core.proofs.law.any_alarms.Goals as goal
@@ -11,6 +11,9 @@ returns-clause-ids c = calls_numbered
 
 pub returns-clause-same : goal.returns-clause-same
 returns-clause-same c = alarms_alike
+
+pub returns-clause-whole_nothing : goal.returns-clause-whole_nothing
+returns-clause-whole_nothing c = whole_nothing
 
 pub returns-clause-whole_configured : goal.returns-clause-whole_configured
 returns-clause-whole_configured c = whole_configured

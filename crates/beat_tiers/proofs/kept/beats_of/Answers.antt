@@ -1,4 +1,5 @@
-use Rattle.std.proofs.Common.{◌≡◌, ℕ, [], ◌++◌, flat_map, ap, sym, ◌∙◌, append_assoc}
+use Rattle.std.proofs.Common.{◌≡◌, [], ◌++◌, flat_map, ap, sym, ◌∙◌, append_assoc}
+use Rattle.beat_tiers.specs.declared.item.Stepped.{Stepped}
 use Rattle.beat_tiers.specs.declared.segments.Segment.{Segment}
 use Rattle.beat_tiers.specs.Kept.{beats_in, behind_all}
 use Rattle.beat_tiers.proofs.BeatRuns.{behind-all-in}
@@ -8,8 +9,8 @@ use Rattle.beat_tiers.proofs.kept.beats_of.Goals as goal
 pub returns : goal.returns
 returns c =
     let segments = c.args.segments.now.kept in
-    let early = flat_map (λ (segment : Segment ℕ). segment.items) c.sealed.result.0.now in
-    let late = flat_map (λ (segment : Segment ℕ). segment.items) c.sealed.result.1.now in
+    let early = flat_map (λ (segment : Segment Stepped). segment.items) c.sealed.result.0.now in
+    let late = flat_map (λ (segment : Segment Stepped). segment.items) c.sealed.result.1.now in
     let first : c.add_segments.new.beats.items ≡ beats_in early =
     c.in_ok-add_segments.ensures ∙ ap (λ beats. behind_all beats early) c.new-beats.ensures.items ∙ behind-all-in [] early in
     let second : c.add_segments-2.new.beats.items ≡ beats_in (early ++ late) =

@@ -1,6 +1,7 @@
-use Rattle.std.proofs.Common.{ℕ, List, flat_map, take, ap, sym, subst, ◌∙◌, ◌++◌, arith}
+use Rattle.std.proofs.Common.{List, flat_map, take, ap, sym, subst, ◌∙◌, ◌++◌, arith}
 use Rattle.std.specs.List.{filter_map}
 use Rattle.beat_tiers.specs.declared.item.Item.{Item}
+use Rattle.beat_tiers.specs.declared.item.Stepped.{Stepped}
 use Rattle.beat_tiers.specs.declared.segments.Segment.{Segment}
 use Rattle.beat_tiers.specs.State.{point_at}
 use Rattle.beat_tiers.specs.Tiers.{AreOrdered}
@@ -10,9 +11,9 @@ use Rattle.beat_tiers.proofs.searching.add_segments.Goals as goal
 
 pub loop-segment-preserved : goal.loop-segment-preserved
 loop-segment-preserved c = λ o.
-    let items : Segment ℕ → List (Item ℕ) = λ one. one.items in
+    let items : Segment Stepped → List (Item Stepped) = λ one. one.items in
     let ordered : AreOrdered c.segment-item.result.items =
-    subst (λ (zs : List (Item ℕ)). AreOrdered zs) (sym (ap items c.segment-item.is))
+    subst (λ (zs : List (Item Stepped)). AreOrdered zs) (sym (ap items c.segment-item.is))
     (ordered-part items c.args.segments.now c.loop-segment.segment-index c.segment-item.result (omega arith) o) in
     let a = c.args in
     let points = filter_map (point_at a.floor a.series a.from a.to) in

@@ -1,21 +1,13 @@
-use Rattle.std.proofs.Common.{◌≡◌, ◌≢◌, Option, Some, None, Result, Ok, Err, refl, sym}
+use Rattle.std.proofs.Common.{◌≡◌, ◌≢◌, Option, Some, None, Result, Ok, Err, refl}
 use Rattle.plugin_runner.specs.declared.fault.RunFault.{RunFault}
 use Rattle.plugin_runner.specs.declared.fault.RunFault.TheVariants as fault
 use Rattle.plugin_runner.specs.declared.fault.Turn.{Turn}
-use Rattle.plugin_runner.specs.Bytes.{bytes_of, IsFront}
+use Rattle.plugin_runner.specs.Bytes.{bytes_of}
 use Rattle.plugin_runner.specs.Course.{Course, IsTold, answer_after}
 use Rattle.plugin_runner.specs.Runner.{lasting_answer}
 use Rattle.plugin_runner.specs.Text.{Text}
-use Rattle.plugin_runner.proofs.StepLemmas.{front-all}
+use Rattle.plugin_runner.proofs.WholeLemmas.{told-front}
 use Rattle.plugin_runner.proofs.law.any_course.Goals as goal
-
-front : (answer : Option (Result Turn RunFault)) (course : Course) (whole : Text) → IsTold answer course whole → IsFront course.told (bytes_of whole)
-front None course whole told = front-all course.told (bytes_of whole) (sym told.0)
-front (Some (Ok turn)) course whole told = front-all course.told (bytes_of whole) (sym told.0)
-front (Some (Err fault.SpawnFault)) course whole told = front-all course.told (bytes_of whole) (sym told.0)
-front (Some (Err fault.PipeFault)) course whole told = front-all course.told (bytes_of whole) (sym told.0)
-front (Some (Err (fault.Disabled status))) course whole told = front-all course.told (bytes_of whole) (sym told.0)
-front (Some (Err fault.Memory)) course whole told = told.0
 
 all_of : (answer : Option (Result Turn RunFault)) (course : Course) (whole : Text) → answer ≢ Some (Err fault.Memory) → IsTold answer course whole
     → (course.told ≡ bytes_of whole) × (answer ≡ answer_after course.starts whole course.children)
@@ -27,7 +19,7 @@ all_of (Some (Err (fault.Disabled status))) course whole other told = (told.0, t
 all_of (Some (Err fault.Memory)) course whole other told = absurd (other refl)
 
 pub returns-clause-front : goal.returns-clause-front
-returns-clause-front c = λ runner course later r. front (lasting_answer runner) course _ (r.tells later)
+returns-clause-front c = λ runner course later r. told-front (lasting_answer runner) course _ (r.tells later)
 
 pub returns-clause-whole : goal.returns-clause-whole
 returns-clause-whole c = λ runner course later r other. (all_of (lasting_answer runner) course _ other (r.tells later)).0

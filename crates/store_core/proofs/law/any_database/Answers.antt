@@ -25,6 +25,6 @@ returns c = record {
   floors = λ past store set beats rest tier is_at few. floor_is set beats store.tiers is_at.tiers tier few;
   two_tiers = λ past store set beats rest request i series one other is_at may_one may_other low high.
       same_cell widths (floor_at set beats) request i one other (points_of beats series)
-      (told_series store (points_of beats) (record { past = past; set = set; beats = beats; rest = rest; is_at = is_at; told_is = refl }) series)
+      (told_series store (points_of beats) (record { set = set; beats = beats; has = is_at.tiers; told_is = refl }) series)
       may_one may_other low high;
 }

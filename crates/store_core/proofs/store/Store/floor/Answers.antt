@@ -4,8 +4,8 @@ use Rattle.store_core.specs.Store.{StoreState}
 use Rattle.store_core.proofs.TierLemmas.{floor_is}
 use Rattle.store_core.proofs.store.Store.floor.Goals as goal
 
-pub returns : goal.returns
-returns c = λ past set beats rest is_at.
+pub returns-clause-applied : goal.returns-clause-applied
+returns-clause-applied c = λ past set beats rest is_at.
     c.floor.ensures
     ∙ ap (λ (s : StoreState). tier_floor s.tiers c.args.tier) c.self.view_is
     ∙ floor_is set beats c.args.self.now.tiers is_at.tiers c.args.tier c.requires

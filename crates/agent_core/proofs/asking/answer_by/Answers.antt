@@ -1,0 +1,8 @@
+use Rattle.std.proofs.lemmas.Result.{IfOk-weaker}
+use Rattle.agent_core.proofs.AskLemmas.{answer-form}
+use Rattle.agent_core.proofs.asking.answer_by.Goals as goal
+
+pub returns-clause-form : goal.returns-clause-form
+returns-clause-form c =
+    IfOk-weaker c.answer.result _ _ (λ answer is.
+    answer-form c.in_ok-names.names c.in_ok-names.beats c.in_ok-names.ensures.rules c.args.child c.args.floor c.args.ask answer c.ranges.child.fits c.ranges.floor.fits c.requires.small is) c.answer.ensures
