@@ -49,7 +49,3 @@ count_made {A} {B} q f (x ∷ xs) = count-cons (λ x. option_map_or q (f x) fals
 -- no more pass than there are things
 pub few_made : {A B : Type 0} (q : B → Bool) (f : A → Option B) (xs : List A) → count_by q (filter_map f xs) ≤ length xs
 few_made q f xs = omega (arith, count_made q f xs, count_by-le-length (λ x. option_map_or q (f x) false) xs)
-
-pub or_none : (b : Bool) → (b || false) ≡ b
-or_none true = refl
-or_none false = refl
