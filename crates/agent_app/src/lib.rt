@@ -32,7 +32,9 @@ use host_model::{Clock, Host, Link, Source, Spawner, Status};
 use log::log;
 use new::new;
 use query::query;
+use receive::receive;
 use run::run;
+use send::send;
 use std::alloc::Global;
 
 mod collect;
@@ -48,9 +50,11 @@ mod log_json;
 mod log_text;
 mod new;
 mod query;
+mod receive;
 mod refusals;
 mod run;
 mod running;
+mod send;
 
 pub use law::any_course;
 
@@ -107,7 +111,7 @@ pub fn agent_main<S: Source, H: Host, L: Link, P: Spawner, C: Clock>(
     ensures no_form { command_of words.now ≡ None →
         (result ≡ Status.Usage) ⊎ (result ≡ Status.Memory) }
     ensures untouched { command_of words.now ≡ None →
-        (source.new ≡ source.old) × (host.new ≡ host.old) }
+        (source.new ≡ source.old) × (host.new ≡ host.old) × (link.new ≡ link.old) }
 
     // What was told, and why the run ended.
     ensures converts { command_of words.now ≡ Some Command.Convert →
@@ -147,11 +151,18 @@ pub fn agent_main<S: Source, H: Host, L: Link, P: Spawner, C: Clock>(
     ensures collect_takes_nothing { (every starts : ℕ)
         → command_of words.now ≡ Some (Command.Collect every starts) → source.new ≡ source.old }
 
-    // No other command starts a program or asks the time, and none talks to another agent.
+    // No other command starts a program or asks the time.
     ensures uncollected { ((every starts : ℕ)
         → command_of words.now ≡ Some (Command.Collect every starts) → ⊥)
         → (spawner.new ≡ spawner.old) × (clock.new ≡ clock.old) }
-    ensures unlinked { link.new ≡ link.old }
+
+    // None but `send` and `receive` talks to another agent, and these take nothing of the input.
+    ensures unlinked { (command_of words.now ≡ Some Command.Send → ⊥)
+        → (command_of words.now ≡ Some Command.Receive → ⊥) → link.new ≡ link.old }
+    ensures send_takes_nothing { command_of words.now ≡ Some Command.Send →
+        source.new ≡ source.old }
+    ensures receive_takes_nothing { command_of words.now ≡ Some Command.Receive →
+        source.new ≡ source.old }
 
     // What a question is answered with, and why it was not.
     ensures asks { command_of words.now ≡ Some Command.Query →
@@ -182,6 +193,8 @@ pub fn agent_main<S: Source, H: Host, L: Link, P: Spawner, C: Clock>(
         Ok(Some(Command::Log(form))) => log(alloc, form, host),
         Ok(Some(Command::New(settings))) => new(alloc, &settings, host),
         Ok(Some(Command::Query)) => query(alloc, words, host),
+        Ok(Some(Command::Receive)) => receive(alloc, host, link),
         Ok(Some(Command::Run)) => run(alloc, source, host),
+        Ok(Some(Command::Send)) => send(alloc, host, link),
     }
 }
