@@ -1,4 +1,6 @@
 //! The command `send`: copies of the beats go to a parent.
+ghost use Rattle.std.specs.Prelude.{◌≡◌};
+
 use host_model::{Host, Link, Status};
 use std::alloc::Global;
 
