@@ -26,32 +26,11 @@ use Rattle.beat_tiers.specs.declared.item.BeatPoint.{BeatPoint}
 use Rattle.store_core.specs.Beats.{beat_bytes, is_point, series_of, InForm, IsPoint}
 use Rattle.store_core.proofs.BeatLaw.{beat_size}
 use Rattle.agent_core.specs.Kept.{point_of, step_of}
-use Rattle.agent_core.specs.Rules.{HasGrids, IsOpenBeat}
-use Rattle.agent_core.proofs.Lists.{all-put_all}
-
--- ---- the update_every of charts
-abbrev pub IsGrid : ChartDef → Type 0
-IsGrid def = (0 < def.update_every) × (def.update_every ≤ 86400)
-
-pub grid-kept : (def : ChartDef) → 0 < def.update_every → chart_keeps_limits def ≡ true → IsGrid def
-grid-kept def some keeps = (some, leb-true def.update_every 86400 (and_parts (is_chart_id def.id && has_short_texts def) (nat_le def.update_every UPDATE_EVERY_LIMIT) keeps).1)
-
-pub grids-with : (registry : Registry) (cs : List ChartDef) → HasGrids registry → AllByRecursion IsGrid cs → (ds : List OpenDim) → HasGrids (with_definitions registry cs ds)
-grids-with registry cs grids more ds =
-    All-from_recursion IsGrid (with_definitions registry cs ds).charts (all-put_all same_chart IsGrid registry.charts cs (recursion_from_All IsGrid registry.charts grids) more)
-
-pub grids-after : (registry : Registry) (beat : OpenBeat) → IsOpenBeat beat → HasGrids registry → HasGrids (with_definitions registry beat.charts beat.dimensions)
-grids-after registry beat is_open grids =
-    grids-with registry beat.charts grids
-    (both beat.charts (recursion_from_All (λ (def : ChartDef). 0 < def.update_every) beat.charts is_open.grids)
-    (recursion_from_All (λ (def : ChartDef). chart_keeps_limits def ≡ true) beat.charts is_open.chart_limits)) beat.dimensions
-  where
-    both : (defs : List ChartDef) → AllByRecursion (λ (def : ChartDef). 0 < def.update_every) defs → AllByRecursion (λ (def : ChartDef). chart_keeps_limits def ≡ true) defs → AllByRecursion IsGrid defs
-    both [] some keeps = tt
-    both (def ∷ defs) some keeps = (grid-kept def some.0 keeps.0, both defs some.1 keeps.1)
+use Rattle.agent_core.specs.Rules.{HasLimits}
+use Rattle.agent_core.proofs.LimitLemmas.{IsGrid}
 
 -- ---- the points
-module _ (registry : Registry) (grids : HasGrids registry) (few : length registry.dimensions ≤ 65536) where
+module _ (registry : Registry) (limits : HasLimits registry) where
   step-grid : (series : ℕ) → (0 < step_of registry series) × (step_of registry series ≤ 86400)
   step-grid series = by (slice_get registry.dimensions series)
     where
@@ -63,7 +42,7 @@ module _ (registry : Registry) (grids : HasGrids registry) (few : length registr
       by None = (omega arith, omega arith)
       by (Some dimension) =
           of (find (is_chart dimension.chart) registry.charts)
-          (λ def e. found-all IsGrid (is_chart dimension.chart) registry.charts def (recursion_from_All IsGrid registry.charts grids) e)
+          (λ def e. found-all IsGrid (is_chart dimension.chart) registry.charts def (recursion_from_All IsGrid registry.charts limits.grids) e)
 
   abbrev IsGiven : SeriesWord → Type 0
   IsGiven word = (word.series < length registry.dimensions) × (is_word word.word ≡ true)
@@ -71,7 +50,7 @@ module _ (registry : Registry) (grids : HasGrids registry) (few : length registr
   point-form : (word : SeriesWord) → IsGiven word → is_point (point_of registry word) ≡ true
   point-form word given =
       let step = step-grid word.series in
-      let series : nat_lt word.series 65536 ≡ true = lt-ltb word.series 65536 (omega (arith, given.0, few)) in
+      let series : nat_lt word.series 65536 ≡ true = lt-ltb word.series 65536 (omega (arith, given.0, limits.few)) in
       let least : nat_le 1 (step_of registry word.series) ≡ true = le-leb 1 (step_of registry word.series) (omega (arith, step.0)) in
       let most : nat_le (step_of registry word.series) 86400 ≡ true = le-leb (step_of registry word.series) 86400 step.1 in
       λ i. series i && least i && most i && given.1 i
@@ -110,7 +89,7 @@ module _ (registry : Registry) (grids : HasGrids registry) (few : length registr
     few-points =
         let given = recursion_from_All IsGiven words in_registry in
         let same : length points ≡ length words = ap length points_are ∙ length-map words (point_of registry) in
-        omega (arith, same, few, words-few 0 words rises (all-above words) given (omega arith))
+        omega (arith, same, limits.few, words-few 0 words rises (all-above words) given (omega arith))
 
     note-length : length note ≤ 33579025
     note-length = let same : length note ≡ length (entry_bytes (entry.Collected numbered)) = ap length note_is in omega (arith, same, collected-length numbered within)

@@ -1,5 +1,5 @@
 -- What holds of a history that a store keeps, and of a beat that may follow it.
-use Rattle.std.proofs.Common.{◌≡◌, ℕ, ◌<◌, Bool, false, not, nat_le, List, [], ◌∷◌, None, refl, arith, is_some}
+use Rattle.std.proofs.Common.{◌≡◌, ℕ, ◌<◌, Bool, false, nat_le, List, [], ◌∷◌, Option, Some, None, refl, arith, is_some, true≢false}
 use Rattle.std.proofs.lemmas.Bool.{leb-false}
 use Rattle.history.specs.declared.beat.OpenBeat.{OpenBeat}
 use Rattle.history.specs.declared.fault.BlockFault.TheVariants.{NoChart, NoDimension, MomentOrder, MixedRoles, GridChanged, TooManyCharts, TooManyDimensions}
@@ -10,7 +10,7 @@ use Rattle.beat_points.proofs.LawLemmas.{before-collected, before-none}
 use Rattle.store_core.specs.declared.beat.Beat.{Beat as StoreBeat}
 use Rattle.chart_registry.proofs.AcceptedLemmas.{passed}
 use Rattle.agent_core.specs.Kept.{AreBeatsOf, Follows}
-use Rattle.agent_core.specs.Roles.{may_collect, role_of}
+use Rattle.agent_core.specs.Roles.{child_in, copies, role_of}
 use Rattle.agent_core.specs.Rules.{beat_refusal, changes_grid, lacks_chart, lacks_dimension, too_many_charts, too_many_dimensions}
 
 -- the tests that a beat passed
@@ -43,7 +43,7 @@ unfolding beat_refusal
 follows-alone h moment beat follows = (passed (is_some (child h)) MixedRoles _ follows.accepted).0
 
 -- a history has a child just where nothing may be collected any more
-pub copies-of : (h : List Beat) (beats : List StoreBeat) → AreBeatsOf h beats → is_some (child h) ≡ not (may_collect (role_of h))
+pub copies-of : (h : List Beat) (beats : List StoreBeat) → AreBeatsOf h beats → is_some (child h) ≡ copies (role_of h)
 copies-of [] beats are = refl
 copies-of (collected moment beat ∷ h) [] are = absurd are
 copies-of (collected moment beat ∷ h) (kept ∷ beats) are = follows-alone h moment beat are.0.follows
@@ -51,6 +51,20 @@ copies-of (copied copy ∷ h) beats are = refl
 copies-of (health text ∷ h) [] are = absurd are
 copies-of (health text ∷ h) (kept ∷ beats) are = copies-of h beats are.1
 copies-of (missing gap ∷ h) beats are = refl
+
+no-child : (own : Option ℕ) → is_some own ≡ false → None ≡ own
+no-child (Some number) none = absurd (true≢false none)
+no-child None none = refl
+
+-- the child is that of the last beat that decides what a history does
+pub child-of : (h : List Beat) (beats : List StoreBeat) → AreBeatsOf h beats → child_in (role_of h) ≡ child h
+child-of [] beats are = refl
+child-of (collected moment beat ∷ h) [] are = absurd are
+child-of (collected moment beat ∷ h) (kept ∷ beats) are = no-child (child h) (follows-alone h moment beat are.0.follows)
+child-of (copied copy ∷ h) beats are = refl
+child-of (health text ∷ h) [] are = absurd are
+child-of (health text ∷ h) (kept ∷ beats) are = child-of h beats are.1
+child-of (missing gap ∷ h) beats are = refl
 
 -- what was collected lies before a moment that is above the last one
 pub before-of : (h : List Beat) (beats : List StoreBeat) → AreBeatsOf h beats → (moment : ℕ) → last h < moment → IsBefore h moment

@@ -32,9 +32,11 @@ use Rattle.agent_core.specs.Alarms.{alarms_at, HaveFollowed}
 use Rattle.agent_core.specs.LastSeen.{IsLatestOf}
 use Rattle.agent_core.specs.Kept.{kept_of, note_of, point_of, stored_points, AreBeatsOf, Follows, StandsForHealth, StandsForHistory, StandsForOneOf}
 use Rattle.agent_core.specs.Replay.{HasSeenBeat, HasTakenRows}
+use Rattle.agent_core.specs.declared.left.Role.{Role}
+use Rattle.agent_core.specs.Roles.{child_in, copies, role_of}
 use Rattle.agent_core.specs.Rules.{beat_refusal, IsOpenBeat}
 use Rattle.agent_core.specs.Health.{health_refusal}
-use Rattle.agent_core.proofs.HistoryLemmas.{before-of, follows-passed}
+use Rattle.agent_core.proofs.HistoryLemmas.{before-of, child-of, copies-of, follows-passed}
 use Rattle.agent_core.proofs.LastSeenLemmas.{latest-health}
 
 -- what is kept is put together of its parts
@@ -157,14 +159,22 @@ holds-before past store registry lasts latest set h before holds = record {
 counted-more : (n : ℕ) → raised (counted n) ≡ counted (n + 1)
 counted-more n = omega arith
 
+-- an agent has copied just where its history has a child
+pub copies-child : (past : List Event) (agent : AgentState) (set : Settings) (h : List Beat) → IsAgentOf past agent set h → copies agent.role ≡ is_some (child h)
+copies-child past agent set h is_of = ap copies is_of.role ∙ sym (copies-of h is_of.holds.beats is_of.holds.are)
+
+-- and it copies that child
+pub child-is : (past : List Event) (agent : AgentState) (set : Settings) (h : List Beat) → IsAgentOf past agent set h → child_in agent.role ≡ child h
+child-is past agent set h is_of = ap child_in is_of.role ∙ child-of h is_of.holds.beats is_of.holds.are
+
 module _ (past : List Event) (agent : AgentState) (set : Settings) (h : List Beat) (is_of : IsAgentOf past agent set h) where
   abbrev refusal : ℕ → OpenBeat → Option BlockFault
-  refusal moment beat = beat_refusal agent.registry agent.copies agent.last moment beat
+  refusal moment beat = beat_refusal agent.registry (copies agent.role) agent.last moment beat
 
   pub follows-of : (moment : ℕ) (beat : OpenBeat) → IsOpenBeat beat → refusal moment beat ≡ None → Follows h moment beat
   follows-of moment beat is_open free = record {
     is_open = is_open;
-    accepted = sym (λ i. beat_refusal (is_of.holds.registry_is i) (is_of.copies i) (is_of.last_is i) moment beat) ∙ free;
+    accepted = sym (λ i. beat_refusal (is_of.holds.registry_is i) (copies-child past agent set h is_of i) (is_of.last_is i) moment beat) ∙ free;
   }
 
   -- nothing has happened yet
@@ -181,36 +191,36 @@ module _ (past : List Event) (agent : AgentState) (set : Settings) (h : List Bea
       either reason more free disk (inr stands) = inr (free, stands)
 
   pub one_more : (new : List Event) (agent' : AgentState) (beat : Beat) → Holds new agent'.store agent'.registry agent'.last_rows agent'.latest set (beat ∷ h)
-      → agent'.last ≡ last (beat ∷ h) → agent'.count ≡ raised agent.count → agent'.copies ≡ is_some (child (beat ∷ h)) → held agent'.alarms ≡ alarms_at set (beat ∷ h) → agent'.fault ≡ None
+      → agent'.last ≡ last (beat ∷ h) → agent'.count ≡ raised agent.count → agent'.role ≡ role_of (beat ∷ h) → held agent'.alarms ≡ alarms_at set (beat ∷ h) → agent'.fault ≡ None
       → IsAgentOf new agent' set (beat ∷ h)
-  one_more new agent' beat holds last_is count copies alarms going = record {
+  one_more new agent' beat holds last_is count role alarms going = record {
     holds = holds;
     last_is = last_is;
     count = count ∙ ap raised is_of.count ∙ counted-more (length h) ∙ ap counted (omega arith);
-    copies = copies;
+    role = role;
     alarms = alarms;
     going = going;
   }
 
 -- an agent whose parts are of the history with a beat, and whose alarms have followed it
-pub agent-more : (past new : List Event) (agent parts agent' : AgentState) (set : Settings) (h : List Beat) (beat : Beat) (moment : ℕ) (events : List AlarmEvent) → IsAgentOf past agent set h
-    → Holds new parts.store parts.registry parts.last_rows parts.latest set (beat ∷ h) → parts.count ≡ agent.count → parts.copies ≡ agent.copies → parts.fault ≡ None
-    → agent' ≡ record parts { alarms = agent'.alarms; last = moment; count = raised parts.count } → moment ≡ last (beat ∷ h) → is_some (child h) ≡ is_some (child (beat ∷ h))
+pub agent-more : (past new : List Event) (agent parts agent' : AgentState) (set : Settings) (h : List Beat) (beat : Beat) (moment : ℕ) (role : Role) (events : List AlarmEvent) → IsAgentOf past agent set h
+    → Holds new parts.store parts.registry parts.last_rows parts.latest set (beat ∷ h) → parts.count ≡ agent.count → parts.fault ≡ None
+    → agent' ≡ record parts { alarms = agent'.alarms; last = moment; role = role; count = raised parts.count } → moment ≡ last (beat ∷ h) → role ≡ role_of (beat ∷ h)
     → HaveFollowed set (beat ∷ h) (held agent'.alarms) events → IsAgentOf new agent' set (beat ∷ h)
-agent-more past new agent parts agent' set h beat moment events is_of holds count copies going is at child_is followed =
+agent-more past new agent parts agent' set h beat moment role events is_of holds count going is at does followed =
     subst (λ (a : AgentState). IsAgentOf new a set (beat ∷ h)) (sym is)
-    (one_more past agent set h is_of new (record parts { alarms = agent'.alarms; last = moment; count = raised parts.count }) beat holds at (ap raised count) (copies ∙ is_of.copies ∙ child_is) followed.held_is going)
+    (one_more past agent set h is_of new (record parts { alarms = agent'.alarms; last = moment; role = role; count = raised parts.count }) beat holds at (ap raised count) does followed.held_is going)
 
 -- the moments of a beat that nothing refuses; `inside` is what the agent is made of
 pub beat_moments : (past new : List Event) (agent inside : AgentState) (set : Settings) (h : List Beat) (moment : ℕ) (beat : OpenBeat) → inside ≡ agent → IsOpenBeat beat
-    → beat_refusal inside.registry inside.copies inside.last moment beat ≡ None → IsAgentOf past agent set h
+    → beat_refusal inside.registry (copies inside.role) inside.last moment beat ≡ None → IsAgentOf past agent set h
     → (Holds past inside.store inside.registry inside.last_rows inside.latest set h → Follows h moment beat
     → Throughout (EveryDisk (λ disk. StandsForHistory set h disk ⊎ StandsForHistory set (collected moment beat ∷ h) disk)) past new)
-    → Throughout (EveryDisk (StandsForOneOf set h (beat_refusal agent.registry agent.copies agent.last moment beat) (collected moment beat ∷ h))) past new
+    → Throughout (EveryDisk (StandsForOneOf set h (beat_refusal agent.registry (copies agent.role) agent.last moment beat) (collected moment beat ∷ h))) past new
 beat_moments past new agent inside set h moment beat view is_open free is_of moments =
-    let free' : beat_refusal agent.registry agent.copies agent.last moment beat ≡ None
-    = ap (λ (a : AgentState). beat_refusal a.registry a.copies a.last moment beat) (sym view) ∙ free in
-    one_of past agent set h is_of (beat_refusal agent.registry agent.copies agent.last moment beat) (collected moment beat ∷ h) new free'
+    let free' : beat_refusal agent.registry (copies agent.role) agent.last moment beat ≡ None
+    = ap (λ (a : AgentState). beat_refusal a.registry (copies a.role) a.last moment beat) (sym view) ∙ free in
+    one_of past agent set h is_of (beat_refusal agent.registry (copies agent.role) agent.last moment beat) (collected moment beat ∷ h) new free'
     (moments (subst (λ (a : AgentState). Holds past a.store a.registry a.last_rows a.latest set h) (sym view) is_of.holds) (follows-of past agent set h is_of moment beat is_open free'))
 
 -- ---- a configuration that nothing refuses

@@ -19,6 +19,7 @@ use Rattle.store_core.specs.Store.{IsNew, IsReady, IsStoreOf, StoreState}
 use Rattle.alarm_core.specs.declared.latest.Latest.{Latest}
 use Rattle.alarm_core.specs.declared.alarms.Alarms.{Alarms}
 use Rattle.alarm_core.specs.Course.{held, nothing}
+use Rattle.agent_core.specs.declared.left.Role.TheVariants.{Undecided}
 use Rattle.agent_core.specs.Agent.{AgentState, Fits, IsAgentOf}
 use Rattle.agent_core.specs.declared.fault.AgentFault.{AgentFault}
 use Rattle.agent_core.specs.declared.fault.AgentFault.TheVariants as agent_fault
@@ -26,7 +27,8 @@ use Rattle.agent_core.specs.Alarms.{alarms_by}
 use Rattle.agent_core.specs.Faults.{fault_of}
 use Rattle.agent_core.specs.Kept.{StandsForNew}
 use Rattle.agent_core.specs.LastSeen.{IsLatestOf}
-use Rattle.agent_core.specs.Rules.{HasGrids}
+use Rattle.agent_core.specs.Rules.{HasLimits}
+use Rattle.agent_core.proofs.LimitLemmas.{none-limits}
 
 -- a stop left this disk before, or it holds no database, or the one with these settings and without beats
 abbrev pub WasOrIsNew : List Event → Settings → (File → List ℕ) → Type 0
@@ -41,12 +43,8 @@ new_climbs set old new moments = disks_weaker by moments
     by disk (inr (inl none)) = inr (inl none)
     by disk (inr (inr stands)) = inr (inr (record { beats = []; are = tt; stands = stands }))
 
--- no chart at all
-none-gridded : HasGrids empty
-none-gridded = All-from_recursion _ [] tt
-
 abbrev pub new_agent : StoreState → Registry → List (Option Last) → Latest → Alarms → AgentState
-new_agent store registry lasts latest alarms = record { store = store; registry = registry; last_rows = lasts; latest = latest; alarms = alarms; last = 0; count = 0; copies = false; fault = None }
+new_agent store registry lasts latest alarms = record { store = store; registry = registry; last_rows = lasts; latest = latest; alarms = alarms; last = 0; count = 0; role = Undecided; fault = None }
 
 module _ (store : StoreState) (registry : Registry) (lasts : List (Option Last)) (latest : Latest) (alarms : Alarms) (set : Settings) (is_empty : registry ≡ empty) where
   pub new_is_of : (past : List Event) → IsStoreOf past store set [] → AreLastOf lasts [] → IsLatestOf latest [] → held alarms ≡ nothing → IsAgentOf past (new_agent store registry lasts latest alarms) set []
@@ -55,7 +53,7 @@ module _ (store : StoreState) (registry : Registry) (lasts : List (Option Last))
     holds = record { beats = []; are = tt; store_of = store_of; registry_is = is_empty; last_rows_are = last_rows; latest_is = latest_is };
     last_is = refl;
     count = refl;
-    copies = refl;
+    role = refl;
     alarms = none;
     going = refl;
   }
@@ -68,7 +66,7 @@ module _ (store : StoreState) (registry : Registry) (lasts : List (Option Last))
     same_last = new.last;
     charts = subst (λ (r : Registry). AreApart same_chart r.charts) (sym is_empty) tt;
     dimensions = subst (λ (r : Registry). AreApart same_dimension r.dimensions) (sym is_empty) tt;
-    grids = subst HasGrids (sym is_empty) none-gridded;
+    limits = subst HasLimits (sym is_empty) none-limits;
   }
 
 -- ---- a failure of the disk under an agent that is made

@@ -15,13 +15,12 @@ use Rattle.store_core.specs.Store.{counted, IsReplayed, IsStoreAt, IsStoreOf, Op
 use Rattle.agent_core.specs.declared.left.Left.{Left}
 use Rattle.agent_core.specs.Agent.{AgentState, IsAgentOf}
 use Rattle.agent_core.specs.Alarms.{alarms_at}
-use Rattle.agent_core.specs.Kept.{AreBeatsOf, IsBeatOf, StandsForHistory}
+use Rattle.agent_core.specs.Kept.{onto, AreBeatsOf, IsBeatOf, StandsForHistory}
 use Rattle.agent_core.specs.LastSeen.{IsLatestOf}
 use Rattle.agent_core.specs.Notes.{left_by}
-use Rattle.agent_core.specs.Replay.{onto, AreNextOf, ArePartsOf, IsOpenedFor, IsReplaying}
+use Rattle.agent_core.specs.Replay.{AreNextOf, ArePartsOf, IsOpenedFor, IsReplaying}
 use Rattle.agent_core.specs.Roles.{may_collect}
 use Rattle.agent_core.proofs.AlarmLemmas.{none-yet}
-use Rattle.agent_core.proofs.HistoryLemmas.{copies-of}
 
 -- ---- the beginning
 
@@ -187,9 +186,9 @@ no-more front [] next = refl
 no-more front (beat ∷ more) next = absurd next
 
 pub replayed-is_of : (past : List Event) (agent : AgentState) (left : Left) (set : Settings) (h : List Beat) → IsReplaying past agent.store left agent.last_rows agent.latest (held agent.alarms) set h → IsReplayed agent.store
-    → agent.registry ≡ left.registry → agent.last ≡ agent.store.last → agent.count ≡ agent.store.count → agent.copies ≡ not (may_collect left.role) → agent.fault ≡ None
+    → agent.registry ≡ left.registry → agent.last ≡ agent.store.last → agent.count ≡ agent.store.count → agent.role ≡ left.role → agent.fault ≡ None
     → IsAgentOf past agent set h
-replayed-is_of past agent left set h was done registry last_is count copies going =
+replayed-is_of past agent left set h was done registry last_is count role going =
     let none : was.rest ≡ [] = sym was.is_at.waiting ∙ done in
     let store_of : IsStoreOf past agent.store set was.beats = subst (λ (rest : List StoreBeat). IsStoreAt past agent.store set was.beats rest) none was.is_at in
     let end : was.more ≡ [] = no-more was.front was.more (subst (AreNextOf was.front was.more) none was.next) in
@@ -206,7 +205,7 @@ replayed-is_of past agent left set h was done registry last_is count copies goin
       };
       last_is = last_is ∙ was.is_at.last ∙ said.last_is;
       count = count ∙ was.is_at.count ∙ ap counted said.count;
-      copies = copies ∙ ap (λ (l : Left). not (may_collect l.role)) was.parts.left_is ∙ sym (copies-of was.front was.beats was.are);
+      role = role ∙ ap (λ (l : Left). l.role) was.parts.left_is;
       alarms = was.held_is;
       going = going;
     })

@@ -78,7 +78,7 @@ module _ (g : List Beat) (beats : List StoreBeat) (are : AreBeatsOf g beats) whe
   left-after (collected moment beat) kept of =
       let same = last-is g moment beat (follows-owned g moment beat of.follows) in
       λ i. record { registry = same i; role = Collects }
-  left-after (copied copy) kept of = λ i. record { registry = sym (copied-registry g copy of.follows.may) i; role = Copies }
+  left-after (copied copy) kept of = λ i. record { registry = sym (copied-registry g copy of.follows.may) i; role = Copies copy.child }
   left-after (health text) kept of = refl
   left-after (missing gap) kept of = refl
 

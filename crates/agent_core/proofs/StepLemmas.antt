@@ -33,6 +33,7 @@ use Rattle.host_model.specs.Seen.{Seen}
 use Rattle.agent_core.specs.Fed.{IsFed}
 use Rattle.agent_core.specs.Faults.{fault_after, IsReading, RefusedBy}
 use Rattle.agent_core.specs.Kept.{StandsForOneOf}
+use Rattle.agent_core.specs.Roles.{copies}
 use Rattle.agent_core.specs.Rules.{closing_refusal, count_with, history_with, last_with, line_refusal}
 use Rattle.agent_core.specs.Said.{Answers, IsSaid, TellsEvents}
 use Rattle.agent_core.specs.Steps.{step_count, step_history, step_last, step_refusal, AnswersStep, HasBeat, IsSaidOf, NeedsHost, Takes, TellsStep}
@@ -81,10 +82,10 @@ beat-stored honest host host' agent agent' beat moment reply going did = record 
 -- a step for which the host is not asked
 module _ (honest : Type 0) (host : Seen) (agent : AgentState) (going : agent.fault ≡ None) (ready : AgentIsReady honest host.past agent) where
   step-quiet : (step : Step) (now : Said) → (NeedsHost step → ⊥) → IsSaidOf agent.count step now → ((set : Settings) (h : List Beat) → AnswersStep set h step now)
-      → ((set : Settings) (h : List Beat) → TellsStep set h step now) → step_refusal agent.registry agent.copies agent.last step ≡ None → ((h : List Beat) → step_history h step ≡ h) → step_count agent.count step ≡ agent.count → step_last agent.last step ≡ agent.last
+      → ((set : Settings) (h : List Beat) → TellsStep set h step now) → step_refusal agent.registry (copies agent.role) agent.last step ≡ None → ((h : List Beat) → step_history h step ≡ h) → step_count agent.count step ≡ agent.count → step_last agent.last step ≡ agent.last
       → Takes honest host agent step (saying now) host agent
   step-quiet step now none is_said answers tells free kept count last = record {
-    any_moment = λ true_host set h is_of. begins (nothing_done host.past agent set h is_of (step_refusal agent.registry agent.copies agent.last step) (step_history h step));
+    any_moment = λ true_host set h is_of. begins (nothing_done host.past agent set h is_of (step_refusal agent.registry (copies agent.role) agent.last step) (step_history h step));
     done = λ true_host set h is_of. subst (IsAgentOf host.past agent set) (sym (kept h)) is_of;
     said = is_said;
     answered = λ set h is_of. answers set h;
@@ -265,17 +266,17 @@ moment-closes every past line has none = has
 
 -- ---- a line that the feed took
 module _ (honest : Type 0) (host host' : Seen) (agent agent' : AgentState) (feed feed' : Feed) (line : Line) (step : Step) (result : Result Said AgentFault) (fed : IsFed feed) (limits : keeps_limits line ≡ true)
-    (free : (every : ℕ) (past : List Line) → IsFeedOf feed every past → CountsAt line feed agent.registry → refusal agent.registry every past agent.copies agent.last line ≡ None)
+    (free : (every : ℕ) (past : List Line) → IsFeedOf feed every past → CountsAt line feed agent.registry → refusal agent.registry every past (copies agent.role) agent.last line ≡ None)
     (gives : (every : ℕ) (past : List Line) → IsFeedOf feed every past → step ≡ step_of every past line) (becomes : Becomes line feed feed')
     (counts : CountsFor feed agent.registry → CountsPast line feed' agent.registry) (took : Takes honest host agent step result host' agent') where
   abbrev because : Step → Option BlockFault
-  because step = step_refusal agent.registry agent.copies agent.last step
+  because step = step_refusal agent.registry (copies agent.role) agent.last step
 
   abbrev against : ℕ → List Line → Option BlockFault
-  against every past = line_refusal agent.registry agent.copies agent.last every past line
+  against every past = line_refusal agent.registry (copies agent.role) agent.last every past line
 
   reason : (every : ℕ) (past : List Line) → IsFeedOf feed every past → CountsAt line feed agent.registry → because step ≡ against every past
-  reason every past is_feed at = ap because (gives every past is_feed) ∙ sym (reason-is agent.registry agent.copies agent.last every past line (free every past is_feed at))
+  reason every past is_feed at = ap because (gives every past is_feed) ∙ sym (reason-is agent.registry (copies agent.role) agent.last every past line (free every past is_feed at))
 
   more : (h : List Beat) (every : ℕ) (past : List Line) → IsFeedOf feed every past → step_history h step ≡ history_with h every past line
   more h every past is_feed = ap (step_history h) (gives every past is_feed) ∙ sym (history-is h every past line)
@@ -347,7 +348,7 @@ module _ (honest : Type 0) (host host' : Seen) (agent agent' : AgentState) (feed
     takes = always (Becomes line feed feed') result becomes;
     counts_on = always (CountsFor feed agent.registry → CountsFor feed' agent'.registry) result counts-on;
     leaves = on_err _ _ result took.asks (λ needs. inr (in-vain needs));
-    fed = fed-more feed feed' line agent.registry agent.copies agent.last fed limits becomes free;
+    fed = fed-more feed feed' line agent.registry (copies agent.role) agent.last fed limits becomes free;
     asks = λ quiet. (took.same (λ needs. quiet (asking needs))).1;
     same = λ quiet. always (agent' ≡ agent) result (took.same (λ needs. quiet (asking needs))).0;
     fails = λ e. closes-is fed.every fed.past line (subst HasBeat its (took.fails e));
@@ -381,7 +382,7 @@ module _ (honest : Type 0) (host : Seen) (agent : AgentState) (feed feed' : Feed
 
   pub line-reopens : (cause : Why) → agent.fault ≡ Some cause → AgentIsReady honest host.past agent → Lines honest host agent feed line (failed (Reopen cause)) host agent feed'
   line-reopens cause spent ready = record {
-    any_moment = λ true_host set h every past is_of is_feed. never (line_refusal agent.registry agent.copies agent.last every past line) (history_with h every past line) set h is_of;
+    any_moment = λ true_host set h every past is_of is_feed. never (line_refusal agent.registry (copies agent.role) agent.last every past line) (history_with h every past line) set h is_of;
     done = tt;
     said = tt;
     answered = tt;
@@ -409,17 +410,17 @@ module _ (honest : Type 0) (host : Seen) (agent : AgentState) (feed feed' : Feed
   }
 
   pub line-refused : (fault : BlockFault) → agent.fault ≡ None → AgentIsReady honest host.past agent
-      → ((every : ℕ) (past : List Line) → IsFeedOf feed every past → CountsAt line feed agent.registry → refusal agent.registry every past agent.copies agent.last line ≡ Some fault)
+      → ((every : ℕ) (past : List Line) → IsFeedOf feed every past → CountsAt line feed agent.registry → refusal agent.registry every past (copies agent.role) agent.last line ≡ Some fault)
       → Lines honest host agent feed line (failed (Refused fault)) host agent feed'
   line-refused fault going ready reason = record {
-    any_moment = λ true_host set h every past is_of is_feed. never (line_refusal agent.registry agent.copies agent.last every past line) (history_with h every past line) set h is_of;
+    any_moment = λ true_host set h every past is_of is_feed. never (line_refusal agent.registry (copies agent.role) agent.last every past line) (history_with h every past line) set h is_of;
     done = tt;
     said = tt;
     answered = tt;
     events = tt;
     counts = tt;
     last = tt;
-    refused = λ going every past is_feed at. ap (λ (reason : Option BlockFault). option_map_or Some reason (closing_refusal agent.registry agent.copies agent.last every past line)) (reason every past is_feed at);
+    refused = λ going every past is_feed at. ap (λ (reason : Option BlockFault). option_map_or Some reason (closing_refusal agent.registry (copies agent.role) agent.last every past line)) (reason every past is_feed at);
     takes = tt;
     counts_on = tt;
     leaves = inl same;
@@ -439,19 +440,19 @@ module _ (honest : Type 0) (host : Seen) (agent : AgentState) (feed feed' : Feed
     tells = refl;
   }
 
-  closing-none : (every : ℕ) (past : List Line) → ((moment : ℕ) → line ≡ Moment moment → ⊥) → closing_refusal agent.registry agent.copies agent.last every past line ≡ None
+  closing-none : (every : ℕ) (past : List Line) → ((moment : ℕ) → line ≡ Moment moment → ⊥) → closing_refusal agent.registry (copies agent.role) agent.last every past line ≡ None
   closing-none every past quiet = by line quiet
     where
-      by : (line : Line) → ((moment : ℕ) → line ≡ Moment moment → ⊥) → closing_refusal agent.registry agent.copies agent.last every past line ≡ None
+      by : (line : Line) → ((moment : ℕ) → line ≡ Moment moment → ⊥) → closing_refusal agent.registry (copies agent.role) agent.last every past line ≡ None
       by (Moment moment) quiet = absurd (quiet moment refl)
       by line quiet = refl
 
   pub line-short : agent.fault ≡ None
-      → ((every : ℕ) (past : List Line) → IsFeedOf feed every past → CountsAt line feed agent.registry → refusal agent.registry every past agent.copies agent.last line ≡ None)
+      → ((every : ℕ) (past : List Line) → IsFeedOf feed every past → CountsAt line feed agent.registry → refusal agent.registry every past (copies agent.role) agent.last line ≡ None)
       → ((moment : ℕ) → line ≡ Moment moment → ⊥)
       → Lines honest host agent feed line (failed Memory) host (short_of agent) feed'
   line-short going free quiet = record {
-    any_moment = λ true_host set h every past is_of is_feed. never (line_refusal agent.registry agent.copies agent.last every past line) (history_with h every past line) set h is_of;
+    any_moment = λ true_host set h every past is_of is_feed. never (line_refusal agent.registry (copies agent.role) agent.last every past line) (history_with h every past line) set h is_of;
     done = tt;
     said = tt;
     answered = tt;
@@ -459,7 +460,7 @@ module _ (honest : Type 0) (host : Seen) (agent : AgentState) (feed feed' : Feed
     counts = tt;
     last = tt;
     refused = λ going every past is_feed at.
-        ap (λ (reason : Option BlockFault). option_map_or Some reason (closing_refusal agent.registry agent.copies agent.last every past line)) (free every past is_feed at) ∙ closing-none every past quiet;
+        ap (λ (reason : Option BlockFault). option_map_or Some reason (closing_refusal agent.registry (copies agent.role) agent.last every past line)) (free every past is_feed at) ∙ closing-none every past quiet;
     takes = tt;
     counts_on = tt;
     leaves = inl same;

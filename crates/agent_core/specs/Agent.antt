@@ -1,9 +1,9 @@
 -- What contracts see of an agent, and of what history an agent is.
-use Rattle.std.specs.Prelude.{◌≡◌, ◌⊎◌, ℕ, Bool, not, List, ◌∷◌, length, Option, Some, None, is_some, IsSomeAnd}
+use Rattle.std.specs.Prelude.{◌≡◌, ◌⊎◌, ℕ, List, length, Option, Some, None}
 use Rattle.host_model.specs.Past.{Event}
 use Rattle.host_model.specs.Disks.{EveryDisk}
 use Rattle.algorithms.specs.declared.last.Last.{Last}
-use Rattle.history.specs.History.{Beat, child, last, registry_of}
+use Rattle.history.specs.History.{Beat, last, registry_of}
 use Rattle.history.specs.Registry.{Registry, same_chart, same_dimension}
 use Rattle.beat_points.specs.LastRows.{AreLastOf}
 use Rattle.history.specs.Regular.{AreApart}
@@ -15,11 +15,12 @@ use Rattle.store_core.specs.declared.beat.Beat.{Beat as StoreBeat}
 use Rattle.store_core.specs.declared.fault.Why.{Why}
 use Rattle.store_core.specs.Store.{counted, IsReady, IsReplayed, IsStoreOf, StoreState}
 use Rattle.agent_core.specs.Alarms.{alarms_at}
-use Rattle.agent_core.specs.Kept.{AreBeatsOf, StandsForHistory}
+use Rattle.agent_core.specs.declared.left.Role.{Role}
+use Rattle.agent_core.specs.Kept.{AreBeatsOf, StandsForFront}
 use Rattle.agent_core.specs.LastSeen.{IsLatestOf}
 use Rattle.agent_core.specs.Notes.{left_of}
-use Rattle.agent_core.specs.Roles.{may_collect}
-use Rattle.agent_core.specs.Rules.{HasGrids}
+use Rattle.agent_core.specs.Roles.{role_of}
+use Rattle.agent_core.specs.Rules.{HasLimits}
 
 pub record AgentState : Type 0 where
   pub store : StoreState
@@ -35,8 +36,8 @@ pub record AgentState : Type 0 where
   pub last : ℕ
   -- how many beats there are: the count stands still at 2^64 - 1
   pub count : ℕ
-  -- the history has copied beats or gaps
-  pub copies : Bool
+  -- what the history does: it collects, or it copies a child
+  pub role : Role
   -- the first cause for which the agent must be opened again
   pub fault : Option Why
 
@@ -58,7 +59,7 @@ pub record IsAgentOf (past : List Event) (agent : AgentState) (set : Settings) (
   pub holds : Holds past agent.store agent.registry agent.last_rows agent.latest set h
   pub last_is : agent.last ≡ last h
   pub count : agent.count ≡ counted (length h)
-  pub copies : agent.copies ≡ is_some (child h)
+  pub role : agent.role ≡ role_of h
   pub alarms : held agent.alarms ≡ alarms_at set h
   pub going : agent.fault ≡ None
 
@@ -70,30 +71,31 @@ pub record Fits (honest : Type 0) (past : List Event) (agent : AgentState) : Typ
   pub same_last : agent.store.last ≡ agent.last
   pub charts : AreApart same_chart agent.registry.charts
   pub dimensions : AreApart same_dimension agent.registry.dimensions
-  pub grids : HasGrids agent.registry
+  pub limits : HasLimits agent.registry
 
 -- what a call of an agent requires of its host: it holds of an agent that was made or opened
 abbrev pub AgentIsReady : Type 0 → List Event → AgentState → Type 0
 AgentIsReady honest past agent = agent.fault ≡ None → Fits honest past agent
 
--- The agent was of this history, and a call of it with this beat, if it had one, was refused for the disk or for memory.
--- A stop leaves the history, or the history with that beat. What the agent still answers is of the history.
-pub record IsSpentAfter (past : List Event) (agent : AgentState) (set : Settings) (h : List Beat) (tried : Option Beat) : Type 0 where
+-- The agent was of this history, and a call of it with these beats, if it had any, was refused for the disk or for memory.
+-- A crash leaves the history with the first of those beats, with none or with all of them. What the agent still answers
+-- is of the history.
+pub record IsSpentAfter (past : List Event) (agent : AgentState) (set : Settings) (h tried : List Beat) : Type 0 where
   pub cause : Why
   pub spent : agent.fault ≡ Some cause
   pub count : agent.count ≡ counted (length h)
   pub last_is : agent.last ≡ last h
   pub id : id_of agent ≡ set.id
-  pub images : EveryDisk (λ disk. StandsForHistory set h disk ⊎ IsSomeAnd tried (λ beat. StandsForHistory set (beat ∷ h) disk)) past
+  pub images : EveryDisk (StandsForFront set h tried) past
 
--- the agent is of this history, or was before a call with this beat
-abbrev pub IsSoundBy : List Event → AgentState → Settings → List Beat → Option Beat → Type 0
+-- the agent is of this history, or was before a call with these beats
+abbrev pub IsSoundBy : List Event → AgentState → Settings → List Beat → List Beat → Type 0
 IsSoundBy past agent set h tried = IsAgentOf past agent set h ⊎ IsSpentAfter past agent set h tried
 
 -- the agent was opened with these kept beats, of whatever history they are: it has what their notes leave
 pub record HasLeft (beats : List StoreBeat) (agent : AgentState) : Type 0 where
   pub registry : agent.registry ≡ (left_of beats).registry
-  pub copies : agent.copies ≡ not (may_collect (left_of beats).role)
+  pub role : agent.role ≡ (left_of beats).role
 
 -- an agent that was just made
 pub record IsNewAgent (set : Settings) (agent : AgentState) : Type 0 where

@@ -1,5 +1,5 @@
 -- What each call of an agent promises.
-use Rattle.std.specs.Prelude.{◌≡◌, ◌⊎◌, ℕ, false, true, List, [], ◌∷◌, None, Result, IfOk, IfErr, IsErrOf, OnOk, OnErr}
+use Rattle.std.specs.Prelude.{◌≡◌, ◌⊎◌, ℕ, ◌+◌, false, true, List, [], ◌∷◌, length, Option, None, IfSome, Result, IfOk, IfErr, IsErrOf, OnOk, OnErr, if◌then◌else◌}
 use Rattle.host_model.specs.declared.file.File.{File}
 use Rattle.host_model.specs.declared.file.File.TheVariants.{JournalA}
 use Rattle.host_model.specs.Past.{Event, IsDisk}
@@ -14,24 +14,34 @@ use Rattle.history.specs.History.{Beat, collected, health}
 use Rattle.history.specs.Refusal.{refusal}
 use Rattle.collect_block.specs.declared.feed.Feed.{Feed}
 use Rattle.collect_block.specs.Feed.{IsFeedOf, Becomes, CountsAt, CountsFor}
+use Rattle.replication.specs.declared.ask.Ask.{Ask}
+use Rattle.replication.specs.declared.message.Data.{Data}
+use Rattle.replication.specs.declared.verdict.Verdict.{Verdict}
+use Rattle.replication.specs.Verdict.{is_stored, verdict_by}
+use Rattle.link_frames.specs.declared.frame.Frame.TheVariants as frame
+use Rattle.link_frames.specs.Frames.{HasSpelling}
 use Rattle.alarm_events.specs.declared.log.Log.{Log}
 use Rattle.entry_codec.specs.declared.entry.Settings.{Settings}
 use Rattle.beat_tiers.specs.declared.kept.Kept.{Kept}
 use Rattle.store_core.specs.declared.beat.Beat.{Beat as StoreBeat}
 use Rattle.store_core.specs.Stands.{is_made, IsDamaged, Stands}
-use Rattle.store_core.specs.Store.{raised}
+use Rattle.store_core.specs.Store.{counted, raised}
 use Rattle.agent_core.specs.declared.fault.AgentFault.{AgentFault}
 use Rattle.agent_core.specs.declared.fault.AgentFault.TheVariants.{DiskFault, NotADatabase, Damaged, Exists, Memory}
+use Rattle.agent_core.specs.declared.left.Role.TheVariants.{Copies}
 use Rattle.agent_core.specs.declared.reply.Reply.{Reply}
 use Rattle.agent_core.specs.declared.reply.Said.{Said}
 use Rattle.agent_core.specs.Agent.{id_of, AgentIsReady, AgentState, HasLeft, IsAgentOf, IsNewAgent}
 use Rattle.agent_core.specs.Alarms.{events_at, log_at}
 use Rattle.agent_core.specs.Answers.{kept_of_history, reply_of}
+use Rattle.agent_core.specs.Copies.{data_of_history}
+use Rattle.agent_core.specs.Copying.{added_by, events_onto, refusal_by}
 use Rattle.agent_core.specs.Faults.{fault_after, HealthRefusedBy, IsCreating, IsLogging, IsOpening, IsReading, LeavesAll, RefusedBy, Reopens}
 use Rattle.agent_core.specs.Fed.{IsFed}
 use Rattle.agent_core.specs.Health.{health_refusal}
-use Rattle.agent_core.specs.Kept.{StandsForHealth, StandsForHistory, StandsForNew, StandsForOneOf}
+use Rattle.agent_core.specs.Kept.{onto, StandsForFront, StandsForHealth, StandsForHistory, StandsForNew, StandsForOneOf}
 use Rattle.agent_core.specs.Notes.{HasNotes}
+use Rattle.agent_core.specs.Roles.{child_in, copies}
 use Rattle.agent_core.specs.Rules.{beat_refusal, count_with, history_with, last_with, line_refusal}
 use Rattle.agent_core.specs.Said.{Answers, IsSaid, TellsEvents}
 
@@ -39,7 +49,7 @@ use Rattle.agent_core.specs.Said.{Answers, IsSaid, TellsEvents}
 pub record Beats (honest : Type 0) (host : Seen) (agent : AgentState) (beat : OpenBeat) (moment : ℕ) (result : Result Reply AgentFault) (host' : Seen) (agent' : AgentState) : Type 0 where
   -- at every moment a stop leaves the history, or, where nothing refuses the beat, the history with it
   pub any_moment : honest → (set : Settings) (h : List Beat) → IsAgentOf host.past agent set h
-      → Throughout (EveryDisk (StandsForOneOf set h (beat_refusal agent.registry agent.copies agent.last moment beat) (collected moment beat ∷ h))) host.past host'.past
+      → Throughout (EveryDisk (StandsForOneOf set h (beat_refusal agent.registry (copies agent.role) agent.last moment beat) (collected moment beat ∷ h))) host.past host'.past
   -- at Ok the agent is of the history with the beat
   pub done : OnOk result (honest → (set : Settings) (h : List Beat) → IsAgentOf host.past agent set h → IsAgentOf host'.past agent' set (collected moment beat ∷ h))
   -- the reply has the number of the beat, and the events that alarms make of it
@@ -48,7 +58,7 @@ pub record Beats (honest : Type 0) (host : Seen) (agent : AgentState) (beat : Op
   pub counts : OnOk result (agent'.count ≡ raised agent.count)
   pub last : OnOk result (agent'.last ≡ moment)
   -- it is refused exactly for the first reason against it, in the order of the reasons
-  pub refused : agent.fault ≡ None → RefusedBy (beat_refusal agent.registry agent.copies agent.last moment beat) result
+  pub refused : agent.fault ≡ None → RefusedBy (beat_refusal agent.registry (copies agent.role) agent.last moment beat) result
   -- a refusal, and Reopen, change nothing
   pub unchanged : IfErr result (λ fault. LeavesAll fault → (agent' ≡ agent) × (host' ≡ host))
   -- after another fault each call answers Reopen with its cause
@@ -166,14 +176,14 @@ ClosesBeat line = ⊥
 -- the line asks the host and may stand where it does, and the feed took it: of a MOMENT it gave the beat away
 pub record FeedTakes (agent : AgentState) (feed : Feed) (line : Line) (feed' : Feed) : Type 0 where
   pub asks : AsksHost line
-  pub stands : (every : ℕ) (past : List Line) → IsFeedOf feed every past → refusal agent.registry every past agent.copies agent.last line ≡ None
+  pub stands : (every : ℕ) (past : List Line) → IsFeedOf feed every past → refusal agent.registry every past (copies agent.role) agent.last line ≡ None
   pub takes : Becomes line feed feed'
 
 -- `line` with this result left the host, the agent and the feed so
 pub record Lines (honest : Type 0) (host : Seen) (agent : AgentState) (feed : Feed) (line : Line) (result : Result Said AgentFault) (host' : Seen) (agent' : AgentState) (feed' : Feed) : Type 0 where
   -- at every moment a stop leaves the history, or, where nothing refuses the line, the history with its beat
   pub any_moment : honest → (set : Settings) (h : List Beat) (every : ℕ) (past : List Line) → IsAgentOf host.past agent set h → IsFeedOf feed every past
-      → Throughout (EveryDisk (StandsForOneOf set h (line_refusal agent.registry agent.copies agent.last every past line) (history_with h every past line))) host.past host'.past
+      → Throughout (EveryDisk (StandsForOneOf set h (line_refusal agent.registry (copies agent.role) agent.last every past line) (history_with h every past line))) host.past host'.past
   -- at Ok the agent is of the history with the line's beat, if it closes one
   pub done : OnOk result (honest → (set : Settings) (h : List Beat) (every : ℕ) (past : List Line) → IsAgentOf host.past agent set h → IsFeedOf feed every past
       → IsAgentOf host'.past agent' set (history_with h every past line))
@@ -187,7 +197,7 @@ pub record Lines (honest : Type 0) (host : Seen) (agent : AgentState) (feed : Fe
   pub last : OnOk result (agent'.last ≡ last_with agent.last line)
   -- it is refused exactly for the first reason against it
   pub refused : agent.fault ≡ None → (every : ℕ) (past : List Line) → IsFeedOf feed every past → CountsAt line feed agent.registry
-      → RefusedBy (line_refusal agent.registry agent.copies agent.last every past line) result
+      → RefusedBy (line_refusal agent.registry (copies agent.role) agent.last every past line) result
   -- the feed takes the line, also where a MOMENT may stand there and its beat was not stored, or a QUERY was not answered
   pub takes : OnOk result (Becomes line feed feed')
   -- the feed counts on for the agent's registry
@@ -250,4 +260,57 @@ pub record Queries (honest : Type 0) (host : Seen) (agent : AgentState) (text : 
 pub record Keeps (honest : Type 0) (host : Seen) (agent : AgentState) (result : Result Kept AgentFault) (host' : Seen) (agent' : AgentState) : Type 0 where
   -- the answer has the kept beats of the history
   pub answered : IfOk result (λ kept. (set : Settings) (h : List Beat) → IsAgentOf host.past agent set h → kept ≡ kept_of_history set h)
+  pub reads : Reads honest host agent result host' agent'
+
+-- ---- copies
+
+-- the verdict on a Data of an agent that copies this child and has this last moment
+abbrev pub agent_verdict : AgentState → Data → Verdict
+agent_verdict agent message = verdict_by (child_in agent.role) agent.last message.child message.prev
+
+-- what the agent adds of it to its history, the earliest first
+abbrev pub agent_adds : AgentState → Data → List Beat
+agent_adds agent message = added_by (agent_verdict agent message) agent.registry agent.role message
+
+-- `take` with this result left the host and the agent so
+pub record TakesData (honest : Type 0) (host : Seen) (agent : AgentState) (message : Data) (result : Result (Verdict × Reply) AgentFault) (host' : Seen) (agent' : AgentState) : Type 0 where
+  -- the verdict is that of the child and the last moment of the agent
+  pub verdict : IfOk result (λ taken. taken.0 ≡ agent_verdict agent message)
+  -- at every moment a crash leaves the history with the first of the beats that it adds, or with none or all of them
+  pub any_moment : honest → (set : Settings) (h : List Beat) → IsAgentOf host.past agent set h → Throughout (EveryDisk (StandsForFront set h (agent_adds agent message))) host.past host'.past
+  -- at Ok the agent is of the history with all of them
+  pub done : OnOk result (honest → (set : Settings) (h : List Beat) → IsAgentOf host.past agent set h → IsAgentOf host'.past agent' set (onto h (agent_adds agent message)))
+  -- the reply has the number of the last beat, and the events that alarms make of all of them
+  pub number : IfOk result (λ taken. taken.1.count ≡ agent'.count)
+  pub events : IfOk result (λ taken. honest → (set : Settings) (h : List Beat) → IsAgentOf host.past agent set h → taken.1.events ≡ events_onto set h (agent_adds agent message))
+  pub counts : OnOk result (agent'.count ≡ counted (agent.count + length (agent_adds agent message)))
+  pub last : OnOk result (agent'.last ≡ (if is_stored (agent_verdict agent message) then message.upto else agent.last))
+  pub role : OnOk result (agent'.role ≡ (if is_stored (agent_verdict agent message) then Copies message.child else agent.role))
+  -- a Data that is stored is refused exactly for the first reason against it
+  pub refused : agent.fault ≡ None → RefusedBy (refusal_by (agent_verdict agent message) agent.registry agent.role message) result
+  -- another is left, and changes nothing
+  pub left : OnOk result (is_stored (agent_verdict agent message) ≡ false → (agent' ≡ agent) × (host' ≡ host))
+  -- a refusal, and Reopen, change nothing
+  pub unchanged : IfErr result (λ fault. LeavesAll fault → (agent' ≡ agent) × (host' ≡ host))
+  -- after another fault each call answers Reopen with its cause
+  pub fault : agent'.fault ≡ fault_after agent.fault result
+  pub reopens : Reopens agent.fault result
+  -- the count, the last moment and the id answer as before after any fault
+  pub stays : OnErr result ((agent'.count ≡ agent.count) × (agent'.last ≡ agent.last))
+  pub id : id_of agent' ≡ id_of agent
+  -- what a later call requires
+  pub ready : AgentIsReady honest host'.past agent'
+  -- the disk fails exactly where the host counted a failure
+  pub cause : HasCause host.disk_faults host'.disk_faults (IsErrOf result DiskFault)
+  -- nothing happens to a file but the journal, and nothing is told
+  pub only_here : honest → OnlyOn JournalA host.past host'.past
+  pub tells : host'.tell_faults ≡ host.tell_faults
+
+-- `data` with this result left the host and the agent so
+pub record AnswersAsk (honest : Type 0) (host : Seen) (agent : AgentState) (ask : Ask) (result : Result (Option Data) AgentFault) (host' : Seen) (agent' : AgentState) : Type 0 where
+  -- the answer is that of the history
+  pub answered : IfOk result (λ answer. (set : Settings) (h : List Beat) → IsAgentOf host.past agent set h → answer ≡ data_of_history set h ask)
+  -- whatever history that is, it is a frame, of this agent's history, that begins where it was asked
+  pub form : IfOk result (λ answer. IfSome answer (λ message. HasSpelling (frame.Data message)))
+  pub asked : IfOk result (λ answer. IfSome answer (λ message. (message.child ≡ id_of agent) × (message.prev ≡ ask.last)))
   pub reads : Reads honest host agent result host' agent'

@@ -1,6 +1,6 @@
 -- How a store keeps the beats of a history, and which disks stand for it. A history has its newest beat
 -- first, and so has the store.
-use Rattle.std.specs.Prelude.{◌≡◌, ◌⊎◌, ℕ, ◌<◌, true, List, [], ◌∷◌, map, find, slice_get, false, Option, Some, None, is_some}
+use Rattle.std.specs.Prelude.{◌≡◌, ◌⊎◌, ℕ, ◌<◌, true, List, [], ◌∷◌, map, find, slice_get, take, false, Option, Some, None, is_some}
 use Rattle.std.specs.Option.{option_map_or, option_and_then}
 use Rattle.host_model.specs.declared.file.File.{File}
 use Rattle.history.specs.declared.beat.OpenBeat.{OpenBeat}
@@ -122,6 +122,15 @@ pub record StandsForHistory (set : Settings) (h : List Beat) (disk : File → Li
   pub beats : List StoreBeat
   pub are : AreBeatsOf h beats
   pub stands : Stands set beats disk
+
+-- a history with these beats, the oldest first, on top of it
+abbrev pub onto : List Beat → List Beat → List Beat
+onto g [] = g
+onto g (beat ∷ more) = onto (beat ∷ g) more
+
+-- the disk holds this history with the first of these beats, with none or with all of them
+abbrev pub StandsForFront : Settings → List Beat → List Beat → (File → List ℕ) → Type 0
+StandsForFront set h more disk = (n : ℕ) × StandsForHistory set (onto h (take n more)) disk
 
 -- the disk holds no database, or the one with these settings and without beats
 abbrev pub StandsForNew : Settings → (File → List ℕ) → Type 0

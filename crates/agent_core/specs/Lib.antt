@@ -2,6 +2,8 @@ pub mod Agent
 pub mod Alarms
 pub mod Answers
 pub mod Calls
+pub mod Copies
+pub mod Copying
 pub mod Faults
 pub mod Fed
 pub mod Health

@@ -60,9 +60,9 @@ entry_goes_on left (entry.Gap gap) = may_copy left.role
 abbrev pub with_entry : Left → Entry → Left
 with_entry left (entry.Settings set) = left
 with_entry left (entry.Collected found) = record { registry = with_numbered left.registry found; role = Collects }
-with_entry left (entry.Copied found) = record { registry = with_numbered left.registry (defined_by found); role = Copies }
+with_entry left (entry.Copied found) = record { registry = with_numbered left.registry (defined_by found); role = Copies found.child }
 with_entry left (entry.Health text) = left
-with_entry left (entry.Gap gap) = record { registry = left.registry; role = Copies }
+with_entry left (entry.Gap gap) = record { registry = left.registry; role = Copies gap.child }
 
 -- what is left once the note of a kept beat is taken, if it has such an entry
 abbrev pub with_note : Left → StoreBeat → Left

@@ -23,10 +23,10 @@ use Rattle.agent_core.specs.Agent.{AgentState}
 use Rattle.agent_core.specs.declared.alarming.Stepping.{Stepping}
 use Rattle.agent_core.specs.declared.alarming.Stepping.TheVariants as stepping
 use Rattle.agent_core.specs.Alarms.{alarms_at, IsReadOf}
-use Rattle.agent_core.specs.Kept.{copied_point, stored_points, AreBeatsOf, IsBeatOf}
+use Rattle.agent_core.specs.Kept.{copied_point, onto, stored_points, AreBeatsOf, IsBeatOf}
 use Rattle.agent_core.specs.LastSeen.{IsLatestOf}
 use Rattle.agent_core.specs.Notes.{beats_go_on, left_by, left_of}
-use Rattle.agent_core.specs.Rules.{HasGrids}
+use Rattle.agent_core.specs.Rules.{HasLimits}
 
 -- ---- the parts that an entry leaves
 
@@ -90,11 +90,6 @@ IsDoneBy found does = ⊥
 
 -- ---- the front of a history
 
--- a history with these beats, the oldest first, on top of it
-abbrev pub onto : List Beat → List Beat → List Beat
-onto g [] = g
-onto g (beat ∷ more) = onto (beat ∷ g) more
-
 -- a store keeps these beats, the oldest first, for those that follow a history
 abbrev pub AreNextOf : List Beat → List Beat → List StoreBeat → Type 0
 AreNextOf g [] [] = Unit {0}
@@ -144,4 +139,4 @@ pub record HasReplayed (store : StoreState) (agent : AgentState) : Type 0 where
   pub going : agent.fault ≡ None
   pub charts : AreApart same_chart agent.registry.charts
   pub dimensions : AreApart same_dimension agent.registry.dimensions
-  pub grids : HasGrids agent.registry
+  pub limits : HasLimits agent.registry

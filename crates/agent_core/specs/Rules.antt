@@ -122,6 +122,11 @@ last_with last line = last
 
 -- ---- what a history may have
 
--- each chart has an update_every of 1 to 86,400 seconds
-abbrev pub HasGrids : Registry → Type 0
-HasGrids registry = All (λ (def : ChartDef). (0 < def.update_every) × (def.update_every ≤ 86400)) registry.charts
+-- Each chart has an update_every of 1 to 86,400 seconds, each definition keeps its limits, and there are no more of
+-- them than there may be.
+pub record HasLimits (registry : Registry) : Type 0 where
+  pub grids : All (λ (def : ChartDef). (0 < def.update_every) × (def.update_every ≤ 86400)) registry.charts
+  pub charts : All (λ (def : ChartDef). chart_keeps_limits def ≡ true) registry.charts
+  pub dimensions : All (λ (dimension : OpenDim). dimension_keeps_limits dimension.def ≡ true) registry.dimensions
+  pub few_charts : length registry.charts ≤ 4096
+  pub few : length registry.dimensions ≤ 65536

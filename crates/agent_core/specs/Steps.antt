@@ -22,6 +22,7 @@ use Rattle.agent_core.specs.Answers.{reply_of}
 use Rattle.host_model.specs.Seen.{Seen}
 use Rattle.agent_core.specs.Faults.{fault_after, LeavesAll, RefusedBy, Reopens}
 use Rattle.agent_core.specs.Kept.{StandsForOneOf}
+use Rattle.agent_core.specs.Roles.{copies}
 use Rattle.agent_core.specs.Rules.{beat_refusal, IsOpenBeat}
 
 -- a beat of the step may be handed in
@@ -79,7 +80,7 @@ TellsStep set h step said = Unit {0}
 pub record Takes (honest : Type 0) (host : Seen) (agent : AgentState) (step : Step) (result : Result Said AgentFault) (host' : Seen) (agent' : AgentState) : Type 0 where
   -- at every moment a stop leaves the history, or, where nothing refuses the beat, the history with it
   pub any_moment : honest → (set : Settings) (h : List Beat) → IsAgentOf host.past agent set h
-      → Throughout (EveryDisk (StandsForOneOf set h (step_refusal agent.registry agent.copies agent.last step) (step_history h step))) host.past host'.past
+      → Throughout (EveryDisk (StandsForOneOf set h (step_refusal agent.registry (copies agent.role) agent.last step) (step_history h step))) host.past host'.past
   -- at Ok the agent is of the history with the beat, if there is one
   pub done : OnOk result (honest → (set : Settings) (h : List Beat) → IsAgentOf host.past agent set h → IsAgentOf host'.past agent' set (step_history h step))
   pub said : IfOk result (IsSaidOf agent'.count step)
@@ -87,7 +88,7 @@ pub record Takes (honest : Type 0) (host : Seen) (agent : AgentState) (step : St
   pub events : IfOk result (λ said. honest → (set : Settings) (h : List Beat) → IsAgentOf host.past agent set h → TellsStep set (step_history h step) step said)
   pub counts : OnOk result (agent'.count ≡ step_count agent.count step)
   pub last : OnOk result (agent'.last ≡ step_last agent.last step)
-  pub refused : RefusedBy (step_refusal agent.registry agent.copies agent.last step) result
+  pub refused : RefusedBy (step_refusal agent.registry (copies agent.role) agent.last step) result
   -- only a beat or a question is refused
   pub asks : OnErr result (NeedsHost step)
   -- the disk fails for a beat alone

@@ -1,41 +1,50 @@
-ghost use Rattle.std.specs.Prelude.{◌≡◌, ◌<◌, ◌⊎◌, ◌∷◌, [], ℕ, List, None, true, false, IfOk, IfErr, IsErrOf, OnOk, OnErr};
+ghost use Rattle.std.specs.Prelude.{◌≡◌, ◌<◌, ◌+◌, ◌^◌, ◌⊎◌, ◌∷◌, [], ℕ, List, length, None, true, false, IfOk, IfErr, IfSome, IsErrOf, OnOk, OnErr, if◌then◌else◌};
 ghost use Rattle.host_model.specs.declared.file.File.{File as AFile};
 ghost use Rattle.host_model.specs.declared.file.File.TheVariants.{JournalA};
 ghost use Rattle.host_model.specs.Past.{Event, IsDisk};
 ghost use Rattle.host_model.specs.Disks.{EveryDisk, reads_as};
 ghost use Rattle.host_model.specs.Cause.{HasCause};
 ghost use Rattle.host_model.specs.Moments.{Throughout, OnlyOn};
-ghost use Rattle.history.specs.History.{Beat as HistoryBeat, collected, health, last as last_of};
+ghost use Rattle.history.specs.History.{Beat as HistoryBeat, child as child_of, collected, health, last as last_of};
 ghost use Rattle.history.specs.Limits.{keeps_limits};
 ghost use Rattle.entry_codec.specs.declared.entry.Settings.{Settings as ASettings};
 ghost use Rattle.store_core.specs.declared.beat.Beat.{Beat as StoreBeat};
 ghost use Rattle.store_core.specs.FirstRecord.{InLimits};
 ghost use Rattle.store_core.specs.Stands.{is_made, IsDamaged, Stands};
-ghost use Rattle.store_core.specs.Store.{raised, OpensAt};
+ghost use Rattle.store_core.specs.Store.{counted, raised, OpensAt};
+ghost use Rattle.replication.specs.Verdict.{is_stored};
+ghost use Rattle.link_frames.specs.declared.frame.Frame.TheVariants as frame;
+ghost use Rattle.link_frames.specs.DataForm.{IsData};
+ghost use Rattle.link_frames.specs.Frames.{HasSpelling};
 ghost use Rattle.agent_core.specs.Answers.{floor_of_history, kept_of_history, reply_of};
 ghost use Rattle.agent_core.specs.Agent.{Holds};
 ghost use Rattle.alarm_core.specs.Course.{held};
 ghost use Rattle.agent_core.specs.Alarms.{alarms_at, events_at, HaveFollowed, IsSteppingOf};
-ghost use Rattle.agent_core.specs.Calls.{Beats, Creates, Keeps, Lines, Logs, Opens, Queries, SetsHealth};
+ghost use Rattle.agent_core.specs.Calls.{agent_adds, agent_verdict, AnswersAsk, Beats, Creates, Keeps, Lines, Logs, Opens, Queries, SetsHealth, TakesData};
+ghost use Rattle.agent_core.specs.Copies.{data_of_history};
+ghost use Rattle.agent_core.specs.Copying.{events_onto, refusal_by};
 ghost use Rattle.agent_core.specs.Fed.{IsFed};
 ghost use Rattle.agent_core.specs.Faults.{fault_after, HealthRefusedBy, IsCreating, IsOpening, IsReading, LeavesAll, RefusedBy, Reopens};
 ghost use Rattle.agent_core.specs.Health.{health_refusal};
-ghost use Rattle.agent_core.specs.Kept.{StandsForHealth, StandsForHistory, StandsForNew, StandsForOneOf};
+ghost use Rattle.agent_core.specs.Kept.{onto, StandsForFront, StandsForHealth, StandsForHistory, StandsForNew, StandsForOneOf};
 ghost use Rattle.agent_core.specs.Notes.{beats_go_on, HasNotes};
 ghost use Rattle.agent_core.specs.Replay.{HasReplayed, IsOpenedFor};
+ghost use Rattle.agent_core.specs.Roles.{child_in, copies};
 ghost use Rattle.agent_core.specs.Rules.{beat_refusal, IsOpenBeat};
 ghost use Rattle.agent_core.specs.Steps.{IsOpenStep, Takes};
 
 use crate::alarming::{Stepping, follow};
 use crate::answering;
+use crate::copying::is_stored;
 use crate::fault::{AgentFault, store_fault};
 use crate::keeping::{add, add_health};
 use crate::last_seen::nothing_seen;
 use crate::left::{Left, Role};
+use crate::names::copy_refusal;
 use crate::refusal::refusal;
 use crate::replaying::{open_store, replay_all};
 use crate::reply::{Reply, Said};
-use alarm_core::{Alarms, Latest, Log};
+use alarm_core::{Alarms, EventList, Latest, Log};
 use beat_points::LastRows;
 use chart_registry::Registry;
 use collect_block::{Feed, Step};
@@ -44,6 +53,7 @@ use fixed_num::Text;
 use health_config::{Config, ConfigFault};
 use history::{BlockFault, Line, OpenBeat};
 use host_model::Host;
+use replication::{Ask, Data, Parent, Verdict};
 use std::alloc::Global;
 use std::marker::Model;
 use store_core::{Kept, Store, Why};
@@ -62,8 +72,8 @@ pub struct Agent {
     last: u32,
     /// How many beats there are.
     count: u64,
-    /// Whether the history has copied beats or gaps.
-    copies: bool,
+    /// What the history does: it collects, or it copies a child.
+    role: Role,
     /// The first cause for which the agent must be opened again.
     fault: Option<Why>,
 }
@@ -85,7 +95,7 @@ impl Model for Agent {
       alarms = agent.alarms;
       last = agent.last;
       count = agent.count;
-      copies = agent.copies;
+      role = agent.role;
       fault = agent.fault;
     } };
 }
@@ -95,6 +105,17 @@ fn raised(count: u64) -> u64
     ensures { result ≡ raised count }
 {
     count.saturating_add(1)
+}
+
+/// The reply where nothing is stored, after so many beats.
+fn nothing_stored(alloc: Global, count: u64) -> Reply
+    ensures reply { result ≡ record { count = count; events = [] } }
+    ensures within { count < 2 ^ 64 }
+{
+    Reply {
+        count,
+        events: EventList::new(alloc),
+    }
 }
 
 impl Agent {
@@ -157,7 +178,7 @@ impl Agent {
                 alarms,
                 last: 0,
                 count: 0,
-                copies: false,
+                role: Role::Undecided,
                 fault: None,
             }),
             Err(fault) => Err(store_fault(fault)),
@@ -267,7 +288,6 @@ impl Agent {
             &mut latest,
             &mut alarms,
         )?;
-        let copies = !left.role.may_collect();
         Ok(Agent {
             alloc,
             last: store.last(),
@@ -277,7 +297,7 @@ impl Agent {
             last_rows,
             latest,
             alarms,
-            copies,
+            role: left.role,
             fault: None,
         })
     }
@@ -306,7 +326,7 @@ impl Agent {
         if let Some(earlier) = self.fault {
             return Err(AgentFault::Reopen(earlier));
         }
-        match feed.line(&self.registry, self.last, self.copies, line) {
+        match feed.line(&self.registry, self.last, self.role.copies(), line) {
             Ok(step) => self.take_step(host, step),
             Err(fault) => match fault {
                 BlockFault::Memory => {
@@ -334,7 +354,7 @@ impl Agent {
         if let Some(earlier) = self.fault {
             return Err(AgentFault::Reopen(earlier));
         }
-        match feed.take_line(&self.registry, self.last, self.copies, line) {
+        match feed.take_line(&self.registry, self.last, self.role.copies(), line) {
             Ok(step) => self.take_step(host, step),
             Err(fault) => match fault {
                 BlockFault::Memory => {
@@ -397,7 +417,7 @@ impl Agent {
         ensures any_moment { H.honest → (set : ASettings) (h : List HistoryBeat)
             → IsAgentOf (H.seen host.old).past self.old set h
             → Throughout (EveryDisk (StandsForOneOf set h
-            (beat_refusal self.old.registry self.old.copies self.old.last moment beat.now)
+            (beat_refusal self.old.registry (copies self.old.role) self.old.last moment beat.now)
             (collected moment beat.now ∷ h))) (H.seen host.old).past (H.seen host.new).past }
         ensures done { OnOk result
             (H.honest → (set : ASettings) (h : List HistoryBeat)
@@ -412,7 +432,7 @@ impl Agent {
         ensures last { OnOk result (self.new.last ≡ moment) }
         ensures refused { self.old.fault ≡ None
             → RefusedBy
-            (beat_refusal self.old.registry self.old.copies self.old.last moment beat.now) result }
+            (beat_refusal self.old.registry (copies self.old.role) self.old.last moment beat.now) result }
         ensures unchanged { IfErr result
             (λ fault. LeavesAll fault → (self.new ≡ self.old) × (host.new ≡ host.old)) }
         ensures fault { self.new.fault ≡ fault_after self.old.fault result }
@@ -433,7 +453,7 @@ impl Agent {
         let reason = refusal(
             self.alloc,
             &self.registry,
-            self.copies,
+            self.role.copies(),
             self.last,
             moment,
             beat,
@@ -451,7 +471,7 @@ impl Agent {
             beat,
             moment,
         ) {
-            Ok(()) => self.tell(host, Stepping::Beat(moment), moment),
+            Ok(()) => self.tell(host, Stepping::Beat(moment), moment, Role::Collects),
             Err(fault) => {
                 self.fault = fault.cause();
                 Err(fault)
@@ -459,12 +479,13 @@ impl Agent {
         }
     }
 
-    /// Has the alarms follow a beat that is stored, and counts it. The last moment is then this one.
+    /// Has the alarms follow a beat that is stored, and counts it. The last moment and the role are then these.
     fn tell<H: Host>(
         &mut self,
         host: &mut H,
         stepping: Stepping,
         last: u32,
+        role: Role,
     ) -> Result<Reply, AgentFault>
         requires going { self.old.fault ≡ None }
         requires store_going { self.old.store.fault ≡ None }
@@ -479,6 +500,7 @@ impl Agent {
         ensures told { OnOk result (self.new ≡ record self.old {
           alarms = self.new.alarms;
           last = last;
+          role = role;
           count = raised self.old.count;
         }) }
         ensures spent { OnErr result (self.new ≡ record self.old {
@@ -501,6 +523,7 @@ impl Agent {
         match followed {
             Ok(events) => {
                 self.last = last;
+                self.role = role;
                 self.count = raised(self.count);
                 Ok(Reply {
                     count: self.count,
@@ -574,8 +597,9 @@ impl Agent {
         match add_health(self.alloc, &mut self.store, host, text) {
             Ok(()) => {
                 let last = self.last;
+                let role = self.role;
                 self.latest.before = last;
-                self.tell(host, Stepping::Configuration(config), last)
+                self.tell(host, Stepping::Configuration(config), last, role)
             }
             Err(fault) => {
                 self.fault = fault.cause();
@@ -675,6 +699,152 @@ impl Agent {
                 Err(fault)
             }
         }
+    }
+
+    /// Takes a message of a child. Where it begins at the last moment, the gap before it and its beats are stored,
+    /// and the reply has the events of all of them.
+    ///
+    /// The verdict is that of a copy of this child that ends at the last moment; where it is not `Stored`, nothing
+    /// has changed. A message that is to be stored is `Refused` exactly where this history has collected beats, or its
+    /// names change an update_every or are too many, with the first reason, and then nothing has changed either.
+    /// After `DiskFault` or `Memory` the agent must be opened again, and then has the first of the gap and the beats,
+    /// with none or with all of them.
+    pub fn take<H: Host>(
+        &mut self,
+        host: &mut H,
+        message: &Data,
+    ) -> Result<(Verdict, Reply), AgentFault>
+        requires ready { AgentIsReady H.honest (H.seen host.old).past self.old }
+        requires form { IsData message.now }
+        ensures { TakesData H.honest (H.seen host.old) self.old
+            message.now result (H.seen host.new) self.new }
+    {
+        self.store_copies(host, message)
+    }
+
+    /// What the agent makes of a message of a child.
+    fn verdict(&self, message: &Data) -> Verdict
+        ensures { result ≡ agent_verdict self.now message.now }
+    {
+        Parent::new(self.role.child(), self.last).take(message)
+    }
+
+    fn store_copies<H: Host>(
+        &mut self,
+        host: &mut H,
+        message: &Data,
+    ) -> Result<(Verdict, Reply), AgentFault>
+        requires ready { AgentIsReady H.honest (H.seen host.old).past self.old }
+        requires form { IsData message.now }
+        ensures verdict { IfOk result (λ taken. taken.0 ≡ agent_verdict self.old message.now) }
+        ensures any_moment { H.honest → (set : ASettings) (h : List HistoryBeat)
+            → IsAgentOf (H.seen host.old).past self.old set h
+            → Throughout (EveryDisk (StandsForFront set h (agent_adds self.old message.now)))
+            (H.seen host.old).past (H.seen host.new).past }
+        ensures done { OnOk result
+            (H.honest → (set : ASettings) (h : List HistoryBeat)
+            → IsAgentOf (H.seen host.old).past self.old set h
+            → IsAgentOf (H.seen host.new).past self.new set
+            (onto h (agent_adds self.old message.now))) }
+        ensures number { IfOk result (λ taken. taken.1.count ≡ self.new.count) }
+        ensures events { IfOk result
+            (λ taken. H.honest → (set : ASettings) (h : List HistoryBeat)
+            → IsAgentOf (H.seen host.old).past self.old set h
+            → taken.1.events ≡ events_onto set h (agent_adds self.old message.now)) }
+        ensures counts { OnOk result (self.new.count
+            ≡ counted (self.old.count + length (agent_adds self.old message.now))) }
+        ensures last { OnOk result (self.new.last
+            ≡ (if is_stored (agent_verdict self.old message.now) then message.now.upto
+            else self.old.last)) }
+        ensures role { OnOk result (self.new.role
+            ≡ (if is_stored (agent_verdict self.old message.now) then Role.Copies message.now.child
+            else self.old.role)) }
+        ensures refused { self.old.fault ≡ None
+            → RefusedBy (refusal_by (agent_verdict self.old message.now) self.old.registry
+            self.old.role message.now) result }
+        ensures left { OnOk result (is_stored (agent_verdict self.old message.now) ≡ false
+            → (self.new ≡ self.old) × (host.new ≡ host.old)) }
+        ensures unchanged { IfErr result
+            (λ fault. LeavesAll fault → (self.new ≡ self.old) × (host.new ≡ host.old)) }
+        ensures fault { self.new.fault ≡ fault_after self.old.fault result }
+        ensures reopens { Reopens self.old.fault result }
+        ensures stays { OnErr result
+            ((self.new.count ≡ self.old.count) × (self.new.last ≡ self.old.last)) }
+        ensures id { id_of self.new ≡ id_of self.old }
+        ensures ready { AgentIsReady H.honest (H.seen host.new).past self.new }
+        ensures cause { HasCause (H.seen host.old).disk_faults (H.seen host.new).disk_faults
+            (IsErrOf result AgentFault.DiskFault) }
+        ensures only_here { H.honest
+            → OnlyOn JournalA (H.seen host.old).past (H.seen host.new).past }
+        ensures tells { (H.seen host.new).tell_faults ≡ (H.seen host.old).tell_faults }
+    {
+        if let Some(cause) = self.fault {
+            return Err(AgentFault::Reopen(cause));
+        }
+        let verdict = self.verdict(message);
+        if !is_stored(verdict) {
+            return Ok((verdict, nothing_stored(self.alloc, self.count)));
+        }
+        if let Some(reason) = copy_refusal(&self.registry, self.role, message) {
+            return Err(AgentFault::Refused(reason));
+        }
+        self.fault = Some(Why::Memory);
+        Err(AgentFault::Memory)
+    }
+
+    /// What this history answers to a parent that asks for the beats above a moment: of those with points that
+    /// are kept, the first of them, with the names of their series. None where there are none, and where another
+    /// history is asked.
+    ///
+    /// Nothing is stored. After `Memory` the agent must be opened again.
+    pub fn data<H: Host>(&mut self, host: &mut H, ask: &Ask) -> Result<Option<Data>, AgentFault>
+        requires { AgentIsReady H.honest (H.seen host.old).past self.old }
+        ensures { AnswersAsk H.honest (H.seen host.old) self.old ask.now
+            result (H.seen host.new) self.new }
+    {
+        self.answer(host, ask)
+    }
+
+    fn answer<H: Host>(&mut self, _host: &mut H, _ask: &Ask) -> Result<Option<Data>, AgentFault>
+        requires { AgentIsReady H.honest (H.seen _host.old).past self.old }
+        ensures answered { IfOk result (λ answer. (set : ASettings) (h : List HistoryBeat)
+            → IsAgentOf (H.seen _host.old).past self.old set h
+            → answer ≡ data_of_history set h _ask.now) }
+        ensures form { IfOk result
+            (λ answer. IfSome answer (λ message. HasSpelling (frame.Data message))) }
+        ensures asked { IfOk result (λ answer. IfSome answer
+            (λ message. (message.child ≡ id_of self.old) × (message.prev ≡ _ask.now.last))) }
+        ensures host { H.seen _host.new ≡ H.seen _host.old }
+        ensures done { OnOk result (self.new ≡ self.old) }
+        ensures unchanged { IfErr result (λ fault. LeavesAll fault → self.new ≡ self.old) }
+        ensures faults { IfErr result IsReading }
+        ensures fault { self.new.fault ≡ fault_after self.old.fault result }
+        ensures reopens { Reopens self.old.fault result }
+        ensures stays { self.new ≡ record self.old { fault = self.new.fault } }
+        ensures cause { HasCause (H.seen _host.old).disk_faults (H.seen _host.new).disk_faults
+            (IsErrOf result AgentFault.DiskFault) }
+    {
+        if let Some(cause) = self.fault {
+            return Err(AgentFault::Reopen(cause));
+        }
+        self.fault = Some(Why::Memory);
+        Err(AgentFault::Memory)
+    }
+
+    /// The child that it copies, if it copies.
+    pub fn child(&self) -> Option<u64>
+        ensures value { result ≡ child_in self.now.role }
+        ensures of { (past : List Event) (set : ASettings) (h : List HistoryBeat)
+            → IsAgentOf past self.now set h → result ≡ child_of h }
+    {
+        self.role.child()
+    }
+
+    /// What it asks a child: the beats above its last moment.
+    pub fn ask(&self, child: u64) -> Ask
+        ensures { result ≡ record { child = child; last = self.now.last } }
+    {
+        Parent::new(self.role.child(), self.last).ask(child)
     }
 
     /// The floor of tier 0, 1 or 2, in seconds: the first moment of which the tier still answers, or 0.

@@ -29,7 +29,7 @@ ghost use Rattle.agent_core.specs.Health.{health_refusal};
 ghost use Rattle.agent_core.specs.Notes.{names_series};
 ghost use Rattle.agent_core.specs.Replay.{HasRoom, HasSeenBeat, HasTakenRows};
 ghost use Rattle.chart_registry.specs.declared.fault.RegistryFault.TheVariants as registry_fault;
-ghost use Rattle.agent_core.specs.Rules.{changes_grid, lacks_chart, lacks_dimension, too_many_charts, too_many_dimensions, HasGrids, IsOpenBeat};
+ghost use Rattle.agent_core.specs.Rules.{changes_grid, lacks_chart, lacks_dimension, too_many_charts, too_many_dimensions, HasLimits, IsOpenBeat};
 
 use crate::fault::{AgentFault, store_fault};
 use crate::last_seen::see_collected;
@@ -65,8 +65,7 @@ fn stored_beat(
         × (numbered.now ≡ numbered_beat registry.now numbered.now.moment opened) }
     requires later { 0 < numbered.now.moment }
     requires charts { AreApart same_chart registry.now.charts }
-    requires grids { HasGrids registry.now }
-    requires few { length registry.now.dimensions ≤ 65536 }
+    requires registry { HasLimits registry.now }
     ensures kept { IfOk result
         (λ kept. (h : List HistoryBeat) (opened : AnOpenBeat)
         → IsNext registry.now last_rows.now h numbered.now.moment opened
@@ -102,8 +101,7 @@ fn kept_of(
     requires defined { IsDefinedIn registry.now beat.now }
     requires later { 0 < moment }
     requires limits { IsWithinLimits (numbered_beat registry.now moment beat.now) }
-    requires grids { HasGrids registry.now }
-    requires few { length registry.now.dimensions ≤ 65536 }
+    requires registry { HasLimits registry.now }
     ensures kept { IfOk result
         (λ kept. (h : List HistoryBeat) → IsNext registry.now last_rows.now h moment beat.now
         → kept.beat ≡ kept_of h moment beat.now) }
@@ -151,7 +149,7 @@ fn keep(
     requires few { too_many_dimensions registry.old beat.now ≡ false }
     requires few_charts { too_many_charts registry.old beat.now ≡ false }
     requires kept_grids { changes_grid registry.old beat.now ≡ false }
-    requires grids { HasGrids registry.old }
+    requires limits { HasLimits registry.old }
     requires later { 0 < moment }
     ensures applied { OnOk result
         (registry.new ≡ with_definitions registry.old beat.now.charts beat.now.dimensions) }
@@ -168,7 +166,7 @@ fn keep(
     ensures form { IfOk result (λ kept. InForm kept.beat) }
     ensures size { IfOk result (λ kept. length (beat_bytes kept.beat) ≤ 2 ^ 26) }
     ensures regular { OnOk result (IsRegular registry.new beat.now) }
-    ensures grids { OnOk result (HasGrids registry.new) }
+    ensures limits { OnOk result (HasLimits registry.new) }
 {
     match registry.apply(beat) {
         Ok(()) => kept_of(alloc, registry, last_rows, beat, moment),
@@ -351,7 +349,7 @@ pub(crate) fn add<H: Host>(
     requires few { too_many_dimensions registry.old beat.now ≡ false }
     requires few_charts { too_many_charts registry.old beat.now ≡ false }
     requires kept_grids { changes_grid registry.old beat.now ≡ false }
-    requires grids { HasGrids registry.old }
+    requires limits { HasLimits registry.old }
     requires later { store.old.last < moment }
     ensures any_moment { H.honest → (set : ASettings) (h : List HistoryBeat)
         → Holds (H.seen host.old).past store.old registry.old last_rows.old latest.old set h
@@ -371,7 +369,7 @@ pub(crate) fn add<H: Host>(
     ensures last { OnOk result (store.new.last ≡ moment) }
     ensures charts { OnOk result (AreApart same_chart registry.new.charts) }
     ensures dimensions { OnOk result (AreApart same_dimension registry.new.dimensions) }
-    ensures grids { OnOk result (HasGrids registry.new) }
+    ensures limits { OnOk result (HasLimits registry.new) }
     ensures before { OnOk result (latest.new.before ≡ store.old.last) }
     ensures settings { store.new.settings ≡ store.old.settings }
     ensures faults { IfErr result IsSpending }

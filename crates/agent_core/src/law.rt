@@ -1,4 +1,4 @@
-ghost use Rattle.std.specs.Prelude.{◌≡◌, ℕ, Bool, true, false, List, ◌∷◌, Option, Some, None, is_some, reverse, Result};
+ghost use Rattle.std.specs.Prelude.{◌≡◌, ℕ, Bool, true, false, List, [], ◌∷◌, Option, None, is_some, reverse, Result};
 ghost use Rattle.host_model.specs.declared.file.File.{File as AFile};
 ghost use Rattle.history.specs.declared.line.Line.{Line};
 ghost use Rattle.history.specs.declared.line.Line.TheVariants.{Moment};
@@ -19,7 +19,11 @@ ghost use Rattle.agent_core.specs.declared.reply.Reply.{Reply};
 ghost use Rattle.agent_core.specs.declared.reply.Said.{Said};
 ghost use Rattle.agent_core.specs.Agent.{AgentState, IsSoundBy};
 ghost use Rattle.agent_core.specs.Alarms.{all_events, log_at};
-ghost use Rattle.agent_core.specs.Calls.{Beats, Keeps, Lines, Queries, SetsHealth};
+ghost use Rattle.agent_core.specs.Calls.{AnswersAsk, Beats, Keeps, Lines, Queries, SetsHealth, TakesData};
+ghost use Rattle.agent_core.specs.Copying.{added_to};
+ghost use Rattle.replication.specs.declared.ask.Ask.{Ask};
+ghost use Rattle.replication.specs.declared.message.Data.{Data};
+ghost use Rattle.replication.specs.declared.verdict.Verdict.{Verdict};
 ghost use Rattle.host_model.specs.Seen.{Seen};
 ghost use Rattle.agent_core.specs.Kept.{StandsForHistory};
 ghost use Rattle.agent_core.specs.Answers.{points_of_history, tier_beats};
@@ -61,44 +65,53 @@ pub fn any_notes()
 {}
 
 /// The laws of an agent on an honest host that is sound by a history: it is of that history, or it was before a
-/// call of it was refused for the disk or for memory, and then a stop leaves the history, or that with the beat of
-/// that call. Each `beat` and each `line` keeps it so, by what these calls promise: at `Ok` by the history with
-/// the beat, and else by the same. `set_health` does with the configuration. `query` and `kept`, which have no beat,
-/// keep it so by the same history. They do nothing.
+/// call of it was refused for the disk or for memory, and then a crash leaves the history with the first of the
+/// beats of that call, with none or with all of them. Each `beat` and each `line` keeps it so, by what these calls
+/// promise: at `Ok` by the history with the beat, and else by the same. `set_health` does with the configuration,
+/// and `take` with the gap and the copied beats that it adds. `query`, `kept` and `data`, which have no beat, keep
+/// it so by the same history. They do nothing.
 pub fn any_call<H: Host>()
     ensures beat { H.honest → (host host' : Seen) (agent agent' : AgentState) (beat : OpenBeat)
-        (moment : ℕ) (result : Result Reply AgentFault) (set : ASettings) (h : List Beat)
-        (tried : Option Beat)
+        (moment : ℕ) (result : Result Reply AgentFault) (set : ASettings) (h tried : List Beat)
         → Beats H.honest host agent beat moment result host' agent'
         → IsSoundBy host.past agent set h tried
-        → IsSoundBy host'.past agent' set (history_after result (collected moment beat) h)
-        (tried_after result (Some (collected moment beat)) tried) }
+        → IsSoundBy host'.past agent' set (history_after result (collected moment beat ∷ []) h)
+        (tried_after result (collected moment beat ∷ []) tried) }
     ensures line { H.honest → (host host' : Seen) (agent agent' : AgentState) (feed feed' : Feed)
         (line : Line) (result : Result Said AgentFault)
-        (set : ASettings) (h : List Beat) (tried : Option Beat) (every : ℕ) (past : List Line)
+        (set : ASettings) (h tried : List Beat) (every : ℕ) (past : List Line)
         → IsFeedOf feed every past → CountsAt line feed agent.registry
         → Lines H.honest host agent feed line result host' agent' feed'
         → IsSoundBy host.past agent set h tried
         → IsSoundBy host'.past agent' set (history_by result every past line h)
         (tried_after result (closed_by every past line) tried) }
     ensures query { H.honest → (host host' : Seen) (agent agent' : AgentState) (text : List ℕ)
-        (result : Result (List ℕ) AgentFault) (set : ASettings) (h : List Beat)
-        (tried : Option Beat)
+        (result : Result (List ℕ) AgentFault) (set : ASettings) (h tried : List Beat)
         → Queries H.honest host agent text result host' agent'
         → IsSoundBy host.past agent set h tried
-        → IsSoundBy host'.past agent' set h (tried_after result None tried) }
+        → IsSoundBy host'.past agent' set h (tried_after result [] tried) }
     ensures kept { H.honest → (host host' : Seen) (agent agent' : AgentState)
-        (result : Result AKept AgentFault) (set : ASettings) (h : List Beat) (tried : Option Beat)
+        (result : Result AKept AgentFault) (set : ASettings) (h tried : List Beat)
         → Keeps H.honest host agent result host' agent'
         → IsSoundBy host.past agent set h tried
-        → IsSoundBy host'.past agent' set h (tried_after result None tried) }
+        → IsSoundBy host'.past agent' set h (tried_after result [] tried) }
     ensures set_health { H.honest → (host host' : Seen) (agent agent' : AgentState)
-        (text : List ℕ) (result : Result Reply AgentFault) (set : ASettings) (h : List Beat)
-        (tried : Option Beat)
+        (text : List ℕ) (result : Result Reply AgentFault) (set : ASettings) (h tried : List Beat)
         → SetsHealth H.honest host agent text result host' agent'
         → IsSoundBy host.past agent set h tried
-        → IsSoundBy host'.past agent' set (history_after result (health text) h)
-        (tried_after result (Some (health text)) tried) }
+        → IsSoundBy host'.past agent' set (history_after result (health text ∷ []) h)
+        (tried_after result (health text ∷ []) tried) }
+    ensures take { H.honest → (host host' : Seen) (agent agent' : AgentState) (message : Data)
+        (result : Result (Verdict × Reply) AgentFault) (set : ASettings) (h tried : List Beat)
+        → TakesData H.honest host agent message result host' agent'
+        → IsSoundBy host.past agent set h tried
+        → IsSoundBy host'.past agent' set (history_after result (added_to h message) h)
+        (tried_after result (added_to h message) tried) }
+    ensures data { H.honest → (host host' : Seen) (agent agent' : AgentState) (ask : Ask)
+        (result : Result (Option Data) AgentFault) (set : ASettings) (h tried : List Beat)
+        → AnswersAsk H.honest host agent ask result host' agent'
+        → IsSoundBy host.past agent set h tried
+        → IsSoundBy host'.past agent' set h (tried_after result [] tried) }
 {}
 
 /// The law of what is answered of a history: the points that its tiers see of a series are its points, so that

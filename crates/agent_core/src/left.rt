@@ -11,12 +11,12 @@ pub enum Role {
     Undecided,
     /// It has collected beats.
     Collects,
-    /// It has copied beats or gaps.
-    Copies,
+    /// It has copied beats or gaps, the last of them of this child.
+    Copies(u64),
 }
 
 impl Role {
-    ghost use Rattle.agent_core.specs.Roles.{may_collect, may_copy};
+    ghost use Rattle.agent_core.specs.Roles.{child_in, copies, may_collect, may_copy};
 
     /// Whether a beat may be collected.
     pub(crate) fn may_collect(self) -> bool
@@ -24,7 +24,7 @@ impl Role {
     {
         match self {
             Role::Undecided | Role::Collects => true,
-            Role::Copies => false,
+            Role::Copies(_) => false,
         }
     }
 
@@ -33,8 +33,25 @@ impl Role {
         ensures { result ≡ may_copy self }
     {
         match self {
-            Role::Undecided | Role::Copies => true,
+            Role::Undecided | Role::Copies(_) => true,
             Role::Collects => false,
+        }
+    }
+
+    /// Whether it has copied beats or gaps.
+    pub(crate) fn copies(self) -> bool
+        ensures { result ≡ copies self }
+    {
+        !self.may_collect()
+    }
+
+    /// The child that it copies, if it copies.
+    pub(crate) fn child(self) -> Option<u64>
+        ensures { result ≡ child_in self }
+    {
+        match self {
+            Role::Undecided | Role::Collects => None,
+            Role::Copies(number) => Some(number),
         }
     }
 }

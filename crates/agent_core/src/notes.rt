@@ -15,7 +15,7 @@ ghost use Rattle.agent_core.specs.Roles.{may_copy};
 ghost use Rattle.agent_core.specs.Alarms.{IsReadOf, IsSteppingOf};
 ghost use Rattle.agent_core.specs.Health.{health_refusal};
 ghost use Rattle.agent_core.specs.Replay.{ArePartsOf, HasRows, HasSeen, IsDoneBy, IsEntryThere};
-ghost use Rattle.agent_core.specs.Rules.{HasGrids};
+ghost use Rattle.agent_core.specs.Rules.{HasLimits};
 
 use crate::alarming::Stepping;
 use crate::fault::AgentFault;
@@ -166,21 +166,21 @@ fn take_copied(
     }
     let defined = define_copy(alloc, &mut left.registry, entry)?;
     take_rows(last_rows, &left.registry, &defined)?;
-    left.role = Role::Copies;
+    left.role = Role::Copies(entry.child);
     Ok(())
 }
 
 /// Takes a gap, where nothing was collected.
-fn take_gap(left: &mut Left) -> Result<(), AgentFault>
+fn take_gap(left: &mut Left, child: u64) -> Result<(), AgentFault>
     ensures left { OnOk result
-        (left.new ≡ record { registry = left.old.registry; role = Role.Copies }) }
+        (left.new ≡ record { registry = left.old.registry; role = Role.Copies child }) }
     ensures next { OnOk result (may_copy left.old.role ≡ true) }
     ensures broken { IfErr result
         (λ fault. fault ≡ AgentFault.Damaged 5 → may_copy left.old.role ≡ false) }
     ensures faults { IfErr result (λ fault. fault ≡ AgentFault.Damaged 5) }
 {
     if left.role.may_copy() {
-        left.role = Role::Copies;
+        left.role = Role::Copies(child);
         Ok(())
     } else {
         Err(AgentFault::Damaged(5))
@@ -234,8 +234,8 @@ fn take_entry(
             let config = read_health(alloc, text.as_slice())?;
             Ok(Stepping::Configuration(config))
         }
-        Entry::Gap(_) => {
-            take_gap(left)?;
+        Entry::Gap(gap) => {
+            take_gap(left, gap.child)?;
             Ok(Stepping::Nothing)
         }
     }
@@ -296,7 +296,7 @@ pub(crate) fn replay_beat(
 ) -> Result<Stepping, AgentFault>
     requires charts { AreApart same_chart left.old.registry.charts }
     requires dimensions { AreApart same_dimension left.old.registry.dimensions }
-    requires grids { HasGrids left.old.registry }
+    requires limits { HasLimits left.old.registry }
     ensures taken { OnOk result
         ((g : List HistoryBeat) (beats : List StoreBeat) (beat : HistoryBeat) → AreBeatsOf g beats
         → IsBeatOf g beat kept.now
@@ -321,7 +321,7 @@ pub(crate) fn replay_beat(
         (λ fault. fault ≡ AgentFault.Damaged 5 → takes_note left.old kept.now ≡ false) }
     ensures charts { OnOk result (AreApart same_chart left.new.registry.charts) }
     ensures dimensions { OnOk result (AreApart same_dimension left.new.registry.dimensions) }
-    ensures grids { OnOk result (HasGrids left.new.registry) }
+    ensures limits { OnOk result (HasLimits left.new.registry) }
     ensures faults { IfErr result
         (λ fault. (fault ≡ AgentFault.Memory) ⊎ (fault ≡ AgentFault.Damaged 5)) }
 {

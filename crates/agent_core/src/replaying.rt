@@ -18,7 +18,7 @@ ghost use Rattle.alarm_core.specs.Course.{held};
 ghost use Rattle.agent_core.specs.Faults.{IsOpening};
 ghost use Rattle.agent_core.specs.Notes.{beats_go_on};
 ghost use Rattle.agent_core.specs.Replay.{HasTaken, IsReplaying};
-ghost use Rattle.agent_core.specs.Rules.{HasGrids};
+ghost use Rattle.agent_core.specs.Rules.{HasLimits};
 
 use crate::alarming::follow;
 use crate::fault::{AgentFault, store_fault};
@@ -102,7 +102,7 @@ fn replay_next<H: Host>(
     requires going { store.old.fault ≡ None }
     requires charts { AreApart same_chart left.old.registry.charts }
     requires dimensions { AreApart same_dimension left.old.registry.dimensions }
-    requires grids { HasGrids left.old.registry }
+    requires limits { HasLimits left.old.registry }
     ensures replaying { OnOk result
         ((past : List Event) (set : ASettings) (h : List HistoryBeat)
         → IsReplaying past store.old left.old last_rows.old latest.old
@@ -134,7 +134,7 @@ fn replay_next<H: Host>(
     ensures journal { store.new.journal ≡ store.old.journal }
     ensures charts { OnOk result (AreApart same_chart left.new.registry.charts) }
     ensures dimensions { OnOk result (AreApart same_dimension left.new.registry.dimensions) }
-    ensures grids { OnOk result (HasGrids left.new.registry) }
+    ensures limits { OnOk result (HasLimits left.new.registry) }
     ensures host { H.seen host.new ≡ H.seen host.old }
     ensures faults { IfErr result
         (λ fault. (fault ≡ AgentFault.Memory) ⊎ (fault ≡ AgentFault.Damaged 5)) }
@@ -163,7 +163,7 @@ pub(crate) fn replay_all<H: Host>(
     requires going { store.old.fault ≡ None }
     requires charts { AreApart same_chart left.old.registry.charts }
     requires dimensions { AreApart same_dimension left.old.registry.dimensions }
-    requires grids { HasGrids left.old.registry }
+    requires limits { HasLimits left.old.registry }
     ensures replaying { OnOk result
         ((past : List Event) (set : ASettings) (h : List HistoryBeat)
         → IsReplaying past store.old left.old last_rows.old latest.old
@@ -193,7 +193,7 @@ pub(crate) fn replay_all<H: Host>(
     ensures journal { store.new.journal ≡ store.old.journal }
     ensures charts { OnOk result (AreApart same_chart left.new.registry.charts) }
     ensures dimensions { OnOk result (AreApart same_dimension left.new.registry.dimensions) }
-    ensures grids { OnOk result (HasGrids left.new.registry) }
+    ensures limits { OnOk result (HasLimits left.new.registry) }
     ensures host { H.seen host.new ≡ H.seen host.old }
     ensures faults { IfErr result
         (λ fault. (fault ≡ AgentFault.Memory) ⊎ (fault ≡ AgentFault.Damaged 5)) }

@@ -3,7 +3,7 @@ use Rattle.host_model.specs.Moments.{begins}
 use Rattle.history.specs.Registry.{Registry, same_chart, same_dimension}
 use Rattle.history.specs.Regular.{AreApart}
 use Rattle.store_core.specs.Records.{last_after}
-use Rattle.agent_core.specs.Rules.{HasGrids}
+use Rattle.agent_core.specs.Rules.{HasLimits}
 use Rattle.agent_core.proofs.DefinedLemmas.{charts-apart, dimensions-apart}
 use Rattle.agent_core.proofs.KeptLemmas.{climbs, holds-more, kept-after, next-after, rows-taken, seen-taken, spelt-after, stays}
 use Rattle.agent_core.proofs.Outcomes.{always, on_ok}
@@ -87,5 +87,5 @@ returns-clause-dimensions g c =
     always (AreApart same_dimension c.keep.new.registry.dimensions) c.see_beat.result
     (subst (λ (r : Registry). AreApart same_dimension r.dimensions) (sym c.in-Ok.ensures.applied) (dimensions-apart c.args.registry.now c.args.beat.now c.requires.dimensions))
 
-pub returns-clause-grids : goal.returns-clause-grids
-returns-clause-grids g c = always (HasGrids c.keep.new.registry) c.see_beat.result c.in-Ok.ensures.grids
+pub returns-clause-limits : goal.returns-clause-limits
+returns-clause-limits g c = always (HasLimits c.keep.new.registry) c.see_beat.result c.in-Ok.ensures.limits

@@ -5,9 +5,9 @@ use Rattle.history.specs.Regular.{IsRegular}
 use Rattle.entry_codec.specs.Entries.{IsWithinLimits}
 use Rattle.beat_entries.specs.Defined.{IsDefinedIn}
 use Rattle.beat_entries.proofs.LimitLemmas.{within-limits}
-use Rattle.agent_core.specs.Rules.{HasGrids}
+use Rattle.agent_core.specs.Rules.{HasLimits}
 use Rattle.agent_core.proofs.DefinedLemmas.{defined-after, regular-after}
-use Rattle.agent_core.proofs.FormLemmas.{grids-after}
+use Rattle.agent_core.proofs.LimitLemmas.{limits-after}
 use Rattle.agent_core.proofs.Outcomes.{always}
 use Rattle.agent_core.proofs.Within.{few-charts, few-dimensions, tested-memory}
 use Rattle.agent_core.proofs.keeping.keep.Goals as goal
@@ -37,16 +37,14 @@ kept_of-requires-clause-limits c =
     (defined-after old beat c.requires.is_open c.requires.has_charts c.requires.charts c.requires.dimensions)
     c.args.moment c.requires.is_open.chart_limits c.requires.is_open.dimension_limits (few-charts old beat c.requires.few_charts) (few-dimensions old beat c.requires.few))
 
-pub kept_of-requires-clause-grids : goal.kept_of-requires-clause-grids
-kept_of-requires-clause-grids c = subst HasGrids (sym c.in-Ok.ensures.ok) (grids-after c.args.registry.now c.args.beat.now c.requires.is_open c.requires.grids)
+pub kept_of-requires-clause-registry : goal.kept_of-requires-clause-registry
+kept_of-requires-clause-registry c =
+    subst HasLimits (sym c.in-Ok.ensures.ok) (limits-after c.args.registry.now c.requires.limits c.args.beat.now c.requires.is_open c.requires.few_charts c.requires.few)
 
-pub kept_of-requires-clause-few : goal.kept_of-requires-clause-few
-kept_of-requires-clause-few c = subst (λ (r : Registry). length r.dimensions ≤ 65536) (sym c.in-Ok.ensures.ok) (few-dimensions c.args.registry.now c.args.beat.now c.requires.few)
-
-pub returns-in-Ok-clause-grids : goal.returns-in-Ok-clause-grids
-returns-in-Ok-clause-grids c =
-    always (HasGrids c.apply.new.self) c.kept_of.result
-    (subst HasGrids (sym c.in-Ok.ensures.ok) (grids-after c.args.registry.now c.args.beat.now c.requires.is_open c.requires.grids))
+pub returns-in-Ok-clause-limits : goal.returns-in-Ok-clause-limits
+returns-in-Ok-clause-limits c =
+    always (HasLimits c.apply.new.self) c.kept_of.result
+    (subst HasLimits (sym c.in-Ok.ensures.ok) (limits-after c.args.registry.now c.requires.limits c.args.beat.now c.requires.is_open c.requires.few_charts c.requires.few))
 
 pub untaken-requires : goal.untaken-requires
 untaken-requires c =

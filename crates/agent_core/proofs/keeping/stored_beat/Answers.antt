@@ -10,7 +10,7 @@ returns-clause-form c =
     let registry = c.args.registry.now in
     let numbered = c.args.numbered.now in
     let rises = c.in-Ok.ensures.rising c.requires.numbered.0 c.requires.charts c.requires.numbered.1 in
-    kept-form registry c.requires.grids c.requires.few numbered c.requires.limits c.in-Ok.words c.in-Ok.ensures.words rises
+    kept-form registry c.requires.registry numbered c.requires.limits c.in-Ok.words c.in-Ok.ensures.words rises
     c.in_ok-points.points (c.in_ok-points.ensures.points ∙ ap (map (point_of registry)) c.as_slice.ensures) c.in_ok-note.note c.in_ok-note.ensures.spelling
     numbered.moment c.requires.later (search rules) c.in_ok-points.ensures.short
 
@@ -19,7 +19,7 @@ returns-clause-size c =
     let registry = c.args.registry.now in
     let numbered = c.args.numbered.now in
     let rises = c.in-Ok.ensures.rising c.requires.numbered.0 c.requires.charts c.requires.numbered.1 in
-    kept-size registry c.requires.grids c.requires.few numbered c.requires.limits c.in-Ok.words c.in-Ok.ensures.words rises
+    kept-size registry c.requires.registry numbered c.requires.limits c.in-Ok.words c.in-Ok.ensures.words rises
     c.in_ok-points.points (c.in_ok-points.ensures.points ∙ ap (map (point_of registry)) c.as_slice.ensures) c.in_ok-note.note c.in_ok-note.ensures.spelling
     (Some numbered.moment)
 

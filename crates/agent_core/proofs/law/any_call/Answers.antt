@@ -1,4 +1,4 @@
-use Rattle.agent_core.proofs.Sound.{beat-sound, health-sound, kept-sound, line-sound, query-sound}
+use Rattle.agent_core.proofs.Sound.{beat-sound, data-sound, health-sound, kept-sound, line-sound, query-sound, take-sound}
 use Rattle.agent_core.proofs.law.any_call.Goals as goal
 
 pub returns-clause-beat : goal.returns-clause-beat
@@ -17,3 +17,9 @@ returns-clause-kept g c true_host host host' agent agent' result set h tried did
 
 pub returns-clause-set_health : goal.returns-clause-set_health
 returns-clause-set_health g c true_host host host' agent agent' text result set h tried did sound = health-sound g.H.Host.honest host agent text host' agent' set h tried true_host result did sound
+
+pub returns-clause-take : goal.returns-clause-take
+returns-clause-take g c true_host host host' agent agent' message result set h tried did sound = take-sound g.H.Host.honest host agent message host' agent' set h tried true_host result did sound
+
+pub returns-clause-data : goal.returns-clause-data
+returns-clause-data g c true_host host host' agent agent' ask result set h tried did sound = data-sound g.H.Host.honest host host' agent agent' ask result set h tried true_host did sound

@@ -2,7 +2,7 @@ use Rattle.std.proofs.Common.{◌≡◌, false, rules, sym, ap, subst, ◌∙◌
 use Rattle.std.proofs.lemmas.Result.{err_from_is_err_and}
 use Rattle.agent_core.specs.Notes.{names_series}
 use Rattle.agent_core.specs.Replay.{HasSeen}
-use Rattle.agent_core.proofs.GridLemmas.{entry-grids}
+use Rattle.agent_core.proofs.LimitLemmas.{entry-limits}
 use Rattle.agent_core.proofs.NoteLemmas.{no-note, note-left, note-stops, note-takes}
 use Rattle.agent_core.proofs.ReplayLemmas.{does-after, entry-once, never-broken, only-memory, parts-after}
 use Rattle.agent_core.proofs.notes.replay_beat.Goals as goal
@@ -44,9 +44,9 @@ pub returns-clause-dimensions : goal.returns-clause-dimensions
 returns-clause-dimensions c =
     (entry-once c.args.left.now c.take_entry.new.left c.in_ok-entry.entry c.in_ok-does.ensures.left c.requires.charts c.requires.dimensions).1
 
-pub returns-clause-grids : goal.returns-clause-grids
-returns-clause-grids c =
-    entry-grids c.args.left.now c.take_entry.new.left c.in_ok-entry.entry c.in_ok-does.ensures.left c.in_ok-does.ensures.next c.requires.grids
+pub returns-clause-limits : goal.returns-clause-limits
+returns-clause-limits c =
+    entry-limits c.args.left.now c.take_entry.new.left c.in_ok-entry.entry c.in_ok-does.ensures.left c.in_ok-does.ensures.next c.requires.limits
 
 pub returns-clause-does : goal.returns-clause-does
 returns-clause-does c g beat of = does-after g beat c.args.kept.now c.in_ok-entry.entry c.in_ok-does.does of c.in_ok-entry.ensures.found c.in_ok-does.ensures.does

@@ -7,7 +7,7 @@ use Rattle.alarm_core.specs.Course.{held}
 use Rattle.entry_codec.specs.declared.entry.Settings.{Settings}
 use Rattle.store_core.specs.declared.beat.Beat.{Beat as StoreBeat}
 use Rattle.agent_core.specs.Replay.{HasTaken, IsReplaying}
-use Rattle.agent_core.specs.Rules.{HasGrids}
+use Rattle.agent_core.specs.Rules.{HasLimits}
 use Rattle.agent_core.proofs.replaying.replay_all.Given as goal
 
 abbrev pub decreases-loop : goal.decreases-loop
@@ -23,5 +23,5 @@ invariant-loop g l = record {
   journal : l.store.journal ≡ l.initial.store.journal;
   charts : AreApart same_chart l.left.registry.charts;
   dimensions : AreApart same_dimension l.left.registry.dimensions;
-  grids : HasGrids l.left.registry;
+  limits : HasLimits l.left.registry;
 }

@@ -1,4 +1,4 @@
-use Rattle.std.proofs.Common.{◌∷◌, ◌∙◌, ap, refl, sym, subst}
+use Rattle.std.proofs.Common.{◌∷◌, ◌∙◌, ap, sym, subst}
 use Rattle.std.proofs.lemmas.Result.{IfOk-weaker}
 use Rattle.host_model.specs.Disks.{EveryDisk}
 use Rattle.host_model.specs.Moments.{begins, Throughout}
@@ -62,12 +62,12 @@ returns-in-Ok-add_health-clause-done g c =
       alarms = inside.alarms;
       last = inside.last;
       count = inside.count;
-      copies = inside.copies;
+      role = inside.role;
       fault = inside.fault;
     } in
     subst (λ (s : Seen). IsAgentOf s.past c.tell.new.self set (health text ∷ h)) (sym c.tell.ensures.host)
-    (agent-more past (g.H.Host.seen c.add_health.new.host).past agent parts c.tell.new.self set h (health text) inside.last reply.events is_of holds
-    (ap (λ (a : AgentState). a.count) c.self.view_is) (ap (λ (a : AgentState). a.copies) c.self.view_is) (ap (λ (a : AgentState). a.fault) c.self.view_is ∙ is_of.going) told before refl
+    (agent-more past (g.H.Host.seen c.add_health.new.host).past agent parts c.tell.new.self set h (health text) inside.last inside.role reply.events is_of holds
+    (ap (λ (a : AgentState). a.count) c.self.view_is) (ap (λ (a : AgentState). a.fault) c.self.view_is ∙ is_of.going) told before (ap (λ (a : AgentState). a.role) c.self.view_is ∙ is_of.role)
     (followed (g.H.Host.seen c.add_health.new.host).past set h (health text) holds before stood does)))
 
 pub returns-in-Ok-add_health-clause-events : goal.returns-in-Ok-add_health-clause-events

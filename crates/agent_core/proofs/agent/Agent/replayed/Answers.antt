@@ -29,7 +29,7 @@ returns-clause-of g c past set h opened =
     replayed-is_of past _ c.replay_all.new.left set h
     (c.in_ok-replay_all.ensures.replaying past set h
     (replaying-begins past c.args.store (starts c.new-registry.result) c.new-last_rows.result c.nothing_seen-latest.result (held c.in-Ok.alarms) set h opened (starts-empty c.new-registry.result c.new-registry.ensures) c.new-last_rows.ensures.of_no_beats c.nothing_seen-latest.ensures.none c.in-Ok.ensures.held))
-    c.in_ok-replay_all.ensures.done refl c.last.ensures c.count.ensures (ap not c.may_collect-copies.ensures) refl
+    c.in_ok-replay_all.ensures.done refl c.last.ensures c.count.ensures refl refl
 
 pub returns-in_err-replay_all-clause-broken : goal.returns-in_err-replay_all-clause-broken
 returns-in_err-replay_all-clause-broken g c =
@@ -50,5 +50,5 @@ returns-clause-left g c past set beats opens =
     c.in_ok-replay_all.ensures.done in
     record {
       registry = ap (λ (l : Left). l.registry) left;
-      copies = ap not c.may_collect-copies.ensures ∙ ap (λ (l : Left). not (may_collect l.role)) left;
+      role = ap (λ (l : Left). l.role) left;
     }

@@ -2,6 +2,8 @@ use Rattle.std.proofs.Common.{◌≡◌, ◌∷◌, ◌∙◌, Option, None, ap,
 use Rattle.std.proofs.lemmas.Result.{IfOk-weaker}
 use Rattle.alarm_core.specs.Course.{held}
 use Rattle.agent_core.specs.Agent.{AgentState, Holds, IsAgentOf}
+use Rattle.agent_core.specs.declared.left.Role.TheVariants.{Collects}
+use Rattle.agent_core.specs.Roles.{copies}
 use Rattle.agent_core.proofs.AlarmLemmas.{both-told}
 use Rattle.host_model.specs.Disks.{EveryDisk}
 use Rattle.host_model.specs.Moments.{begins, Throughout}
@@ -19,47 +21,47 @@ returns-in-Some-reason-clause-any_moment g c true_host set h is_of = begins (not
 
 pub add-requires-clause-has_charts : goal.add-requires-clause-has_charts
 add-requires-clause-has_charts g c =
-    let free : beat_refusal c.self.inside.registry c.self.inside.copies c.self.inside.last c.args.moment c.args.beat.now ≡ None = grind arith in
-    (passes c.self.inside.registry c.self.inside.copies c.self.inside.last c.args.moment c.args.beat.now free).has_charts
+    let free : beat_refusal c.self.inside.registry (copies c.self.inside.role) c.self.inside.last c.args.moment c.args.beat.now ≡ None = grind arith in
+    (passes c.self.inside.registry (copies c.self.inside.role) c.self.inside.last c.args.moment c.args.beat.now free).has_charts
 
 pub add-requires-clause-has_dimensions : goal.add-requires-clause-has_dimensions
 add-requires-clause-has_dimensions g c =
-    let free : beat_refusal c.self.inside.registry c.self.inside.copies c.self.inside.last c.args.moment c.args.beat.now ≡ None = grind arith in
-    (passes c.self.inside.registry c.self.inside.copies c.self.inside.last c.args.moment c.args.beat.now free).has_dimensions
+    let free : beat_refusal c.self.inside.registry (copies c.self.inside.role) c.self.inside.last c.args.moment c.args.beat.now ≡ None = grind arith in
+    (passes c.self.inside.registry (copies c.self.inside.role) c.self.inside.last c.args.moment c.args.beat.now free).has_dimensions
 
 pub add-requires-clause-few : goal.add-requires-clause-few
 add-requires-clause-few g c =
-    let free : beat_refusal c.self.inside.registry c.self.inside.copies c.self.inside.last c.args.moment c.args.beat.now ≡ None = grind arith in
-    (passes c.self.inside.registry c.self.inside.copies c.self.inside.last c.args.moment c.args.beat.now free).few
+    let free : beat_refusal c.self.inside.registry (copies c.self.inside.role) c.self.inside.last c.args.moment c.args.beat.now ≡ None = grind arith in
+    (passes c.self.inside.registry (copies c.self.inside.role) c.self.inside.last c.args.moment c.args.beat.now free).few
 
 pub add-requires-clause-few_charts : goal.add-requires-clause-few_charts
 add-requires-clause-few_charts g c =
-    let free : beat_refusal c.self.inside.registry c.self.inside.copies c.self.inside.last c.args.moment c.args.beat.now ≡ None = grind arith in
-    (passes c.self.inside.registry c.self.inside.copies c.self.inside.last c.args.moment c.args.beat.now free).few_charts
+    let free : beat_refusal c.self.inside.registry (copies c.self.inside.role) c.self.inside.last c.args.moment c.args.beat.now ≡ None = grind arith in
+    (passes c.self.inside.registry (copies c.self.inside.role) c.self.inside.last c.args.moment c.args.beat.now free).few_charts
 
 pub add-requires-clause-kept_grids : goal.add-requires-clause-kept_grids
 add-requires-clause-kept_grids g c =
-    let free : beat_refusal c.self.inside.registry c.self.inside.copies c.self.inside.last c.args.moment c.args.beat.now ≡ None = grind arith in
-    (passes c.self.inside.registry c.self.inside.copies c.self.inside.last c.args.moment c.args.beat.now free).kept_grids
+    let free : beat_refusal c.self.inside.registry (copies c.self.inside.role) c.self.inside.last c.args.moment c.args.beat.now ≡ None = grind arith in
+    (passes c.self.inside.registry (copies c.self.inside.role) c.self.inside.last c.args.moment c.args.beat.now free).kept_grids
 
 pub add-requires-clause-later : goal.add-requires-clause-later
 add-requires-clause-later g c =
-    let free : beat_refusal c.self.inside.registry c.self.inside.copies c.self.inside.last c.args.moment c.args.beat.now ≡ None = grind arith in
-    let passed = passes c.self.inside.registry c.self.inside.copies c.self.inside.last c.args.moment c.args.beat.now free in
+    let free : beat_refusal c.self.inside.registry (copies c.self.inside.role) c.self.inside.last c.args.moment c.args.beat.now ≡ None = grind arith in
+    let passed = passes c.self.inside.registry (copies c.self.inside.role) c.self.inside.last c.args.moment c.args.beat.now free in
     grind (arith, passed.later)
 
 pub returns-in-Ok-clause-any_moment : goal.returns-in-Ok-clause-any_moment
 returns-in-Ok-clause-any_moment g c true_host set h is_of =
-    let free : beat_refusal c.self.inside.registry c.self.inside.copies c.self.inside.last c.args.moment c.args.beat.now ≡ None = grind arith in
+    let free : beat_refusal c.self.inside.registry (copies c.self.inside.role) c.self.inside.last c.args.moment c.args.beat.now ≡ None = grind arith in
     let agent = c.args.self.now in
-    let leaves : Option BlockFault = beat_refusal agent.registry agent.copies agent.last c.args.moment c.args.beat.now in
+    let leaves : Option BlockFault = beat_refusal agent.registry (copies agent.role) agent.last c.args.moment c.args.beat.now in
     subst (λ (s : Seen). Throughout (EveryDisk (StandsForOneOf set h leaves (collected c.args.moment c.args.beat.now ∷ h))) (g.H.Host.seen c.args.host.now).past s.past) (sym c.tell.ensures.host)
     (beat_moments (g.H.Host.seen c.args.host.now).past (g.H.Host.seen c.add.new.host).past c.args.self.now _ set h c.args.moment c.args.beat.now c.self.view_is c.requires.is_open free is_of
     (c.add.ensures.any_moment true_host set h))
 
 pub returns-in-Err-clause-any_moment : goal.returns-in-Err-clause-any_moment
 returns-in-Err-clause-any_moment g c true_host set h is_of =
-    let free : beat_refusal c.self.inside.registry c.self.inside.copies c.self.inside.last c.args.moment c.args.beat.now ≡ None = grind arith in
+    let free : beat_refusal c.self.inside.registry (copies c.self.inside.role) c.self.inside.last c.args.moment c.args.beat.now ≡ None = grind arith in
     beat_moments (g.H.Host.seen c.args.host.now).past (g.H.Host.seen c.add.new.host).past c.args.self.now _ set h c.args.moment c.args.beat.now c.self.view_is c.requires.is_open free is_of
     (c.add.ensures.any_moment true_host set h)
 
@@ -70,8 +72,8 @@ returns-in-Ok-clause-done g c =
     let agent : AgentState = c.args.self.now in
     let moment = c.args.moment in
     let beat = c.args.beat.now in
-    let free : beat_refusal agent.registry agent.copies agent.last moment beat ≡ None
-    = ap (λ (a : AgentState). beat_refusal a.registry a.copies a.last moment beat) (sym c.self.view_is) ∙ grind arith in
+    let free : beat_refusal agent.registry (copies agent.role) agent.last moment beat ≡ None
+    = ap (λ (a : AgentState). beat_refusal a.registry (copies a.role) a.last moment beat) (sym c.self.view_is) ∙ grind arith in
     let holds = c.in-Ok.ensures.done true_host set h (subst (λ (a : AgentState). Holds past a.store a.registry a.last_rows a.latest set h) (sym c.self.view_is) is_of.holds)
     (follows-of past agent set h is_of moment beat c.requires.is_open free) in
     let before = c.in-Ok.ensures.before ∙ ap (λ (a : AgentState). a.store.last) c.self.view_is ∙ (c.requires.ready is_of.going).same_last ∙ is_of.last_is in
@@ -84,12 +86,12 @@ returns-in-Ok-clause-done g c =
       alarms = c.self.inside.alarms;
       last = c.self.inside.last;
       count = c.self.inside.count;
-      copies = c.self.inside.copies;
+      role = c.self.inside.role;
       fault = c.self.inside.fault;
     } in
     subst (λ (s : Seen). IsAgentOf s.past c.tell.new.self set (collected moment beat ∷ h)) (sym c.tell.ensures.host)
-    (agent-more past (g.H.Host.seen c.add.new.host).past agent parts c.tell.new.self set h (collected moment beat) moment reply.events is_of holds
-    (ap (λ (a : AgentState). a.count) c.self.view_is) (ap (λ (a : AgentState). a.copies) c.self.view_is) (ap (λ (a : AgentState). a.fault) c.self.view_is ∙ is_of.going) told refl refl
+    (agent-more past (g.H.Host.seen c.add.new.host).past agent parts c.tell.new.self set h (collected moment beat) moment Collects reply.events is_of holds
+    (ap (λ (a : AgentState). a.count) c.self.view_is) (ap (λ (a : AgentState). a.fault) c.self.view_is ∙ is_of.going) told refl refl
     (followed (g.H.Host.seen c.add.new.host).past set h (collected moment beat) holds before stood refl)))
 
 pub returns-in-Ok-clause-events : goal.returns-in-Ok-clause-events
@@ -99,8 +101,8 @@ returns-in-Ok-clause-events g c =
     let agent : AgentState = c.args.self.now in
     let moment = c.args.moment in
     let beat = c.args.beat.now in
-    let free : beat_refusal agent.registry agent.copies agent.last moment beat ≡ None
-    = ap (λ (a : AgentState). beat_refusal a.registry a.copies a.last moment beat) (sym c.self.view_is) ∙ grind arith in
+    let free : beat_refusal agent.registry (copies agent.role) agent.last moment beat ≡ None
+    = ap (λ (a : AgentState). beat_refusal a.registry (copies a.role) a.last moment beat) (sym c.self.view_is) ∙ grind arith in
     let holds = c.in-Ok.ensures.done true_host set h (subst (λ (a : AgentState). Holds past a.store a.registry a.last_rows a.latest set h) (sym c.self.view_is) is_of.holds)
     (follows-of past agent set h is_of moment beat c.requires.is_open free) in
     let before = c.in-Ok.ensures.before ∙ ap (λ (a : AgentState). a.store.last) c.self.view_is ∙ (c.requires.ready is_of.going).same_last ∙ is_of.last_is in

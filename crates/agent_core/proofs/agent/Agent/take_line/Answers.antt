@@ -1,4 +1,4 @@
-use Rattle.std.proofs.Common.{◌≡◌, ℕ, List, Some, None, Result, Err, ap, subst}
+use Rattle.std.proofs.Common.{◌≡◌, ℕ, Bool, List, Some, None, Result, Err, ap, subst}
 use Rattle.history.specs.declared.fault.BlockFault.{BlockFault}
 use Rattle.history.specs.declared.line.Line.{Line}
 use Rattle.history.specs.declared.line.Line.TheVariants.{Moment}
@@ -9,6 +9,7 @@ use Rattle.agent_core.specs.declared.fault.AgentFault.TheVariants.{Memory}
 use Rattle.agent_core.specs.Agent.{AgentState}
 use Rattle.agent_core.specs.Calls.{Lines}
 use Rattle.host_model.specs.Seen.{Seen}
+use Rattle.agent_core.specs.Roles.{copies}
 use Rattle.agent_core.proofs.FedLemmas.{fed-step}
 use Rattle.agent_core.proofs.StepLemmas.{line-refused, line-short, line-taken, refused-reason, short_of}
 use Rattle.agent_core.proofs.agent.Agent.take_line.Goals as goal
@@ -23,8 +24,9 @@ returns-in-Ok g c =
     let agent = c.args.self.now in
     let feed = c.args.feed.now in
     let line = c.args.line in
-    let free : (every : ℕ) (past : List Line) → IsFeedOf feed every past → CountsAt line feed agent.registry → refusal agent.registry every past agent.copies agent.last line ≡ None
-    = subst (λ (a : AgentState). (every : ℕ) (past : List Line) → IsFeedOf feed every past → CountsAt line feed a.registry → refusal a.registry every past a.copies a.last line ≡ None) c.self.view_is c.in-Ok.ensures.refused in
+    let free : (every : ℕ) (past : List Line) → IsFeedOf feed every past → CountsAt line feed agent.registry → refusal agent.registry every past (copies agent.role) agent.last line ≡ None
+    = subst (λ (a : AgentState). (every : ℕ) (past : List Line) → IsFeedOf feed every past → CountsAt line feed a.registry → refusal a.registry every past (copies a.role) a.last line ≡ None) c.self.view_is
+    (subst (λ (b : Bool). (every : ℕ) (past : List Line) → IsFeedOf feed every past → CountsAt line feed c.self.inside.registry → refusal c.self.inside.registry every past b c.self.inside.last line ≡ None) c.copies.ensures c.in-Ok.ensures.refused) in
     let counts : CountsFor feed agent.registry → CountsPast line c.take_line.new.self agent.registry
     = subst (λ (a : AgentState). CountsFor feed a.registry → CountsPast line c.take_line.new.self a.registry) c.self.view_is c.in-Ok.ensures.counts in
     line-taken g.H.Host.honest host host' agent c.take_step.new.self feed c.take_line.new.self line c.in-Ok.step c.take_step.result c.requires.fed c.requires.limits
@@ -46,11 +48,12 @@ returns-in-Memory g c =
       alarms = c.self.inside.alarms;
       last = c.self.inside.last;
       count = c.self.inside.count;
-      copies = c.self.inside.copies;
+      role = c.self.inside.role;
       fault = c.self.inside.fault;
     } in
-    let free : (every : ℕ) (past : List Line) → IsFeedOf feed every past → CountsAt line feed inside.registry → refusal inside.registry every past inside.copies inside.last line ≡ None
-    = λ every past is_feed at. subst (RefusedBy (refusal inside.registry every past inside.copies inside.last line)) c.in-Memory.is (c.in-Err.ensures.refused every past is_feed at) in
+    let free : (every : ℕ) (past : List Line) → IsFeedOf feed every past → CountsAt line feed inside.registry → refusal inside.registry every past (copies inside.role) inside.last line ≡ None
+    = λ every past is_feed at. subst (RefusedBy (refusal inside.registry every past (copies inside.role) inside.last line)) c.in-Memory.is
+    (subst (λ (b : Bool). RefusedBy (refusal inside.registry every past b inside.last line) c.in-Err.fault) c.copies.ensures (c.in-Err.ensures.refused every past is_feed at)) in
     let fed = c.requires.fed in
     let quiet : (moment : ℕ) → line ≡ Moment moment → ⊥ = λ moment is. subst ClosesNone is (c.in-Err.ensures.short fed.every fed.past fed.feed_of (ap failing c.in-Memory.is)) in
     subst (λ (a : AgentState). Lines g.H.Host.honest host a feed line (Err Memory) host (short_of inside) c.take_line.new.self) c.self.view_is
@@ -63,9 +66,10 @@ returns-in_default-fault g c =
     let feed = c.args.feed.now in
     let line = c.args.line in
     let fault = c.in-Err.fault in
-    let against : (every : ℕ) (past : List Line) → IsFeedOf feed every past → CountsAt line feed agent.registry → refusal agent.registry every past agent.copies agent.last line ≡ Some fault
-    = subst (λ (a : AgentState). (every : ℕ) (past : List Line) → IsFeedOf feed every past → CountsAt line feed a.registry → refusal a.registry every past a.copies a.last line ≡ Some fault) c.self.view_is
+    let against : (every : ℕ) (past : List Line) → IsFeedOf feed every past → CountsAt line feed agent.registry → refusal agent.registry every past (copies agent.role) agent.last line ≡ Some fault
+    = subst (λ (a : AgentState). (every : ℕ) (past : List Line) → IsFeedOf feed every past → CountsAt line feed a.registry → refusal a.registry every past (copies a.role) a.last line ≡ Some fault) c.self.view_is
     (λ every past is_feed at.
-    refused-reason (refusal c.self.inside.registry every past c.self.inside.copies c.self.inside.last line) fault (c.in-Err.ensures.refused every past is_feed at) c.in_default-fault.not-Memory) in
+    refused-reason (refusal c.self.inside.registry every past (copies c.self.inside.role) c.self.inside.last line) fault
+    (subst (λ (b : Bool). RefusedBy (refusal c.self.inside.registry every past b c.self.inside.last line) fault) c.copies.ensures (c.in-Err.ensures.refused every past is_feed at)) c.in_default-fault.not-Memory) in
     let going : agent.fault ≡ None = subst (λ (a : AgentState). a.fault ≡ None) c.self.view_is c.in_default.is in
     line-refused g.H.Host.honest host agent feed c.take_line.new.self line c.requires.fed c.in-Err.ensures.err fault going c.requires.ready against
