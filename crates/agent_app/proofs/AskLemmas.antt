@@ -25,6 +25,8 @@ use Rattle.agent_core.specs.Calls.{Logs, Opens, Queries}
 use Rattle.agent_core.specs.Faults.{IsLogging, IsReading, Reopens, ReopensWith}
 use Rattle.agent_core.specs.Kept.{StandsForHistory}
 use Rattle.store_core.specs.declared.fault.Why.{Why}
+use Rattle.link_session.proofs.AckLemmas.{text-front}
+use Rattle.link_session.proofs.StoreLemmas.{stands-all}
 use Rattle.agent_app.specs.Convert.{LeavesDisk}
 use Rattle.agent_app.specs.declared.command.Form.{Form}
 use Rattle.agent_app.specs.Log.{log_as, log_for}
@@ -32,11 +34,9 @@ use Rattle.agent_app.specs.LogText.{shown_by}
 use Rattle.agent_app.specs.Query.{reply_for, Answering, Asks, IsAnswerStatus, IsAskStatus, IsSettled}
 use Rattle.agent_app.specs.Run.{ends_a_run, is_whole, TellsRun}
 use Rattle.agent_app.specs.Running.{opening_status, DiskRose, TellRose}
-use Rattle.agent_app.proofs.AckLemmas.{text-front}
 use Rattle.agent_app.proofs.CauseLemmas.{cause-as, stayed, stayed-before}
 use Rattle.agent_app.proofs.LeavesLemmas.{told-leaves, torn-leaves}
 use Rattle.agent_app.proofs.OpeningLemmas.{by-fault, disk-failed, failed_by, fault-is, opened-finds, opened_with, unopened-finds, untold-yet}
-use Rattle.agent_app.proofs.RunningLemmas.{stands-all}
 
 -- nothing was told of an output
 told-none : (s : Status) (output : List ℕ) (past : List Event) → is_whole s ≡ false → TellsRun s output past past

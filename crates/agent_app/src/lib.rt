@@ -20,8 +20,11 @@ ghost use Rattle.agent_app.specs.Health.{ConfiguresAll};
 ghost use Rattle.agent_app.specs.Log.{log_for};
 ghost use Rattle.agent_app.specs.New.{Makes};
 ghost use Rattle.agent_app.specs.Query.{question_of, reply_for, Asks};
+ghost use Rattle.agent_app.specs.Receive.{ReceivesAll};
 ghost use Rattle.agent_app.specs.Run.{RunsAll};
+ghost use Rattle.agent_app.specs.Send.{SendsAll};
 ghost use Rattle.entry_codec.specs.declared.entry.Settings.{Settings as ASettings};
+ghost use Rattle.link_session.specs.Session.{link_seen};
 
 use collect::collect_words;
 use command::Command;
@@ -55,6 +58,7 @@ mod refusals;
 mod run;
 mod running;
 mod send;
+mod sessions;
 
 pub use law::any_course;
 
@@ -156,13 +160,27 @@ pub fn agent_main<S: Source, H: Host, L: Link, P: Spawner, C: Clock>(
         → command_of words.now ≡ Some (Command.Collect every starts) → ⊥)
         → (spawner.new ≡ spawner.old) × (clock.new ≡ clock.old) }
 
-    // None but `send` and `receive` talks to another agent, and these take nothing of the input.
-    ensures unlinked { (command_of words.now ≡ Some Command.Send → ⊥)
-        → (command_of words.now ≡ Some Command.Receive → ⊥) → link.new ≡ link.old }
+    // What a parent is sent, and why that ended. Nothing changes in the database.
+    ensures sends { command_of words.now ≡ Some Command.Send →
+        SendsAll H.honest result
+        (link_seen (L.sent link.old) (L.left link.old) (L.faults link.old))
+        (link_seen (L.sent link.new) (L.left link.new) (L.faults link.new))
+        (H.seen host.old) (H.seen host.new) }
     ensures send_takes_nothing { command_of words.now ≡ Some Command.Send →
         source.new ≡ source.old }
+
+    // What is stored of a child and told, what crashes leave, what is answered, and why that ended.
+    ensures receives { command_of words.now ≡ Some Command.Receive →
+        ReceivesAll H.honest result
+        (link_seen (L.sent link.old) (L.left link.old) (L.faults link.old))
+        (link_seen (L.sent link.new) (L.left link.new) (L.faults link.new))
+        (H.seen host.old) (H.seen host.new) }
     ensures receive_takes_nothing { command_of words.now ≡ Some Command.Receive →
         source.new ≡ source.old }
+
+    // No other command talks to another agent.
+    ensures unlinked { (command_of words.now ≡ Some Command.Send → ⊥)
+        → (command_of words.now ≡ Some Command.Receive → ⊥) → link.new ≡ link.old }
 
     // What a question is answered with, and why it was not.
     ensures asks { command_of words.now ≡ Some Command.Query →
