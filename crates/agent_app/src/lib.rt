@@ -3,12 +3,12 @@
 //! `agent_main` is the top call. Over an honest host its contract says, for every input and whatever
 //! fails: what is told is a prefix of a stated function of the bytes taken, and all of it unless the
 //! output, the disk or memory failed. It says what a crash may leave of the database at any moment, and
-//! why the run ended with the status that it answers. Of `run`, `collect`, `query`, `health` and `log` it says
-//! so where the disk reads as a database of a history.
+//! why the run ended with the status that it answers. Of `run`, `collect`, `query`, `health`, `log`, `send` and
+//! `receive` it says so where the disk reads as a database of a history.
 //!
 //! It stands on `line_stream` for the lines of a stream, on `plugin_runner` for those of a program that is run as a
-//! collector, on `point_lines` for what the lines of a text tell, on `agent_core` for the agent whose beats are
-//! stored, and on `host_model` for the outside.
+//! collector, on `point_lines` for what the lines of a text tell, on `link_session` for what two agents say to each
+//! other, on `agent_core` for the agent whose beats are stored, and on `host_model` for the outside.
 #![tactic(auto)]
 
 ghost use Rattle.std.specs.Prelude.{◌≡◌, ◌⊎◌, ℕ, None, Some};
@@ -98,6 +98,15 @@ pub use law::any_course;
 ///
 /// `log text` tells `DROPPED`, how many events of the alarms are not shown, and a line for each of the last
 /// 1,000, the earliest first. `log json` tells the same as one line of JSON. Nothing changes in the database.
+///
+/// `send ADDRESS` answers the parent at the other end of the link with copies of the points of the database, from
+/// where that asks, until it has them all. Nothing changes in the database. `receive ADDRESS` stores what the child
+/// at the other end of the link sends behind the history of the database, which is a copy of that child's. As soon
+/// as a part of it is stored it tells `STORED` and the number of its last beat in the history, and then a line for
+/// each event that its beats make. After that the child is answered. What the database does not take is told as
+/// `REFUSED 0` or `LIMIT 0` and the number of the refusal. No more than 2^40 bytes are taken of the link.
+/// `LinkFault` where a call on the link fails, `PeerRefused` where one end refuses the other, and `LinkEnded` where
+/// the other end sends no more before it was done. The link knows the address.
 ///
 /// `query CHART AFTER BEFORE WINDOW GROUP [WORD..]` answers that question from the database, which
 /// nothing changes. The status is 0 where `ERROR` is told too. No word of it begins with `-`.
