@@ -31,10 +31,10 @@ same-grid registry copies last moment beat free =
     let series = passed (lacks_dimension registry beat) fault.NoDimension _ owners.1 in
     (passed (changes_grid registry beat) fault.GridChanged _ series.1).0
 
-abbrev KeepsGrid : Registry → ChartDef → Type 0
+abbrev pub KeepsGrid : Registry → ChartDef → Type 0
 KeepsGrid registry def = (old : ChartDef) → find (is_chart def.id) registry.charts ≡ Some old → old.update_every ≡ def.update_every
 
-keeps : (registry : Registry) (def : ChartDef) → changes_grid_of registry def ≡ false → KeepsGrid registry def
+pub keeps : (registry : Registry) (def : ChartDef) → changes_grid_of registry def ≡ false → KeepsGrid registry def
 keeps registry def same old found =
     let grid : not (old.update_every == def.update_every) ≡ false
     = ap (λ (f : Option ChartDef). option_map_or (λ (old : ChartDef). not (old.update_every == def.update_every)) f false) (sym found) ∙ same in

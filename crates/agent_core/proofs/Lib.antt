@@ -1,12 +1,15 @@
 pub mod AlarmLemmas
 pub mod AnswerLemmas
+pub mod AnswerTruth
 pub mod CallLemmas
 pub mod ClosedLemmas
 pub mod CopyCalls
+pub mod CopyLemmas
 pub mod DefinedLemmas
 pub mod FedLemmas
 pub mod FollowLemmas
 pub mod FormLemmas
+pub mod GoingOnLemmas
 pub mod HealthLemmas
 pub mod HistoryLemmas
 pub mod IndexLemmas
@@ -14,6 +17,7 @@ pub mod KeptLemmas
 pub mod LastSeenLemmas
 pub mod LimitLemmas
 pub mod Lists
+pub mod NamedLemmas
 pub mod NewLemmas
 pub mod NoteLemmas
 pub mod OpenFaults
@@ -26,5 +30,6 @@ pub mod ReplyLemmas
 pub mod SeenLemmas
 pub mod Sound
 pub mod StepLemmas
+pub mod TakenLemmas
 pub mod UnseenLemmas
 pub mod Within

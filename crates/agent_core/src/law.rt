@@ -1,8 +1,9 @@
-ghost use Rattle.std.specs.Prelude.{◌≡◌, ℕ, Bool, true, false, List, [], ◌∷◌, Option, None, is_some, reverse, Result};
+ghost use Rattle.std.specs.Prelude.{◌≡◌, ◌<◌, ◌≤◌, ℕ, Bool, true, false, List, [], ◌∷◌, ◌++◌, map, take, Option, Some, None, is_some, reverse, Result};
+ghost use Rattle.std.specs.List.{AllByRecursion};
 ghost use Rattle.host_model.specs.declared.file.File.{File as AFile};
 ghost use Rattle.history.specs.declared.line.Line.{Line};
 ghost use Rattle.history.specs.declared.line.Line.TheVariants.{Moment};
-ghost use Rattle.history.specs.History.{Beat, child, collected, health, last, registry_of};
+ghost use Rattle.history.specs.History.{Beat, child, collected, copied, Copy, gaps, Gap, health, last, missing, registry_of};
 ghost use Rattle.history.specs.declared.beat.OpenBeat.{OpenBeat};
 ghost use Rattle.history.specs.Looking.{beat as open_beat};
 ghost use Rattle.history.specs.Read.{history_at, refusal_at};
@@ -11,6 +12,13 @@ ghost use Rattle.beat_tiers.specs.declared.kept.Kept.{Kept as AKept};
 ghost use Rattle.alarm_events.specs.Log.{shown};
 ghost use Rattle.beat_tiers.specs.Beats.{series_points};
 ghost use Rattle.entry_codec.specs.declared.entry.Settings.{Settings as ASettings};
+ghost use Rattle.replication.specs.declared.ask.Ask.{Ask as AnAsk};
+ghost use Rattle.replication.specs.declared.message.Data.{Data};
+ghost use Rattle.replication.specs.declared.verdict.Verdict.{Verdict};
+ghost use Rattle.replication.specs.Answer.{from_of};
+ghost use Rattle.replication.specs.Copies.{above, had_floor, latest, EndsBy, RisesFrom};
+ghost use Rattle.link_frames.specs.DataForm.{IsData};
+ghost use Rattle.store_core.specs.declared.beat.Beat.{Beat as StoreBeat};
 ghost use Rattle.store_core.specs.Stands.{is_made, IsDamaged};
 ghost use Rattle.collect_block.specs.declared.feed.Feed.{Feed};
 ghost use Rattle.collect_block.specs.Feed.{CountsAt, IsFeedOf};
@@ -20,14 +28,13 @@ ghost use Rattle.agent_core.specs.declared.reply.Said.{Said};
 ghost use Rattle.agent_core.specs.Agent.{AgentState, IsSoundBy};
 ghost use Rattle.agent_core.specs.Alarms.{all_events, log_at};
 ghost use Rattle.agent_core.specs.Calls.{AnswersAsk, Beats, Keeps, Lines, Queries, SetsHealth, TakesData};
-ghost use Rattle.agent_core.specs.Copying.{added_to};
-ghost use Rattle.replication.specs.declared.ask.Ask.{Ask};
-ghost use Rattle.replication.specs.declared.message.Data.{Data};
-ghost use Rattle.replication.specs.declared.verdict.Verdict.{Verdict};
 ghost use Rattle.host_model.specs.Seen.{Seen};
-ghost use Rattle.agent_core.specs.Kept.{StandsForHistory};
-ghost use Rattle.agent_core.specs.Answers.{points_of_history, tier_beats};
+ghost use Rattle.agent_core.specs.Kept.{onto, AreBeatsOf, CopyFollows, StandsForHistory};
+ghost use Rattle.agent_core.specs.Answers.{floor_of_history, points_of_history, tier_beats};
+ghost use Rattle.agent_core.specs.Copies.{data_of_history, seen, seen_moment, span_of, IsCopyOfChild, IsTrueOfChild, SeenBeat};
+ghost use Rattle.agent_core.specs.Copying.{added_to, beats_of, copy_refusal};
 ghost use Rattle.agent_core.specs.Notes.{HasNotes};
+ghost use Rattle.agent_core.specs.Roles.{may_copy, role_of};
 ghost use Rattle.agent_core.specs.Rules.{beat_refusal, line_refusal};
 ghost use Rattle.agent_core.specs.Sound.{closed_by, history_after, history_by, tried_after};
 
@@ -107,7 +114,7 @@ pub fn any_call<H: Host>()
         → IsSoundBy host.past agent set h tried
         → IsSoundBy host'.past agent' set (history_after result (added_to h message) h)
         (tried_after result (added_to h message) tried) }
-    ensures data { H.honest → (host host' : Seen) (agent agent' : AgentState) (ask : Ask)
+    ensures data { H.honest → (host host' : Seen) (agent agent' : AgentState) (ask : AnAsk)
         (result : Result (Option Data) AgentFault) (set : ASettings) (h tried : List Beat)
         → AnswersAsk H.honest host agent ask result host' agent'
         → IsSoundBy host.past agent set h tried
@@ -124,4 +131,69 @@ pub fn any_history()
 /// The law of a history's alarms: their log shows all events of the history, the earliest first. It does nothing.
 pub fn any_log()
     ensures { (set : ASettings) (h : List Beat) → log_at set h ≡ shown (all_events set h) }
+{}
+
+/// The laws of copies, of any history whose beats a store keeps. What is seen of it rises and ends with it, and
+/// so do its gaps. A copy of a child stays a copy with the first of the beats that it makes of a `Data`, however
+/// many of them a stop leaves, where the `Data` is true of the child and begins where the copy ends; with what it
+/// adds of a `Data` it does so wherever that begins, and does not get ahead of the child. A history without beats
+/// is a copy. What a history answers to an `Ask` is true of what is seen of it, and it answers nothing only where
+/// nothing is seen above the moment from which it would answer. As a child goes on, a `Data` that was true of it
+/// stays true, and a copy that is not ahead of it stays a copy. Each copied beat and each gap that is made of a
+/// `Data` which is not refused may follow those before it. It does nothing.
+pub fn any_copy()
+    ensures rises { (h : List Beat) (beats : List StoreBeat) → AreBeatsOf h beats
+        → RisesFrom seen_moment 0 (seen h) }
+    ensures within { (h : List Beat) (beats : List StoreBeat) → AreBeatsOf h beats
+        → latest seen_moment 0 (seen h) ≤ last h }
+    ensures ends { (h : List Beat) (beats : List StoreBeat) → AreBeatsOf h beats
+        → AllByRecursion (EndsBy (last h)) (map span_of (gaps h)) }
+    ensures none { (floors : List ℕ) (child : List SeenBeat) → RisesFrom seen_moment 0 child
+        → IsCopyOfChild floors child [] }
+    ensures keeps { (h : List Beat) (beats : List StoreBeat) (floors : List ℕ)
+        (child : List SeenBeat) (message : Data) (n : ℕ)
+        → AreBeatsOf h beats → IsData message → RisesFrom seen_moment 0 child
+        → IsCopyOfChild floors child h → IsTrueOfChild floors child message
+        → message.prev ≡ last h
+        → IsCopyOfChild floors child (onto h (take n (beats_of (registry_of h) message))) }
+    ensures front { (h : List Beat) (beats : List StoreBeat) (floors : List ℕ)
+        (child : List SeenBeat) (message : Data) (n : ℕ)
+        → AreBeatsOf h beats → IsData message → RisesFrom seen_moment 0 child
+        → IsCopyOfChild floors child h → IsTrueOfChild floors child message
+        → IsCopyOfChild floors child (onto h (take n (added_to h message))) }
+    ensures added { (h : List Beat) (beats : List StoreBeat) (floors : List ℕ)
+        (child : List SeenBeat) (message : Data)
+        → AreBeatsOf h beats → IsData message → RisesFrom seen_moment 0 child
+        → IsCopyOfChild floors child h → IsTrueOfChild floors child message
+        → IsCopyOfChild floors child (onto h (added_to h message)) }
+    ensures behind { (h : List Beat) (floors : List ℕ) (child : List SeenBeat) (message : Data)
+        (n : ℕ)
+        → IsData message → RisesFrom seen_moment 0 child → IsTrueOfChild floors child message
+        → last h ≤ latest seen_moment 0 child
+        → last (onto h (take n (added_to h message))) ≤ latest seen_moment 0 child }
+    ensures answer { (set : ASettings) (h : List Beat) (beats : List StoreBeat) (ask : AnAsk)
+        (floors : List ℕ) (message : Data)
+        → AreBeatsOf h beats → had_floor floors (floor_of_history set h 0) ≡ true
+        → data_of_history set h ask ≡ Some message → IsTrueOfChild floors (seen h) message }
+    ensures all { (set : ASettings) (h : List Beat) (beats : List StoreBeat) (ask : AnAsk)
+        → AreBeatsOf h beats → ask.child ≡ set.id → data_of_history set h ask ≡ None
+        → above seen_moment (from_of (floor_of_history set h 0) ask.last) (seen h) ≡ [] }
+    ensures stays_true { (floors more : List ℕ) (child later : List SeenBeat) (message : Data)
+        → RisesFrom seen_moment 0 (child ++ later) → IsTrueOfChild floors child message
+        → IsTrueOfChild (floors ++ more) (child ++ later) message }
+    ensures stays_copy { (floors more : List ℕ) (child later : List SeenBeat) (h : List Beat)
+        → RisesFrom seen_moment 0 (child ++ later) → last h ≤ latest seen_moment 0 child
+        → IsCopyOfChild floors child h → IsCopyOfChild (floors ++ more) (child ++ later) h }
+    ensures copies { (h before rest : List Beat) (beats : List StoreBeat) (message : Data)
+        (copy : Copy)
+        → AreBeatsOf h beats → IsData message
+        → copy_refusal (registry_of h) (role_of h) message ≡ None → message.prev ≡ last h
+        → beats_of (registry_of h) message ≡ before ++ copied copy ∷ rest
+        → CopyFollows (onto h before) copy }
+    ensures gaps { (h before rest : List Beat) (beats : List StoreBeat) (message : Data)
+        (gap : Gap)
+        → AreBeatsOf h beats → IsData message
+        → copy_refusal (registry_of h) (role_of h) message ≡ None → message.prev ≡ last h
+        → beats_of (registry_of h) message ≡ before ++ missing gap ∷ rest
+        → let g = onto h before in (may_copy (role_of g) ≡ true) × (last g < gap.to) }
 {}

@@ -1,5 +1,5 @@
 -- What a child does at each frame.
-use Rattle.std.proofs.Common.{◌≡◌, ◌<◌, ◌≤◌, ℕ, Bool, true, false, List, Option, Some, None, Result, Ok, Err, IfErr, IfOk, refl, sym, ap, subst, ◌∙◌, ◌==◌, nat_lt, if◌then◌else◌}
+use Rattle.std.proofs.Common.{◌≡◌, ◌<◌, ◌≤◌, ℕ, Bool, List, Option, Some, None, Result, Ok, Err, IfErr, refl, sym, ap, subst, ◌∙◌, ◌==◌, nat_lt, if◌then◌else◌}
 use Rattle.std.proofs.lemmas.Bool.{eq-eqb, le-ltb, lt-ltb, ne_eqb}
 use Rattle.host_model.specs.Past.{Event}
 use Rattle.host_model.specs.Seen.{Seen}
@@ -22,7 +22,7 @@ use Rattle.link_session.specs.declared.flow.Flow.TheVariants.{GoesOn, Done}
 use Rattle.link_session.specs.Child.{answers, hears_ask, hears_bye, hears_have}
 use Rattle.link_session.specs.Exchange.{ends, nothing, refuses, Course}
 use Rattle.link_session.specs.Sending.{ChildTakes, IsAgents, IsSending}
-use Rattle.link_session.specs.Session.{DoesSo, IsRefusing, Leaves, SaysThen}
+use Rattle.link_session.specs.Session.{DoesSo, Leaves, SaysThen}
 use Rattle.link_session.proofs.SendingLemmas.{agent-fails, only-nothing, reads-badly, reads-well, refusing-outside, refusing-sends}
 use Rattle.link_session.proofs.StepLemmas.{leaves-does, leaves-refusing, said-does, said-refusing, silent-does}
 

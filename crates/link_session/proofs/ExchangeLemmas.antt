@@ -1,11 +1,10 @@
 -- How a session goes on from frame to frame, and ends.
-use Rattle.std.proofs.Common.{◌≡◌, ℕ, ◌≤◌, Bool, true, List, [], ◌∷◌, ◌++◌, Option, Some, None, Result, Ok, Err, OnOk, refl, sym, ap, subst, ◌∙◌, append_assoc, append-nil, arith}
+use Rattle.std.proofs.Common.{◌≡◌, ℕ, List, [], ◌∷◌, ◌++◌, Option, Some, None, Result, Ok, Err, OnOk, refl, sym, ap, subst, ◌∙◌, append_assoc, append-nil, arith}
 use Rattle.std.specs.List.{flat_map, AllByRecursion}
 use Rattle.std.specs.Option.{option_map_or}
 use Rattle.std.proofs.lemmas.Grind.{flat_map-append}
 use Rattle.std.proofs.lemmas.List.Sums.{fold-append}
 use Rattle.host_model.specs.Link.{Sends}
-use Rattle.line_stream.specs.Run.{input_limit}
 use Rattle.link_frames.specs.declared.frame.Frame.{Frame}
 use Rattle.link_frames.specs.Frames.{frame_bytes, HasSpelling}
 use Rattle.link_frames.specs.Stream.{HandsOut}
@@ -21,11 +20,11 @@ use Rattle.link_session.specs.Session.{bye_for, result_of, says_all, ClosesSo, D
 use Rattle.link_session.proofs.LinkLemmas.{all-said, joined-front, sends-both}
 
 -- ---- the frames that were given
-all-front : (fs gs : List Frame) → AllByRecursion HasSpelling (fs ++ gs) → AllByRecursion HasSpelling fs
+pub all-front : (fs gs : List Frame) → AllByRecursion HasSpelling (fs ++ gs) → AllByRecursion HasSpelling fs
 all-front [] gs all = tt
 all-front (f ∷ fs) gs all = (all.0, all-front fs gs all.1)
 
-front-handed : (bytes rest : List ℕ) (fs gs : List Frame) → HandsOut bytes [] (fs ++ gs) rest → HandsOut bytes [] fs (flat_map frame_bytes gs ++ rest)
+pub front-handed : (bytes rest : List ℕ) (fs gs : List Frame) → HandsOut bytes [] (fs ++ gs) rest → HandsOut bytes [] fs (flat_map frame_bytes gs ++ rest)
 front-handed bytes rest fs gs cut = record {
   found = fs;
   handed = refl;
@@ -35,7 +34,7 @@ front-handed bytes rest fs gs cut = record {
 }
 
 -- ---- how a session ends at a frame
-ends-for : (result : Result Flow SessionFault) (ended : Option SessionResult) (taken rest : List ℕ) (left : Option (List ℕ)) → (result ≡ Ok GoesOn → ⊥) → ClosesSo result ended → IsEndFor (result_of result) ended taken rest left
+pub ends-for : (result : Result Flow SessionFault) (ended : Option SessionResult) (taken rest : List ℕ) (left : Option (List ℕ)) → (result ≡ Ok GoesOn → ⊥) → ClosesSo result ended → IsEndFor (result_of result) ended taken rest left
 ends-for (Ok GoesOn) ended taken rest left over closes = absurd (over refl)
 ends-for (Ok Done) ended taken rest left over closes = closes
 ends-for (Err LinkFault) ended taken rest left over closes = tt
@@ -59,7 +58,7 @@ module _ {S : Type 0} where
 
     module _ (link : LinkSeen) (frames : List Frame) (now : S) (b : Option (List ℕ)) (talks : Talks does begin frames now link.sent b) where
       -- what an end that goes on does with one more frame
-      done-next : (f : Frame) → done_by (frames ++ f ∷ []) ≡ both (done_by frames) (does now f)
+      pub done-next : (f : Frame) → done_by (frames ++ f ∷ []) ≡ both (done_by frames) (does now f)
       done-next f =
           fold-append (λ (course : Course S) (f : Frame). then_does course (λ now. does now f)) begin frames (f ∷ [])
           ∙ then-goes (done_by frames) (λ now. does now f) talks.goes_on ∙ ap (λ (s : S). both (done_by frames) (does s f)) talks.now_is
@@ -75,7 +74,7 @@ module _ {S : Type 0} where
               (all-said (says_all (result_of result)) (does now f).sent b c so.says (ap (λ (r : Result Flow SessionFault). says_all (result_of r)) going)));
         }
 
-        pub frame-ends : (incoming : Incoming) (link' : LinkSeen) → DoesSo (does now f) now' result b link'.sent → HasGiven incoming link.left link'.left (frames ++ f ∷ []) → (result ≡ Ok GoesOn → ⊥)
+        abbrev pub frame-ends : (incoming : Incoming) (link' : LinkSeen) → DoesSo (does now f) now' result b link'.sent → HasGiven incoming link.left link'.left (frames ++ f ∷ []) → (result ≡ Ok GoesOn → ⊥)
             → Exchanges does begin (result_of result) link link'
         frame-ends incoming link' so given over =
             let all = frames ++ f ∷ [] in
@@ -96,14 +95,14 @@ module _ {S : Type 0} where
             }
 
       -- no frame is heard
-      said-of : (broken : Option PeerFault) → (broken_by broken (done_by frames)).sent ≡ (done_by frames).sent ++ bye_for broken
+      pub said-of : (broken : Option PeerFault) → (broken_by broken (done_by frames)).sent ≡ (done_by frames).sent ++ bye_for broken
       said-of None = sym (append-nil (done_by frames).sent)
       said-of (Some why) = ap (λ (course : Course S). course.sent) (then-goes (done_by frames) (refuses why) talks.goes_on)
 
       ended-none : (broken : Option PeerFault) → broken ≡ None → (broken_by broken (done_by frames)).ended ≡ None
       ended-none broken is = ap (λ (b : Option PeerFault). (broken_by b (done_by frames)).ended) is ∙ talks.goes_on
 
-      silence-for : (fault : SessionFault) (broken : Option PeerFault) (taken rest : List ℕ) (left : Option (List ℕ)) → IsSilentFor fault broken taken rest left → IsEndFor (Err fault) (broken_by broken (done_by frames)).ended taken rest left
+      pub silence-for : (fault : SessionFault) (broken : Option PeerFault) (taken rest : List ℕ) (left : Option (List ℕ)) → IsSilentFor fault broken taken rest left → IsEndFor (Err fault) (broken_by broken (done_by frames)).ended taken rest left
       silence-for LinkFault broken taken rest left silent = tt
       silence-for (Agent fault) broken taken rest left silent = absurd silent
       silence-for (PeerRefused fault) broken taken rest left silent =
@@ -113,7 +112,7 @@ module _ {S : Type 0} where
       silence-for TellFault broken taken rest left silent = absurd silent
       silence-for Memory broken taken rest left silent = tt
 
-      pub silence-ends : (fault : SessionFault) (middle link' : LinkSeen) → middle.sent ≡ b → HearsNoMore fault frames link.left middle link' → Exchanges does begin (Err fault) link link'
+      abbrev pub silence-ends : (fault : SessionFault) (middle link' : LinkSeen) → middle.sent ≡ b → HearsNoMore fault frames link.left middle link' → Exchanges does begin (Err fault) link link'
       silence-ends fault middle link' from hears = record {
         taken = hears.taken;
         takes = hears.takes;

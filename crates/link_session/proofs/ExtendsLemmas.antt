@@ -1,5 +1,5 @@
 -- A history that goes on.
-use Rattle.std.proofs.Common.{◌≡◌, ℕ, zero, suc, ◌≤◌, List, [], ◌∷◌, ◌++◌, length, take, refl, sym, ap, subst, ◌∙◌, arith}
+use Rattle.std.proofs.Common.{ℕ, zero, suc, ◌≤◌, List, [], ◌∷◌, length, take, arith}
 use Rattle.history.specs.History.{Beat}
 use Rattle.agent_core.specs.Kept.{onto}
 use Rattle.link_session.specs.Keeps.{no_more, one_more, Extends}

@@ -1,5 +1,5 @@
 -- How a session ends where no frame is heard.
-use Rattle.std.proofs.Common.{◌≡◌, ◌++◌, ℕ, Bool, true, false, List, [], ◌∷◌, take, drop, Option, Some, None, Ok, Err, refl, sym, ap, subst, ◌∙◌, append-nil}
+use Rattle.std.proofs.Common.{◌≡◌, ℕ, Bool, true, false, List, [], ◌∷◌, take, drop, Option, Some, None, Ok, Err, refl, sym, ap, subst, ◌∙◌, append-nil}
 use Rattle.std.specs.List.{flat_map}
 use Rattle.std.proofs.lemmas.List.{take-append-drop}
 use Rattle.std.proofs.lemmas.List.Concat.{flat_map-cons}
@@ -14,7 +14,7 @@ use Rattle.link_session.specs.declared.fault.SessionFault.{SessionFault}
 use Rattle.link_session.specs.declared.fault.SessionFault.TheVariants.{LinkFault, Agent, PeerRefused, Ended, InputLimit, TellFault, Memory}
 use Rattle.link_session.specs.Incoming.{HasNoMore, IsEndOf}
 use Rattle.link_session.specs.Exchange.{SessionResult}
-use Rattle.link_session.specs.Session.{says_all, bye_for, HearsNoMore, IsBrokenBy, IsSilentFor, Leaves, LinkSeen, Says, SaysFront}
+use Rattle.link_session.specs.Session.{says_all, HearsNoMore, IsBrokenBy, IsSilentFor, Leaves, LinkSeen, Says, SaysFront}
 use Rattle.link_session.proofs.LinkLemmas.{sends-nothing, silent-front}
 
 -- ---- one frame is said

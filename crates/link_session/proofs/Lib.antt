@@ -11,3 +11,7 @@ pub mod AckLemmas
 pub mod EventLemmas
 pub mod ExtendsLemmas
 pub mod StoreLemmas
+pub mod ReceiveLemmas
+pub mod ParentLemmas
+pub mod DataLemmas
+pub mod CopyLemmas

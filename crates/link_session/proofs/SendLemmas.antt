@@ -1,6 +1,5 @@
 -- How a child's session goes on, and ends.
-use Rattle.std.proofs.Common.{◌≡◌, ℕ, List, [], ◌∷◌, ◌++◌, Option, Some, None, Result, Ok, Err, IfErr, IsErrOf, refl, sym, ap, subst, ◌∙◌, arith}
-use Rattle.std.specs.List.{flat_map}
+use Rattle.std.proofs.Common.{◌≡◌, ℕ, List, [], ◌∷◌, ◌++◌, Option, None, Result, Ok, Err, IfErr, IsErrOf, refl, sym, ap, subst, ◌∙◌, arith}
 use Rattle.host_model.specs.Cause.{HasCause}
 use Rattle.host_model.specs.Link.{Sends}
 use Rattle.host_model.specs.Seen.{Seen}
@@ -18,13 +17,13 @@ use Rattle.link_session.specs.declared.fault.PeerFault.{PeerFault}
 use Rattle.link_session.specs.declared.fault.SessionFault.{SessionFault}
 use Rattle.link_session.specs.declared.fault.SessionFault.TheVariants.{LinkFault, Agent, PeerRefused, Ended, InputLimit, TellFault, Memory}
 use Rattle.link_session.specs.declared.flow.Flow.{Flow}
-use Rattle.link_session.specs.declared.flow.Flow.TheVariants.{GoesOn, Done}
+use Rattle.link_session.specs.declared.flow.Flow.TheVariants.{GoesOn}
 use Rattle.link_session.specs.declared.incoming.Incoming.{Incoming}
 use Rattle.link_session.specs.Child.{child_begins, child_does}
-use Rattle.link_session.specs.Exchange.{Course, SessionResult}
+use Rattle.link_session.specs.Exchange.{SessionResult}
 use Rattle.link_session.specs.Incoming.{HasGiven}
 use Rattle.link_session.specs.Sending.{spent_by, ChildTakes, IsAgents, IsSending, OnlyReads, SendsHistory}
-use Rattle.link_session.specs.Session.{result_of, says_all, DoesSo, Exchanges, HearsNoMore, IsEndFor, IsSilentFor, LinkSeen, Says, SaysFront, Talks}
+use Rattle.link_session.specs.Session.{result_of, says_all, DoesSo, HearsNoMore, IsEndFor, IsSilentFor, LinkSeen, Says, SaysFront, Talks}
 use Rattle.link_session.proofs.ChildLemmas.{id-is}
 use Rattle.link_session.proofs.ExchangeLemmas.{frame-ends, silence-ends, talks-first, talks-next}
 use Rattle.link_session.proofs.HearLemmas.{one-bytes, says-front}
@@ -95,7 +94,7 @@ module _ (honest : Type 0) (host : Seen) (agent : AgentState) (host' : Seen) (ag
       back Memory is = is
 
 -- ---- no frame is heard
-silent-outside : (fault : SessionFault) (broken : Option PeerFault) (taken rest : List ℕ) (left : Option (List ℕ)) → IsSilentFor fault broken taken rest left → IsAgents {T = Unit {0}} (Err fault) → ⊥
+pub silent-outside : (fault : SessionFault) (broken : Option PeerFault) (taken rest : List ℕ) (left : Option (List ℕ)) → IsSilentFor fault broken taken rest left → IsAgents {T = Unit {0}} (Err fault) → ⊥
 silent-outside (Agent fault) broken taken rest left silent is = silent
 silent-outside LinkFault broken taken rest left silent is = is
 silent-outside (PeerRefused fault) broken taken rest left silent is = is

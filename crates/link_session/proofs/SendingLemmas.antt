@@ -1,5 +1,5 @@
 -- An agent that only answers.
-use Rattle.std.proofs.Common.{◌≡◌, ℕ, Bool, true, false, List, Option, Some, None, Result, Ok, Err, IfErr, IsErrOf, refl, sym, ap, subst, ◌∙◌}
+use Rattle.std.proofs.Common.{◌≡◌, ℕ, List, Option, Some, None, Result, Ok, Err, IsErrOf, refl, sym, ap, subst, ◌∙◌}
 use Rattle.host_model.specs.Past.{Event}
 use Rattle.host_model.specs.Seen.{Seen}
 use Rattle.history.specs.History.{Beat}
@@ -7,15 +7,15 @@ use Rattle.entry_codec.specs.declared.entry.Settings.{Settings}
 use Rattle.store_core.specs.declared.fault.Why.{Why}
 use Rattle.agent_core.specs.declared.fault.AgentFault.{AgentFault}
 use Rattle.agent_core.specs.declared.fault.AgentFault.TheVariants as agent_fault
-use Rattle.agent_core.specs.Agent.{id_of, AgentIsReady, AgentState, IsAgentOf}
+use Rattle.agent_core.specs.Agent.{AgentIsReady, AgentState, IsAgentOf}
 use Rattle.agent_core.specs.Calls.{Reads}
 use Rattle.agent_core.specs.Faults.{fault_after, IsReading, ReopensWith}
 use Rattle.link_session.specs.declared.fault.SessionFault.{SessionFault}
 use Rattle.link_session.specs.declared.fault.SessionFault.TheVariants.{LinkFault, Agent, PeerRefused, Ended, InputLimit, TellFault, Memory}
 use Rattle.link_session.specs.declared.flow.Flow.{Flow}
-use Rattle.link_session.specs.Exchange.{Course, SessionResult}
+use Rattle.link_session.specs.Exchange.{Course}
 use Rattle.link_session.specs.Sending.{spent_by, IsAgents, IsSending, OnlyReads}
-use Rattle.link_session.specs.Session.{DoesSo, IsAgentEnd, IsRefusing}
+use Rattle.link_session.specs.Session.{DoesSo, IsRefusing}
 use Rattle.link_session.proofs.StepLemmas.{failed-does}
 
 -- ---- faults
@@ -43,7 +43,7 @@ refusing-outside Ended is agents = agents
 refusing-outside InputLimit is agents = agents
 refusing-outside TellFault is agents = agents
 
-spent-none : {T : Type 0} (before : Option Why) (result : Result T SessionFault) → (IsAgents result → ⊥) → spent_by before result ≡ before
+pub spent-none : {T : Type 0} (before : Option Why) (result : Result T SessionFault) → (IsAgents result → ⊥) → spent_by before result ≡ before
 spent-none before (Ok value) other = refl
 spent-none before (Err LinkFault) other = refl
 spent-none before (Err (Agent fault)) other = absurd (other tt)

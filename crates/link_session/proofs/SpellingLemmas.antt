@@ -1,7 +1,7 @@
 -- Which frames have a spelling.
-use Rattle.std.proofs.Common.{◌≡◌, ◌⊎◌, ◌<◌, ◌^◌, inl, inr, ℕ, List, ◌∷◌, length, length-append, arith}
+use Rattle.std.proofs.Common.{◌≡◌, ◌⊎◌, ◌<◌, ◌^◌, ℕ, length-append, arith}
 use Rattle.replication.specs.declared.ask.Ask.{Ask}
-use Rattle.field_codec.specs.Spelling.{u8_bytes, u32_bytes, u64_bytes}
+use Rattle.field_codec.specs.Spelling.{u32_bytes, u64_bytes}
 use Rattle.field_codec.proofs.Lengths.{length-u8_bytes, length-u32_bytes, length-u64_bytes}
 use Rattle.link_frames.specs.declared.frame.Frame.TheVariants as frame
 use Rattle.link_frames.specs.Frames.{ask_bytes, bad_frame, body_bytes, done, wrong_child, HasSpelling}

@@ -1,5 +1,5 @@
 -- What an end does at a frame.
-use Rattle.std.proofs.Common.{◌≡◌, ℕ, Bool, true, false, List, [], ◌∷◌, ◌++◌, Option, Some, None, Result, Ok, Err, IfErr, OnOk, refl, sym, ap, subst, ◌∙◌}
+use Rattle.std.proofs.Common.{◌≡◌, ℕ, Bool, true, false, List, [], ◌∷◌, Option, Some, Result, Ok, Err, IfErr, OnOk, refl, sym, ap, subst, ◌∙◌}
 use Rattle.std.specs.List.{flat_map}
 use Rattle.link_frames.specs.declared.frame.Frame.{Frame}
 use Rattle.link_frames.specs.declared.frame.Frame.TheVariants as frame
@@ -8,7 +8,7 @@ use Rattle.link_session.specs.declared.fault.PeerFault.{PeerFault}
 use Rattle.link_session.specs.declared.fault.SessionFault.{SessionFault}
 use Rattle.link_session.specs.declared.fault.SessionFault.TheVariants.{LinkFault, Agent, PeerRefused, Ended, InputLimit, TellFault, Memory}
 use Rattle.link_session.specs.declared.flow.Flow.{Flow}
-use Rattle.link_session.specs.Exchange.{Course, SessionResult}
+use Rattle.link_session.specs.Exchange.{Course}
 use Rattle.link_session.specs.Session.{says_all, result_of, ClosesSo, DoesSo, IsRefusing, Leaves, SaysFront, SaysThen}
 use Rattle.link_session.proofs.HearLemmas.{said-one, torn-one, untold-one}
 use Rattle.link_session.proofs.LinkLemmas.{sends-nothing, silent-front}

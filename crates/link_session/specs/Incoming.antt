@@ -1,5 +1,5 @@
 -- How the frames of a link are taken, one by one.
-use Rattle.std.specs.Prelude.{◌≡◌, ℕ, ◌+◌, ◌-◌, ◌<◌, ◌≤◌, List, [], ◌∷◌, ◌++◌, length, drop, slice_get, Option, Some, None, IfSome}
+use Rattle.std.specs.Prelude.{◌≡◌, ℕ, ◌+◌, ◌-◌, ◌<◌, ◌≤◌, List, [], ◌++◌, length, drop, slice_get, Option, Some, None, IfSome}
 use Rattle.host_model.specs.Source.{Takes}
 use Rattle.line_stream.specs.Run.{input_limit}
 use Rattle.link_frames.specs.declared.fault.FrameFault.{FrameFault}

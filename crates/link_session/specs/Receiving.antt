@@ -1,5 +1,6 @@
 -- What `receive` promises.
-use Rattle.std.specs.Prelude.{◌≡◌, ◌⊎◌, ℕ, ◌<◌, Bool, true, false, List, [], ◌++◌, length, Option, None, Some, Result, Ok, Err, IfErr, IsErrOf, take}
+use Rattle.std.specs.Prelude.{◌≡◌, ◌⊎◌, ℕ, Bool, true, false, List, [], ◌∷◌, ◌++◌, length, Option, Some, Result, Ok, Err, IfErr, IsErrOf, take}
+use Rattle.std.specs.List.{AllByRecursion}
 use Rattle.host_model.specs.declared.file.File.{File}
 use Rattle.host_model.specs.declared.file.File.TheVariants.{JournalA}
 use Rattle.host_model.specs.Cause.{HasCause}
@@ -9,21 +10,27 @@ use Rattle.host_model.specs.Past.{of, told, Event, IsOther, MayAdd, Told}
 use Rattle.host_model.specs.Seen.{Seen}
 use Rattle.history.specs.History.{Beat}
 use Rattle.plugin_text.specs.Lines.{rest}
+use Rattle.replication.specs.Copies.{RisesFrom}
 use Rattle.link_frames.specs.declared.frame.Frame.{Frame}
+use Rattle.link_frames.specs.declared.frame.Frame.TheVariants as frame
+use Rattle.link_frames.specs.Frames.{bad_frame, done}
 use Rattle.entry_codec.specs.declared.entry.Settings.{Settings}
 use Rattle.store_core.specs.declared.fault.Why.{Why}
 use Rattle.agent_core.specs.declared.fault.AgentFault.{AgentFault}
 use Rattle.agent_core.specs.declared.fault.AgentFault.TheVariants as agent_fault
 use Rattle.agent_core.specs.Agent.{id_of, AgentIsReady, AgentState, IsAgentOf}
+use Rattle.agent_core.specs.Copies.{seen_moment, IsCopyOfChild, IsTrueOfChild, SeenBeat}
 use Rattle.agent_core.specs.Kept.{StandsForHistory}
 use Rattle.link_session.specs.declared.fault.SessionFault.{SessionFault}
-use Rattle.link_session.specs.declared.fault.SessionFault.TheVariants.{LinkFault, Agent, PeerRefused, Ended, InputLimit, TellFault, Memory}
+use Rattle.link_session.specs.declared.fault.SessionFault.TheVariants.{LinkFault, Agent, TellFault, Memory}
+use Rattle.link_session.specs.declared.fault.PeerFault.TheVariants.{BadFrame}
 use Rattle.link_session.specs.declared.flow.Flow.{Flow}
+use Rattle.link_session.specs.declared.flow.Flow.TheVariants.{GoesOn, Done}
 use Rattle.link_session.specs.Exchange.{exchange, Course, SessionResult}
 use Rattle.link_session.specs.Keeps.{Extends, IsAckedUpTo, Keeps}
 use Rattle.link_session.specs.Parent.{parent_begins, parent_does, Parent}
 use Rattle.link_session.specs.Sending.{spent_by}
-use Rattle.link_session.specs.Session.{is_refusal, result_of, DoesSo, Exchanges, LinkSeen}
+use Rattle.link_session.specs.Session.{is_refusal, result_of, DoesSo, Exchanges, Leaves, LinkSeen, SaysThen}
 
 -- ---- what was told and stored
 
@@ -96,6 +103,14 @@ pub record ParentTakes (honest : Type 0) (host : Seen) (agent : AgentState) (cou
   pub stores : StoresOnly honest host agent result host' agent'
   pub faults : IfErr result IsReceiving
 
+-- what a child says is true of one that is these beats and had these floors
+abbrev pub IsTrueFrame : (floors : List ℕ) (child : List SeenBeat) → Frame → Type 0
+IsTrueFrame floors child (frame.Data message) = IsTrueOfChild floors child message
+IsTrueFrame floors child f = Unit {0}
+
+abbrev pub AreTrueOf : (floors : List ℕ) (child : List SeenBeat) → List Frame → Type 0
+AreTrueOf floors child frames = AllByRecursion (IsTrueFrame floors child) frames
+
 -- The session of a parent with this history: it did what a parent does with the frames that came, and of that the disk
 -- holds what was acknowledged at any moment, and all of it in the end, unless something failed.
 pub record Copies (set : Settings) (h0 : List Beat) (result : SessionResult) (old new : List Event) (link link' : LinkSeen) : Type 0 where
@@ -103,6 +118,9 @@ pub record Copies (set : Settings) (h0 : List Beat) (result : SessionResult) (ol
   pub stops : Throughout (EveryStop (Keeps set h0 (exchange (parent_does set) (parent_begins h0) exchanges.frames).now.history (told old))) old new
   pub ends : keeps_all result ≡ true → EveryDisk (StandsForHistory set (exchange (parent_does set) (parent_begins h0) exchanges.frames).now.history) new
   pub output : TellsFront (keeps_all result) (exchange (parent_does set) (parent_begins h0) exchanges.frames).told old new
+  -- a history that was a copy of a child is one at every moment, where each Data that came is true of the child
+  pub copy : (floors : List ℕ) (child : List SeenBeat) → RisesFrom seen_moment 0 child → IsCopyOfChild floors child h0 → AreTrueOf floors child exchanges.frames
+      → Throughout (EveryDisk (λ disk. (h : List Beat) × StandsForHistory set h disk × IsCopyOfChild floors child h)) old new
 
 -- `receive` with this result left the host, the agent and the link so
 pub record ReceivesHistory (honest : Type 0) (host : Seen) (agent : AgentState) (link : LinkSeen) (result : SessionResult) (host' : Seen) (agent' : AgentState) (link' : LinkSeen) : Type 0 where
@@ -115,3 +133,15 @@ pub record ReceivesHistory (honest : Type 0) (host : Seen) (agent : AgentState) 
 -- the telling of a text failed, or there was no memory to make it
 abbrev pub IsCutShort : SessionFault → (honest : Type 0) → (text : List ℕ) → (old new : List Event) → Type 0
 IsCutShort fault honest text old new = ((fault ≡ TellFault) × (honest → MayAdd (λ (n : ℕ). Told (take n text)) old new)) ⊎ ((fault ≡ Memory) × (honest → new ≡ old))
+
+-- the text was told and the Have was said, or a front of both, in this order
+abbrev pub SaysHave : (honest : Type 0) → (text : List ℕ) → (last : ℕ) → Result Flow SessionFault → (old new : List Event) → (sent sent' : Option (List ℕ)) → Type 0
+SaysHave honest text last result old new sent sent' =
+    ((fault : SessionFault) × (result ≡ Err fault) × IsCutShort fault honest text old new × (sent' ≡ sent))
+    ⊎ ((honest → new ≡ Told text ∷ old) × SaysThen (frame.Have last) GoesOn result sent sent')
+
+-- the child went for this reason, and the session is done, or that was refused
+abbrev pub GoesSo : ℕ → Result Flow SessionFault → (sent sent' : Option (List ℕ)) → Type 0
+GoesSo reason (Ok GoesOn) sent sent' = ⊥
+GoesSo reason (Ok Done) sent sent' = (reason ≡ done) × (sent' ≡ sent)
+GoesSo reason (Err fault) sent sent' = (reason ≡ done → ⊥) × Leaves bad_frame BadFrame fault sent sent'

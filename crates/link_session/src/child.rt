@@ -152,8 +152,8 @@ impl Child {
 
 /// Sends the history over a link to a parent, from where that asks, until the parent has all of it.
 ///
-/// It tells its id, and answers the frames of the parent one by one, until it has nothing more to send. Nothing is stored
-/// and nothing is told. After `Agent` with `Memory` the agent must be opened again.
+/// It tells its id, and answers the frames of the parent one by one, until it has nothing more to
+/// send. Nothing is stored and nothing is told. After `Agent` with `Memory` the agent must be opened again.
 pub fn send<H: Host, L: Link>(
     alloc: Global,
     agent: &mut Agent,
@@ -163,7 +163,8 @@ pub fn send<H: Host, L: Link>(
     requires { AgentIsReady H.honest (H.seen host.old).past agent.old }
     ensures { SendsHistory H.honest (H.seen host.old) agent.old
         (link_seen (L.sent link.old) (L.left link.old) (L.faults link.old)) result
-        (H.seen host.new) agent.new (link_seen (L.sent link.new) (L.left link.new) (L.faults link.new)) }
+        (H.seen host.new) agent.new
+        (link_seen (L.sent link.new) (L.left link.new) (L.faults link.new)) }
 {
     say(alloc, link, &Frame::Hello(agent.id()))?;
     let mut child = Child { alloc, last: None };

@@ -30,9 +30,11 @@ pub(crate) struct Incoming {
 fn pull<L: Link>(link: &mut L, into: &mut [u8]) -> Result<usize, SessionFault>
     requires { 0 < length into.old }
     ensures within { IfOk result (λ n. (0 < n) × (n ≤ length into.old)) }
-    ensures bytes { IfOk result (λ n. Takes (L.left link.old) (take n into.new) (L.left link.new)) }
+    ensures bytes { IfOk result
+        (λ n. Takes (L.left link.old) (take n into.new) (L.left link.new)) }
     ensures kept { OnErr result (L.left link.new ≡ L.left link.old) }
-    ensures ended { IsErrOf result SessionFault.Ended → IfSome (L.left link.new) (λ bytes. bytes ≡ []) }
+    ensures ended { IsErrOf result SessionFault.Ended
+        → IfSome (L.left link.new) (λ bytes. bytes ≡ []) }
     ensures faults { IfErr result
         (λ fault. (fault ≡ SessionFault.LinkFault) ⊎ (fault ≡ SessionFault.Ended)) }
     ensures sent { L.sent link.new ≡ L.sent link.old }
@@ -62,7 +64,7 @@ impl Incoming {
         }
     }
 
-    /// Cuts a piece into frames. A refusal is kept by the reader, since the frames before it come first.
+    /// Cuts a piece into frames. A refusal is kept by the reader, as the frames before it come first.
     fn cut(&mut self, piece: &[u8])
         requires budget { length piece.now ≤ self.old.budget }
         requires over { length self.old.frames ≤ self.old.given }

@@ -97,7 +97,8 @@ pub(crate) fn hear<L: Link>(
     ensures ends { IfErr result
         (λ fault. (left : Option (List ℕ)) (frames : List AFrame)
         → HasGiven incoming.old left (L.left link.old) frames
-        → HearsNoMore fault frames left (link_seen (L.sent link.old) (L.left link.old) (L.faults link.old))
+        → HearsNoMore fault frames left
+        (link_seen (L.sent link.old) (L.left link.old) (L.faults link.old))
         (link_seen (L.sent link.new) (L.left link.new) (L.faults link.new))) }
     ensures cause { HasCause (L.faults link.old) (L.faults link.new)
         (IsErrOf result SessionFault.LinkFault) }

@@ -1,7 +1,7 @@
-use Rattle.std.proofs.Common.{◌≡◌, ◌∙◌, sym}
+use Rattle.std.proofs.Common.{◌∙◌, sym}
 use Rattle.agent_core.specs.Copies.{data_of_history}
 use Rattle.link_session.specs.Child.{hears_ask}
-use Rattle.link_session.proofs.ChildLemmas.{asked-elsewhere, asked-there, takes-refused}
+use Rattle.link_session.proofs.ChildLemmas.{asked-elsewhere, takes-refused}
 use Rattle.link_session.proofs.child.Child.hear_ask.Goals as goal
 
 pub returns-then-ask-id-clause-takes : goal.returns-then-ask-id-clause-takes

@@ -1,6 +1,6 @@
 use Rattle.agent_core.specs.Copies.{data_of_history}
 use Rattle.link_session.specs.Child.{hears_have}
-use Rattle.link_session.proofs.ChildLemmas.{had-less, had-more, had-nothing, had-there, takes-refused}
+use Rattle.link_session.proofs.ChildLemmas.{had-more, had-nothing, takes-refused}
 use Rattle.link_session.proofs.child.Child.hear_have.Goals as goal
 
 pub returns-in_default-clause-takes : goal.returns-in_default-clause-takes

@@ -1,6 +1,5 @@
-use Rattle.std.proofs.Common.{◌≡◌, ◌++◌, ℕ, List, Option, Result, refl, sym, subst, arith, length-append}
+use Rattle.std.proofs.Common.{◌++◌, Option, refl, sym, subst, arith, length-append}
 use Rattle.link_frames.specs.declared.fault.FrameFault.{FrameFault}
-use Rattle.link_frames.specs.declared.frame.Frame.{Frame}
 use Rattle.link_session.proofs.IncomingLemmas.{fed-by, fed-size, given-more, IsFed}
 use Rattle.link_session.proofs.incoming.Incoming.cut.Goals as goal
 
