@@ -1,5 +1,6 @@
 -- What `receive` promises: where the database was opened, and where it was not.
 use Rattle.std.proofs.Common.{◌≡◌, ◌⊎◌, inl, inr, ℕ, Bool, true, false, List, [], ◌∷◌, ◌++◌, length, take, drop, Option, Some, None, Result, Ok, Err, IfErr, IsErrOf, refl, sym, ap, subst, ◌∙◌, append_assoc, append-nil, true≢false, arith, if◌then◌else◌}
+use Rattle.std.specs.List.{AllByRecursion}
 use Rattle.std.proofs.Math.Seq.{drop-append_seam}
 use Rattle.std.proofs.lemmas.List.{take-append-drop}
 use Rattle.host_model.specs.Cause.{HasCause}
@@ -19,24 +20,29 @@ use Rattle.line_stream.proofs.RunLemmas.{Takes-none}
 use Rattle.point_lines.specs.declared.refusal.Refusal.{Refusal}
 use Rattle.point_lines.specs.declared.refusal.Refusal.TheVariants as refusal
 use Rattle.point_lines.specs.Judged.{refusal_number}
+use Rattle.replication.specs.Copies.{RisesFrom}
+use Rattle.link_frames.specs.declared.frame.Frame.{Frame}
+use Rattle.link_frames.specs.Frames.{HasSpelling}
 use Rattle.entry_codec.specs.declared.entry.Settings.{Settings}
 use Rattle.agent_core.specs.declared.fault.AgentFault.{AgentFault}
 use Rattle.agent_core.specs.declared.fault.AgentFault.TheVariants as fault
 use Rattle.agent_core.specs.Agent.{AgentState, IsAgentOf}
 use Rattle.agent_core.specs.Calls.{Opens}
+use Rattle.agent_core.specs.Copies.{seen_moment, IsCopyOfChild, SeenBeat}
 use Rattle.agent_core.specs.Kept.{StandsForHistory}
 use Rattle.link_session.specs.declared.fault.SessionFault.{SessionFault}
 use Rattle.link_session.specs.declared.fault.SessionFault.TheVariants as session
 use Rattle.link_session.specs.Exchange.{SessionResult}
 use Rattle.link_session.specs.Keeps.{Extends, IsAckedUpTo, Keeps, no_more}
-use Rattle.link_session.specs.Receiving.{keeps_all, Copies, IsReceiving, ReceivesHistory}
+use Rattle.link_session.specs.Receiving.{keeps_all, AreTrueOf, Copies, IsReceiving, ReceivesHistory}
 use Rattle.link_session.specs.Session.{says_all, IsEndFor, LinkSeen}
 use Rattle.link_session.proofs.AckLemmas.{acked-more, acked-since, acked-weaker}
 use Rattle.link_session.proofs.LinkLemmas.{sends-nothing}
 use Rattle.link_session.proofs.ExtendsLemmas.{extends-further, extends-length}
+use Rattle.link_session.proofs.CopyLemmas.{stops-copy}
 use Rattle.link_session.proofs.StoreLemmas.{keeps-more, stands-all}
 use Rattle.agent_app.specs.Convert.{is_limit, refusal_line, refusal_status}
-use Rattle.agent_app.specs.Receive.{done_with, ends_a_receive, last_line, Closes, EndsAs, Receives, ReceivesAll, TellsWhy}
+use Rattle.agent_app.specs.Receive.{done_with, ends_a_receive, last_line, Closes, EndsAs, HoldsCopy, Receives, ReceivesAll, TellsWhy}
 use Rattle.agent_app.specs.Run.{finds_none, is_whole, LeavesOthers}
 use Rattle.agent_app.specs.Running.{opening_status, TellRose, TellsRefusal}
 use Rattle.agent_app.specs.Sessions.{session_status}
@@ -258,6 +264,16 @@ module _ (honest : Type 0) (host : Seen) (agent : AgentState) (middle : Seen) (o
     tells : told late.past ≡ told start ++ (receives.copies h set h0 is-of).output.said
     tells = (receives.copies h set h0 is-of).output.tells ∙ ap (λ (t : List ℕ). t ++ (receives.copies h set h0 is-of).output.said) silent
 
+    abbrev taken : List Frame
+    taken = (receives.copies h set h0 is-of).exchanges.frames
+
+    -- a copy stays one where this is left
+    stays-copy : (new : List Event) → Throughout Kept start new → (floors : List ℕ) (child : List SeenBeat) → RisesFrom seen_moment 0 child → IsCopyOfChild floors child h0 → AreTrueOf floors child taken
+        → Throughout (EveryDisk (HoldsCopy set floors child)) start new
+    stays-copy new held floors child rises copy truth =
+        let cut = (receives.copies h set h0 is-of).exchanges.cut in
+        stops-copy set floors child rises h0 taken start new (subst (AllByRecursion HasSpelling) (sym cut.handed) cut.frames) truth copy held
+
     -- nothing was told behind
     quiet-receives : is_refused result ≡ false → Receives (session_status result) set h0 link link' start late.past
     quiet-receives other =
@@ -275,6 +291,7 @@ module _ (honest : Type 0) (host : Seen) (agent : AgentState) (middle : Seen) (o
             tells = tells;
             all = λ all. copies.output.complete (whole-keeps result all);
           };
+          copy = stays-copy late.past stops;
         }
 
     -- the refusal was told, or that was cut short
@@ -337,6 +354,7 @@ module _ (honest : Type 0) (host : Seen) (agent : AgentState) (middle : Seen) (o
         stops = held;
         ends = all;
         output = record { sent = sent; unsent = unsent; whole = output-is ∙ output; tells = says; all = complete };
+        copy = stays-copy new held;
       }
 
       cut : {A : Type 0} (s : Status) → is_whole s ≡ false → is_whole s ≡ true → A
@@ -513,6 +531,7 @@ module _ (honest : Type 0) (host host' : Seen) (first : honest → IsDisk host.p
       tells = (opens.only_here h).output ∙ sym (append-nil (told host.past));
       all = λ all. absurd (true≢false (sym all ∙ short));
     };
+    copy = λ floors child rises copy truth. stops-copy set floors child rises h0 [] host.past host'.past tt truth copy (opening-stops set h0 host.past host'.past stands (opens.only_here h).output (opens.any_moment h));
   }
 
   pub unopened-receives : ReceivesAll honest (opening_status why) link link host host'

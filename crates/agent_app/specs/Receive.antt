@@ -1,5 +1,6 @@
 -- What `receive` promises.
 use Rattle.std.specs.Prelude.{◌≡◌, ◌⊎◌, ℕ, Bool, true, false, List, [], ◌++◌, Result, Ok, Err}
+use Rattle.host_model.specs.declared.file.File.{File}
 use Rattle.host_model.specs.declared.status.Status.{Status}
 use Rattle.host_model.specs.declared.status.Status.TheVariants.{Ok as Done, Refused, Limit, TellFault, DiskFault, LinkFault, PeerRefused, LinkEnded, InputLimit, Memory}
 use Rattle.host_model.specs.Cause.{HasCause}
@@ -10,15 +11,18 @@ use Rattle.host_model.specs.Seen.{Seen}
 use Rattle.history.specs.declared.fault.BlockFault.{BlockFault}
 use Rattle.history.specs.History.{Beat}
 use Rattle.point_lines.specs.declared.refusal.Refusal.TheVariants as refusal
+use Rattle.replication.specs.Copies.{RisesFrom}
 use Rattle.link_frames.specs.declared.frame.Frame.{Frame}
 use Rattle.entry_codec.specs.declared.entry.Settings.{Settings}
 use Rattle.agent_core.specs.declared.fault.AgentFault.TheVariants as agent
+use Rattle.agent_core.specs.Copies.{seen_moment, IsCopyOfChild, SeenBeat}
 use Rattle.agent_core.specs.Kept.{StandsForHistory}
 use Rattle.agent_core.specs.Notes.{HasNotes}
 use Rattle.link_session.specs.declared.fault.SessionFault.TheVariants as session
 use Rattle.link_session.specs.Exchange.{exchange, Course, SessionResult}
 use Rattle.link_session.specs.Keeps.{Keeps}
 use Rattle.link_session.specs.Parent.{parent_begins, parent_does, Parent}
+use Rattle.link_session.specs.Receiving.{AreTrueOf}
 use Rattle.link_session.specs.Session.{Exchanges, LinkSeen}
 use Rattle.agent_app.specs.Convert.{refusal_line, refusal_status}
 use Rattle.agent_app.specs.Run.{finds_none, is_whole, Finds, IsHostAsFound, LeavesOthers, OnceRead, TellsRun}
@@ -68,6 +72,10 @@ ends_a_receive status = false
 abbrev pub done_with : Settings → List Beat → List Frame → Course Parent
 done_with set h0 frames = exchange (parent_does set) (parent_begins h0) frames
 
+-- the disk holds a copy of this child, which had these floors
+abbrev pub HoldsCopy : Settings → (floors : List ℕ) → (child : List SeenBeat) → (File → List ℕ) → Type 0
+HoldsCopy set floors child disk = (h : List Beat) × StandsForHistory set h disk × IsCopyOfChild floors child h
+
 -- a session over a database of these settings and this history
 pub record Receives (status : Status) (set : Settings) (h0 : List Beat) (link link' : LinkSeen) (old new : List Event) : Type 0 where
   pub result : SessionResult
@@ -80,6 +88,8 @@ pub record Receives (status : Status) (set : Settings) (h0 : List Beat) (link li
   -- at the end all of them, unless the output, the disk or memory failed
   pub ends : is_whole status ≡ true → EveryDisk (StandsForHistory set (done_with set h0 exchanges.frames).now.history) new
   pub output : TellsRun status ((done_with set h0 exchanges.frames).told ++ last_line result) old new
+  -- a history that was a copy of a child is one at every moment, where each Data that came is true of the child
+  pub copy : (floors : List ℕ) (child : List SeenBeat) → RisesFrom seen_moment 0 child → IsCopyOfChild floors child h0 → AreTrueOf floors child exchanges.frames → Throughout (EveryDisk (HoldsCopy set floors child)) old new
 
 -- from some moment on all that a stop might leave of the disk was a database of this history, and the session was one over it
 pub record ReceivesOn (status : Status) (set : Settings) (h0 : List Beat) (link link' : LinkSeen) (read new : List Event) : Type 0 where
