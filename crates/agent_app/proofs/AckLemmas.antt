@@ -2,7 +2,6 @@
 use Rattle.std.proofs.Common.{◌≡◌, ℕ, Bool, true, false, List, [], ◌∷◌, ◌++◌, codes, refl, sym, ap, ◌∙◌, append_assoc, arith, true≢false, if◌then◌else◌}
 use Rattle.std.specs.Fmt.{decimal}
 use Rattle.std.specs.List.{slice_index}
-use Rattle.plugin_text.specs.Lines.{lines}
 use Rattle.history.specs.declared.fault.BlockFault.TheVariants as fault
 use Rattle.point_lines.specs.declared.refusal.Refusal.{Refusal}
 use Rattle.point_lines.specs.declared.refusal.Refusal.TheVariants as refusal

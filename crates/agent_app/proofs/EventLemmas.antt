@@ -1,5 +1,5 @@
 -- What is told of a stored beat: whole lines, which acknowledge it.
-use Rattle.std.proofs.Common.{◌≡◌, ℕ, ◌^◌, ◌<◌, ◌≤◌, List, [], ◌∷◌, ap, subst, append-nil}
+use Rattle.std.proofs.Common.{◌≡◌, ℕ, ◌^◌, ◌<◌, ◌≤◌, List, [], ◌∷◌, subst, append-nil}
 use Rattle.history.specs.History.{Beat}
 use Rattle.plugin_text.specs.Lines.{rest}
 use Rattle.entry_codec.specs.declared.entry.Settings.{Settings}

@@ -272,6 +272,13 @@ found-one status.NotADatabase none ends = true≢false (sym ends)
 found-one (status.Damaged part) none ends = true≢false (sym ends)
 found-one s none ends = true≢false (sym none)
 
+-- the disk did not fail
+pub opened-disk : (honest : Type 0) (host : Seen) (agent : AgentState) (middle : Seen) → Opens honest host (Ok agent) middle → middle.disk_faults ≡ host.disk_faults
+opened-disk honest host agent middle opens = opens.cause.stays apart
+  where
+    apart : opened_with agent ≡ failed_by fault.DiskFault → ⊥
+    apart e = cc
+
 module _ (honest : Type 0) (host : Seen) (agent : AgentState) (middle : Seen) (opens : Opens honest host (Ok agent) middle) (s : Status) where
   pub found-finds : (finds_none s ≡ true → ⊥) → Finds honest s host
   found-finds found = record {

@@ -1,15 +1,14 @@
 -- What `receive` promises: where the database was opened, and where it was not.
-use Rattle.std.proofs.Common.{◌≡◌, ◌⊎◌, inl, inr, ℕ, Bool, true, false, List, [], ◌∷◌, ◌++◌, length, take, drop, Option, Some, None, Result, Ok, Err, IfErr, IsErrOf, refl, sym, ap, subst, ◌∙◌, append_assoc, append-nil, true≢false, arith, if◌then◌else◌}
+use Rattle.std.proofs.Common.{◌≡◌, ◌⊎◌, inl, inr, ℕ, Bool, true, false, List, [], ◌∷◌, ◌++◌, length, take, drop, None, Ok, Err, IsErrOf, refl, sym, ap, subst, ◌∙◌, append_assoc, append-nil, true≢false, arith, if◌then◌else◌}
 use Rattle.std.specs.List.{AllByRecursion}
 use Rattle.std.proofs.Math.Seq.{drop-append_seam}
 use Rattle.std.proofs.lemmas.List.{take-append-drop}
 use Rattle.host_model.specs.Cause.{HasCause}
-use Rattle.host_model.specs.declared.file.File.{File}
 use Rattle.host_model.specs.declared.status.Status.{Status}
 use Rattle.host_model.specs.declared.status.Status.TheVariants as status
 use Rattle.host_model.specs.Disks.{EveryDisk, reads_as}
 use Rattle.host_model.specs.Moments.{EveryStop, Throughout, begins}
-use Rattle.host_model.specs.Past.{of, told, Event, IsDisk, IsOther, IsText, MayAdd, Told}
+use Rattle.host_model.specs.Past.{of, told, Event, IsDisk, MayAdd, Told}
 use Rattle.host_model.specs.Seen.{Seen}
 use Rattle.host_model.proofs.CallLemmas.{may_have_moved, moved}
 use Rattle.host_model.proofs.MomentLemmas.{at_end, at_start, full_text, joined}
@@ -34,7 +33,7 @@ use Rattle.link_session.specs.declared.fault.SessionFault.{SessionFault}
 use Rattle.link_session.specs.declared.fault.SessionFault.TheVariants as session
 use Rattle.link_session.specs.Exchange.{SessionResult}
 use Rattle.link_session.specs.Keeps.{Extends, IsAckedUpTo, Keeps, no_more}
-use Rattle.link_session.specs.Receiving.{keeps_all, AreTrueOf, Copies, IsReceiving, ReceivesHistory}
+use Rattle.link_session.specs.Receiving.{keeps_all, AreTrueOf, Copies, ReceivesHistory}
 use Rattle.link_session.specs.Session.{says_all, IsEndFor, LinkSeen}
 use Rattle.link_session.proofs.AckLemmas.{acked-more, acked-since, acked-weaker}
 use Rattle.link_session.proofs.LinkLemmas.{sends-nothing}
@@ -47,12 +46,9 @@ use Rattle.agent_app.specs.Run.{finds_none, is_whole, LeavesOthers}
 use Rattle.agent_app.specs.Running.{opening_status, TellRose, TellsRefusal}
 use Rattle.agent_app.specs.Sessions.{session_status}
 use Rattle.agent_app.proofs.AckLemmas.{acked-refusal}
-use Rattle.agent_app.proofs.CauseLemmas.{apart, cause-as, refusal-inside, stayed, stayed-before, stayed-behind}
-use Rattle.agent_app.proofs.OpeningLemmas.{by-fault, disk-failed, failed_by, fault-is, found-finds, opened_with, opening-stops, unopened-finds, unopened-host, untold-yet}
-use Rattle.agent_app.proofs.SendLemmas.{unlinked}
-
-abbrev ended_with : SessionFault → SessionResult
-ended_with why = Err why
+use Rattle.agent_app.proofs.CauseLemmas.{apart, cause-as, refusal-inside, stayed, stayed-before}
+use Rattle.agent_app.proofs.OpeningLemmas.{by-fault, disk-failed, failed_by, fault-is, found-finds, opened-disk, opening-stops, unopened-finds, unopened-host, untold-yet}
+use Rattle.agent_app.proofs.SendLemmas.{ended_with, unlinked}
 
 -- ---- how a session ends
 -- the database did not take what came
@@ -427,12 +423,6 @@ module _ (honest : Type 0) (host : Seen) (agent : AgentState) (middle : Seen) (o
     found : finds_none s ≡ true → ⊥
     found none = found-one s none ends
 
-    opening-disk : middle.disk_faults ≡ host.disk_faults
-    opening-disk = opens.cause.stays never
-      where
-        never : opened_with agent ≡ failed_by fault.DiskFault → ⊥
-        never e = cc
-
     link-cause : HasCause link.faults link'.faults (s ≡ status.LinkFault)
     link-cause = by how
       where
@@ -453,7 +443,7 @@ module _ (honest : Type 0) (host : Seen) (agent : AgentState) (middle : Seen) (o
             stayed-before middle.tell_faults late.tell_faults host'.tell_faults (s ≡ status.TellFault) (receives.stores.tells.stays (sound why is session.TellFault (not-told why))) tells.cause
 
     disk-cause : HasCause host.disk_faults host'.disk_faults (s ≡ status.DiskFault)
-    disk-cause = stayed-before host.disk_faults middle.disk_faults host'.disk_faults (s ≡ status.DiskFault) opening-disk (by how)
+    disk-cause = stayed-before host.disk_faults middle.disk_faults host'.disk_faults (s ≡ status.DiskFault) (opened-disk honest host agent middle opens) (by how)
       where
         by : ((is_refused result ≡ false) × (s ≡ session_status result) × (host' ≡ late)) ⊎ ((why : BlockFault) × Refusal-by why) → HasCause middle.disk_faults host'.disk_faults (s ≡ status.DiskFault)
         by (inl (other, is, same)) =

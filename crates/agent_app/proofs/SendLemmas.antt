@@ -1,20 +1,15 @@
 -- What `send` promises: where the database was opened, and where it was not.
-use Rattle.std.proofs.Common.{◌≡◌, ◌⊎◌, inl, inr, ℕ, true, false, Bool, List, Option, Some, None, Result, Ok, Err, IfErr, IsErrOf, refl, sym, ap, subst, ◌∙◌, true≢false}
-use Rattle.host_model.specs.Cause.{HasCause}
-use Rattle.host_model.specs.declared.file.File.{File}
+use Rattle.std.proofs.Common.{◌≡◌, ◌⊎◌, inl, inr, true, List, Ok, Err, IfErr, refl, sym, ap, subst, ◌∙◌, true≢false}
 use Rattle.host_model.specs.declared.status.Status.{Status}
 use Rattle.host_model.specs.declared.status.Status.TheVariants as status
 use Rattle.host_model.specs.Disks.{EveryDisk, reads_as}
 use Rattle.host_model.specs.Moments.{Throughout}
 use Rattle.host_model.specs.Past.{Event, of, told, IsDisk}
 use Rattle.host_model.specs.Seen.{Seen}
-use Rattle.history.specs.History.{Beat}
-use Rattle.entry_codec.specs.declared.entry.Settings.{Settings}
 use Rattle.agent_core.specs.declared.fault.AgentFault.{AgentFault}
 use Rattle.agent_core.specs.declared.fault.AgentFault.TheVariants as fault
 use Rattle.agent_core.specs.Agent.{AgentState}
 use Rattle.agent_core.specs.Calls.{Opens}
-use Rattle.agent_core.specs.Faults.{IsReading}
 use Rattle.agent_core.specs.Kept.{StandsForHistory}
 use Rattle.link_session.specs.declared.fault.SessionFault.{SessionFault}
 use Rattle.link_session.specs.declared.fault.SessionFault.TheVariants as session
@@ -27,9 +22,9 @@ use Rattle.agent_app.specs.Running.{opening_status}
 use Rattle.agent_app.specs.Send.{ends_a_send, SendsAll}
 use Rattle.agent_app.specs.Sessions.{fault_status, session_status}
 use Rattle.agent_app.proofs.CauseLemmas.{cause-as, stayed}
-use Rattle.agent_app.proofs.OpeningLemmas.{by-fault, disk-failed, failed_by, fault-is, found-finds, opened_with, unopened-finds, unopened-host}
+use Rattle.agent_app.proofs.OpeningLemmas.{by-fault, disk-failed, failed_by, fault-is, found-finds, opened-disk, unopened-finds, unopened-host}
 
-abbrev ended_with : SessionFault → SessionResult
+abbrev pub ended_with : SessionFault → SessionResult
 ended_with why = Err why
 
 -- ---- statuses
@@ -113,12 +108,6 @@ module _ (honest : Type 0) (host : Seen) (agent : AgentState) (middle : Seen) (o
   found : finds_none (session_status result) ≡ true → ⊥
   found none = found-one (session_status result) none ends
 
-  opening-disk : middle.disk_faults ≡ host.disk_faults
-  opening-disk = opens.cause.stays apart
-    where
-      apart : opened_with agent ≡ failed_by fault.DiskFault → ⊥
-      apart e = cc
-
   pub opened-sends : SendsAll honest (session_status result) link link' host host'
   opened-sends = record {
     sends = λ h set g here.
@@ -143,7 +132,7 @@ module _ (honest : Type 0) (host : Seen) (agent : AgentState) (middle : Seen) (o
     link_cause =
         cause-as link.faults link'.faults (result ≡ ended_with session.LinkFault) (session_status result ≡ status.LinkFault)
         (link-failed result sends.faults) (λ is. ap session_status is) sends.cause;
-    disk_cause = stayed host.disk_faults host'.disk_faults (session_status result ≡ status.DiskFault) (sends.reads.disk ∙ opening-disk) (sent-unstored result sends.faults);
+    disk_cause = stayed host.disk_faults host'.disk_faults (session_status result ≡ status.DiskFault) (sends.reads.disk ∙ opened-disk honest host agent middle opens) (sent-unstored result sends.faults);
   }
 
 -- ---- it was not
