@@ -107,6 +107,7 @@ ready-after honest old new agent same ready going =
       charts = fits.charts;
       dimensions = fits.dimensions;
       limits = fits.limits;
+      up_to = fits.up_to;
     }
 
 module _ (honest : Type 0) (host : Seen) (agent : AgentState) (message : Data) (middle : Seen) (agent' : AgentState) (id : ℕ) where

@@ -212,6 +212,7 @@ module _ (honest : Type 0) (host : Seen) (agent : AgentState) (link : LinkSeen) 
                 stops = goes.at.stops;
                 ends = λ _. stands-all host'.past agent' set (done_by set h on.frames).now.history goes.at.agent_of;
                 output = tells-all host'.past agent' set h (done_by set h on.frames).now.history host.past (done_by set h on.frames).told goes.at (keeps_all (failing_with fault));
+                closed = λ _. goes.at.closed;
                 copy = λ floors child rises copy truth. stops-copy set floors child rises h on.frames host.past host'.past (all-spelt hears.taken hears.rest on.frames hears.cut) truth copy goes.at.stops;
               };
           stores = stores-silent honest host agent host' agent' on.stores fault (silent-outside fault hears.broken hears.taken hears.rest link'.left hears.why) keeps.1;
@@ -293,6 +294,7 @@ module _ (honest : Type 0) (host : Seen) (agent : AgentState) (link : LinkSeen) 
           stops = subst (λ (g : List Beat). Throughout (EveryStop (Keeps set h g (told host.past))) host.past host''.past) (sym history-is) so.stops;
           ends = λ all. stands-all host''.past agent'' set (done_by set h (on.frames ++ f ∷ [])).now.history (at-then all).agent_of;
           output = subst (λ (t : List ℕ). TellsFront (keeps_all (result_of result)) t host.past host''.past) (sym told-is) so.output;
+          closed = λ all. (at-then all).closed;
           copy = λ floors child rises copy truth.
               stops-copy set floors child rises h (on.frames ++ f ∷ []) host.past host''.past (all-front (on.frames ++ f ∷ []) (waiting incoming') (subst (AllByRecursion HasSpelling) (sym given-then.cut.handed) given-then.cut.frames)) truth copy
               (subst (λ (g : List Beat). Throughout (EveryStop (Keeps set h g (told host.past))) host.past host''.past) (sym history-is) so.stops);
