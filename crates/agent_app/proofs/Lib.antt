@@ -24,6 +24,7 @@ mod ReplyLemmas
 mod RunLemmas
 mod RunningLemmas
 mod SendLemmas
+mod SessionLemmas
 mod StopsLemmas
 mod TakeLemmas
 mod WantLemmas

@@ -1,9 +1,9 @@
 -- What `receive` promises: where the database was opened, and where it was not.
-use Rattle.std.proofs.Common.{◌≡◌, ◌⊎◌, inl, inr, ℕ, Bool, true, false, List, [], ◌∷◌, ◌++◌, length, take, drop, None, Ok, Err, IsErrOf, refl, sym, ap, subst, ◌∙◌, append_assoc, append-nil, true≢false, arith, if◌then◌else◌}
+use Rattle.std.proofs.Common.{◌≡◌, ◌⊎◌, inl, inr, ℕ, Bool, true, false, List, [], ◌∷◌, ◌++◌, length, take, drop, None, Ok, Err, Some, IfSome, IsErrOf, refl, sym, ap, subst, ◌∙◌, append_assoc, append-nil, true≢false, arith, if◌then◌else◌}
 use Rattle.std.specs.List.{AllByRecursion}
 use Rattle.std.proofs.Math.Seq.{drop-append_seam}
 use Rattle.std.proofs.lemmas.List.{take-append-drop}
-use Rattle.host_model.specs.Cause.{HasCause}
+use Rattle.host_model.specs.Cause.{HasCause, Rose}
 use Rattle.host_model.specs.declared.status.Status.{Status}
 use Rattle.host_model.specs.declared.status.Status.TheVariants as status
 use Rattle.host_model.specs.Disks.{EveryDisk, reads_as}
@@ -33,6 +33,7 @@ use Rattle.link_session.specs.declared.fault.SessionFault.{SessionFault}
 use Rattle.link_session.specs.declared.fault.SessionFault.TheVariants as session
 use Rattle.link_session.specs.Exchange.{SessionResult}
 use Rattle.link_session.specs.Keeps.{Extends, IsAckedUpTo, Keeps, no_more}
+use Rattle.link_session.specs.Parent.{parent_begins, parent_does}
 use Rattle.link_session.specs.Receiving.{keeps_all, AreTrueOf, Copies, ReceivesHistory}
 use Rattle.link_session.specs.Session.{says_all, IsEndFor, LinkSeen}
 use Rattle.link_session.proofs.AckLemmas.{acked-more, acked-since, acked-weaker}
@@ -41,14 +42,15 @@ use Rattle.link_session.proofs.ExtendsLemmas.{extends-further, extends-length}
 use Rattle.link_session.proofs.CopyLemmas.{stops-copy}
 use Rattle.link_session.proofs.StoreLemmas.{keeps-more, stands-all}
 use Rattle.agent_app.specs.Convert.{is_limit, refusal_line, refusal_status}
-use Rattle.agent_app.specs.Receive.{done_with, ends_a_receive, last_line, Closes, EndsAs, HoldsCopy, Receives, ReceivesAll, TellsWhy}
-use Rattle.agent_app.specs.Run.{finds_none, is_whole, LeavesOthers}
+use Rattle.agent_app.specs.Receive.{done_with, ends_a_receive, last_line, Closes, EndsAs, HoldsCopy, Receives, ReceivesAll, ReceivesOn, TellsWhy}
+use Rattle.agent_app.specs.Run.{finds_none, is_whole, LeavesOthers, OnceRead}
 use Rattle.agent_app.specs.Running.{opening_status, TellRose, TellsRefusal}
-use Rattle.agent_app.specs.Sessions.{session_status}
+use Rattle.agent_app.specs.Sessions.{session_status, EndsAsBytes}
 use Rattle.agent_app.proofs.AckLemmas.{acked-refusal}
 use Rattle.agent_app.proofs.CauseLemmas.{apart, cause-as, refusal-inside, stayed, stayed-before}
-use Rattle.agent_app.proofs.OpeningLemmas.{by-fault, disk-failed, failed_by, fault-is, found-finds, opened-disk, opening-stops, unopened-finds, unopened-host, untold-yet}
+use Rattle.agent_app.proofs.OpeningLemmas.{by-fault, complete-by, disk-failed, failed_by, fault-is, found-finds, opened-disk, opening-stops, some-each, unopened-finds, unopened-host, untold-yet}
 use Rattle.agent_app.proofs.SendLemmas.{ended_with, unlinked}
+use Rattle.agent_app.proofs.SessionLemmas.{ends-as-bytes, NoFault}
 
 -- ---- how a session ends
 -- the database did not take what came
@@ -175,6 +177,15 @@ found-one status.NotADatabase none ends = true≢false (sym ends)
 found-one (status.Damaged part) none ends = true≢false (sym ends)
 found-one s none ends = true≢false (sym none)
 
+-- where the output does not fail, it is the status of how the session ended
+told-as : (r : SessionResult) (s : Status) → EndsAs r s → (s ≡ status.TellFault → ⊥) → (s ≡ session_status r) ⊎ (s ≡ status.Memory)
+told-as (Ok done) s is none = inl is
+told-as (Err (session.Agent (fault.Refused why))) s (inl is) none = inl is
+told-as (Err (session.Agent (fault.Refused why))) s (inr (inl is)) none = absurd (none is)
+told-as (Err (session.Agent (fault.Refused why))) s (inr (inr is)) none = inr is
+told-as (Err (session.Agent why)) s is none = inl is
+told-as (Err why) s is none = inl is
+
 -- of a session that was refused: the line was told, or that was cut short
 module _ (honest : Type 0) (why : BlockFault) (s : Status) (late host' : Seen) (tells : TellsWhy honest why s late host') where
   abbrev line : List ℕ
@@ -227,6 +238,39 @@ module _ (honest : Type 0) (why : BlockFault) (s : Status) (late host' : Seen) (
       by (inl (is, done)) = ap (λ (p : List Event). of file p) (done h)
       by (inr (inl (is, rose, torn))) = torn-by (torn h)
       by (inr (inr (is, same))) = ap (λ (p : List Event). of file p) same
+
+-- ---- all bytes of the link
+module _ (s : Status) (set : Settings) (h0 : List Beat) (link link' : LinkSeen) (host host' : Seen) (link_cause : HasCause link.faults link'.faults (s ≡ status.LinkFault))
+    (tell_cause : HasCause host.tell_faults host'.tell_faults (s ≡ status.TellFault)) (disk_cause : HasCause host.disk_faults host'.disk_faults (s ≡ status.DiskFault)) where
+  -- where nothing outside fails
+  abbrev Whole : List ℕ → Type 0
+  Whole bytes =
+      (Rose link.faults link'.faults → ⊥) → (Rose host.tell_faults host'.tell_faults → ⊥) → (Rose host.disk_faults host'.disk_faults → ⊥)
+      → EndsAsBytes (parent_does set) (parent_begins h0) s bytes
+
+  received-whole : (old new : List Event) → Receives s set h0 link link' old new → IfSome link.left Whole
+  received-whole old new receives = complete-by link.left link'.left receives.exchanges.taken Whole receives.exchanges.takes each
+    where
+      each : (more : List ℕ) → link'.left ≡ Some more → Whole (receives.exchanges.taken ++ more)
+      each more left none_link none_told none_disk = by (told-as receives.result s receives.ends_as none.tells)
+        where
+          none : NoFault s
+          none = record { link = λ is. none_link (link_cause.failed is); disk = λ is. none_disk (disk_cause.failed is); tells = λ is. none_told (tell_cause.failed is) }
+
+          by : (s ≡ session_status receives.result) ⊎ (s ≡ status.Memory) → EndsAsBytes (parent_does set) (parent_begins h0) s (receives.exchanges.taken ++ more)
+          by (inl is) =
+              subst (λ (t : Status). EndsAsBytes (parent_does set) (parent_begins h0) t (receives.exchanges.taken ++ more)) (sym is)
+              (ends-as-bytes (parent_does set) (parent_begins h0) receives.result link link' receives.exchanges more left (subst NoFault is none))
+          by (inr is) = inr is
+
+  -- also where the images differ
+  read-whole : (old new : List Event) → OnceRead (λ read. ReceivesOn s set h0 link link' read new) (link' ≡ link) s old new → IfSome link.left Whole
+  read-whole old new once = by once.after
+    where
+      by : ReceivesOn s set h0 link link' once.read new ⊎ (((s ≡ status.DiskFault) ⊎ (s ≡ status.Memory)) × (new ≡ once.read) × (link' ≡ link)) → IfSome link.left Whole
+      by (inl on) = received-whole once.read new on.receives
+      by (inr (inl failed, same, untaken)) = some-each link.left Whole (λ bytes is none_link none_told none_disk. absurd (none_disk (disk_cause.failed failed)))
+      by (inr (inr no_memory, same, untaken)) = some-each link.left Whole (λ bytes is none_link none_told none_disk. inr no_memory)
 
 -- ---- the database was opened
 module _ (honest : Type 0) (host : Seen) (agent : AgentState) (middle : Seen) (opens : Opens honest host (Ok agent) middle) (first : honest → IsDisk host.past (reads_as host.past))
@@ -459,23 +503,28 @@ module _ (honest : Type 0) (host : Seen) (agent : AgentState) (middle : Seen) (o
         by (inl (quiet, is, same)) = ap (λ (p : Seen). of file p.past) same
         by (inr (why, (is, tells))) = refused-others honest why s late host' tells h file other
 
+    resumes-so : (h : honest) (set : Settings) (h0 : List Beat) → StandsForHistory set h0 (reads_as host.past)
+        → OnceRead (λ read. ReceivesOn s set h0 link link' read host'.past) (link' ≡ link) s host.past host'.past
+    resumes-so h set h0 here =
+        let is-of = opens.opened h set h0 here in
+        let stands-now = stands-all middle.past agent set h0 is-of in
+        record {
+          read = middle.past;
+          before = opens.any_moment h;
+          silent = (opens.only_here h).output;
+          after = inl (record {
+            stands = stands-now;
+            receives = since h set h0 is-of middle.past refl (opening-stops set h0 middle.past middle.past stands-now refl (begins (λ disk images. images))) s host' closed;
+          });
+        }
+
     pub opened-receives : ReceivesAll honest s link link' host host'
     opened-receives = record {
       receives = λ h set h0 stands.
           since h set h0 (opens.opened h set h0 (stands (reads_as host.past) (first h))) host.past (opens.only_here h).output
           (opening-stops set h0 host.past middle.past stands (opens.only_here h).output (opens.any_moment h)) s host' closed;
-      resumes = λ h set h0 here.
-          let is-of = opens.opened h set h0 here in
-          let stands-now = stands-all middle.past agent set h0 is-of in
-          record {
-            read = middle.past;
-            before = opens.any_moment h;
-            silent = (opens.only_here h).output;
-            after = inl (record {
-              stands = stands-now;
-              receives = since h set h0 is-of middle.past refl (opening-stops set h0 middle.past middle.past stands-now refl (begins (λ disk images. images))) s host' closed;
-            });
-          };
+      resumes = resumes-so;
+      complete = λ h set h0 here. read-whole s set h0 link link' host host' link-cause tell-cause disk-cause host.past host'.past (resumes-so h set h0 here);
       finds = found-finds honest host agent middle opens s found;
       statuses = inl ends;
       leaves = λ none. absurd (found none);
@@ -524,25 +573,39 @@ module _ (honest : Type 0) (host host' : Seen) (first : honest → IsDisk host.p
     copy = λ floors child rises copy truth. stops-copy set floors child rises h0 [] host.past host'.past tt truth copy (opening-stops set h0 host.past host'.past stands (opens.only_here h).output (opens.any_moment h));
   }
 
+  unheard-since : (h : honest) (set : Settings) (h0 : List Beat) → StandsForHistory set h0 (reads_as host.past)
+      → OnceRead (λ read. ReceivesOn (opening_status why) set h0 link link read host'.past) (link ≡ link) (opening_status why) host.past host'.past
+  unheard-since h set h0 here = record {
+    read = host'.past;
+    before = opens.any_moment h;
+    silent = (opens.only_here h).output;
+    after = inr (by-fault honest host host' first (λ (f : AgentFault). (opening_status f ≡ status.DiskFault) ⊎ (opening_status f ≡ status.Memory)) why (opens.stands h set h0 here) (inl refl) (inr refl), refl, refl);
+  }
+
+  unheard-link : HasCause link.faults link.faults (opening_status why ≡ status.LinkFault)
+  unheard-link = stayed link.faults link.faults (opening_status why ≡ status.LinkFault) refl (unlinked why)
+
+  unheard-tell : HasCause host.tell_faults host'.tell_faults (opening_status why ≡ status.TellFault)
+  unheard-tell = stayed host.tell_faults host'.tell_faults (opening_status why ≡ status.TellFault) opens.tells (untold-yet honest host host' first why)
+
+  unheard-disk : HasCause host.disk_faults host'.disk_faults (opening_status why ≡ status.DiskFault)
+  unheard-disk =
+      cause-as host.disk_faults host'.disk_faults (failed_by why ≡ failed_by fault.DiskFault) (opening_status why ≡ status.DiskFault)
+      (disk-failed honest host host' first why) (λ e. ap opening_status (fault-is why fault.DiskFault e)) opens.cause
+
   pub unopened-receives : ReceivesAll honest (opening_status why) link link host host'
   unopened-receives = record {
     receives = λ h set h0 stands.
         by-fault honest host host' first (λ (f : AgentFault). Receives (opening_status f) set h0 link link host.past host'.past) why (opens.stands h set h0 (stands (reads_as host.past) (first h)))
         (unheard h set h0 stands (Err (session.Agent fault.DiskFault)) status.DiskFault refl refl tt refl) (unheard h set h0 stands (Err session.Memory) status.Memory refl refl tt refl);
-    resumes = λ h set h0 here. record {
-      read = host'.past;
-      before = opens.any_moment h;
-      silent = (opens.only_here h).output;
-      after = inr (by-fault honest host host' first (λ (f : AgentFault). (opening_status f ≡ status.DiskFault) ⊎ (opening_status f ≡ status.Memory)) why (opens.stands h set h0 here) (inl refl) (inr refl), refl, refl);
-    };
+    resumes = unheard-since;
+    complete = λ h set h0 here. read-whole (opening_status why) set h0 link link host host' unheard-link unheard-tell unheard-disk host.past host'.past (unheard-since h set h0 here);
     finds = unopened-finds honest host host' first why opens;
     statuses = opening-ends why;
     leaves = λ none. (refl, unopened-host honest host host' first why opens);
     untaken = λ h none. (refl, unopened-host honest host host' first why opens);
     others = λ h. (opens.only_here h).others;
-    link_cause = stayed link.faults link.faults (opening_status why ≡ status.LinkFault) refl (unlinked why);
-    tell_cause = stayed host.tell_faults host'.tell_faults (opening_status why ≡ status.TellFault) opens.tells (untold-yet honest host host' first why);
-    disk_cause =
-        cause-as host.disk_faults host'.disk_faults (failed_by why ≡ failed_by fault.DiskFault) (opening_status why ≡ status.DiskFault)
-        (disk-failed honest host host' first why) (λ e. ap opening_status (fault-is why fault.DiskFault e)) opens.cause;
+    link_cause = unheard-link;
+    tell_cause = unheard-tell;
+    disk_cause = unheard-disk;
   }

@@ -1,9 +1,9 @@
 -- What `receive` promises.
-use Rattle.std.specs.Prelude.{◌≡◌, ◌⊎◌, ℕ, Bool, true, false, List, [], ◌++◌, Err}
+use Rattle.std.specs.Prelude.{◌≡◌, ◌⊎◌, ℕ, Bool, true, false, List, [], ◌++◌, Err, IfSome}
 use Rattle.host_model.specs.declared.file.File.{File}
 use Rattle.host_model.specs.declared.status.Status.{Status}
 use Rattle.host_model.specs.declared.status.Status.TheVariants.{Ok as Done, Refused, Limit, TellFault, DiskFault, LinkFault, PeerRefused, LinkEnded, InputLimit, Memory}
-use Rattle.host_model.specs.Cause.{HasCause}
+use Rattle.host_model.specs.Cause.{HasCause, Rose}
 use Rattle.host_model.specs.Disks.{EveryDisk, reads_as}
 use Rattle.host_model.specs.Moments.{EveryStop, Throughout}
 use Rattle.host_model.specs.Past.{told, Event}
@@ -27,7 +27,7 @@ use Rattle.link_session.specs.Session.{Exchanges, LinkSeen}
 use Rattle.agent_app.specs.Convert.{refusal_line, refusal_status}
 use Rattle.agent_app.specs.Run.{finds_none, is_whole, Finds, IsHostAsFound, LeavesOthers, OnceRead, TellsRun}
 use Rattle.agent_app.specs.Running.{TellRose, TellsRefusal}
-use Rattle.agent_app.specs.Sessions.{session_status}
+use Rattle.agent_app.specs.Sessions.{session_status, EndsAsBytes}
 
 -- ---- the end of a session
 
@@ -102,6 +102,10 @@ pub record ReceivesAll (honest : Type 0) (status : Status) (link link' : LinkSee
   -- where the images differ, as after a run that the disk ended, that history counts which the files read as
   pub resumes : honest → (set : Settings) (h0 : List Beat) → StandsForHistory set h0 (reads_as host.past)
       → OnceRead (λ read. ReceivesOn status set h0 link link' read host'.past) (link' ≡ link) status host.past host'.past
+  -- where no call on the outside fails, the status is that of all bytes of the link, or there was no memory
+  pub complete : honest → (set : Settings) (h0 : List Beat) → StandsForHistory set h0 (reads_as host.past)
+      → IfSome link.left (λ bytes. (Rose link.faults link'.faults → ⊥) → (Rose host.tell_faults host'.tell_faults → ⊥) → (Rose host.disk_faults host'.disk_faults → ⊥)
+      → EndsAsBytes (parent_does set) (parent_begins h0) status bytes)
   pub finds : Finds honest status host
   -- whatever the host tells, these are the statuses
   pub statuses : (ends_a_receive status ≡ true) ⊎ (finds_none status ≡ true)

@@ -1,8 +1,8 @@
 -- What `send` promises.
-use Rattle.std.specs.Prelude.{◌≡◌, ◌⊎◌, Bool, true, false, List}
+use Rattle.std.specs.Prelude.{◌≡◌, ◌⊎◌, Bool, true, false, List, IfSome}
 use Rattle.host_model.specs.declared.status.Status.{Status}
 use Rattle.host_model.specs.declared.status.Status.TheVariants.{Ok as Done, DiskFault, LinkFault, PeerRefused, LinkEnded, InputLimit, Memory}
-use Rattle.host_model.specs.Cause.{HasCause}
+use Rattle.host_model.specs.Cause.{HasCause, Rose}
 use Rattle.host_model.specs.Disks.{EveryDisk, reads_as}
 use Rattle.host_model.specs.Past.{Event}
 use Rattle.host_model.specs.Seen.{Seen}
@@ -15,7 +15,7 @@ use Rattle.link_session.specs.Child.{child_begins, child_does}
 use Rattle.link_session.specs.Exchange.{SessionResult}
 use Rattle.link_session.specs.Session.{Exchanges, LinkSeen}
 use Rattle.agent_app.specs.Run.{finds_none, Finds, IsHostAsFound, LeavesOthers}
-use Rattle.agent_app.specs.Sessions.{session_status}
+use Rattle.agent_app.specs.Sessions.{session_status, EndsAsBytes}
 
 -- the statuses of a session that sends, but those of one that found no database that can be opened
 abbrev pub ends_a_send : Status → Bool
@@ -43,6 +43,10 @@ pub record SendsAll (honest : Type 0) (status : Status) (link link' : LinkSeen) 
   -- the history is the one that the files read as; where it was not read, the disk or memory failed, and nobody was spoken to
   pub sends : honest → (set : Settings) (h : List Beat) → StandsForHistory set h (reads_as host.past)
       → Sends status set h link link' host'.past ⊎ (((status ≡ DiskFault) ⊎ (status ≡ Memory)) × (link' ≡ link))
+  -- where no call on the outside fails, the status is that of all bytes of the link, or there was no memory
+  pub complete : honest → (set : Settings) (h : List Beat) → StandsForHistory set h (reads_as host.past)
+      → IfSome link.left (λ bytes. (Rose link.faults link'.faults → ⊥) → (Rose host.disk_faults host'.disk_faults → ⊥)
+      → EndsAsBytes (child_does set.id (data_of_history set h)) (child_begins set.id) status bytes)
   -- nothing is told, and nothing changes on the disk
   pub host_is : IsHostAsFound honest host host'
   pub others : LeavesOthers honest host host'

@@ -1,15 +1,18 @@
 -- How a session with another agent ends.
-use Rattle.std.specs.Prelude.{ℕ, Ok, Err}
+use Rattle.std.specs.Prelude.{◌≡◌, ℕ, ◌<◌, ◌≤◌, List, [], length, take, ◌⊎◌, Option, Some, None, Ok, Err}
 use Rattle.host_model.specs.declared.status.Status.{Status}
 use Rattle.host_model.specs.declared.status.Status.TheVariants as status
 use Rattle.point_lines.specs.declared.refusal.Refusal.TheVariants as refusal
+use Rattle.line_stream.specs.Run.{input_limit}
+use Rattle.link_frames.specs.declared.frame.Frame.{Frame}
+use Rattle.link_frames.specs.Stream.{HandsOut, HasNoFrame, IsBad, IsOpen, IsTooLong}
 use Rattle.agent_core.specs.declared.fault.AgentFault.{AgentFault}
 use Rattle.agent_core.specs.declared.fault.AgentFault.TheVariants as agent
 use Rattle.link_session.specs.declared.fault.PeerFault.{PeerFault}
 use Rattle.link_session.specs.declared.fault.PeerFault.TheVariants.{WrongChild, BadFrame, FrameTooLong}
 use Rattle.link_session.specs.declared.fault.SessionFault.{SessionFault}
 use Rattle.link_session.specs.declared.fault.SessionFault.TheVariants.{LinkFault, Agent, PeerRefused, Ended, InputLimit, TellFault, Memory}
-use Rattle.link_session.specs.Exchange.{SessionResult}
+use Rattle.link_session.specs.Exchange.{exchange, Course, SessionResult}
 use Rattle.agent_app.specs.Convert.{refusal_status}
 
 -- the number of a refusal between two agents
@@ -36,3 +39,24 @@ fault_status Memory = status.Memory
 abbrev pub session_status : SessionResult → Status
 session_status (Ok done) = status.Ok
 session_status (Err fault) = fault_status fault
+
+-- ---- with which status a session ends over all bytes of its link, where nothing outside of it fails
+
+-- of a session that the frames in these bytes do not end, by what stands behind them; one rest is at most one of these
+abbrev pub EndsBehind : Status → (bytes rest : List ℕ) → Type 0
+EndsBehind s bytes rest =
+    (IsTooLong rest × (s ≡ status.PeerRefused (peer_kind FrameTooLong)))
+    ⊎ (IsBad rest × (s ≡ status.PeerRefused (peer_kind BadFrame)))
+    ⊎ (IsOpen rest × (length bytes < input_limit) × (s ≡ status.LinkEnded))
+    ⊎ (IsOpen rest × (input_limit ≤ length bytes) × (s ≡ status.InputLimit))
+
+-- of a session that the frames end so, and of one that they do not end, where no more of them stand in the rest
+abbrev pub EndsOver : Status → (ended : Option SessionResult) → (bytes rest : List ℕ) → Type 0
+EndsOver s (Some result) bytes rest = s ≡ session_status result
+EndsOver s None bytes rest = HasNoFrame rest → EndsBehind s bytes rest
+
+-- The status is that of the frames at the front of the bytes that a session may take, or there was no memory. Of two lists
+-- of such frames one goes on from the other, and a session that has ended stays so.
+abbrev pub EndsAsBytes : {S : Type 0} → (does : S → Frame → Course S) → (begin : Course S) → Status → (bytes : List ℕ) → Type 0
+EndsAsBytes does begin s bytes =
+    ((frames : List Frame) (rest : List ℕ) → HandsOut (take input_limit bytes) [] frames rest → EndsOver s (exchange does begin frames).ended bytes rest) ⊎ (s ≡ status.Memory)
