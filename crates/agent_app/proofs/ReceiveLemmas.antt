@@ -14,7 +14,6 @@ use Rattle.host_model.proofs.CallLemmas.{may_have_moved, moved}
 use Rattle.host_model.proofs.MomentLemmas.{at_end, at_start, full_text, joined}
 use Rattle.history.specs.declared.fault.BlockFault.{BlockFault}
 use Rattle.history.specs.History.{Beat}
-use Rattle.plugin_text.specs.Lines.{rest}
 use Rattle.line_stream.proofs.RunLemmas.{Takes-none}
 use Rattle.point_lines.specs.declared.refusal.Refusal.{Refusal}
 use Rattle.point_lines.specs.declared.refusal.Refusal.TheVariants as refusal

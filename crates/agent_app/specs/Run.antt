@@ -20,7 +20,7 @@ use Rattle.history.specs.Refusal.{is_unfinished}
 use Rattle.plugin_text.specs.declared.fault.LineFault.{LineFault}
 use Rattle.plugin_text.specs.declared.fault.LineFault.TheVariants.{LineTooLong}
 use Rattle.plugin_text.specs.Line.{line}
-use Rattle.plugin_text.specs.Lines.{lines, parts}
+use Rattle.plugin_text.specs.Lines.{parts}
 use Rattle.point_lines.specs.declared.refusal.Refusal.{Refusal}
 use Rattle.point_lines.specs.declared.refusal.Refusal.TheVariants as refusal
 use Rattle.entry_codec.specs.declared.entry.Settings.{Settings}

@@ -42,7 +42,7 @@ session_status (Err fault) = fault_status fault
 
 -- ---- with which status a session ends over all bytes of its link, where nothing outside of it fails
 
--- of a session that the frames in these bytes do not end, by what stands behind them; one rest is at most one of these
+-- the status of a session over these bytes that no frame ends, by what stands behind the frames; one of these cases holds at most
 abbrev pub EndsBehind : Status → (bytes rest : List ℕ) → Type 0
 EndsBehind s bytes rest =
     (IsTooLong rest × (s ≡ status.PeerRefused (peer_kind FrameTooLong)))
@@ -50,7 +50,8 @@ EndsBehind s bytes rest =
     ⊎ (IsOpen rest × (length bytes < input_limit) × (s ≡ status.LinkEnded))
     ⊎ (IsOpen rest × (input_limit ≤ length bytes) × (s ≡ status.InputLimit))
 
--- of a session that the frames end so, and of one that they do not end, where no more of them stand in the rest
+-- The status of a session over these bytes that the frames end so. Where they do not end it, and no more of them stand in the
+-- rest, that gives the status.
 abbrev pub EndsOver : Status → (ended : Option SessionResult) → (bytes rest : List ℕ) → Type 0
 EndsOver s (Some result) bytes rest = s ≡ session_status result
 EndsOver s None bytes rest = HasNoFrame rest → EndsBehind s bytes rest

@@ -106,7 +106,8 @@ pub use law::any_course;
 /// each event that its beats make. After that the child is answered. What the database does not take is told as
 /// `REFUSED 0` or `LIMIT 0` and the number of the refusal. No more than 2^40 bytes are taken of the link.
 /// `LinkFault` where a call on the link fails, `PeerRefused` where one end refuses the other, and `LinkEnded` where
-/// the other end sends no more before it was done. The link knows the address.
+/// the other end sends no more before it was done. Where nothing outside fails, the frames in all the bytes of the
+/// link and what stands behind them give the status, or it is `Memory`. The link knows the address.
 ///
 /// `query CHART AFTER BEFORE WINDOW GROUP [WORD..]` answers that question from the database, which
 /// nothing changes. The status is 0 where `ERROR` is told too. No word of it begins with `-`.
