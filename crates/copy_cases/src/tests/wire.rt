@@ -54,7 +54,7 @@ fn put_names(out: &mut Vec<u8>, update_every: u32) -> Result<(), AllocError> {
     put_u32(out, 1)?;
     put_u32(out, 0)?;
     put_text(out, "a")?;
-    out.push(0)
+    out.extend_from_slice(&[0])
 }
 
 /// Each beat has one word, of the dimension at the place 0.
@@ -99,8 +99,7 @@ fn put_body(out: &mut Vec<u8>, says: &Says) -> Result<(), AllocError> {
             put_u32(out, *last)
         }
         Says::Bye(reason) => {
-            out.push(5)?;
-            out.push(*reason)
+            out.extend_from_slice(&[5, *reason])
         }
         Says::Bytes(bytes) => out.extend_from_slice(bytes),
     }
