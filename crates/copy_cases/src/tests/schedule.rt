@@ -115,8 +115,7 @@ struct Way {
 }
 
 impl Schedule {
-    pub fn draw(alloc: Global, draws: &mut Draws) -> Result<Schedule, Fail> {
-        let is_long = draws.is_rare(4);
+    pub fn draw(alloc: Global, draws: &mut Draws, is_long: bool) -> Result<Schedule, Fail> {
         Ok(Schedule {
             alloc,
             child: draw_child(alloc, draws, is_long)?,
@@ -229,8 +228,9 @@ impl Schedule {
         talk(self.alloc, &mut self.child, SEND, heard)
     }
 
-    /// Each end hears once what the other one said. Whether both sessions ended as they may.
-    pub fn exchange(&mut self, draws: &mut Draws) -> Result<bool, Fail> {
+    /// Each end hears once what the other one said. What is wrong with the ends of both sessions or
+    /// with what the parent stored.
+    pub fn exchange(&mut self, draws: &mut Draws) -> Result<Option<&'static str>, Fail> {
         let said = self.say(draws)?;
         let way = self.pass(draws, said.sent.as_slice())?;
         let end = talk(self.alloc, &mut self.parent, RECEIVE, way.bytes.as_slice())?;
@@ -242,7 +242,13 @@ impl Schedule {
         if !way.is_plain || draws.is_rare(4) {
             self.ask_anew()?;
         }
-        Ok(is_ending(said.status) && is_ending(end.status))
+        if !is_ending(said.status) || !is_ending(end.status) {
+            return Ok(Some("status"));
+        }
+        if end.told.is_empty() {
+            return Ok(None);
+        }
+        self.first_wrong(false)
     }
 
     /// What the parent has otherwise than it should.

@@ -19,53 +19,85 @@ pub static PLACES: [(&str, &str); 6] = [
 pub const HIDDEN: usize = 4;
 
 /// The moments that questions are for, from 0 on.
-pub const MOMENTS: usize = 400;
+pub const MOMENTS: usize = 300;
 
 /// The values at a moment, by the places of the dimensions. 0 where there is none.
 pub type Row = [u32; 6];
 
 pub const EMPTY: Row = [0; 6];
 
-/// The value behind the moment, if the line has one.
-fn value_of(line: &str) -> Result<u32, Fail> {
-    match line.split_once(' ') {
-        None | Some((_, "null")) => Ok(0),
-        Some((_, number)) => Ok(number.parse::<u32>()?),
+fn value_of(cell: &str) -> Result<u32, Fail> {
+    if cell == "null" {
+        return Ok(0);
     }
+    Ok(cell.parse::<u32>()?)
 }
 
-fn put(rows: &mut [Row], place: usize, reply: &str) -> Result<(), Fail> {
-    for (row, line) in rows.iter_mut().zip(reply.lines().skip(1)) {
-        if let Some(cell) = row.get_mut(place) {
-            *cell = value_of(line)?;
+/// The place of a dimension of the chart whose dimensions begin at `first`.
+fn place_of(first: usize, id: &str) -> Option<usize> {
+    for (place, (_, name)) in PLACES.iter().enumerate().skip(first).take(3) {
+        if *name == id {
+            return Some(place);
+        }
+    }
+    None
+}
+
+/// The places of the columns of a reply, by its first line.
+fn columns_of(alloc: Global, first: usize, head: &str) -> Result<Vec<usize>, Fail> {
+    let mut columns = Vec::new(alloc);
+    for id in head.split(' ').skip(2) {
+        match place_of(first, id) {
+            Some(place) => columns.push(place)?,
+            None => return Err(Fail::new("a column of no dimension")),
+        }
+    }
+    Ok(columns)
+}
+
+/// Puts the cells of a line behind its moment.
+fn put_line(row: &mut Row, columns: &[usize], line: &str) -> Result<(), Fail> {
+    for (place, cell) in columns.iter().zip(line.split(' ').skip(1)) {
+        if let Some(into) = row.get_mut(*place) {
+            *into = value_of(cell)?;
         }
     }
     Ok(())
 }
 
-/// Puts the values of one dimension. A database may not know its chart yet.
-fn put_place(
+fn put(alloc: Global, rows: &mut [Row], first: usize, reply: &str) -> Result<(), Fail> {
+    let mut lines = reply.lines();
+    let columns = columns_of(alloc, first, lines.next().unwrap_or(""))?;
+    for (row, line) in rows.iter_mut().zip(lines) {
+        put_line(row, columns.as_slice(), line)?;
+    }
+    Ok(())
+}
+
+/// Puts the values of a chart. A database may not know it yet.
+fn put_chart(
     alloc: Global,
     host: &mut MemoryHost,
     rows: &mut [Row],
-    place: usize,
-    name: (&str, &str),
+    first: usize,
+    chart: &str,
 ) -> Result<(), Fail> {
-    let (chart, id) = name;
-    let words = &["query", chart, "0", "400", "1", "sum", id];
+    let words = &["query", chart, "0", "300", "1", "sum"];
     let reply = told(alloc, host, words, "")?;
-    if !reply.as_str().starts_with("ROWS 400") && reply.as_str() != "ERROR 3\n" {
+    if reply.as_str() == "ERROR 3\n" {
+        return Ok(());
+    }
+    if !reply.as_str().starts_with("ROWS 300") {
         return Err(Fail::new("no reply to a question"));
     }
-    put(rows, place, reply.as_str())
+    put(alloc, rows, first, reply.as_str())
 }
 
 /// What a database answers for all moments and dimensions.
 pub fn table(alloc: Global, host: &mut MemoryHost) -> Result<Vec<Row>, Fail> {
     let mut rows = vec![in alloc; EMPTY; MOMENTS]?;
-    for (place, name) in PLACES.iter().enumerate() {
-        put_place(alloc, host, rows.as_mut_slice(), place, *name)?;
-    }
+    put_chart(alloc, host, rows.as_mut_slice(), 0, "t.one")?;
+    put_chart(alloc, host, rows.as_mut_slice(), 3, "t.two")?;
     Ok(rows)
 }
 

@@ -98,9 +98,7 @@ fn put_body(out: &mut Vec<u8>, says: &Says) -> Result<(), AllocError> {
             out.push(4)?;
             put_u32(out, *last)
         }
-        Says::Bye(reason) => {
-            out.extend_from_slice(&[5, *reason])
-        }
+        Says::Bye(reason) => { out.extend_from_slice(&[5, *reason]) }
         Says::Bytes(bytes) => out.extend_from_slice(bytes),
     }
 }
