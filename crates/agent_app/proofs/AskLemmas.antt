@@ -25,6 +25,8 @@ use Rattle.agent_core.specs.Calls.{Logs, Opens, Queries}
 use Rattle.agent_core.specs.Faults.{IsLogging, IsReading, Reopens, ReopensWith}
 use Rattle.agent_core.specs.Kept.{StandsForHistory}
 use Rattle.store_core.specs.declared.fault.Why.{Why}
+use Rattle.link_session.proofs.AckLemmas.{text-front}
+use Rattle.link_session.proofs.StoreLemmas.{stands-all}
 use Rattle.agent_app.specs.Convert.{LeavesDisk}
 use Rattle.agent_app.specs.declared.command.Form.{Form}
 use Rattle.agent_app.specs.Log.{log_as, log_for}
@@ -32,11 +34,9 @@ use Rattle.agent_app.specs.LogText.{shown_by}
 use Rattle.agent_app.specs.Query.{reply_for, Answering, Asks, IsAnswerStatus, IsAskStatus, IsSettled}
 use Rattle.agent_app.specs.Run.{ends_a_run, is_whole, TellsRun}
 use Rattle.agent_app.specs.Running.{opening_status, DiskRose, TellRose}
-use Rattle.agent_app.proofs.AckLemmas.{text-front}
 use Rattle.agent_app.proofs.CauseLemmas.{cause-as, stayed, stayed-before}
 use Rattle.agent_app.proofs.LeavesLemmas.{told-leaves, torn-leaves}
-use Rattle.agent_app.proofs.OpeningLemmas.{by-fault, disk-failed, failed_by, fault-is, opened-finds, opened_with, unopened-finds, untold-yet}
-use Rattle.agent_app.proofs.RunningLemmas.{stands-all}
+use Rattle.agent_app.proofs.OpeningLemmas.{by-fault, disk-failed, failed_by, fault-is, opened-disk, opened-finds, unopened-finds, untold-yet}
 
 -- nothing was told of an output
 told-none : (s : Status) (output : List ℕ) (past : List Event) → is_whole s ≡ false → TellsRun s output past past
@@ -248,17 +248,11 @@ module _ (honest : Type 0) (answer : Settings → List Beat → List ℕ) (host 
   silent-opening : honest → told middle.past ≡ told host.past
   silent-opening h = (opens.only_here h).output
 
-  opening-disk : middle.disk_faults ≡ host.disk_faults
-  opening-disk = opens.cause.stays apart
-    where
-      apart : opened_with agent ≡ failed_by fault.DiskFault → ⊥
-      apart e = cc
-
   tell-cause : HasCause host.tell_faults host'.tell_faults (s ≡ status.TellFault)
   tell-cause = stayed-before host.tell_faults middle.tell_faults host'.tell_faults (s ≡ status.TellFault) opens.tells answering.tell_cause
 
   disk-cause : HasCause host.disk_faults host'.disk_faults (s ≡ status.DiskFault)
-  disk-cause = stayed-before host.disk_faults middle.disk_faults host'.disk_faults (s ≡ status.DiskFault) opening-disk answering.disk_cause
+  disk-cause = stayed-before host.disk_faults middle.disk_faults host'.disk_faults (s ≡ status.DiskFault) (opened-disk honest host agent middle opens) answering.disk_cause
 
   -- the disk stands for what was read, and nothing happens to it
   stands-on : honest → (set : Settings) (g : List Beat) → StandsForHistory set g (reads_as host.past) → Throughout (EveryDisk (StandsForHistory set g)) middle.past host'.past

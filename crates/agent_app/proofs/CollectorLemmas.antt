@@ -7,10 +7,10 @@ use Rattle.std.specs.Prelude.{if◌then◌else◌, nat_le, not}
 use Rattle.std.specs.List.{list_any}
 use Rattle.std.specs.Option.{option_map, option_and_then}
 use Rattle.std.specs.Str.{bytes_eq}
-use Rattle.agent_app.specs.Command.{alone, collect_of, command_of, form_of, is_option, is_question, longer, number_of, settings_of, up_to, IsCollector}
+use Rattle.agent_app.specs.Command.{addressed, alone, collect_of, command_of, form_of, is_option, is_question, longer, number_of, settings_of, up_to, IsCollector}
 use Rattle.agent_app.specs.declared.command.TheConstants.{EVERY_LIMIT, STARTS_LIMIT}
 use Rattle.agent_app.specs.declared.command.Command.{Command}
-use Rattle.agent_app.specs.declared.command.Command.TheVariants.{Collect, Convert, Health, Log, New, Query, Run}
+use Rattle.agent_app.specs.declared.command.Command.TheVariants.{Collect, Convert, Health, Log, New, Query, Receive, Run, Send}
 
 -- ---- a number in its limits
 
@@ -35,7 +35,9 @@ is_collect (Some Health) = false
 is_collect (Some (Log form)) = false
 is_collect (Some (New settings)) = false
 is_collect (Some Query) = false
+is_collect (Some Receive) = false
 is_collect (Some Run) = false
+is_collect (Some Send) = false
 is_collect (Some (Collect every starts)) = true
 
 abbrev every_of : Option Command → ℕ
@@ -45,7 +47,9 @@ every_of (Some Health) = 0
 every_of (Some (Log form)) = 0
 every_of (Some (New settings)) = 0
 every_of (Some Query) = 0
+every_of (Some Receive) = 0
 every_of (Some Run) = 0
+every_of (Some Send) = 0
 every_of (Some (Collect every starts)) = every
 
 abbrev starts_of : Option Command → ℕ
@@ -55,7 +59,9 @@ starts_of (Some Health) = 0
 starts_of (Some (Log form)) = 0
 starts_of (Some (New settings)) = 0
 starts_of (Some Query) = 0
+starts_of (Some Receive) = 0
 starts_of (Some Run) = 0
+starts_of (Some Send) = 0
 starts_of (Some (Collect every starts)) = starts
 
 either : (b : Bool) (x y : Option Command) → is_collect x ≡ false → is_collect y ≡ false → is_collect (if b then x else y) ≡ false
@@ -65,6 +71,11 @@ either false x y first second = second
 other_of : {A : Type 0} (f : A → Command) (o : Option A) → ((a : A) → is_collect (Some (f a)) ≡ false) → is_collect (option_map f o) ≡ false
 other_of f None other = refl
 other_of f (Some a) other = other a
+
+other_addressed : (command : Command) (words : List (List ℕ)) → is_collect (Some command) ≡ false → is_collect (addressed command words) ≡ false
+other_addressed command [] other = refl
+other_addressed command (address ∷ []) other = other
+other_addressed command (address ∷ next ∷ more) other = refl
 
 other_alone : (word : List ℕ) → is_collect (alone word) ≡ false
 other_alone word =
@@ -109,13 +120,17 @@ module _ (every starts : ℕ) where
           if bytes_eq word (codes "log") then option_map Log (form_of more)
           else if bytes_eq word (codes "new") then option_map New (settings_of more)
           else if bytes_eq word (codes "query") && is_question more then Some Query
+          else if bytes_eq word (codes "receive") && not (list_any is_option more) then addressed Receive more
+          else if bytes_eq word (codes "send") && not (list_any is_option more) then addressed Send more
           else None
 
       other : is_collect rest ≡ false
       other =
           either (bytes_eq word (codes "log")) _ _ (other_of Log (form_of more) (λ form. refl))
           (either (bytes_eq word (codes "new")) _ _ (other_of New (settings_of more) (λ settings. refl))
-          (either (bytes_eq word (codes "query") && is_question more) _ _ refl refl))
+          (either (bytes_eq word (codes "query") && is_question more) _ _ refl
+          (either (bytes_eq word (codes "receive") && not (list_any is_option more)) _ _ (other_addressed Receive more refl)
+          (either (bytes_eq word (codes "send") && not (list_any is_option more)) _ _ (other_addressed Send more refl) refl))))
 
       by : (b : Bool) → (bytes_eq word (codes "collect") && not (list_any is_option more)) ≡ b → (if b then collect_of more else rest) ≡ Some (Collect every starts) → Has more
       by true named is = has more is

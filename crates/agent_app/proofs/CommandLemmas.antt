@@ -19,13 +19,13 @@ use Rattle.clap.specs.Simple.{subcommand_of}
 use Rattle.clap.specs.Faults.{fault_of}
 use Rattle.clap.specs.declared.error.kind.ErrorKind.{ErrorKind}
 use Rattle.clap.specs.declared.error.kind.ErrorKind.TheVariants as kind
-use Rattle.agent_app.specs.Command.{collect_of, command_of, form_named, form_of, is_option, number_of, settings_of, settings_with, tier_of, up_to}
-use Rattle.agent_app.specs.Forms.{collect_in, command_in, form_in, forms, settings_in}
+use Rattle.agent_app.specs.Command.{addressed, collect_of, command_of, form_named, form_of, is_option, number_of, settings_of, settings_with, tier_of, up_to}
+use Rattle.agent_app.specs.Forms.{addressed_in, collect_in, command_in, form_in, forms, settings_in}
 use Rattle.entry_codec.specs.declared.entry.TierSettings.{TierSettings}
 use Rattle.agent_app.specs.declared.command.TheConstants.{EVERY_LIMIT, STARTS_LIMIT}
 use Rattle.agent_app.specs.declared.command.Command.{Command}
-use Rattle.agent_app.specs.declared.command.Command.TheVariants.{Collect, New, Query}
-use Rattle.agent_app.proofs.FormLemmas.{or_false, leaf_fault, leaf_missing, leaf_rows, alone_fault, stray_word, collect_fault, convert_fault, health_fault, log_fault, new_fault, query_fault, run_fault, collect_rows, convert_rows, health_rows, log_rows, new_rows, query_rows, run_rows, unknown_fault, empty_fault}
+use Rattle.agent_app.specs.declared.command.Command.TheVariants.{Collect, New, Query, Receive, Send}
+use Rattle.agent_app.proofs.FormLemmas.{or_false, leaf_fault, leaf_missing, leaf_rows, alone_fault, stray_word, collect_fault, convert_fault, health_fault, log_fault, new_fault, query_fault, receive_fault, run_fault, send_fault, collect_rows, convert_rows, health_rows, log_rows, new_rows, query_rows, receive_rows, run_rows, send_rows, unknown_fault, empty_fault}
 
 cons≢nil : (k : ErrorKind) (ks : Kinds) → k ∷ ks ≡ [] → ⊥
 cons≢nil k ks e = true≢false (ap some e)
@@ -167,17 +167,31 @@ agrees-query (w ∷ more) most plain = by (nat_lt (length (w ∷ more)) 5) refl
         let long : nat_le 5 (length (w ∷ more)) ≡ true = grind (arith, nat_tests) in
         taken _ (fault ∙ enough 5 (length (w ∷ more)) refl refl (omega arith) most less) (rw (query_rows (w ∷ more), long, plain) refl)
 
+agrees-receive : (more : List Text) → length more ≤ usize_max → list_any is_option more ≡ false → Agrees (codes "receive" ∷ more)
+agrees-receive [] most plain = refused _ _ _ (receive_fault [] ∙ leaf_missing 1 usize_max refl (codes "receive")) refl
+agrees-receive (w ∷ more) most plain =
+    taken _ (receive_fault (w ∷ more) ∙ leaf_fault 1 usize_max refl (codes "receive") w more plain ∙ some_fit (length (w ∷ more)) (omega arith) most)
+    (rw (receive_rows (w ∷ more), leaf_rows 1 usize_max refl w more plain, plain) refl)
+
+agrees-send : (more : List Text) → length more ≤ usize_max → list_any is_option more ≡ false → Agrees (codes "send" ∷ more)
+agrees-send [] most plain = refused _ _ _ (send_fault [] ∙ leaf_missing 1 usize_max refl (codes "send")) refl
+agrees-send (w ∷ more) most plain =
+    taken _ (send_fault (w ∷ more) ∙ leaf_fault 1 usize_max refl (codes "send") w more plain ∙ some_fit (length (w ∷ more)) (omega arith) most)
+    (rw (send_rows (w ∷ more), leaf_rows 1 usize_max refl w more plain, plain) refl)
+
 module _ (w : Text) (collect : bytes_eq (codes "collect") w ≡ false) (convert : bytes_eq (codes "convert") w ≡ false) (health : bytes_eq (codes "health") w ≡ false) (log : bytes_eq (codes "log") w ≡ false)
-    (new : bytes_eq (codes "new") w ≡ false) (query : bytes_eq (codes "query") w ≡ false) (run : bytes_eq (codes "run") w ≡ false) where
+    (new : bytes_eq (codes "new") w ≡ false) (query : bytes_eq (codes "query") w ≡ false) (receive : bytes_eq (codes "receive") w ≡ false) (run : bytes_eq (codes "run") w ≡ false)
+    (send : bytes_eq (codes "send") w ≡ false) where
   unknown : (more : List Text) → command_of (w ∷ more) ≡ None
   unknown [] = rw (flip (codes "convert") w false convert, flip (codes "health") w false health, flip (codes "run") w false run) refl
-  unknown (next ∷ more) = rw (flip (codes "collect") w false collect, flip (codes "log") w false log, flip (codes "new") w false new, flip (codes "query") w false query) refl
+  unknown (next ∷ more) =
+      rw (flip (codes "collect") w false collect, flip (codes "log") w false log, flip (codes "new") w false new, flip (codes "query") w false query, flip (codes "receive") w false receive, flip (codes "send") w false send) refl
 
 pub agrees : (words : List Text) → length words ≤ usize_max → list_any is_option words ≡ false → Agrees words
 agrees [] most plain = refused _ _ _ empty_fault refl
 agrees (w ∷ more) most plain =
-    by (bytes_eq (codes "collect") w) (bytes_eq (codes "convert") w) (bytes_eq (codes "health") w) (bytes_eq (codes "log") w) (bytes_eq (codes "new") w) (bytes_eq (codes "query") w) (bytes_eq (codes "run") w)
-    refl refl refl refl refl refl refl
+    by (bytes_eq (codes "collect") w) (bytes_eq (codes "convert") w) (bytes_eq (codes "health") w) (bytes_eq (codes "log") w) (bytes_eq (codes "new") w) (bytes_eq (codes "query") w) (bytes_eq (codes "receive") w)
+    (bytes_eq (codes "run") w) (bytes_eq (codes "send") w) refl refl refl refl refl refl refl refl refl
   where
     each : (is_option w ≡ false) × (list_any is_option more ≡ false)
     each = or_false (is_option w) (list_any is_option more) plain
@@ -185,17 +199,19 @@ agrees (w ∷ more) most plain =
     named : (name : Text) → bytes_eq name w ≡ true → Agrees (name ∷ more) → Agrees (w ∷ more)
     named name is h = subst (λ (x : Text). Agrees (x ∷ more)) ((bytes_eq-Decides name w).0 is) h
 
-    by : (a b c d e f g : Bool) → bytes_eq (codes "collect") w ≡ a → bytes_eq (codes "convert") w ≡ b → bytes_eq (codes "health") w ≡ c → bytes_eq (codes "log") w ≡ d → bytes_eq (codes "new") w ≡ e
-        → bytes_eq (codes "query") w ≡ f → bytes_eq (codes "run") w ≡ g → Agrees (w ∷ more)
-    by true b c d e f g collect convert health log new query run = named (codes "collect") collect (agrees-collect more (omega arith) each.1)
-    by false true c d e f g collect convert health log new query run = named (codes "convert") convert (agrees-convert more each.1)
-    by false false true d e f g collect convert health log new query run = named (codes "health") health (agrees-health more each.1)
-    by false false false true e f g collect convert health log new query run = named (codes "log") log (agrees-log more (omega arith) each.1)
-    by false false false false true f g collect convert health log new query run = named (codes "new") new (agrees-new more each.1)
-    by false false false false false true g collect convert health log new query run = named (codes "query") query (agrees-query more (omega arith) each.1)
-    by false false false false false false true collect convert health log new query run = named (codes "run") run (agrees-run more each.1)
-    by false false false false false false false collect convert health log new query run =
-        refused _ _ _ (unknown_fault w more each.0 collect convert health log new query run) (unknown w collect convert health log new query run more)
+    by : (a b c d e f g h i : Bool) → bytes_eq (codes "collect") w ≡ a → bytes_eq (codes "convert") w ≡ b → bytes_eq (codes "health") w ≡ c → bytes_eq (codes "log") w ≡ d → bytes_eq (codes "new") w ≡ e
+        → bytes_eq (codes "query") w ≡ f → bytes_eq (codes "receive") w ≡ g → bytes_eq (codes "run") w ≡ h → bytes_eq (codes "send") w ≡ i → Agrees (w ∷ more)
+    by true b c d e f g h i collect convert health log new query receive run send = named (codes "collect") collect (agrees-collect more (omega arith) each.1)
+    by false true c d e f g h i collect convert health log new query receive run send = named (codes "convert") convert (agrees-convert more each.1)
+    by false false true d e f g h i collect convert health log new query receive run send = named (codes "health") health (agrees-health more each.1)
+    by false false false true e f g h i collect convert health log new query receive run send = named (codes "log") log (agrees-log more (omega arith) each.1)
+    by false false false false true f g h i collect convert health log new query receive run send = named (codes "new") new (agrees-new more each.1)
+    by false false false false false true g h i collect convert health log new query receive run send = named (codes "query") query (agrees-query more (omega arith) each.1)
+    by false false false false false false true h i collect convert health log new query receive run send = named (codes "receive") receive (agrees-receive more (omega arith) each.1)
+    by false false false false false false false true i collect convert health log new query receive run send = named (codes "run") run (agrees-run more each.1)
+    by false false false false false false false false true collect convert health log new query receive run send = named (codes "send") send (agrees-send more (omega arith) each.1)
+    by false false false false false false false false false collect convert health log new query receive run send =
+        refused _ _ _ (unknown_fault w more each.0 collect convert health log new query receive run send) (unknown w collect convert health log new query receive run send more)
 
 -- ---- a word that begins with `-`
 
@@ -284,16 +300,20 @@ no_form (a ∷ []) is = by a (or_last (is_option a) is)
     by (x ∷ xs) e = subst (λ (y : ℕ). form_named (y ∷ xs) ≡ None) (sym (is_45 x e)) refl
 no_form (a ∷ b ∷ more) is = refl
 
-none_either : (log new query long : Bool) → (let none : Option Command = None in if log then none else if new then none else if query && (long && false) then Some Query else none) ≡ None
-none_either true new query long = refl
-none_either false true query long = refl
-none_either false false true true = refl
-none_either false false true false = refl
-none_either false false false long = refl
+no_command : (b : Bool) (command other : Option Command) → (if b && false then command else other) ≡ other
+no_command true command other = refl
+no_command false command other = refl
 
-no_collector : (b : Bool) (command other : Option Command) → (if b && false then command else other) ≡ other
-no_collector true command other = refl
-no_collector false command other = refl
+none_either : (log new query receive send long : Bool) (more : List Text)
+    → (let none : Option Command = None in if log then none else if new then none else if query && (long && false) then Some Query else if receive && false then addressed Receive more else if send && false then addressed Send more else none) ≡ None
+none_either true new query receive send long more = refl
+none_either false true query receive send long more = refl
+none_either false false query receive send long more = rw (never query long) (no_command receive _ _ ∙ no_command send _ _)
+  where
+    never : (query long : Bool) → (query && (long && false)) ≡ false
+    never true true = refl
+    never true false = refl
+    never false long = refl
 
 begins : (w : Text) (more : List Text) → is_option w ≡ true → command_of (w ∷ more) ≡ None
 begins [] more e = absurd (true≢false (sym e))
@@ -310,7 +330,9 @@ options-none (w ∷ next ∷ more) is = by (is_option w) refl is
   where
     by : (b : Bool) → is_option w ≡ b → (b || list_any is_option (next ∷ more)) ≡ true → command_of (w ∷ next ∷ more) ≡ None
     by true e h = begins w (next ∷ more) e
-    by false e h = rw (no_form (next ∷ more) h, no_settings (next ∷ more) h, h) (no_collector (bytes_eq w (codes "collect")) (collect_of (next ∷ more)) _ ∙ none_either (bytes_eq w (codes "log")) (bytes_eq w (codes "new")) (bytes_eq w (codes "query")) (nat_le 5 (length (next ∷ more))))
+    by false e h = rw (no_form (next ∷ more) h, no_settings (next ∷ more) h, h)
+        (no_command (bytes_eq w (codes "collect")) (collect_of (next ∷ more)) _
+        ∙ none_either (bytes_eq w (codes "log")) (bytes_eq w (codes "new")) (bytes_eq w (codes "query")) (bytes_eq w (codes "receive")) (bytes_eq w (codes "send")) (nat_le 5 (length (next ∷ more))) (next ∷ more))
 
 -- ---- settings
 
@@ -346,3 +368,6 @@ collect-found f o is = ap (option_and_then collect_of) (is ∙ raw_values-rows f
 
 pub form-found : (f : Found) (o : Option (List Text)) → o ≡ option_map raw_values (matched_of f (codes "words")) → option_and_then form_of o ≡ form_in (rows_of f)
 form-found f o is = ap (option_and_then form_of) (is ∙ raw_values-rows f (codes "words"))
+
+pub addressed-found : (command : Command) (f : Found) (o : Option (List Text)) → o ≡ option_map raw_values (matched_of f (codes "words")) → option_and_then (addressed command) o ≡ addressed_in command (rows_of f)
+addressed-found command f o is = ap (option_and_then (addressed command)) (is ∙ raw_values-rows f (codes "words"))

@@ -23,18 +23,19 @@ use Rattle.agent_core.specs.Agent.{AgentState}
 use Rattle.agent_core.specs.Calls.{Opens}
 use Rattle.agent_core.specs.Health.{health_refusal}
 use Rattle.agent_core.specs.Kept.{StandsForHistory}
+use Rattle.link_session.specs.Keeps.{Extends, no_more, one_more, Keeps}
+use Rattle.link_session.proofs.StoreLemmas.{keeps-more, stands-all}
 use Rattle.agent_app.specs.Health.{ends_health, fault_text, health_output, health_status, history_by, history_with_health, is_over, status_of, told_by, Configures, ConfiguresAll, ConfiguresOn, Handled, HasHealthCause, StopsAt, StoresHealth, TellsFault}
 use Rattle.agent_app.specs.declared.health_text.HealthEnd.{HealthEnd}
 use Rattle.agent_app.specs.declared.health_text.HealthEnd.TheVariants.{ReadFault, TooLong, Memory as WantMemory}
 use Rattle.agent_app.specs.HealthText.{TakesText}
-use Rattle.agent_app.specs.Run.{ends_a_run, finds_none, is_whole, Extends, no_more, one_more, Keeps}
+use Rattle.agent_app.specs.Run.{ends_a_run, finds_none, is_whole}
 use Rattle.agent_app.specs.Running.{opening_status, Counts, DiskRose, IsTakers, TellRose}
 use Rattle.agent_app.proofs.CauseLemmas.{both-counts, cause-as, same-counts, stayed}
 use Rattle.agent_app.proofs.OpeningLemmas.{by-fault, complete-by, disk-failed, failed_by, fault-is, opened-finds, opened_with, opening-stops, some-each, unopened-finds, unopened-leaves, unread, untold-yet}
 use Rattle.agent_app.proofs.HealthLemmas.{fault-ends, fault-stays, fault-told-files, fault-told-leaves, fault-told-never, fault-told-takers, refused-by}
 use Rattle.agent_app.proofs.LeavesLemmas.{leaves-nothing}
 use Rattle.agent_app.proofs.RunLemmas.{both-others}
-use Rattle.agent_app.proofs.RunningLemmas.{keeps-more, stands-all}
 
 abbrev taken_as : List ℕ → Result (List ℕ) HealthEnd
 taken_as text = Ok text

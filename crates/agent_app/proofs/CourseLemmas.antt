@@ -22,15 +22,17 @@ use Rattle.store_core.specs.Stands.{is_made}
 use Rattle.store_core.proofs.StandLemmas.{stands_made}
 use Rattle.agent_core.specs.Kept.{StandsForHistory, StandsForNew}
 use Rattle.agent_core.specs.Notes.{HasNotes}
+use Rattle.link_session.specs.Keeps.{no_more, IsAckedUpTo, Keeps}
+use Rattle.link_session.proofs.AckLemmas.{acked-nothing, acked-since, acked-weaker, text-front, IsFront}
+use Rattle.link_session.proofs.ExtendsLemmas.{extends-length}
 use Rattle.agent_app.specs.declared.collect.Collector.{Collector}
 use Rattle.agent_app.specs.Collect.{CollectsAll, CollectsOn, HasHeard, Outside}
 use Rattle.agent_app.specs.Course.{asked, begun, collected, converted, every_of, made_again, no_run, none_found, now_made, one_run, ran, AreStored, Course, Database, Gives, HoldsDatabase, HoldsRuns, Input, MayHaveMade, OfCollector, OfSource, OneRun, WhereWhole}
 use Rattle.agent_app.specs.New.{Makes}
 use Rattle.agent_app.specs.Query.{Asks}
-use Rattle.agent_app.specs.Run.{history_with_text, is_opened, is_whole, no_more, run_every, IsAckedUpTo, IsHostAsFound, Keeps, OnceRead, RunsAll, RunsOn, Stores}
-use Rattle.agent_app.proofs.AckLemmas.{acked-nothing, acked-since, acked-weaker, text-front, IsFront}
+use Rattle.agent_app.specs.Run.{history_with_text, is_opened, is_whole, run_every, IsHostAsFound, OnceRead, RunsAll, RunsOn, Stores}
 use Rattle.agent_app.proofs.CollectLemmas.{heard-nothing}
-use Rattle.agent_app.proofs.ExtendsLemmas.{extends-length, extends-whole}
+use Rattle.agent_app.proofs.ExtendsLemmas.{extends-whole}
 
 -- a history is no database that is not there
 made-held : (set : Settings) (h : List Beat) (disk : File → List ℕ) → StandsForHistory set h disk → is_made disk ≡ false → ⊥

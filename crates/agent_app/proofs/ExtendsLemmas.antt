@@ -1,5 +1,5 @@
 -- How the history of a text's lines grows.
-use Rattle.std.proofs.Common.{◌≡◌, ℕ, ◌≤◌, Bool, true, false, not, List, [], ◌∷◌, ◌++◌, length, Result, Ok, Err, refl, sym, ap, subst, ◌∙◌, append_assoc, arith, if◌then◌else◌}
+use Rattle.std.proofs.Common.{◌≡◌, ℕ, Bool, true, false, not, List, [], ◌∷◌, ◌++◌, Result, Ok, Err, refl, sym, ap, subst, ◌∙◌, append_assoc, if◌then◌else◌}
 use Rattle.history.specs.declared.line.Line.{Line}
 use Rattle.history.specs.declared.line.Line.TheVariants as line
 use Rattle.history.specs.History.{Beat, collected}
@@ -9,16 +9,10 @@ use Rattle.plugin_text.specs.Lines.{parts, fits}
 use Rattle.point_lines.specs.declared.refusal.Refusal.{Refusal}
 use Rattle.entry_codec.specs.declared.entry.Settings.{Settings}
 use Rattle.agent_core.specs.Rules.{history_with}
+use Rattle.link_session.specs.Keeps.{Extends, no_more, one_more}
+use Rattle.link_session.proofs.ExtendsLemmas.{extends-further}
 use Rattle.agent_app.specs.Reading.{HasRead, LineRules, line_read, lines_read}
-use Rattle.agent_app.specs.Run.{Extends, no_more, one_more, history_with_text, line_rules, run_rules}
-
-pub extends-further : (a b c : List Beat) → Extends a b → Extends b c → Extends a c
-extends-further a b c first no_more = first
-extends-further a b c first (one_more beat g before) = one_more beat g (extends-further a b g first before)
-
-pub extends-length : (a b : List Beat) → Extends a b → length a ≤ length b
-extends-length a b no_more = omega arith
-extends-length a b (one_more beat g before) = omega (arith, extends-length a g before)
+use Rattle.agent_app.specs.Run.{history_with_text, line_rules, run_rules}
 
 -- the history of one line more
 pub extends-line : (every : ℕ) (h0 : List Beat) (past : List Line) (said : Line) → Extends (history_at every h0 past) (history_at every h0 (said ∷ past))

@@ -194,8 +194,14 @@ new = leaf (codes "new") (ready 1 7 ∷ [])
 abbrev query : Shape
 query = leaf (codes "query") (ready 5 usize_max ∷ [])
 
+abbrev receive : Shape
+receive = leaf (codes "receive") (ready 1 usize_max ∷ [])
+
 abbrev run : Shape
 run = leaf (codes "run") []
+
+abbrev send : Shape
+send = leaf (codes "send") (ready 1 usize_max ∷ [])
 
 pub collect_fault : (more : List Text) → fault_of forms (codes "collect" ∷ more) ≡ level_fault collect [] nothing_held more false []
 unfolding walked
@@ -221,9 +227,17 @@ pub query_fault : (more : List Text) → fault_of forms (codes "query" ∷ more)
 unfolding walked
 query_fault more = entered_by (codes "query") query refl more refl refl
 
+pub receive_fault : (more : List Text) → fault_of forms (codes "receive" ∷ more) ≡ level_fault receive [] nothing_held more false []
+unfolding walked
+receive_fault more = entered_by (codes "receive") receive refl more refl refl
+
 pub run_fault : (more : List Text) → fault_of forms (codes "run" ∷ more) ≡ level_fault run [] nothing_held more false []
 unfolding walked
 run_fault more = entered_by (codes "run") run refl more refl refl
+
+pub send_fault : (more : List Text) → fault_of forms (codes "send" ∷ more) ≡ level_fault send [] nothing_held more false []
+unfolding walked
+send_fault more = entered_by (codes "send") send refl more refl refl
 
 pub collect_rows : (more : List Text) → subcommand_of forms (codes "collect" ∷ more) ≡ Some (codes "collect", rows_after collect.rules [] more)
 unfolding walked
@@ -249,17 +263,25 @@ pub query_rows : (more : List Text) → subcommand_of forms (codes "query" ∷ m
 unfolding walked
 query_rows more = rows_by (codes "query") query refl more refl refl
 
+pub receive_rows : (more : List Text) → subcommand_of forms (codes "receive" ∷ more) ≡ Some (codes "receive", rows_after receive.rules [] more)
+unfolding walked
+receive_rows more = rows_by (codes "receive") receive refl more refl refl
+
 pub run_rows : (more : List Text) → subcommand_of forms (codes "run" ∷ more) ≡ Some (codes "run", rows_after run.rules [] more)
 unfolding walked
 run_rows more = rows_by (codes "run") run refl more refl refl
 
+pub send_rows : (more : List Text) → subcommand_of forms (codes "send" ∷ more) ≡ Some (codes "send", rows_after send.rules [] more)
+unfolding walked
+send_rows more = rows_by (codes "send") send refl more refl refl
+
 pub unknown_fault : (w : Text) (more : List Text) → is_option w ≡ false
     → bytes_eq (codes "collect") w ≡ false → bytes_eq (codes "convert") w ≡ false → bytes_eq (codes "health") w ≡ false → bytes_eq (codes "log") w ≡ false → bytes_eq (codes "new") w ≡ false
-    → bytes_eq (codes "query") w ≡ false → bytes_eq (codes "run") w ≡ false
+    → bytes_eq (codes "query") w ≡ false → bytes_eq (codes "receive") w ≡ false → bytes_eq (codes "run") w ≡ false → bytes_eq (codes "send") w ≡ false
     → fault_of forms (w ∷ more) ≡ kind.UnknownArgument ∷ kind.InvalidSubcommand ∷ []
 unfolding walk_fault
-unknown_fault w more plain a b c d e f g =
-    let none : subcommand_met names idle w ≡ None = rw (a, b, c, d, e, f, g) refl in
+unknown_fault w more plain a b c d e f g h i =
+    let none : subcommand_met names idle w ≡ None = rw (a, b, c, d, e, f, g, h, i) refl in
     rw (met [] names idle 1 w nothing_held plain none refl, none, no_dashes w plain, no_long w plain, no_short w plain) refl
 
 pub empty_fault : fault_of forms [] ≡ kind.MissingSubcommand ∷ []

@@ -30,15 +30,17 @@ use Rattle.agent_core.specs.Faults.{HealthRefusedBy, IsHealthRefusal, LeavesAll}
 use Rattle.agent_core.specs.Health.{health_refusal}
 use Rattle.agent_core.specs.Kept.{StandsForHealth, StandsForHistory}
 use Rattle.agent_core.specs.Replies.{reply_text}
+use Rattle.link_session.specs.Keeps.{Extends, no_more, one_more, IsAckedUpTo, Keeps}
+use Rattle.link_session.proofs.AckLemmas.{acked-nothing, acked-one, acked-since, decimal-free, text-front}
+use Rattle.link_session.proofs.StoreLemmas.{stands-all}
 use Rattle.agent_app.specs.Convert.{LeavesFiles}
 use Rattle.agent_app.specs.Health.{fault_status, fault_text, health_output, history_by, history_with_health, is_limit, is_over, line_by, status_by, told_by, HasHealthCause, StopsAt, StoresHealth, TellsFault}
-use Rattle.agent_app.specs.Run.{Extends, no_more, one_more, is_whole, IsAckedUpTo, Keeps, LeavesOthers}
+use Rattle.agent_app.specs.Run.{is_whole, LeavesOthers}
 use Rattle.agent_app.specs.Running.{DiskRose, IsCutShort, IsTakers, TellRose}
-use Rattle.agent_app.proofs.AckLemmas.{acked-nothing, acked-one, acked-since, decimal-free, first-free, first_word, no-stored, stored-some, text-front}
+use Rattle.agent_app.proofs.AckLemmas.{first-free, first_word, no-stored, stored-some}
 use Rattle.agent_app.proofs.CauseLemmas.{apart, cause-as, ended-as, ended_so, is_outside, stayed, stayed-before, stayed-behind}
 use Rattle.agent_app.proofs.EventLemmas.{acked-told}
 use Rattle.agent_app.proofs.LeavesLemmas.{leaves-nothing, may-told, one-told}
-use Rattle.agent_app.proofs.RunningLemmas.{stands-all}
 
 -- ---- the line of a refusal
 
@@ -490,7 +492,7 @@ module _ (honest : Type 0) (agent : AgentState) (text : List ℕ) (host : Seen) 
       acked : IsAckedUpTo (length (longer h0)) (reply_text reply)
       acked =
           subst (IsAckedUpTo (length (longer h0))) (sym told-is)
-          (acked-told (length (longer h0)) agent'.count set (longer h0) after.holds.beats after.holds.are (omega (arith, after.count)) (omega (arith, after.count)))
+          (acked-told (length (longer h0)) agent'.count set (health text) h0 after.holds.beats after.holds.are (omega (arith, after.count)) (omega (arith, after.count)))
 
     pub told-storing : (honest → host'.past ≡ Told (reply_text reply) ∷ middle.past) → HasCause middle.tell_faults host'.tell_faults (Done ≡ TellFault) → StoresHealth honest agent text Done host host'
     told-storing done cause = record {

@@ -19,9 +19,11 @@ mod MadeLemmas
 mod NewLemmas
 mod NumberLemmas
 mod OpeningLemmas
+mod ReceiveLemmas
 mod ReplyLemmas
 mod RunLemmas
 mod RunningLemmas
+mod SendLemmas
 mod StopsLemmas
 mod TakeLemmas
 mod WantLemmas

@@ -8,9 +8,9 @@ use Rattle.agent_core.specs.Agent.{AgentState}
 use Rattle.agent_core.specs.Calls.{Creates}
 use Rattle.agent_core.specs.Faults.{IsCreating}
 use Rattle.host_model.specs.Seen.{Seen}
+use Rattle.link_session.proofs.StoreLemmas.{stands-all}
 use Rattle.agent_app.specs.New.{Makes}
 use Rattle.agent_app.proofs.CauseLemmas.{cause-as}
-use Rattle.agent_app.proofs.RunningLemmas.{stands-all}
 
 abbrev refused : AgentFault → Result AgentState AgentFault
 refused why = Err why

@@ -23,15 +23,16 @@ use Rattle.agent_core.specs.Calls.{Opens}
 use Rattle.host_model.specs.Seen.{Seen}
 use Rattle.agent_core.specs.Faults.{IsOpening}
 use Rattle.agent_core.specs.Kept.{StandsForHistory}
+use Rattle.link_session.specs.Keeps.{Keeps, no_more}
+use Rattle.link_session.proofs.AckLemmas.{acked-nothing, acked-since, text-front}
+use Rattle.link_session.proofs.StoreLemmas.{stands-all}
 use Rattle.agent_app.specs.declared.running.Running.{Running}
 use Rattle.agent_app.specs.Convert.{LeavesFiles}
-use Rattle.agent_app.specs.Run.{ends_a_run, finds_none, history_with_text, is_opened, Finds, is_whole, Keeps, IsAsFound, IsHostAsFound, LeavesOthers, no_more, run_every, run_output, run_reading, run_rules, run_status, HasRunCause, Resumes, Runs, RunsAll, Stores}
+use Rattle.agent_app.specs.Run.{ends_a_run, finds_none, history_with_text, is_opened, Finds, is_whole, IsAsFound, IsHostAsFound, LeavesOthers, run_every, run_output, run_reading, run_rules, run_status, HasRunCause, Resumes, Runs, RunsAll, Stores}
 use Rattle.agent_app.specs.Running.{opening_status, Counts, DiskRose, IsRunning, TellRose}
-use Rattle.agent_app.proofs.AckLemmas.{acked-nothing, acked-since, text-front}
 use Rattle.agent_app.proofs.CauseLemmas.{both-counts, cause-as, stayed}
 use Rattle.agent_core.proofs.Within.{within-of}
 use Rattle.agent_app.proofs.HasReadLemmas.{read-start}
-use Rattle.agent_app.proofs.RunningLemmas.{stands-all}
 use Rattle.agent_app.proofs.RunLemmas.{EndsFor, Over, both-others, is-by-end, run-for, run-over, run-quiet, run_acts, stops-wider}
 
 -- at each moment of the opening a stop leaves the history
@@ -270,6 +271,13 @@ found-one : (s : Status) → finds_none s ≡ true → ends_a_run s ≡ true →
 found-one status.NotADatabase none ends = true≢false (sym ends)
 found-one (status.Damaged part) none ends = true≢false (sym ends)
 found-one s none ends = true≢false (sym none)
+
+-- the disk did not fail
+pub opened-disk : (honest : Type 0) (host : Seen) (agent : AgentState) (middle : Seen) → Opens honest host (Ok agent) middle → middle.disk_faults ≡ host.disk_faults
+opened-disk honest host agent middle opens = opens.cause.stays apart
+  where
+    apart : opened_with agent ≡ failed_by fault.DiskFault → ⊥
+    apart e = cc
 
 module _ (honest : Type 0) (host : Seen) (agent : AgentState) (middle : Seen) (opens : Opens honest host (Ok agent) middle) (s : Status) where
   pub found-finds : (finds_none s ≡ true → ⊥) → Finds honest s host

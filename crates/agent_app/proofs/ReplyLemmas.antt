@@ -31,7 +31,7 @@ use Rattle.entry_codec.specs.declared.entry.Settings.{Settings}
 use Rattle.store_core.specs.declared.beat.Beat.{Beat as StoreBeat}
 use Rattle.agent_core.specs.Answers.{reply_of, reply_to}
 use Rattle.agent_core.specs.Kept.{AreBeatsOf}
-use Rattle.agent_app.specs.Run.{stored_line, IsAckedUpTo}
+use Rattle.link_session.specs.Keeps.{stored_line, IsAckedUpTo}
 use Rattle.agent_app.proofs.AckLemmas.{has-first}
 
 -- ---- the ids of a history

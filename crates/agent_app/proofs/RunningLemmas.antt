@@ -7,7 +7,7 @@ use Rattle.host_model.specs.Moments.{Throughout, EveryStop}
 use Rattle.host_model.specs.Past.{Event, Told, told, IsText, MayAdd}
 use Rattle.host_model.proofs.CallLemmas.{may_have_moved, moved}
 use Rattle.host_model.proofs.DiskLemmas.{untold}
-use Rattle.host_model.proofs.MomentLemmas.{joined, weakened}
+use Rattle.host_model.proofs.MomentLemmas.{joined}
 use Rattle.history.specs.declared.fault.BlockFault.{BlockFault}
 use Rattle.history.specs.declared.line.Line.{Line}
 use Rattle.history.specs.History.{Beat}
@@ -15,44 +15,16 @@ use Rattle.history.specs.Read.{history_at, refusal_at}
 use Rattle.plugin_text.specs.Lines.{rest}
 use Rattle.collect_block.specs.Feed.{CountsFor, IsFeedOf}
 use Rattle.entry_codec.specs.declared.entry.Settings.{Settings}
-use Rattle.store_core.proofs.StoreLemmas.{every_image_of, store_told}
-use Rattle.agent_core.specs.Agent.{AgentState, IsAgentOf}
+use Rattle.agent_core.specs.Agent.{IsAgentOf}
 use Rattle.agent_core.specs.Kept.{StandsForHistory, StandsForOneOf}
 use Rattle.agent_core.specs.Rules.{history_with}
+use Rattle.link_session.specs.Keeps.{Extends, no_more, Keeps, IsAckedUpTo}
+use Rattle.link_session.proofs.AckLemmas.{acked-more, acked-since, acked-weaker, closed-more, text-front}
+use Rattle.link_session.proofs.ExtendsLemmas.{extends-length}
+use Rattle.link_session.proofs.StoreLemmas.{agent-told, keeps-more, stands-all}
 use Rattle.agent_app.specs.declared.running.Running.{Running}
-use Rattle.agent_app.specs.Run.{Extends, no_more, Keeps, IsAckedUpTo}
 use Rattle.agent_app.specs.Running.{RunsAt}
-use Rattle.agent_app.proofs.AckLemmas.{acked-more, acked-since, acked-weaker, closed-more, text-front}
-use Rattle.agent_app.proofs.ExtendsLemmas.{extends-further, extends-length, extends-line, extends-start, with-line}
-
--- ---- an agent
-pub stands-all : (past : List Event) (agent : AgentState) (set : Settings) (h : List Beat) → IsAgentOf past agent set h → EveryDisk (StandsForHistory set h) past
-stands-all past agent set h is_of disk images =
-    record { beats = is_of.holds.beats; are = is_of.holds.are; stands = every_image_of past agent.store set is_of.holds.beats is_of.holds.store_of disk images }
-
-agent-told : (sent : List ℕ) (past : List Event) (agent : AgentState) (set : Settings) (h : List Beat) → IsAgentOf past agent set h → IsAgentOf (Told sent ∷ past) agent set h
-agent-told sent past agent set h is_of = record {
-  holds = record {
-    beats = is_of.holds.beats;
-    are = is_of.holds.are;
-    store_of = store_told sent past agent.store set is_of.holds.beats [] is_of.holds.store_of;
-    registry_is = is_of.holds.registry_is;
-    last_rows_are = is_of.holds.last_rows_are;
-    latest_is = is_of.holds.latest_is;
-  };
-  last_is = is_of.last_is;
-  count = is_of.count;
-  role = is_of.role;
-  alarms = is_of.alarms;
-  going = is_of.going;
-}
-
--- ---- what a stop leaves
-pub keeps-more : (set : Settings) (h0 h whole : List Beat) (before : List ℕ) → Extends h whole → (start new : List Event) → Throughout (EveryStop (Keeps set h0 h before)) start new → Throughout (EveryStop (Keeps set h0 whole before)) start new
-keeps-more set h0 h whole before more start new stops =
-    weakened (λ past held disk text images by_then.
-    let kept = held disk text images by_then in
-    record { stored = kept.stored; since = kept.since; within = extends-further kept.stored h whole kept.within more; stands = kept.stands; acked = kept.acked }) stops
+use Rattle.agent_app.proofs.ExtendsLemmas.{extends-line, extends-start, with-line}
 
 module _ (past : List Event) (running : Running) (every : ℕ) (set : Settings) (h0 : List Beat) (start : List Event) (read : List Line) (made : List ℕ) (at : RunsAt past running every set h0 start read made) where
   abbrev now : List Beat

@@ -16,14 +16,16 @@ use Rattle.point_lines.specs.Judged.{refusal_number}
 use Rattle.entry_codec.specs.declared.entry.Settings.{Settings}
 use Rattle.agent_core.specs.Kept.{StandsForHistory, StandsForOneOf}
 use Rattle.agent_core.specs.Rules.{history_with}
+use Rattle.link_session.specs.Keeps.{Extends, Keeps, no_more, IsAckedUpTo}
+use Rattle.link_session.proofs.StoreLemmas.{keeps-more, stands-all}
 use Rattle.agent_app.specs.declared.running.Running.{Running}
 use Rattle.agent_app.specs.Convert.{all_told, ending_line, is_limit, refusal_line, refusal_status}
 use Rattle.agent_app.specs.Reading.{Ending, HasRead, RefusedAt, Reading, reading}
-use Rattle.agent_app.specs.Run.{Extends, history_with_text, is_whole, Keeps, no_more, run_output, run_reading, run_rules, FailsAtBeat, HasRunCause, IsAckedUpTo}
+use Rattle.agent_app.specs.Run.{history_with_text, is_whole, run_output, run_reading, run_rules, FailsAtBeat, HasRunCause}
 use Rattle.agent_app.specs.Running.{IsCutShort, RunsAt, StopsIn, TellsRefusal}
 use Rattle.agent_app.proofs.AckLemmas.{acked-refusal, middle-none, refusal-some}
 use Rattle.agent_app.proofs.CauseLemmas.{apart, refusal-inside}
-use Rattle.agent_app.proofs.RunningLemmas.{keeps-more, line-stops, stands-all, told-stops, torn-stops}
+use Rattle.agent_app.proofs.RunningLemmas.{line-stops, told-stops, torn-stops}
 
 -- these bytes were told of the output, and others were not
 pub record Behind (made output : List ℕ) : Type 0 where

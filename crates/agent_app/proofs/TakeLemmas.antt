@@ -12,7 +12,8 @@ use Rattle.history.specs.declared.fault.BlockFault.{BlockFault}
 use Rattle.history.specs.declared.fault.BlockFault.TheVariants.{Unfinished}
 use Rattle.history.specs.declared.line.Line.{Line}
 use Rattle.history.specs.declared.line.Line.TheVariants as line
-use Rattle.history.specs.History.{Beat}
+use Rattle.history.specs.History.{Beat, collected}
+use Rattle.history.specs.Looking.{beat}
 use Rattle.history.specs.Read.{history_at, is_disable, refusal_at}
 use Rattle.history.specs.Refusal.{is_unfinished}
 use Rattle.plugin_text.specs.declared.fault.LineFault.{LineFault}
@@ -39,23 +40,25 @@ use Rattle.agent_core.specs.Answers.{reply_of}
 use Rattle.agent_core.specs.Calls.{ClosesBeat, Lines}
 use Rattle.host_model.specs.Seen.{Seen}
 use Rattle.agent_core.specs.Faults.{LeavesAll, RefusedBy}
-use Rattle.agent_core.specs.Kept.{StandsForOneOf}
+use Rattle.agent_core.specs.Kept.{AreBeatsOf, StandsForOneOf}
 use Rattle.agent_core.specs.Replies.{reply_text}
 use Rattle.agent_core.specs.Roles.{copies}
 use Rattle.agent_core.specs.Rules.{history_with, line_refusal}
 use Rattle.agent_core.specs.Said.{Answers, IsSaid, TellsEvents}
 use Rattle.store_core.specs.Store.{counted}
+use Rattle.link_session.specs.Keeps.{Extends, IsAckedUpTo}
+use Rattle.link_session.proofs.ExtendsLemmas.{extends-length}
 use Rattle.agent_app.specs.declared.running.Running.{Running}
 use Rattle.agent_app.specs.Convert.{all_told, is_limit, refusal_line, LeavesFiles}
 use Rattle.agent_app.specs.Reading.{Ending, HasRead, RefusedAt, Reading, lines_read, reading}
-use Rattle.agent_app.specs.Run.{Extends, history_with_text, is_whole, judged_after, line_rules, run_output, run_reading, run_rules, told_of, FailsAtMoment, HasRunCause, IsAckedUpTo, LeavesOthers}
+use Rattle.agent_app.specs.Run.{history_with_text, is_whole, judged_after, line_rules, run_output, run_reading, run_rules, told_of, FailsAtMoment, HasRunCause, LeavesOthers}
 use Rattle.agent_app.specs.Running.{Counts, DiskRose, EndsRun, IsCutShort, IsRunning, IsTakers, Overflows, RunsAt, TakesLine, TellRose, TellsRefusal}
 use Rattle.agent_app.proofs.AckLemmas.{stored-some}
 use Rattle.agent_app.proofs.CauseLemmas.{apart, both-counts, cause-as, counts-none, ended-as, ended-counts, ended_so, going-counts, is_outside, refusal-inside, same-counts, stayed, went_on}
 use Rattle.agent_core.proofs.ClosedLemmas.{text-line}
 use Rattle.agent_core.proofs.KeptLemmas.{copies-child}
 use Rattle.agent_app.proofs.EventLemmas.{acked-told, closed-told}
-use Rattle.agent_app.proofs.ExtendsLemmas.{extends-length, extends-start, extends-text, lines-after}
+use Rattle.agent_app.proofs.ExtendsLemmas.{extends-start, extends-text, lines-after}
 use Rattle.agent_app.proofs.HasReadLemmas.{read-ended, read-long, read-next, read-over, read-refused, read-unfinished, says-all, says-long, says-over, says-refused}
 use Rattle.agent_app.proofs.LeavesLemmas.{leaves-nothing, may-told, one-told}
 use Rattle.agent_app.proofs.ReplyLemmas.{acked-reply, closed-reply, reply-some}
@@ -457,14 +460,15 @@ module _ (honest : Type 0) (running : Running) (host : Seen) (number : ℕ) (byt
           let reply-is : reply ≡ record { count = of-moment.0; events = events_at set closed } = stored-count reply (record { count = of-moment.0; events = events_at set closed }) of-moment.1 in
           let told-is : reply ≡ record { count = agent.count; events = events_at set closed } =
           reply-is ∙ ap (λ (n : ℕ). record { count = n; events = events_at set closed }) (sym (ap (λ (r : Reply). r.count) reply-is) ∙ reply-count) in
-          let text-is : reply_text reply ≡ reply_text (record { count = agent.count; events = events_at set whole }) =
-          ap reply_text told-is ∙ ap (λ (g : List Beat). reply_text (record { count = agent.count; events = events_at set g })) same in
+          let are : AreBeatsOf closed after.agent.holds.beats = subst (λ (g : List Beat). AreBeatsOf g after.agent.holds.beats) (sym same) after.agent.holds.are in
+          let beat-is = collected moment (beat every read) in
+          let before-is = history_at every h0 read in
           record {
             is = ap reply_text told-is
                 ∙ ap (λ (n : ℕ). reply_text (record { count = n; events = events_at set closed })) (after.agent.count ∙ ap counted one-more) ∙ sym (ap (told_of every set h0 read) said-is);
-            acked = subst (IsAckedUpTo (length whole)) (sym text-is)
-                (acked-told (length whole) agent.count set whole after.agent.holds.beats after.agent.holds.are (omega (arith, after.agent.count)) (omega (arith, after.agent.count)));
-            closed = ap rest text-is ∙ closed-told (length whole) agent.count set whole after.agent.holds.beats after.agent.holds.are;
+            acked = subst (IsAckedUpTo (length whole)) (sym (ap reply_text told-is))
+                (acked-told (length whole) agent.count set beat-is before-is after.agent.holds.beats are (omega (arith, after.agent.count)) (omega (arith, after.agent.count)));
+            closed = ap (λ (r : Reply). rest (reply_text r)) told-is ∙ closed-told (length whole) agent.count set beat-is before-is after.agent.holds.beats are;
             some = stored-some reply;
           }
 

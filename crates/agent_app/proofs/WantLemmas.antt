@@ -9,6 +9,7 @@ use Rattle.agent_core.specs.declared.fault.AgentFault.TheVariants as fault
 use Rattle.agent_core.specs.Calls.{Opens}
 use Rattle.history.specs.History.{Beat}
 use Rattle.entry_codec.specs.declared.entry.Settings.{Settings}
+use Rattle.link_session.specs.Session.{LinkSeen}
 use Rattle.line_stream.proofs.RunLemmas.{Takes-none}
 use Rattle.agent_app.specs.declared.collect.Collector.{Collector}
 use Rattle.agent_app.specs.Collect.{CollectsAll, Outside}
@@ -16,12 +17,16 @@ use Rattle.agent_app.specs.Convert.{output_of, Converts, EndsAsText, LeavesDisk}
 use Rattle.agent_app.specs.Health.{ConfiguresAll}
 use Rattle.agent_app.specs.New.{Makes}
 use Rattle.agent_app.specs.Query.{Asks}
+use Rattle.agent_app.specs.Receive.{ReceivesAll}
 use Rattle.agent_app.specs.Run.{RunsAll}
+use Rattle.agent_app.specs.Send.{SendsAll}
 use Rattle.agent_app.proofs.AskLemmas.{unopened-asked}
 use Rattle.agent_app.proofs.CauseLemmas.{stayed}
 use Rattle.agent_app.proofs.CollectLemmas.{uncollected}
 use Rattle.agent_app.proofs.ConfigureLemmas.{unopened-configured}
 use Rattle.agent_app.proofs.OpeningLemmas.{failed_by, fault-is, unopened}
+use Rattle.agent_app.proofs.ReceiveLemmas.{unopened-receives}
+use Rattle.agent_app.proofs.SendLemmas.{unopened-sends}
 
 pub no-usage : status.Memory ≡ status.Usage → ⊥
 no-usage e = cc
@@ -98,6 +103,12 @@ module _ (honest : Type 0) (host : Seen) (first : honest → IsDisk host.past (r
 
   pub want-asks : (answer : Settings → List Beat → List ℕ) → Asks honest answer status.Memory host host
   want-asks answer = unopened-asked honest answer host host first fault.Memory unopened-want
+
+  pub want-sends : (link : LinkSeen) → SendsAll honest status.Memory link link host host
+  want-sends link = unopened-sends honest host host first fault.Memory unopened-want link
+
+  pub want-receives : (link : LinkSeen) → ReceivesAll honest status.Memory link link host host
+  want-receives link = unopened-receives honest host host first fault.Memory unopened-want link
 
 pub want-converts : (honest : Type 0) (left : Option (List ℕ)) (past : List Event) (source_faults tell_faults : ℕ) → Converts status.Memory honest left left past past source_faults source_faults tell_faults tell_faults
 want-converts honest left past source_faults tell_faults = record {

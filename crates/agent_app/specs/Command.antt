@@ -8,7 +8,7 @@ use Rattle.fixed_num.specs.UnitsText.{is_numeral}
 use Rattle.entry_codec.specs.declared.entry.Settings.{Settings}
 use Rattle.entry_codec.specs.declared.entry.TierSettings.{TierSettings}
 use Rattle.agent_app.specs.declared.command.Command.{Command}
-use Rattle.agent_app.specs.declared.command.Command.TheVariants.{Collect, Convert, Health, Log, New, Query, Run}
+use Rattle.agent_app.specs.declared.command.Command.TheVariants.{Collect, Convert, Health, Log, New, Query, Receive, Run, Send}
 use Rattle.agent_app.specs.declared.command.TheConstants.{EVERY_LIMIT, STARTS_LIMIT}
 use Rattle.agent_app.specs.declared.command.Form.{Form}
 use Rattle.agent_app.specs.declared.command.Form.TheVariants as form
@@ -77,6 +77,13 @@ pub record IsCollector (every starts : ℕ) (words : List (List ℕ)) : Type 0 w
   -- the program stands behind the first three words
   pub program : 3 < length words
 
+-- ---- another agent
+
+-- the command, where one word stands behind it: the address of the other agent
+abbrev pub addressed : Command → List (List ℕ) → Option Command
+addressed command (address ∷ []) = Some command
+addressed command words = None
+
 -- ---- commands
 
 -- the command of a single word
@@ -112,6 +119,8 @@ longer word more =
     else if bytes_eq word (codes "log") then option_map Log (form_of more)
     else if bytes_eq word (codes "new") then option_map New (settings_of more)
     else if bytes_eq word (codes "query") && is_question more then Some Query
+    else if bytes_eq word (codes "receive") && not (list_any is_option more) then addressed Receive more
+    else if bytes_eq word (codes "send") && not (list_any is_option more) then addressed Send more
     else None
 
 -- the command that the words of a command line give, or none where they are in no form

@@ -11,12 +11,13 @@ use Rattle.history.specs.History.{Beat, last}
 use Rattle.entry_codec.specs.declared.entry.Settings.{Settings}
 use Rattle.store_core.specs.Stands.{is_made}
 use Rattle.agent_core.specs.Kept.{StandsForHistory}
+use Rattle.link_session.specs.Keeps.{Extends, IsAckedUpTo}
 use Rattle.agent_app.specs.declared.collect.Collector.{Collector}
 use Rattle.agent_app.specs.Collect.{CollectsAll, HasHeard, Outside}
 use Rattle.agent_app.specs.Convert.{LeavesDisk}
 use Rattle.agent_app.specs.New.{Makes}
 use Rattle.agent_app.specs.Query.{Asks}
-use Rattle.agent_app.specs.Run.{history_with_text, is_opened, is_whole, run_every, Extends, IsAckedUpTo, RunsAll}
+use Rattle.agent_app.specs.Run.{history_with_text, is_opened, is_whole, run_every, RunsAll}
 
 -- where a run has its text from: a source, with what it had left before and after the run, where it tells that; or a
 -- collector, with what it met before and after

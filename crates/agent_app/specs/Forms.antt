@@ -6,10 +6,10 @@ use Rattle.clap.specs.Lexer.{usize_max}
 use Rattle.clap.specs.Walk.{Row, Rule, all_of}
 use Rattle.clap.specs.Simple.{App, new_app, new_rule, on_top, with_rule, with_subcommand}
 use Rattle.clap.specs.declared.builder.action.ArgAction.TheVariants.{Append}
-use Rattle.agent_app.specs.Command.{collect_of, form_of, settings_of}
+use Rattle.agent_app.specs.Command.{addressed, collect_of, form_of, settings_of}
 use Rattle.entry_codec.specs.declared.entry.Settings.{Settings}
 use Rattle.agent_app.specs.declared.command.Command.{Command}
-use Rattle.agent_app.specs.declared.command.Command.TheVariants.{Convert, Health, Log, New, Query, Run}
+use Rattle.agent_app.specs.declared.command.Command.TheVariants.{Convert, Health, Log, New, Query, Receive, Run, Send}
 use Rattle.agent_app.specs.declared.command.Form.{Form}
 
 -- so many words
@@ -35,10 +35,14 @@ program = on_top (λ top. record top {
 
 -- the program with its commands
 abbrev pub forms : App
-forms = with_subcommand (with_subcommand (with_subcommand (with_subcommand (with_subcommand (with_subcommand (with_subcommand program
+forms = with_subcommand (with_subcommand (with_subcommand (with_subcommand (with_subcommand (with_subcommand (with_subcommand (with_subcommand (with_subcommand program
     (with_words (codes "collect") 3 usize_max).top) (new_app (codes "convert")).top) (new_app (codes "health")).top)
     (with_words (codes "log") 1 usize_max).top) (with_words (codes "new") 1 7).top) (with_words (codes "query") 5 usize_max).top)
-    (new_app (codes "run")).top
+    (with_words (codes "receive") 1 usize_max).top) (new_app (codes "run")).top) (with_words (codes "send") 1 usize_max).top
+
+-- the command, where the words behind its name are an address
+abbrev pub addressed_in : Command → List Row → Option Command
+addressed_in command rows = option_and_then (addressed command) (all_of (codes "words") rows)
 
 -- the collector that the words behind `collect` give
 abbrev pub collect_in : List Row → Option Command
@@ -61,7 +65,9 @@ named name rows =
     else if bytes_eq name (codes "log") then option_map Log (form_in rows)
     else if bytes_eq name (codes "new") then option_map New (settings_in rows)
     else if bytes_eq name (codes "query") then Some Query
+    else if bytes_eq name (codes "receive") then addressed_in Receive rows
     else if bytes_eq name (codes "run") then Some Run
+    else if bytes_eq name (codes "send") then addressed_in Send rows
     else None
 
 -- the command of what `clap` found, where it found one

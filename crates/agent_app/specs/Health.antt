@@ -22,8 +22,9 @@ use Rattle.agent_core.specs.Health.{health_refusal}
 use Rattle.agent_core.specs.Kept.{StandsForHistory}
 use Rattle.agent_core.specs.Notes.{HasNotes}
 use Rattle.agent_core.specs.Replies.{reply_text}
+use Rattle.link_session.specs.Keeps.{Keeps}
 use Rattle.agent_app.specs.Convert.{LeavesFiles}
-use Rattle.agent_app.specs.Run.{finds_none, is_whole, Finds, IsAsFound, Keeps, LeavesOthers, OnceRead, TellsRun}
+use Rattle.agent_app.specs.Run.{finds_none, is_whole, Finds, IsAsFound, LeavesOthers, OnceRead, TellsRun}
 use Rattle.agent_app.specs.Running.{Counts, DiskRose, IsCutShort, IsTakers, TellRose}
 
 -- ---- refusals

@@ -12,5 +12,8 @@ pub mod LogText
 pub mod New
 pub mod Query
 pub mod Reading
+pub mod Receive
 pub mod Run
 pub mod Running
+pub mod Send
+pub mod Sessions

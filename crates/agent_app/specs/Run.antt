@@ -1,5 +1,5 @@
 -- A run that stores the beats of a text behind those of a history.
-use Rattle.std.specs.Prelude.{◌≡◌, ℕ, ◌+◌, ◌^◌, ◌<◌, ◌≤◌, Bool, true, false, nat_lt, List, [], ◌∷◌, ◌++◌, length, drop, take, All, ◌⊎◌, Option, IfSome, Result, Ok, Err, codes, decimal}
+use Rattle.std.specs.Prelude.{◌≡◌, ℕ, ◌+◌, ◌<◌, ◌≤◌, Bool, true, false, nat_lt, List, [], ◌∷◌, ◌++◌, length, take, ◌⊎◌, Option, IfSome, Result, Ok, Err}
 use Rattle.std.specs.Option.{option_map_or}
 use Rattle.host_model.specs.declared.file.File.{File}
 use Rattle.host_model.specs.declared.file.File.TheVariants.{JournalA}
@@ -33,6 +33,7 @@ use Rattle.agent_core.specs.Kept.{StandsForHistory}
 use Rattle.agent_core.specs.Notes.{HasNotes}
 use Rattle.agent_core.specs.Replies.{reply_text}
 use Rattle.line_stream.specs.Run.{input_limit}
+use Rattle.link_session.specs.Keeps.{Keeps}
 use Rattle.agent_app.specs.Convert.{all_told, ending_status, HasStatusCause, LeavesFiles}
 use Rattle.agent_app.specs.Reading.{Ending, LineRules, Reading, Rules, lines_read, reading_of}
 
@@ -80,30 +81,6 @@ run_output every set h0 ended text = all_told (run_reading every set h0 ended te
 -- else of the end, where that has come
 abbrev pub run_status : ℕ → Settings → List Beat → List ℕ → Status
 run_status every set h0 text = ending_status (run_reading every set h0 (nat_lt (length text) input_limit) (take input_limit text)).ending
-
--- ---- what stops leave
-
--- a history goes on from another
-pub data Extends (h : List Beat) : List Beat → Type 0 where
-  no_more : Extends h h
-  one_more : (beat : Beat) (g : List Beat) → Extends h g → Extends h (beat ∷ g)
-
--- the line that tells of a stored beat, without its line feed
-abbrev pub stored_line : ℕ → List ℕ
-stored_line n = codes "STORED " ++ decimal n
-
--- no whole line of what was told acknowledges a beat behind the first n; a number that is told is below 2^64
-abbrev pub IsAckedUpTo : ℕ → List ℕ → Type 0
-IsAckedUpTo n text = All (λ (said : List ℕ). (m : ℕ) → m < 2 ^ 64 → said ≡ stored_line m → m ≤ n) (lines text)
-
--- The disk holds this history with a front of the new beats, and every beat that was acknowledged since. `before` is
--- what had been told before.
-pub record Keeps (set : Settings) (h0 whole : List Beat) (before : List ℕ) (disk : File → List ℕ) (text : List ℕ) : Type 0 where
-  pub stored : List Beat
-  pub since : Extends h0 stored
-  pub within : Extends stored whole
-  pub stands : StandsForHistory set stored disk
-  pub acked : IsAckedUpTo (length stored) (drop (length before) text)
 
 -- ---- what a run promises
 

@@ -18,10 +18,11 @@ use Rattle.agent_core.specs.declared.fault.AgentFault.TheVariants as agent_fault
 use Rattle.agent_core.specs.Agent.{IsAgentOf, AgentIsReady}
 use Rattle.host_model.specs.Seen.{Seen}
 use Rattle.agent_core.specs.Fed.{IsFed}
+use Rattle.link_session.specs.Keeps.{IsAckedUpTo, Keeps}
 use Rattle.agent_app.specs.declared.running.Running.{Running}
 use Rattle.agent_app.specs.Convert.{refusal_line, refusal_status, LeavesFiles}
 use Rattle.agent_app.specs.Reading.{HasRead}
-use Rattle.agent_app.specs.Run.{history_with_text, run_reading, run_rules, FailsAtBeat, HasRunCause, IsAckedUpTo, Keeps, LeavesOthers, Stores}
+use Rattle.agent_app.specs.Run.{history_with_text, run_reading, run_rules, FailsAtBeat, HasRunCause, LeavesOthers, Stores}
 
 -- ---- a run under way
 

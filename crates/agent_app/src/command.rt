@@ -5,8 +5,8 @@ ghost use Rattle.clap.specs.Words.{found_of, rows_of, subcommand_rows_of};
 ghost use Rattle.entry_codec.specs.declared.entry.Settings.{Settings as ASettings};
 ghost use Rattle.fixed_num.specs.UnitsText.{is_numeral};
 ghost use Rattle.store_core.specs.FirstRecord.{is_tier, InLimits};
-ghost use Rattle.agent_app.specs.Command.{collect_of, command_of, default_settings, form_named, form_of, has_leading_zero, is_option, number_of, settings_of, settings_with, tier_of, up_to, IsCollector};
-ghost use Rattle.agent_app.specs.Forms.{collect_in, command_in, form_in, settings_in};
+ghost use Rattle.agent_app.specs.Command.{addressed, collect_of, command_of, default_settings, form_named, form_of, has_leading_zero, is_option, number_of, settings_of, settings_with, tier_of, up_to, IsCollector};
+ghost use Rattle.agent_app.specs.Forms.{addressed_in, collect_in, command_in, form_in, settings_in};
 
 use crate::forms::parse;
 use agent_core::{Settings, TierSettings};
@@ -51,8 +51,12 @@ pub enum Command {
     New(Settings),
     /// Answers the question that the words behind the first ask.
     Query,
+    /// Stores the copies that a child sends, which comes to the address behind the first word.
+    Receive,
     /// Stores the beats of the input's text.
     Run,
+    /// Sends copies of the beats to the parent at the address behind the first word.
+    Send,
 }
 
 impl Command {
@@ -118,7 +122,26 @@ fn command_in(matches: &ArgMatches<'_>) -> Option<Command>
         "log" => Some(Command::Log(form_in(found)?)),
         "new" => Some(Command::New(settings_in(found)?)),
         "query" => Some(Command::Query),
+        "receive" => addressed_in(Command::Receive, found),
         "run" => Some(Command::Run),
+        "send" => addressed_in(Command::Send, found),
+        _ => None,
+    }
+}
+
+/// The command, where the words behind its name are an address.
+fn addressed_in(command: Command, found: &ArgMatches<'_>) -> Option<Command>
+    ensures { result ≡ addressed_in command (rows_of (found_of found.now)) }
+{
+    read_addressed(command, found.get_raw("words")?)
+}
+
+/// The command, where one word stands behind it.
+fn read_addressed(command: Command, words: &[&str]) -> Option<Command>
+    ensures { result ≡ addressed command (map (λ word. word.now) words.now) }
+{
+    match words {
+        [_address] => Some(command),
         _ => None,
     }
 }

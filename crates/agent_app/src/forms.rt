@@ -48,7 +48,9 @@ fn forms<'a>(alloc: Global) -> Result<Command<'a>, AllocError>
         .subcommand(with_words(alloc, "log", 1, usize::MAX)?)?
         .subcommand(with_words(alloc, "new", 1, 7)?)?
         .subcommand(with_words(alloc, "query", 5, usize::MAX)?)?
-        .subcommand(Command::new(alloc, "run"))
+        .subcommand(with_words(alloc, "receive", 1, usize::MAX)?)?
+        .subcommand(Command::new(alloc, "run"))?
+        .subcommand(with_words(alloc, "send", 1, usize::MAX)?)
 }
 
 /// What `clap` makes of the words.

@@ -3,12 +3,12 @@
 //! `agent_main` is the top call. Over an honest host its contract says, for every input and whatever
 //! fails: what is told is a prefix of a stated function of the bytes taken, and all of it unless the
 //! output, the disk or memory failed. It says what a crash may leave of the database at any moment, and
-//! why the run ended with the status that it answers. Of `run`, `collect`, `query`, `health` and `log` it says
-//! so where the disk reads as a database of a history.
+//! why the run ended with the status that it answers. Of `run`, `collect`, `query`, `health`, `log`, `send` and
+//! `receive` it says so where the disk reads as a database of a history.
 //!
 //! It stands on `line_stream` for the lines of a stream, on `plugin_runner` for those of a program that is run as a
-//! collector, on `point_lines` for what the lines of a text tell, on `agent_core` for the agent whose beats are
-//! stored, and on `host_model` for the outside.
+//! collector, on `point_lines` for what the lines of a text tell, on `link_session` for what two agents say to each
+//! other, on `agent_core` for the agent whose beats are stored, and on `host_model` for the outside.
 #![tactic(auto)]
 
 ghost use Rattle.std.specs.Prelude.{◌≡◌, ◌⊎◌, ℕ, None, Some};
@@ -20,8 +20,11 @@ ghost use Rattle.agent_app.specs.Health.{ConfiguresAll};
 ghost use Rattle.agent_app.specs.Log.{log_for};
 ghost use Rattle.agent_app.specs.New.{Makes};
 ghost use Rattle.agent_app.specs.Query.{question_of, reply_for, Asks};
+ghost use Rattle.agent_app.specs.Receive.{ReceivesAll};
 ghost use Rattle.agent_app.specs.Run.{RunsAll};
+ghost use Rattle.agent_app.specs.Send.{SendsAll};
 ghost use Rattle.entry_codec.specs.declared.entry.Settings.{Settings as ASettings};
+ghost use Rattle.link_session.specs.Session.{link_seen};
 
 use collect::collect_words;
 use command::Command;
@@ -32,7 +35,9 @@ use host_model::{Clock, Host, Link, Source, Spawner, Status};
 use log::log;
 use new::new;
 use query::query;
+use receive::receive;
 use run::run;
+use send::send;
 use std::alloc::Global;
 
 mod collect;
@@ -48,9 +53,12 @@ mod log_json;
 mod log_text;
 mod new;
 mod query;
+mod receive;
 mod refusals;
 mod run;
 mod running;
+mod send;
+mod sessions;
 
 pub use law::any_course;
 
@@ -91,6 +99,15 @@ pub use law::any_course;
 /// `log text` tells `DROPPED`, how many events of the alarms are not shown, and a line for each of the last
 /// 1,000, the earliest first. `log json` tells the same as one line of JSON. Nothing changes in the database.
 ///
+/// `send ADDRESS` answers the parent at the other end of the link with copies of the points of the database, from
+/// where that asks, until it has them all. Nothing changes in the database. `receive ADDRESS` stores what the child
+/// at the other end of the link sends behind the history of the database, which is a copy of that child's. As soon
+/// as a part of it is stored it tells `STORED` and the number of its last beat in the history, and then a line for
+/// each event that its beats make. After that the child is answered. What the database does not take is told as
+/// `REFUSED 0` or `LIMIT 0` and the number of the refusal. No more than 2^40 bytes are taken of the link.
+/// `LinkFault` where a call on the link fails, `PeerRefused` where one end refuses the other, and `LinkEnded` where
+/// the other end sends no more before it was done. The link knows the address.
+///
 /// `query CHART AFTER BEFORE WINDOW GROUP [WORD..]` answers that question from the database, which
 /// nothing changes. The status is 0 where `ERROR` is told too. No word of it begins with `-`.
 pub fn agent_main<S: Source, H: Host, L: Link, P: Spawner, C: Clock>(
@@ -107,7 +124,7 @@ pub fn agent_main<S: Source, H: Host, L: Link, P: Spawner, C: Clock>(
     ensures no_form { command_of words.now ≡ None →
         (result ≡ Status.Usage) ⊎ (result ≡ Status.Memory) }
     ensures untouched { command_of words.now ≡ None →
-        (source.new ≡ source.old) × (host.new ≡ host.old) }
+        (source.new ≡ source.old) × (host.new ≡ host.old) × (link.new ≡ link.old) }
 
     // What was told, and why the run ended.
     ensures converts { command_of words.now ≡ Some Command.Convert →
@@ -147,11 +164,32 @@ pub fn agent_main<S: Source, H: Host, L: Link, P: Spawner, C: Clock>(
     ensures collect_takes_nothing { (every starts : ℕ)
         → command_of words.now ≡ Some (Command.Collect every starts) → source.new ≡ source.old }
 
-    // No other command starts a program or asks the time, and none talks to another agent.
+    // No other command starts a program or asks the time.
     ensures uncollected { ((every starts : ℕ)
         → command_of words.now ≡ Some (Command.Collect every starts) → ⊥)
         → (spawner.new ≡ spawner.old) × (clock.new ≡ clock.old) }
-    ensures unlinked { link.new ≡ link.old }
+
+    // What a parent is sent, and why that ended. Nothing changes in the database.
+    ensures sends { command_of words.now ≡ Some Command.Send →
+        SendsAll H.honest result
+        (link_seen (L.sent link.old) (L.left link.old) (L.faults link.old))
+        (link_seen (L.sent link.new) (L.left link.new) (L.faults link.new))
+        (H.seen host.old) (H.seen host.new) }
+    ensures send_takes_nothing { command_of words.now ≡ Some Command.Send →
+        source.new ≡ source.old }
+
+    // What is stored of a child and told, what crashes leave, what is answered, and why that ended.
+    ensures receives { command_of words.now ≡ Some Command.Receive →
+        ReceivesAll H.honest result
+        (link_seen (L.sent link.old) (L.left link.old) (L.faults link.old))
+        (link_seen (L.sent link.new) (L.left link.new) (L.faults link.new))
+        (H.seen host.old) (H.seen host.new) }
+    ensures receive_takes_nothing { command_of words.now ≡ Some Command.Receive →
+        source.new ≡ source.old }
+
+    // No other command talks to another agent.
+    ensures unlinked { (command_of words.now ≡ Some Command.Send → ⊥)
+        → (command_of words.now ≡ Some Command.Receive → ⊥) → link.new ≡ link.old }
 
     // What a question is answered with, and why it was not.
     ensures asks { command_of words.now ≡ Some Command.Query →
@@ -182,6 +220,8 @@ pub fn agent_main<S: Source, H: Host, L: Link, P: Spawner, C: Clock>(
         Ok(Some(Command::Log(form))) => log(alloc, form, host),
         Ok(Some(Command::New(settings))) => new(alloc, &settings, host),
         Ok(Some(Command::Query)) => query(alloc, words, host),
+        Ok(Some(Command::Receive)) => receive(alloc, host, link),
         Ok(Some(Command::Run)) => run(alloc, source, host),
+        Ok(Some(Command::Send)) => send(alloc, host, link),
     }
 }

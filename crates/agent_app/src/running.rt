@@ -45,7 +45,12 @@ pub(crate) fn tell_text<H: Host>(host: &mut H, text: &str) -> Result<(), Failed>
 }
 
 /// Tells a refusal, which ends the run.
-fn tell_refusal<H: Host>(alloc: Global, host: &mut H, line: u64, refusal: Refusal) -> Status
+pub(crate) fn tell_refusal<H: Host>(
+    alloc: Global,
+    host: &mut H,
+    line: u64,
+    refusal: Refusal,
+) -> Status
     ensures tells { TellsRefusal result H.honest line refusal
         (H.seen host.old).past (H.seen host.new).past
         (Rose (H.seen host.old).tell_faults (H.seen host.new).tell_faults) }

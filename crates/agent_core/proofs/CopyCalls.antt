@@ -1,22 +1,29 @@
 -- What an agent adds of the message of a child, and what a call of it leaves.
-use Rattle.std.proofs.Common.{◌≡◌, ℕ, ◌+◌, ◌<◌, ◌^◌, Bool, false, ◌&&◌, List, [], length, Option, None, is_none, refl, sym, ap, ◌∙◌, subst, arith, if◌then◌else◌}
+use Rattle.std.proofs.Common.{◌≡◌, ℕ, ◌+◌, ◌<◌, ◌^◌, Bool, true, false, not, ◌&&◌, List, [], length, Option, None, is_none, refl, sym, ap, ◌∙◌, subst, arith, if◌then◌else◌}
 use Rattle.host_model.specs.Past.{Event}
 use Rattle.host_model.specs.Disks.{EveryDisk}
 use Rattle.host_model.specs.Moments.{begins, Throughout}
-use Rattle.history.specs.declared.fault.BlockFault.{BlockFault}
-use Rattle.history.specs.History.{Beat, child, last, registry_of}
+use Rattle.std.proofs.lemmas.Bool.{not-false}
+use Rattle.history.specs.declared.fault.BlockFault.TheVariants.{MixedRoles}
+use Rattle.history.specs.History.{Beat}
+use Rattle.history.specs.Registry.{Registry}
+use Rattle.chart_registry.proofs.AcceptedLemmas.{passed}
+use Rattle.alarm_core.specs.Course.{held}
 use Rattle.replication.specs.declared.message.Data.{Data}
-use Rattle.replication.specs.declared.verdict.Verdict.{Verdict}
 use Rattle.replication.specs.Verdict.{is_stored, verdict_by}
-use Rattle.alarm_events.specs.declared.event.Event.{Event as AlarmEvent}
 use Rattle.entry_codec.specs.declared.entry.Settings.{Settings}
 use Rattle.store_core.specs.Store.{counted}
 use Rattle.agent_core.specs.Agent.{AgentState, IsAgentOf}
 use Rattle.agent_core.specs.Calls.{agent_adds, agent_verdict}
-use Rattle.agent_core.specs.Copying.{added_by, added_to, beats_of, copy_refusal, events_onto, verdict_of}
+use Rattle.agent_core.specs.Copying.{added_by, added_to, beats_of, copy_refusal, definitions_in, events_onto, names_refusal}
 use Rattle.agent_core.specs.Kept.{onto, StandsForFront}
-use Rattle.agent_core.specs.Roles.{child_in}
+use Rattle.agent_core.specs.declared.left.Role.{Role}
+use Rattle.agent_core.specs.declared.left.Role.TheVariants.{Copies}
+use Rattle.agent_core.specs.Roles.{may_copy}
+use Rattle.agent_core.specs.Storing.{ArePartsAt}
+use Rattle.agent_core.proofs.FrontLemmas.{message-role, onto-length}
 use Rattle.agent_core.proofs.KeptLemmas.{child-is, stays}
+use Rattle.agent_core.proofs.StoringLemmas.{store-last}
 
 -- what an agent adds, its history adds
 pub adds-are : (past : List Event) (agent : AgentState) (set : Settings) (h : List Beat) → IsAgentOf past agent set h → (message : Data) → agent_adds agent message ≡ added_to h message
@@ -44,3 +51,36 @@ module _ (agent : AgentState) (message : Data) (left : is_stored (agent_verdict 
     where
       same : agent.count ≡ counted (agent.count + length {A = Beat} [])
       same = omega (arith, small)
+
+-- ---- a message that is stored
+-- what is refused by nothing is copied, and defines what may be defined
+pub nothing-against : (registry : Registry) (role : Role) (message : Data) → copy_refusal registry role message ≡ None → (may_copy role ≡ true) × (names_refusal registry (definitions_in message.names) ≡ None)
+nothing-against registry role message free =
+    let parts = passed (not (may_copy role)) MixedRoles (names_refusal registry (definitions_in message.names)) free in
+    (not-false (may_copy role) parts.0, parts.1)
+
+pub stored-adds : (agent : AgentState) (message : Data) → is_stored (agent_verdict agent message) ≡ true → copy_refusal agent.registry agent.role message ≡ None → beats_of agent.registry message ≡ agent_adds agent message
+stored-adds agent message stored free =
+    λ i. if sym stored i && is_none (sym free i) then beats_of agent.registry message else []
+
+-- an agent has the parts of its history
+pub agent-parts : (past : List Event) (agent : AgentState) (set : Settings) (h : List Beat) → IsAgentOf past agent set h → ArePartsAt past agent.store agent.registry agent.last_rows agent.latest (held agent.alarms) set h
+agent-parts past agent set h is_of = record { holds = is_of.holds; held_is = is_of.alarms }
+
+counted-by : (n more : ℕ) → counted (counted n + more) ≡ counted (n + more)
+counted-by n more = omega arith
+
+-- and is of the history with a message once its parts are
+pub agent-copied : (past new : List Event) (agent agent' : AgentState) (set : Settings) (h : List Beat) (message : Data) → IsAgentOf past agent set h → 0 < length message.beats
+    → ArePartsAt new agent'.store agent'.registry agent'.last_rows agent'.latest (held agent'.alarms) set (onto h (beats_of agent.registry message)) → agent'.last ≡ agent'.store.last
+    → agent'.count ≡ counted (agent.count + length (beats_of agent.registry message)) → agent'.role ≡ Copies message.child → agent'.fault ≡ None → IsAgentOf new agent' set (onto h (beats_of agent.registry message))
+agent-copied past new agent agent' set h message is_of some parts last_is count role going =
+    let more = beats_of agent.registry message in
+    record {
+      holds = parts.holds;
+      last_is = last_is ∙ store-last new agent'.store agent'.registry agent'.last_rows agent'.latest set (onto h more) parts.holds;
+      count = count ∙ ap (λ (n : ℕ). counted (n + length more)) is_of.count ∙ counted-by (length h) (length more) ∙ ap counted (sym (onto-length h more));
+      role = role ∙ sym (message-role agent.registry message h some);
+      alarms = parts.held_is;
+      going = going;
+    }

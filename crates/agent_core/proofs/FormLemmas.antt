@@ -29,6 +29,10 @@ use Rattle.agent_core.specs.Kept.{point_of, step_of}
 use Rattle.agent_core.specs.Rules.{HasLimits}
 use Rattle.agent_core.proofs.LimitLemmas.{IsGrid}
 
+-- the note of a collected beat is short
+pub note-length : (numbered : NumberedBeat) → IsWithinLimits numbered → (note : List ℕ) → note ≡ entry_bytes (entry.Collected numbered) → length note ≤ 33579025
+note-length numbered within note is = let same : length note ≡ length (entry_bytes (entry.Collected numbered)) = ap length is in omega (arith, same, collected-length numbered within)
+
 -- ---- the points
 module _ (registry : Registry) (limits : HasLimits registry) where
   step-grid : (series : ℕ) → (0 < step_of registry series) × (step_of registry series ≤ 86400)
@@ -83,16 +87,13 @@ module _ (registry : Registry) (limits : HasLimits registry) where
   all-above (word ∷ words) = (omega arith, all-above words)
 
   -- ---- the beat
-  module _ (numbered : NumberedBeat) (within : IsWithinLimits numbered) (words : List SeriesWord) (in_registry : ArePointsIn registry words) (rises : AreRising words)
-      (points : List BeatPoint) (points_are : points ≡ map (point_of registry) words) (note : List ℕ) (note_is : note ≡ entry_bytes (entry.Collected numbered)) where
+  module _ (words : List SeriesWord) (in_registry : ArePointsIn registry words) (rises : AreRising words) (points : List BeatPoint) (points_are : points ≡ map (point_of registry) words)
+      (note : List ℕ) (note_short : length note ≤ 33579025) where
     few-points : length points ≤ 65536
     few-points =
         let given = recursion_from_All IsGiven words in_registry in
         let same : length points ≡ length words = ap length points_are ∙ length-map words (point_of registry) in
         omega (arith, same, limits.few, words-few 0 words rises (all-above words) given (omega arith))
-
-    note-length : length note ≤ 33579025
-    note-length = let same : length note ≡ length (entry_bytes (entry.Collected numbered)) = ap length note_is in omega (arith, same, collected-length numbered within)
 
     pub kept-form : (moment : ℕ) → 0 < moment → moment < 2 ^ 32 → AllByRecursion IsPoint points → InForm (record { moment = Some moment; points = points; note = note })
     kept-form moment some small short =
@@ -103,13 +104,13 @@ module _ (registry : Registry) (limits : HasLimits registry) where
           short = record {
             moment = (some, small);
             points = record { count = omega (arith, few-points); each = short };
-            note = omega (arith, note-length);
+            note = omega (arith, note_short);
           };
           form = λ i. ascending i && all i && true;
         }
 
     pub kept-size : (moment : Option ℕ) → length (beat_bytes (record { moment = moment; points = points; note = note })) ≤ 2 ^ 26
-    kept-size moment = omega (arith, beat_size (record { moment = moment; points = points; note = note }), few-points, note-length)
+    kept-size moment = omega (arith, beat_size (record { moment = moment; points = points; note = note }), few-points, note_short)
 
 -- ---- a configuration
 health-length : (text : List ℕ) → length (entry_bytes (entry.Health text)) ≡ 5 + length text

@@ -30,7 +30,7 @@ use Rattle.agent_core.specs.Agent.{AgentState, Holds, IsAgentOf}
 use Rattle.alarm_events.specs.declared.event.Event.{Event as AlarmEvent}
 use Rattle.agent_core.specs.Alarms.{alarms_at, HaveFollowed}
 use Rattle.agent_core.specs.LastSeen.{IsLatestOf}
-use Rattle.agent_core.specs.Kept.{kept_of, note_of, point_of, stored_points, AreBeatsOf, Follows, StandsForHealth, StandsForHistory, StandsForOneOf}
+use Rattle.agent_core.specs.Kept.{kept_of, note_of, point_of, stored_points, AreBeatsOf, Follows, IsBeatOf, StandsForHealth, StandsForHistory, StandsForOneOf}
 use Rattle.agent_core.specs.Replay.{HasSeenBeat, HasTakenRows}
 use Rattle.agent_core.specs.declared.left.Role.{Role}
 use Rattle.agent_core.specs.Roles.{child_in, copies, role_of}
@@ -71,6 +71,15 @@ module _ (past : List Event) (store : StoreState) (registry : Registry) (lasts :
   pub stays : EveryDisk (StandsForHistory set h) past
   stays disk images = record { beats = holds.beats; are = holds.are; stands = every_image_of past store set holds.beats holds.store_of disk images }
 
+  -- the moments of the store are those of the agent
+  pub climbs : (beat : Beat) (kept : StoreBeat) → IsBeatOf h beat kept → (new : List Event) → Throughout (EveryDisk (StandsAround set holds.beats kept)) past new
+      → Throughout (EveryDisk (λ disk. StandsForHistory set h disk ⊎ StandsForHistory set (beat ∷ h) disk)) past new
+  climbs beat kept of new moments = disks_weaker around moments
+    where
+      around : (disk : File → List ℕ) → StandsAround set holds.beats kept disk → StandsForHistory set h disk ⊎ StandsForHistory set (beat ∷ h) disk
+      around disk (inl stands) = inl (record { beats = holds.beats; are = holds.are; stands = stands })
+      around disk (inr stands) = inr (record { beats = kept ∷ holds.beats; are = (of, holds.are); stands = stands })
+
   module _ (moment : ℕ) (beat : OpenBeat) (follows : Follows h moment beat) where
     pub is_next : IsNext (with_definitions registry beat.charts beat.dimensions) lasts h moment beat
     is_next =
@@ -99,14 +108,10 @@ module _ (past : List Event) (store : StoreState) (registry : Registry) (lasts :
       pub kept-follows : AreBeatsOf (collected moment beat ∷ h) (kept ∷ holds.beats)
       kept-follows = (record { follows = follows; is_kept = is_kept; spelt = spelt }, holds.are)
 
-      around : (disk : File → List ℕ) → StandsAround set holds.beats kept disk → StandsForHistory set h disk ⊎ StandsForHistory set (collected moment beat ∷ h) disk
-      around disk (inl stands) = inl (record { beats = holds.beats; are = holds.are; stands = stands })
-      around disk (inr stands) = inr (record { beats = kept ∷ holds.beats; are = kept-follows; stands = stands })
-
-      -- the moments of the store are those of the agent
-      pub climbs : (new : List Event) → Throughout (EveryDisk (StandsAround set holds.beats kept)) past new
+      -- at every moment of the store the history stands, or that with the beat
+      pub collected-climbs : (new : List Event) → Throughout (EveryDisk (StandsAround set holds.beats kept)) past new
           → Throughout (EveryDisk (λ disk. StandsForHistory set h disk ⊎ StandsForHistory set (collected moment beat ∷ h) disk)) past new
-      climbs new moments = disks_weaker around moments
+      collected-climbs new moments = climbs (collected moment beat) kept kept-follows.0 new moments
 
       pub holds-more : (new : List Event) (store' : StoreState) (registry' : Registry) (lasts' : List (Option Last)) (latest' : Latest) → IsStoreOf new store' set (kept ∷ holds.beats)
           → registry' ≡ with_definitions registry beat.charts beat.dimensions → AreLastOf lasts' (collected moment beat ∷ h) → IsLatestOf latest' (collected moment beat ∷ h)
@@ -127,11 +132,7 @@ module _ (past : List Event) (store : StoreState) (registry : Registry) (lasts :
 
     pub health-climbs : (new : List Event) → Throughout (EveryDisk (StandsAround set holds.beats kept)) past new
         → Throughout (EveryDisk (λ disk. StandsForHistory set h disk ⊎ StandsForHistory set (health text ∷ h) disk)) past new
-    health-climbs new moments = disks_weaker around-health moments
-      where
-        around-health : (disk : File → List ℕ) → StandsAround set holds.beats kept disk → StandsForHistory set h disk ⊎ StandsForHistory set (health text ∷ h) disk
-        around-health disk (inl stands) = inl (record { beats = holds.beats; are = holds.are; stands = stands })
-        around-health disk (inr stands) = inr (record { beats = kept ∷ holds.beats; are = health-follows; stands = stands })
+    health-climbs new moments = climbs (health text) kept health-follows.0 new moments
 
     pub holds-health : (new : List Event) (store' : StoreState) → IsStoreOf new store' set (kept ∷ holds.beats) → Holds new store' registry lasts latest set (health text ∷ h)
     holds-health new store' store_of = record {

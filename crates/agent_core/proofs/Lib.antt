@@ -7,9 +7,11 @@ pub mod ClosedLemmas
 pub mod CopyCalls
 pub mod CopyLemmas
 pub mod DefinedLemmas
+pub mod EntryLemmas
 pub mod FedLemmas
 pub mod FollowLemmas
 pub mod FormLemmas
+pub mod FrontLemmas
 pub mod GoingOnLemmas
 pub mod HealthLemmas
 pub mod HistoryLemmas
@@ -33,6 +35,8 @@ pub mod SentBeats
 pub mod SentNames
 pub mod Sound
 pub mod StepLemmas
+pub mod StoringLemmas
 pub mod TakenLemmas
 pub mod UnseenLemmas
 pub mod Within
+pub mod WordLemmas

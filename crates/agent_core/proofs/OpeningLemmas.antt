@@ -71,11 +71,11 @@ replaying-begins past store left lasts latest held set h opened is_empty none un
 
 -- ---- what a history answers
 
-record Answers (h : List Beat) (beats : List StoreBeat) : Type 0 where
-  last_is : last_moment beats ≡ last h
-  count : length beats ≡ length h
+pub record Answers (h : List Beat) (beats : List StoreBeat) : Type 0 where
+  pub last_is : last_moment beats ≡ last h
+  pub count : length beats ≡ length h
 
-answers : (h : List Beat) (beats : List StoreBeat) → AreBeatsOf h beats → Answers h beats
+pub answers : (h : List Beat) (beats : List StoreBeat) → AreBeatsOf h beats → Answers h beats
 answers [] [] are = record { last_is = refl; count = refl }
 answers [] (kept ∷ beats) are = absurd are
 answers (beat ∷ h) [] are = absurd are

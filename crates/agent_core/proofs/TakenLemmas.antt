@@ -5,17 +5,19 @@ use Rattle.std.specs.Option.{option_map}
 use Rattle.std.specs.Str.{bytes_eq}
 use Rattle.std.proofs.lemmas.Bool.{cases_Bool, cases_lt, and_left, and_right, and_parts, or_left, or_right, cond-true, cond-false, eq-eqb, le-leb, leb-true, lt-ltb, le-ltb, not-false, true≢false}
 use Rattle.std.proofs.lemmas.List.{length-drop}
-use Rattle.std.proofs.lemmas.List.Elements.{All-from_recursion, All-map, All-nil}
+use Rattle.std.proofs.lemmas.List.Elements.{All-from_recursion, All-map, All-nil, All-weaker}
 use Rattle.std.proofs.lemmas.List.Folds.{list_any_none}
 use Rattle.std.proofs.lemmas.Option.{none-some, same_Some, slice_get_within}
 use Rattle.history.specs.declared.beat.OpenBeat.{OpenBeat}
 use Rattle.history.specs.declared.beat.OpenDim.{OpenDim}
+use Rattle.history.specs.declared.beat.OpenRow.{OpenRow}
 use Rattle.history.specs.declared.chart.ChartDef.{ChartDef}
 use Rattle.history.specs.declared.fault.BlockFault.TheVariants as fault
 use Rattle.history.specs.History.{Beat, collected, copied, health, missing, last, registry_of, Word}
 use Rattle.history.specs.Limits.{chart_keeps_limits, dimension_keeps_limits, has_two_parts, is_chart_id, is_dot, is_id, is_one_line, is_short}
 use Rattle.history.specs.Refusal.{has_chart}
-use Rattle.history.specs.Registry.{Registry, is_chart, same_chart, same_dimension, with_definitions}
+use Rattle.history.specs.Looking.{same_value}
+use Rattle.history.specs.Registry.{Registry, empty, is_chart, same_chart, same_dimension, with_definitions}
 use Rattle.history.specs.Regular.{AreApart}
 use Rattle.chart_registry.specs.Accepted.{IsWithin}
 use Rattle.chart_registry.proofs.AcceptedLemmas.{passed}
@@ -44,9 +46,10 @@ use Rattle.link_frames.specs.DataForm.{is_chart as names_chart, same_chart as sa
 use Rattle.agent_core.specs.Copying.{beats_of, copied_beats, copied_of, copy_refusal, defined_chart, defined_dimension, definitions_in, gap_beat, is_point_of, names_refusal, nothing_defined, numbered_word, numbered_words}
 use Rattle.agent_core.specs.Kept.{onto, CopyFollows}
 use Rattle.agent_core.specs.Roles.{may_copy, role_of}
-use Rattle.agent_core.specs.Rules.{changes_grid, changes_grid_of, too_many_charts, too_many_dimensions}
+use Rattle.agent_core.specs.Storing.{MayTake, MayTakeAll}
+use Rattle.agent_core.specs.Rules.{changes_grid, changes_grid_of, lacks_chart, too_many_charts, too_many_dimensions, IsOpenBeat}
 use Rattle.agent_core.proofs.FollowLemmas.{keeps, KeepsGrid}
-use Rattle.agent_core.proofs.Within.{within-after}
+use Rattle.agent_core.proofs.Within.{names-tests, within-after}
 
 -- ---- lists
 any-at : {X : Type 0} (p : X → Bool) (xs : List X) (i : ℕ) (x : X) → slice_get xs i ≡ Some x → p x ≡ true → list_any p xs ≡ true
@@ -67,7 +70,7 @@ apart-map {X} {Y} same f (x ∷ xs) apart = (
 )
 
 module _ {X Y : Type 0} (f : X → Option Y) where
-  all-made : (Q : X → Type 0) (P : Y → Type 0) → ((x : X) (y : Y) → Q x → f x ≡ Some y → P y) → (xs : List X) → AllByRecursion Q xs → AllByRecursion P (filter_map f xs)
+  pub all-made : (Q : X → Type 0) (P : Y → Type 0) → ((x : X) (y : Y) → Q x → f x ≡ Some y → P y) → (xs : List X) → AllByRecursion Q xs → AllByRecursion P (filter_map f xs)
   all-made Q P each [] all = tt
   all-made Q P each (x ∷ xs) all = by (f x) refl (all-made Q P each xs all.1)
     where
@@ -75,7 +78,7 @@ module _ {X Y : Type 0} (f : X → Option Y) where
       by None is rest = rest
       by (Some y) is rest = (each x y all.0 is, rest)
 
-  apart-made : (same : X → X → Bool) (alike : Y → Y → Bool) → ((a b : X) (c d : Y) → f a ≡ Some c → f b ≡ Some d → same a b ≡ false → alike c d ≡ false)
+  pub apart-made : (same : X → X → Bool) (alike : Y → Y → Bool) → ((a b : X) (c d : Y) → f a ≡ Some c → f b ≡ Some d → same a b ≡ false → alike c d ≡ false)
       → (xs : List X) → IsDistinct same xs → AreApart alike (filter_map f xs)
   unfolding IsDistinct
   apart-made same alike each [] apart = tt
@@ -98,7 +101,7 @@ module _ {X : Type 0} (same : X → X → Bool) (turned : (a b : X) → same a b
   differs x (y ∷ ys) zero b all is alike = true≢false (sym alike ∙ ap (same x) (sym (same_Some y b is)) ∙ all.0)
   differs x (y ∷ ys) (suc j) b all is alike = differs x ys j b all.1 is alike
 
-  one-place : (xs : List X) (i j : ℕ) (a b : X) → IsDistinct same xs → slice_get xs i ≡ Some a → slice_get xs j ≡ Some b → same a b ≡ true → i ≡ j
+  pub one-place : (xs : List X) (i j : ℕ) (a b : X) → IsDistinct same xs → slice_get xs i ≡ Some a → slice_get xs j ≡ Some b → same a b ≡ true → i ≡ j
   unfolding IsDistinct
   one-place [] i j a b apart at_i at_j alike = absurd (none-some a at_i)
   one-place (x ∷ xs) zero zero a b apart at_i at_j alike = refl
@@ -198,32 +201,47 @@ module _ (names : Names) (charts : list_all names_chart names.charts ≡ true) (
   limited : AllByRecursion (λ (chart : ChartName). IsLimited (defined_chart chart)) names.charts
   limited = all-weaker (λ (chart : ChartName). names_chart chart ≡ true) (λ (chart : ChartName). IsLimited (defined_chart chart)) chart-limited names.charts (all-of names_chart names.charts charts)
 
+  -- they may be handed in as the definitions of a beat are
+  pub defined-open : IsOpenBeat defines
+  defined-open = record {
+    apart_charts = (defined-owned empty).charts;
+    apart_dimensions = (defined-owned empty).dimensions;
+    apart_rows = tt;
+    apart_values = All-nil (λ (row : OpenRow). AreApart same_value row.values);
+    grids = All-map (λ (def : ChartDef). 0 < def.update_every) defined_chart names.charts (All-from_recursion (λ (chart : ChartName). 0 < chart.update_every) names.charts
+        (all-weaker (λ (chart : ChartName). IsLimited (defined_chart chart)) (λ (chart : ChartName). 0 < chart.update_every) (λ chart of. of.some) names.charts limited));
+    chart_limits = All-map (λ (def : ChartDef). chart_keeps_limits def ≡ true) defined_chart names.charts (All-from_recursion (λ (chart : ChartName). chart_keeps_limits (defined_chart chart) ≡ true) names.charts
+        (all-weaker (λ (chart : ChartName). IsLimited (defined_chart chart)) (λ (chart : ChartName). chart_keeps_limits (defined_chart chart) ≡ true) (λ chart of. of.keeps_limits) names.charts limited));
+    dimension_limits = All-from_recursion (λ (dimension : OpenDim). dimension_keeps_limits dimension.def ≡ true) defines.dimensions
+        (all-made (defined_dimension names) (λ (dimension : DimName). has_id dimension ≡ true) (λ (dimension : OpenDim). dimension_keeps_limits dimension.def ≡ true)
+        (λ dimension made is at. subst (λ (made : OpenDim). dimension_keeps_limits made.def ≡ true) (made-of dimension made at).is (dimension-limited dimension.id dimension.hidden is))
+        names.dimensions (all-of has_id names.dimensions ids));
+  }
+
+  -- each dimension is of a chart that they define
+  pub defined-has : (registry : Registry) → lacks_chart registry defines ≡ false
+  defined-has registry =
+      list_any_none (λ (dimension : OpenDim). not (has_chart registry defines dimension.chart)) defines.dimensions
+      (All-weaker (λ (dimension : OpenDim). has_chart registry defines dimension.chart ≡ true) (λ (dimension : OpenDim). not (has_chart registry defines dimension.chart) ≡ false) (λ dimension has. ap not has) defines.dimensions
+      (defined-owned registry).owners)
+
   module _ (registry : Registry) (within : IsWithin registry) (free : names_refusal registry defines ≡ None) where
     abbrev after : Registry
     after = with_definitions registry defines.charts defines.dimensions
 
     tests : (changes_grid registry defines ≡ false) × (too_many_charts registry defines ≡ false) × (too_many_dimensions registry defines ≡ false)
-    tests =
-        let grids = passed (changes_grid registry defines) fault.GridChanged _ free in
-        let room = passed (too_many_charts registry defines) fault.TooManyCharts _ grids.1 in
-        let few = passed (too_many_dimensions registry defines) fault.TooManyDimensions _ room.1 in
-        (grids.0, room.0, few.0)
+    tests = names-tests registry defines free
 
     defined-within : IsWithin after
     defined-within = within-after registry defines within tests.1 tests.2
 
     defined-may : MayFollow registry defines
     defined-may = record {
-      grids = All-map (λ (def : ChartDef). 0 < def.update_every) defined_chart names.charts (All-from_recursion (λ (chart : ChartName). 0 < chart.update_every) names.charts
-          (all-weaker (λ (chart : ChartName). IsLimited (defined_chart chart)) (λ (chart : ChartName). 0 < chart.update_every) (λ chart of. of.some) names.charts limited));
+      grids = defined-open.grids;
       kept = All-from_recursion (KeepsGrid registry) defines.charts
           (all-weaker (λ (def : ChartDef). changes_grid_of registry def ≡ false) (KeepsGrid registry) (keeps registry) defines.charts (none-all (changes_grid_of registry) defines.charts tests.0));
-      chart_limits = All-map (λ (def : ChartDef). chart_keeps_limits def ≡ true) defined_chart names.charts (All-from_recursion (λ (chart : ChartName). chart_keeps_limits (defined_chart chart) ≡ true) names.charts
-          (all-weaker (λ (chart : ChartName). IsLimited (defined_chart chart)) (λ (chart : ChartName). chart_keeps_limits (defined_chart chart) ≡ true) (λ chart of. of.keeps_limits) names.charts limited));
-      dimension_limits = All-from_recursion (λ (dimension : OpenDim). dimension_keeps_limits dimension.def ≡ true) defines.dimensions
-          (all-made (defined_dimension names) (λ (dimension : DimName). has_id dimension ≡ true) (λ (dimension : OpenDim). dimension_keeps_limits dimension.def ≡ true)
-          (λ dimension made is at. subst (λ (made : OpenDim). dimension_keeps_limits made.def ≡ true) (made-of dimension made at).is (dimension-limited dimension.id dimension.hidden is))
-          names.dimensions (all-of has_id names.dimensions ids));
+      chart_limits = defined-open.chart_limits;
+      dimension_limits = defined-open.dimension_limits;
       charts = defined-within.charts;
       dimensions = defined-within.dimensions;
       each = defined-within.each;
@@ -241,18 +259,6 @@ words-below registry points =
     below m dimension word at (Some point) is = subst (λ (word : Word). word.series < length registry.dimensions) (same_Some _ word is) (slice_get_within registry.dimensions m dimension at)
 
 -- ---- beats that follow one another
-
--- a copied beat or a gap may follow the history
-abbrev pub MayTake : List Beat → Beat → Type 0
-MayTake g (collected moment beat) = ⊥
-MayTake g (copied copy) = CopyFollows g copy
-MayTake g (health text) = ⊥
-MayTake g (missing gap) = (may_copy (role_of g) ≡ true) × (last g < gap.to)
-
--- each of the beats may follow those before it
-abbrev pub MayTakeAll : List Beat → List Beat → Type 0
-MayTakeAll g [] = Unit {0}
-MayTakeAll g (beat ∷ more) = MayTake g beat × MayTakeAll (beat ∷ g) more
 
 take-at : (g before : List Beat) (beat : Beat) (rest : List Beat) → MayTakeAll g (before ++ beat ∷ rest) → MayTake (onto g before) beat
 take-at g [] beat rest all = all.0
@@ -325,7 +331,7 @@ module _ (h : List Beat) (message : Data) (within : IsWithin (registry_of h)) (d
   rises : RisesFrom named_moment message.from (named_beats message.names message.beats)
   rises = RisesFrom-map beat_moment named_moment (named_beat message.names) (λ beat. refl) message.from message.beats data_is.moments.rises
 
-  all-follow : MayTakeAll h (beats_of registry message)
+  pub all-follow : MayTakeAll h (beats_of registry message)
   unfolding beats_of
   all-follow =
       elim (cases_lt message.prev message.from) [

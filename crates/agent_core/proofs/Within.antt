@@ -23,6 +23,7 @@ use Rattle.chart_registry.specs.Defining.{IsReasonOf}
 use Rattle.history.specs.Regular.{AreApart}
 use Rattle.chart_registry.proofs.AcceptedLemmas.{passed}
 use Rattle.store_core.specs.declared.beat.Beat.{Beat as StoreBeat}
+use Rattle.agent_core.specs.Copying.{names_refusal}
 use Rattle.agent_core.specs.Kept.{AreBeatsOf}
 use Rattle.agent_core.specs.Rules.{beat_refusal, changes_grid, changes_grid_of, dimensions_with, fills_chart, is_too_long, lacks_chart, lacks_dimension, too_many_charts, too_many_dimensions}
 
@@ -110,3 +111,12 @@ within-of (health text ∷ h) [] are = absurd are
 within-of (health text ∷ h) (kept ∷ beats) are = within-of h beats are.1
 within-of (missing gap ∷ h) [] are = absurd are
 within-of (missing gap ∷ h) (kept ∷ beats) are = within-of h beats are.1
+
+-- ---- what the names of a Data define
+
+-- a registry that does not refuse definitions has tested them
+pub names-tests : (registry : Registry) (defines : OpenBeat) → names_refusal registry defines ≡ None → (changes_grid registry defines ≡ false) × (too_many_charts registry defines ≡ false) × (too_many_dimensions registry defines ≡ false)
+names-tests registry defines free =
+    let grids = passed (changes_grid registry defines) fault.GridChanged _ free in
+    let room = passed (too_many_charts registry defines) fault.TooManyCharts _ grids.1 in
+    (grids.0, room.0, (passed (too_many_dimensions registry defines) fault.TooManyDimensions _ room.1).0)

@@ -19,3 +19,4 @@ pub mod Rules
 pub mod Said
 pub mod Sound
 pub mod Steps
+pub mod Storing

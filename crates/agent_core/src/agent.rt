@@ -23,9 +23,9 @@ ghost use Rattle.alarm_core.specs.UpTo.{IsUpTo};
 ghost use Rattle.agent_core.specs.Alarms.{alarms_at, events_at, DefinesNothing, HaveFollowed, IsSteppingOf};
 ghost use Rattle.agent_core.specs.Calls.{agent_adds, agent_verdict, AnswersAsk, Beats, Creates, Keeps, Lines, Logs, Opens, Queries, SetsHealth, TakesData};
 ghost use Rattle.agent_core.specs.Copies.{data_of_history};
-ghost use Rattle.agent_core.specs.Copying.{events_onto, refusal_by};
+ghost use Rattle.agent_core.specs.Copying.{beats_of, copy_refusal, events_onto, refusal_by};
 ghost use Rattle.agent_core.specs.Fed.{IsFed};
-ghost use Rattle.agent_core.specs.Faults.{fault_after, HealthRefusedBy, IsCreating, IsOpening, IsReading, LeavesAll, RefusedBy, Reopens};
+ghost use Rattle.agent_core.specs.Faults.{fault_after, HealthRefusedBy, IsCreating, IsOpening, IsReading, IsSpending, LeavesAll, RefusedBy, Reopens};
 ghost use Rattle.agent_core.specs.Health.{health_refusal};
 ghost use Rattle.agent_core.specs.Kept.{onto, StandsForFront, StandsForHealth, StandsForHistory, StandsForNew, StandsForOneOf};
 ghost use Rattle.agent_core.specs.Notes.{beats_go_on, HasNotes};
@@ -35,7 +35,7 @@ ghost use Rattle.agent_core.specs.Rules.{beat_refusal, IsOpenBeat};
 ghost use Rattle.agent_core.specs.Steps.{IsOpenStep, Takes};
 
 use crate::alarming::{Stepping, follow};
-use crate::copying::is_stored;
+use crate::copying::{beats_in, is_stored};
 use crate::fault::{AgentFault, store_fault};
 use crate::keeping::{add, add_health, defines_some};
 use crate::last_seen::nothing_seen;
@@ -45,6 +45,7 @@ use crate::refusal::refusal;
 use crate::replaying::{open_store, replay_all};
 use crate::reply::{Reply, Said};
 use crate::{answering, asking};
+use crate::storing::add_message;
 use alarm_core::{Alarms, EventList, Latest, Log};
 use beat_points::LastRows;
 use chart_registry::Registry;
@@ -106,6 +107,13 @@ fn raised(count: u64) -> u64
     ensures { result ≡ raised count }
 {
     count.saturating_add(1)
+}
+
+/// The count after so many beats more.
+fn raised_by(count: u64, more: u64) -> u64
+    ensures { result ≡ counted (count + more) }
+{
+    count.saturating_add(more)
 }
 
 /// The reply where nothing is stored, after so many beats.
@@ -794,8 +802,75 @@ impl Agent {
         if let Some(reason) = copy_refusal(&self.registry, self.role, message) {
             return Err(AgentFault::Refused(reason));
         }
-        self.fault = Some(Why::Memory);
-        Err(AgentFault::Memory)
+        match self.add_copies(host, message) {
+            Ok(reply) => Ok((verdict, reply)),
+            Err(fault) => Err(fault),
+        }
+    }
+
+    /// Stores a message that begins at the last moment, against which nothing stands.
+    fn add_copies<H: Host>(&mut self, host: &mut H, message: &Data) -> Result<Reply, AgentFault>
+        requires ready { AgentIsReady H.honest (H.seen host.old).past self.old }
+        requires going { self.old.fault ≡ None }
+        requires form { IsData message.now }
+        requires at { message.now.prev ≡ self.old.last }
+        requires free { copy_refusal self.old.registry self.old.role message.now ≡ None }
+        ensures any_moment { H.honest → (set : ASettings) (h : List HistoryBeat)
+            → IsAgentOf (H.seen host.old).past self.old set h
+            → Throughout (EveryDisk (StandsForFront set h
+            (beats_of self.old.registry message.now))) (H.seen host.old).past
+            (H.seen host.new).past }
+        ensures done { OnOk result
+            (H.honest → (set : ASettings) (h : List HistoryBeat)
+            → IsAgentOf (H.seen host.old).past self.old set h
+            → IsAgentOf (H.seen host.new).past self.new set
+            (onto h (beats_of self.old.registry message.now))) }
+        ensures number { IfOk result (λ reply. reply.count ≡ self.new.count) }
+        ensures events { IfOk result
+            (λ reply. H.honest → (set : ASettings) (h : List HistoryBeat)
+            → IsAgentOf (H.seen host.old).past self.old set h
+            → reply.events ≡ events_onto set h (beats_of self.old.registry message.now)) }
+        ensures counts { OnOk result (self.new.count
+            ≡ counted (self.old.count + length (beats_of self.old.registry message.now))) }
+        ensures last { OnOk result (self.new.last ≡ message.now.upto) }
+        ensures role { OnOk result (self.new.role ≡ Role.Copies message.now.child) }
+        ensures faults { IfErr result IsSpending }
+        ensures fault { self.new.fault ≡ fault_after self.old.fault result }
+        ensures stays { OnErr result
+            ((self.new.count ≡ self.old.count) × (self.new.last ≡ self.old.last)) }
+        ensures id { id_of self.new ≡ id_of self.old }
+        ensures ready { AgentIsReady H.honest (H.seen host.new).past self.new }
+        ensures cause { HasCause (H.seen host.old).disk_faults (H.seen host.new).disk_faults
+            (IsErrOf result AgentFault.DiskFault) }
+        ensures only_here { H.honest
+            → OnlyOn JournalA (H.seen host.old).past (H.seen host.new).past }
+        ensures tells { (H.seen host.new).tell_faults ≡ (H.seen host.old).tell_faults }
+    {
+        let added = add_message(
+            self.alloc,
+            &mut self.store,
+            &mut self.registry,
+            &mut self.last_rows,
+            &mut self.latest,
+            &mut self.alarms,
+            host,
+            message,
+        );
+        match added {
+            Ok(told) => {
+                self.last = message.upto;
+                self.role = Role::Copies(message.child);
+                self.count = raised_by(self.count, beats_in(message));
+                Ok(Reply {
+                    count: self.count,
+                    events: told,
+                })
+            }
+            Err(fault) => {
+                self.fault = fault.cause();
+                Err(fault)
+            }
+        }
     }
 
     /// What this history answers to a parent that asks for the beats above a moment: of those with points that

@@ -121,7 +121,7 @@ fn kept_of(
 }
 
 /// Why a registry did not take a beat that was tested before: there was no memory.
-fn untaken(fault: RegistryFault) -> AllocError
+pub(crate) fn untaken(fault: RegistryFault) -> AllocError
     requires { fault ≡ registry_fault.Memory }
 {
     match fault {
@@ -175,7 +175,7 @@ fn keep(
 }
 
 /// Adds a beat to a store that is still of use.
-fn commit<H: Host>(store: &mut Store, host: &mut H, kept: &Beat) -> Result<(), AgentFault>
+pub(crate) fn commit<H: Host>(store: &mut Store, host: &mut H, kept: &Beat) -> Result<(), AgentFault>
     requires ready { IsReady H.honest (H.seen host.old).past store.old }
     requires replayed { IsReplayed store.old }
     requires going { store.old.fault ≡ None }
@@ -208,7 +208,7 @@ fn commit<H: Host>(store: &mut Store, host: &mut H, kept: &Beat) -> Result<(), A
 }
 
 /// Why an entry that has a spelling was not written: there was no memory.
-fn unwritten(fault: EntryFault) -> AllocError
+pub(crate) fn unwritten(fault: EntryFault) -> AllocError
     requires { fault ≡ EntryFault.Memory }
 {
     match fault {

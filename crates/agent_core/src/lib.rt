@@ -45,6 +45,7 @@ mod points;
 mod refusal;
 mod replaying;
 mod reply;
+mod storing;
 
 pub use agent::Agent;
 pub use alarm_core::{Event, EventList, Latest, Log, Status, write_event};

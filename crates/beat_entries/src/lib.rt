@@ -26,6 +26,7 @@ pub use copied::{any_copied, define_copied};
 pub use entry::{define, number_beat};
 pub use law::{any_defined, any_limits, any_next, any_numbered};
 pub use refusal::EntryRefusal;
+pub use usual::{usual_chart, usual_dimension};
 
 #[cfg(test)]
 mod tests;

@@ -2,7 +2,7 @@
 ghost use Rattle.std.specs.Prelude.{◌≡◌, map, IfOk};
 ghost use Rattle.std.specs.List.{after_first};
 ghost use Rattle.history.specs.Limits.{is_dot};
-ghost use Rattle.beat_entries.specs.Copied.{full_chart, full_dimension};
+ghost use Rattle.beat_entries.specs.Copied.{full_chart, full_dimension, usual_chart, usual_dimension};
 
 use entry_codec::{CopiedChart, CopiedDimension};
 use fixed_num::{ListOf, Text};
@@ -22,26 +22,38 @@ fn chart_part(id: &str) -> &str
     }
 }
 
-/// The whole definition of a chart.
-fn full_chart(alloc: Global, chart: &CopiedChart) -> Result<NumberedChart, AllocError>
-    ensures { IfOk result (λ made. made ≡ full_chart chart.now) }
+/// The definition of a chart of which a copy tells this: its name and its family are the part of its id behind
+/// the first dot, and what else there is is as usual.
+pub fn usual_chart(
+    alloc: Global,
+    id: &Text,
+    context: &Text,
+    update_every: u32,
+) -> Result<ChartDef, AllocError>
+    ensures { IfOk result (λ def. def ≡ usual_chart id.now context.now update_every) }
 {
-    let part = chart_part(chart.id.as_str());
-    let def = ChartDef {
-        id: chart.id.clone()?,
+    let part = chart_part(id.as_str());
+    Ok(ChartDef {
+        id: id.clone()?,
         name: Text::from_str(alloc, part)?,
         title: Text::new(alloc),
         units: Text::new(alloc),
         family: Text::from_str(alloc, part)?,
-        context: chart.context.clone()?,
+        context: context.clone()?,
         kind: ChartKind::Line,
         priority: USUAL_PRIORITY,
-        update_every: chart.update_every,
+        update_every,
         store_first: false,
-    };
+    })
+}
+
+/// The whole definition of a chart.
+fn full_chart(alloc: Global, chart: &CopiedChart) -> Result<NumberedChart, AllocError>
+    ensures { IfOk result (λ made. made ≡ full_chart chart.now) }
+{
     Ok(NumberedChart {
         number: chart.number,
-        def,
+        def: usual_chart(alloc, &chart.id, &chart.context, chart.update_every)?,
     })
 }
 
@@ -56,23 +68,30 @@ pub(crate) fn full_charts(alloc: Global, charts: &[CopiedChart]) -> Result<Chart
     Ok(made)
 }
 
+/// The definition of a dimension of which a copy tells this: its name is its id, and what else there is is as
+/// usual.
+pub fn usual_dimension(id: &Text, hidden: bool) -> Result<DimDef, AllocError>
+    ensures { IfOk result (λ def. def ≡ usual_dimension id.now hidden) }
+{
+    Ok(DimDef {
+        id: id.clone()?,
+        name: id.clone()?,
+        algorithm: Algorithm::Absolute,
+        multiplier: 1,
+        divisor: 1,
+        hidden,
+        noreset: false,
+    })
+}
+
 /// The whole definition of a dimension.
 fn full_dimension(dimension: &CopiedDimension) -> Result<NumberedDimension, AllocError>
     ensures { IfOk result (λ made. made ≡ full_dimension dimension.now) }
 {
-    let def = DimDef {
-        id: dimension.id.clone()?,
-        name: dimension.id.clone()?,
-        algorithm: Algorithm::Absolute,
-        multiplier: 1,
-        divisor: 1,
-        hidden: dimension.hidden,
-        noreset: false,
-    };
     Ok(NumberedDimension {
         series: dimension.series,
         chart: dimension.chart,
-        def,
+        def: usual_dimension(&dimension.id, dimension.hidden)?,
     })
 }
 

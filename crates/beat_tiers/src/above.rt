@@ -23,15 +23,16 @@ fn least_behind(beats: &[KeptBeat], from: u32) -> u64
     }
 }
 
-/// Whether an item at this place begins a beat behind these, where `least` is the first place that it may have.
+/// Whether an item at this place begins a beat behind these, where `least` is the first place that
+/// it may have.
 fn begins(beats: &[KeptBeat], least: u64, place: u64) -> bool
     ensures { result ≡ nat_lt least place || (length beats.now == 0) }
 {
     least < place || beats.is_empty()
 }
 
-/// Puts an item behind beats above a moment, and passes over one that lies before them. `false` where it is of a beat
-/// more than are asked for.
+/// Puts an item behind beats above a moment, and passes over one that lies before them. `false`
+/// where it is of a beat more than are asked for.
 fn add_above(
     alloc: Global,
     beats: &mut Vec<KeptBeat>,
@@ -58,7 +59,8 @@ fn add_above(
     Ok(true)
 }
 
-/// Puts items behind beats above a moment, up to the end of the last beat that is asked for. Whether more are wanted.
+/// Puts items behind beats above a moment, up to the end of the last beat that is asked for.
+/// Whether more are wanted.
 fn add_items(
     alloc: Global,
     beats: &mut Vec<KeptBeat>,
@@ -82,7 +84,8 @@ fn add_items(
     Ok(true)
 }
 
-/// Puts those of some items behind beats that lie above a moment. The first of them is found by halves.
+/// Puts those of some items behind beats that lie above a moment. The first of them is found by
+/// halves.
 fn add_ordered(
     alloc: Global,
     beats: &mut Vec<KeptBeat>,
@@ -124,8 +127,8 @@ fn add_segments(
     Ok(true)
 }
 
-/// Puts those items of segments behind beats that lie above a moment. The first segment that has some is found by
-/// halves.
+/// Puts those items of segments behind beats that lie above a moment. The first segment that has
+/// some is found by halves.
 fn add_sealed(
     alloc: Global,
     beats: &mut Vec<KeptBeat>,
@@ -170,7 +173,8 @@ fn add_all(
     add_ordered(alloc, beats, segments.unsealed(), from, most)
 }
 
-/// The beats above a moment that gave the items of segments, the earliest first, and at most so many of them.
+/// The beats above a moment that gave the items of segments, the earliest first, and at most so
+/// many of them.
 pub(crate) fn kept_above(
     alloc: Global,
     segments: &Segments<Stepped>,

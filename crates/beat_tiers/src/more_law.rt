@@ -5,9 +5,9 @@ ghost use Rattle.beat_tiers.specs.Beats.{TierBeat, is_closed, last, records_in};
 ghost use Rattle.beat_tiers.specs.Floors.{floor_of, items_added};
 ghost use Rattle.beat_tiers.specs.Tiers.{AreBeats};
 
-/// The laws of one more beat: no floor falls. To a tier of records it adds as many items as the bucket of the last
-/// moment has records, where that bucket is over with the beat, and else none. No other bucket that was open has
-/// records. It does nothing.
+/// The laws of one more beat: no floor falls. To a tier of records it adds as many items as the
+/// bucket of the last moment has records, where that bucket is over with the beat, and else none.
+/// No other bucket that was open has records. It does nothing.
 pub fn any_more_beat()
     ensures floors { (number : ℕ) (tier : ATier) (beat : TierBeat) (beats : List TierBeat)
         → 1 ≤ tier.width → AreBeats (beat ∷ beats)

@@ -276,8 +276,8 @@ impl Tiers {
         kept::kept_of(self.alloc, &self.points)
     }
 
-    /// The kept beats above a moment, the earliest first, and at most so many of them. It costs by what it gives and by a
-    /// search for the first of them, and not by what is kept.
+    /// The kept beats above a moment, the earliest first, and at most so many of them. It costs by
+    /// what it gives and by a search for the first of them, and not by what is kept.
     pub fn kept_above(&self, from: u32, most: usize) -> Result<KeptBeatList, AllocError>
         ensures kept { AreOrdered (items_of self.now.points.kept) → IfOk result (λ beats.
             beats ≡ take most (filter (is_above from) (kept_in self.now.points.kept).beats)) }

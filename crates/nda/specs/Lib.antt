@@ -1,3 +1,4 @@
 pub mod Lock
 pub mod Notice
+pub mod Peer
 pub mod TextKind

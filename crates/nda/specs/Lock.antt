@@ -9,5 +9,6 @@ lock_of (command ∷ more) =
     if bytes_eq command (codes "convert") then None
     else if bytes_eq command (codes "log") then Shared
     else if bytes_eq command (codes "query") then Shared
+    else if bytes_eq command (codes "send") then Shared
     else Alone
 lock_of _ = Alone

@@ -2,6 +2,7 @@
 ghost use Rattle.std.specs.Prelude.{◌≡◌};
 ghost use Rattle.nda.specs.Lock.{lock_of};
 ghost use Rattle.nda.specs.Notice.{notice_of};
+ghost use Rattle.nda.specs.Peer.{address_of, peer_of};
 ghost use Rattle.nda.specs.TextKind.{text_kind_of};
 
 use fixed_num::{Text, WordsList};
@@ -17,7 +18,17 @@ pub enum Notice {
     Version,
 }
 
-/// What text a command reads.
+/// With whom a command speaks.
+#[derive(Clone, Copy, Debug, PartialEq, Eq)]
+pub enum Peer {
+    Nobody,
+    /// The child that connects to its address.
+    Child,
+    /// The parent that is at its address.
+    Parent,
+}
+
+/// What a command reads.
 #[derive(Clone, Copy, Debug, PartialEq, Eq)]
 pub enum TextKind {
     /// Alarms, on standard input.
@@ -26,6 +37,8 @@ pub enum TextKind {
     Beats,
     /// Beats, as a program writes them that is run as a collector.
     Collected,
+    /// What another agent sends.
+    Frames,
 }
 
 /// What the words ask the program to say of itself, where they do: a sole `--help` or `--version`.
@@ -48,17 +61,41 @@ pub fn lock_of(words: &WordsList) -> LockKind
         [command, ..] if command.as_str() == "convert" => LockKind::None,
         [command, ..] if command.as_str() == "log" => LockKind::Shared,
         [command, ..] if command.as_str() == "query" => LockKind::Shared,
+        [command, ..] if command.as_str() == "send" => LockKind::Shared,
         _ => LockKind::Alone,
     }
 }
 
-/// What text the command of these words reads, where it reads one.
+/// With whom the command of these words speaks.
+pub fn peer_of(words: &WordsList) -> Peer
+    ensures { result ≡ peer_of words.now }
+{
+    match words.as_slice() {
+        [command, _] if command.as_str() == "receive" => Peer::Child,
+        [command, _] if command.as_str() == "send" => Peer::Parent,
+        _ => Peer::Nobody,
+    }
+}
+
+/// The word behind the command, where it is the only one.
+pub fn address_of(words: &WordsList) -> &str
+    ensures { result.now ≡ address_of words.now }
+{
+    match words.as_slice() {
+        [_, address] => address.as_str(),
+        _ => "",
+    }
+}
+
+/// What the command of these words reads, where it reads something.
 pub fn text_kind_of(words: &WordsList) -> TextKind
     ensures { result ≡ text_kind_of words.now }
 {
     match words.as_slice() {
         [command, ..] if command.as_str() == "collect" => TextKind::Collected,
         [command, ..] if command.as_str() == "health" => TextKind::Alarms,
+        [command, ..] if command.as_str() == "receive" => TextKind::Frames,
+        [command, ..] if command.as_str() == "send" => TextKind::Frames,
         _ => TextKind::Beats,
     }
 }

@@ -1,6 +1,6 @@
 //! What the program says on standard error where it ends with another status than 0.
 use crate::arguments::TextKind;
-use crate::refusals::reason_of;
+use crate::refusals::{copy_reason_of, peer_reason_of, reason_of};
 use host_files::DiskError;
 use host_model::Status;
 use std::{fmt, io};
@@ -17,6 +17,8 @@ pub struct Ending {
     /// Of standard output.
     pub output: Option<io::Error>,
     pub disk: Option<DiskError>,
+    /// Of the link to another agent.
+    pub link: Option<io::Error>,
     /// Of the program that is run as a collector.
     pub program: Option<io::Error>,
 }
@@ -31,6 +33,7 @@ impl Ending {
             input: None,
             output: None,
             disk: None,
+            link: None,
             program: None,
         }
     }
@@ -38,8 +41,7 @@ impl Ending {
     fn write_event<W: fmt::Write>(&self, f: &mut fmt::Formatter<W>) -> fmt::Result {
         match self.status {
             Status::Refused(line, number) | Status::Limit(line, number) => {
-                let reason = reason_of(number);
-                write!(f, "line {line} is refused with {number}, {reason}")
+                write_refusal(f, self.text, line, number)
             }
             Status::ReadFault => write_failure(f, "standard input cannot be read", &self.input),
             Status::TellFault => write_failure(
@@ -48,6 +50,7 @@ impl Ending {
                 &self.output,
             ),
             Status::DiskFault => write_disk(f, &self.disk),
+            Status::LinkFault => write_failure(f, "the link to the other agent failed", &self.link),
             Status::SpawnFault => write_failure(
                 f,
                 "the collector could not be started, read or waited for",
@@ -60,7 +63,8 @@ impl Ending {
                 )
             }
             Status::PeerRefused(kind) => {
-                write!(f, "the other agent sent what cannot be taken: kind {kind}")
+                let reason = peer_reason_of(kind);
+                write!(f, "the exchange is refused with kind {kind}, {reason}")
             }
             status => f.write_str(event_of(status)),
         }
@@ -77,11 +81,18 @@ impl Ending {
             Status::ReadFault => advice_on_input(self.text),
             Status::TellFault => "more may be stored than was told; mend it, and run again",
             Status::DiskFault => advice_on(&self.disk),
-            Status::LinkFault => "see that the other agent can be reached, and run again",
+            Status::LinkFault => {
+                "what came before is stored; see that the other agent can be reached, and run again"
+            }
             Status::NotADatabase => "make one by nda new, or go to its folder",
             Status::Exists => "nothing was changed; nda run and nda collect store beats in it",
             Status::Damaged(_) => "nothing was changed; go on from a copy, or in another folder",
-            Status::PeerRefused(_) => "nothing of that was taken; see which agent it is",
+            Status::PeerRefused(1) => {
+                "what came before is stored; a parent has a database of its own for each child"
+            }
+            Status::PeerRefused(_) => {
+                "what came before is stored; see that nda of this version is at ADDRESS"
+            }
             Status::LinkEnded => "what came before is stored; run again to go on from there",
             Status::SpawnFault => {
                 "the beats before stand; see that its program is there and may be run"
@@ -99,7 +110,6 @@ impl Ending {
 fn event_of(status: Status) -> &'static str {
     match status {
         Status::Usage => "the words of the command line are in no form",
-        Status::LinkFault => "the link to the other agent failed",
         Status::NotADatabase => "there is no database in this folder",
         Status::Exists => "there is a database in this folder already",
         Status::LinkEnded => "the link ended before the other agent was done",
@@ -120,6 +130,9 @@ fn advice_on_refusal(text: TextKind) -> &'static str {
         TextKind::Collected => {
             "the beats before it stand; it is counted with the MOMENT and FLUSH lines that were put in; mend the collector"
         }
+        TextKind::Frames => {
+            "what came before is stored; receive in a database of its own for each child"
+        }
     }
 }
 
@@ -130,6 +143,7 @@ fn advice_on_limit(text: TextKind) -> &'static str {
         TextKind::Beats | TextKind::Collected => {
             "the beats before it stand; leave out what is too much"
         }
+        TextKind::Frames => "what came before is stored; the child has more than a database keeps",
     }
 }
 
@@ -137,7 +151,7 @@ fn advice_on_limit(text: TextKind) -> &'static str {
 fn advice_on_input(text: TextKind) -> &'static str {
     match text {
         TextKind::Alarms => "nothing of it is stored; mend it, and run again",
-        TextKind::Beats | TextKind::Collected => {
+        TextKind::Beats | TextKind::Collected | TextKind::Frames => {
             "the beats before stand; run takes the text again from behind the last MOMENT that came, convert from its start"
         }
     }
@@ -147,6 +161,7 @@ fn advice_on_input(text: TextKind) -> &'static str {
 fn advice_on_length(text: TextKind) -> &'static str {
     match text {
         TextKind::Collected => "the beats before stand; run it again",
+        TextKind::Frames => "what came before is stored; run again to go on from there",
         TextKind::Alarms | TextKind::Beats => {
             "the beats before stand; another run takes the text from behind the last MOMENT that came"
         }
@@ -163,6 +178,21 @@ fn advice_on(reason: &Option<DiskError>) -> &'static str {
         }
         _ => "what was told as stored is kept; mend it, and run again",
     }
+}
+
+/// Writes what is refused, and why. What a child sends has no lines.
+fn write_refusal<W: fmt::Write>(
+    f: &mut fmt::Formatter<W>,
+    text: TextKind,
+    line: u64,
+    number: u32,
+) -> fmt::Result {
+    if text == TextKind::Frames {
+        let reason = copy_reason_of(number);
+        return write!(f, "what the child sent is refused with {number}, {reason}");
+    }
+    let reason = reason_of(number);
+    write!(f, "line {line} is refused with {number}, {reason}")
 }
 
 /// Writes what failed, and the system's reason where it gave one.

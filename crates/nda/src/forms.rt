@@ -16,6 +16,10 @@ usage: nda COMMAND
       stores standard input as the configuration of alarms, as in: nda health < alarms.conf
   nda log text, nda log json
       prints the log of alarms: how many events are not shown, and the last 1,000
+  nda receive ADDRESS
+      waits at ADDRESS for one child and stores copies of its points: nda receive 0.0.0.0:19999
+  nda send ADDRESS
+      sends copies of the points here to the parent at ADDRESS: nda send parent.example.org:19999
   nda convert
       prints the points of the text on standard input, a line MOMENT CHART DIMENSION VALUE for each
   nda --help, nda --version

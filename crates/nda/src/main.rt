@@ -1,7 +1,7 @@
 //! The program `nda`: the commands of the agent over the process's own words, input and output.
 //!
 //! It makes the list of words, and hands it with standard input, standard output, the files of the
-//! current folder, what starts programs and the clock to `agent_main`, whose contract says the rest. The
+//! current folder, a link to another agent, what starts programs and the clock to `agent_main`, whose contract says the rest. The
 //! status that comes back is the exit status; where it is not 0, a line on standard error says what
 //! happened and what is to be done.
 #![tactic(auto)]
@@ -12,25 +12,35 @@ mod forms;
 mod refusals;
 
 use agent_app::agent_main;
-use arguments::{Notice, lock_of, notice_of, read_words, text_kind_of};
+use arguments::{Notice, Peer, address_of, lock_of, notice_of, peer_of, read_words, text_kind_of};
 use ending::Ending;
 use fixed_num::WordsList;
 use forms::{FORMS, VERSION};
 use host_files::{ChildSpawner, FileHost, StandIns, StdinSource, SystemClock, TcpLink};
 use host_model::Status;
+use std::alloc::AllocError;
 use std::io;
 use std::process::ExitCode;
 
-/// Runs the command over standard input and output, the files of the current folder, and the programs
-/// that it starts. One that still runs at its end is killed and waited for.
+/// The link to the other agent with whom the command speaks. That of `receive` listens from now on, and that
+/// of another command connects to nobody before its first call.
+fn link_of(rt: &HostRuntime, words: &WordsList) -> Result<TcpLink<HostRuntime>, AllocError> {
+    let address = address_of(words);
+    match peer_of(words) {
+        Peer::Child => Ok(TcpLink::listening(*rt, address)),
+        Peer::Nobody | Peer::Parent => TcpLink::connecting(rt.alloc(), *rt, address),
+    }
+}
+
+/// Runs the command over standard input and output, the files of the current folder, the link to another
+/// agent, and the programs that it starts. One that still runs at its end is killed and waited for.
 fn run_command(rt: &HostRuntime, words: &WordsList) -> Ending {
     let alloc = rt.alloc();
     let mut source = StdinSource::new(rt.reader());
     let Ok(mut host) = FileHost::new(alloc, *rt, lock_of(words), io::writer(rt)) else {
         return Ending::of(Status::Memory);
     };
-    // No command has a link to another agent, and this one connects to nobody before its first call.
-    let Ok(mut link) = TcpLink::connecting(alloc, *rt, "") else {
+    let Ok(mut link) = link_of(rt, words) else {
         return Ending::of(Status::Memory);
     };
     let mut spawner = ChildSpawner::new(alloc, *rt);
@@ -50,6 +60,7 @@ fn run_command(rt: &HostRuntime, words: &WordsList) -> Ending {
         input: source.error(),
         output: host.tell_error(),
         disk: host.disk_error(),
+        link: link.error(),
         program: spawner.error(),
     }
 }

@@ -31,3 +31,21 @@ pub fn reason_of(number: u32) -> &'static str {
         _ => "as the table of refusals says",
     }
 }
+
+/// Why what a child sent is refused with this number.
+pub fn copy_reason_of(number: u32) -> &'static str {
+    match number {
+        29 => "the database has beats of its own, and takes no copies",
+        _ => reason_of(number),
+    }
+}
+
+/// Why the exchange with another agent is refused with this kind.
+pub fn peer_reason_of(kind: u32) -> &'static str {
+    match kind {
+        1 => "the parent's database has copies of another child",
+        2 => "a frame was out of place or in no form",
+        3 => "a frame of more than 16,777,216 bytes was announced",
+        _ => "as the table of kinds says",
+    }
+}

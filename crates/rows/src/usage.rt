@@ -195,6 +195,28 @@ static COLLECTORS: [Row; 22] = [
     (&["Collect", "1", "1", "p"], Status::Usage),
 ];
 
+/// Other agents.
+static PEERS: [Row; 18] = [
+    (&["send"], Status::Usage),
+    (&["send", "a:1"], Status::NotADatabase),
+    (&["send", ""], Status::NotADatabase),
+    (&["send", "receive"], Status::NotADatabase),
+    (&["send", "a b"], Status::NotADatabase),
+    (&["send", "a", "b"], Status::Usage),
+    (&["send", "-a"], Status::Usage),
+    (&["send", "--", "a"], Status::Usage),
+    (&["Send", "a"], Status::Usage),
+    (&["receive"], Status::Usage),
+    (&["receive", "a:1"], Status::NotADatabase),
+    (&["receive", ""], Status::NotADatabase),
+    (&["receive", "send"], Status::NotADatabase),
+    (&["receive", "help"], Status::NotADatabase),
+    (&["receive", "a", "b"], Status::Usage),
+    (&["receive", "-"], Status::Usage),
+    (&["receive", "a", "--"], Status::Usage),
+    (&["receives", "a"], Status::Usage),
+];
+
 /// The first of the rows that does not end as it should, or tells something.
 fn first_misread(alloc: Global, rows: &[Row]) -> Result<Option<usize>, Fail> {
     for (index, (words, status)) in rows.iter().enumerate() {
@@ -233,5 +255,11 @@ fn questions_have_five_words_or_more(rt: HostRuntime) -> Result<(), Fail> {
 #[test]
 fn collectors_have_two_numbers_and_a_program(rt: HostRuntime) -> Result<(), Fail> {
     assert_eq!(rt; first_misread(rt.alloc(), &COLLECTORS)?, None);
+    Ok(())
+}
+
+#[test]
+fn other_agents_have_one_address(rt: HostRuntime) -> Result<(), Fail> {
+    assert_eq!(rt; first_misread(rt.alloc(), &PEERS)?, None);
     Ok(())
 }

@@ -259,9 +259,9 @@ impl Store {
         Ok(kept)
     }
 
-    /// The beats with points above a moment that are kept of those that were applied, the earliest first, and at most
-    /// so many of them. It costs by what it gives and by a search for the first of them. Store and host are as
-    /// before, whatever the answer.
+    /// The beats with points above a moment that are kept of those that were applied, the earliest
+    /// first, and at most so many of them. It costs by what it gives and by a search for the first
+    /// of them. Store and host are as before, whatever the answer.
     pub fn kept_above<H: Host>(
         &mut self,
         _host: &mut H,

@@ -78,11 +78,19 @@ fn each_status_of_a_peer_or_a_collector_has_its_line(rt: HostRuntime) -> Result<
     let table = [
         (
             Status::LinkFault,
-            "the link to the other agent failed; see that the other agent can be reached, and run again",
+            "the link to the other agent failed; what came before is stored; see that the other agent can be reached, and run again",
+        ),
+        (
+            Status::PeerRefused(1),
+            "the exchange is refused with kind 1, the parent's database has copies of another child; what came before is stored; a parent has a database of its own for each child",
+        ),
+        (
+            Status::PeerRefused(2),
+            "the exchange is refused with kind 2, a frame was out of place or in no form; what came before is stored; see that nda of this version is at ADDRESS",
         ),
         (
             Status::PeerRefused(3),
-            "the other agent sent what cannot be taken: kind 3; nothing of that was taken; see which agent it is",
+            "the exchange is refused with kind 3, a frame of more than 16,777,216 bytes was announced; what came before is stored; see that nda of this version is at ADDRESS",
         ),
         (
             Status::LinkEnded,
@@ -136,6 +144,26 @@ fn a_text_that_is_refused_leaves_what_its_command_says(rt: HostRuntime) -> Resul
             Status::InputLimit,
             "2^40 bytes of input were taken, and no end had come; the beats before stand; run it again",
         ),
+        (
+            TextKind::Frames,
+            Status::Refused(0, 29),
+            "what the child sent is refused with 29, the database has beats of its own, and takes no copies; what came before is stored; receive in a database of its own for each child",
+        ),
+        (
+            TextKind::Frames,
+            Status::Refused(0, 31),
+            "what the child sent is refused with 31, the chart has another update_every; what came before is stored; receive in a database of its own for each child",
+        ),
+        (
+            TextKind::Frames,
+            Status::Limit(0, 33),
+            "what the child sent is refused with 33, too many dimensions; what came before is stored; the child has more than a database keeps",
+        ),
+        (
+            TextKind::Frames,
+            Status::InputLimit,
+            "2^40 bytes of input were taken, and no end had come; what came before is stored; run again to go on from there",
+        ),
     ];
     for (text, status, line) in table {
         let mut ending = Ending::of(status);
@@ -161,6 +189,13 @@ fn a_failure_has_the_reason_of_the_system(rt: HostRuntime) -> Result<(), Fail> {
         &rt,
         &ending,
         "standard output cannot be written: No space left on device (os error 28); more may be stored than was told; mend it, and run again",
+    )?;
+    ending.status = Status::LinkFault;
+    ending.link = Some(io::Error::from_raw_os_error(111));
+    assert_says(
+        &rt,
+        &ending,
+        "the link to the other agent failed: Connection refused (os error 111); what came before is stored; see that the other agent can be reached, and run again",
     )?;
     ending.status = Status::SpawnFault;
     ending.program = Some(io::Error::from_raw_os_error(13));

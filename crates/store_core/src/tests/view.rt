@@ -1,3 +1,4 @@
+ghost use Rattle.std.specs.Prelude.{◌≡◌};
 ghost use Rattle.store_core.specs.Store.{IsReady, IsReplayed};
 
 use super::*;
@@ -183,14 +184,17 @@ fn what_expired_is_answered_by_its_record(rt: HostRuntime) -> Result<(), Fail> {
     Ok(())
 }
 
-/// Checks the kept beats, which have these values at these moments, and how many came before them.
+/// Checks the kept beats, which have a point at each of these moments, and how many came before.
 fn check_kept(
     rt: &impl Abort,
     store: &mut Store,
     host: &mut MemoryHost,
     before: u64,
     moments: &[u32],
-) -> Result<(), Fail> {
+) -> Result<(), Fail>
+    ensures same { store.new ≡ store.old }
+    ensures same_host { host.new ≡ host.old }
+{
     let kept = store.kept(host)?;
     assert_eq!(rt; kept.before, before);
     assert_eq!(rt; kept.beats.len(), moments.len());

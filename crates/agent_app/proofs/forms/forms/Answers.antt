@@ -11,4 +11,6 @@ returns c =
     let log = c.in_ok-subcommand-4.ensures.shape c.in_ok-with_words-2.ensures.local ∙ ap₂ with_subcommand health (ap (λ (a : App). a.top) c.in_ok-with_words-2.ensures.app) in
     let new = c.in_ok-subcommand-5.ensures.shape c.in_ok-with_words-3.ensures.local ∙ ap₂ with_subcommand log (ap (λ (a : App). a.top) c.in_ok-with_words-3.ensures.app) in
     let query = c.in_ok-subcommand-6.ensures.shape c.in_ok-with_words-4.ensures.local ∙ ap₂ with_subcommand new (ap (λ (a : App). a.top) c.in_ok-with_words-4.ensures.app) in
-    IfOk-weaker c.subcommand-7.result _ _ (λ command h. h.shape c.new-3.ensures.local ∙ ap₂ with_subcommand query (ap (λ (a : App). a.top) c.new-3.ensures.app)) c.subcommand-7.ensures
+    let receive = c.in_ok-subcommand-7.ensures.shape c.in_ok-with_words-5.ensures.local ∙ ap₂ with_subcommand query (ap (λ (a : App). a.top) c.in_ok-with_words-5.ensures.app) in
+    let run = c.in_ok-subcommand-8.ensures.shape c.new-3.ensures.local ∙ ap₂ with_subcommand receive (ap (λ (a : App). a.top) c.new-3.ensures.app) in
+    IfOk-weaker c.subcommand-9.result _ _ (λ command h. h.shape c.in_ok-with_words-6.ensures.local ∙ ap₂ with_subcommand run (ap (λ (a : App). a.top) c.in_ok-with_words-6.ensures.app)) c.subcommand-9.ensures

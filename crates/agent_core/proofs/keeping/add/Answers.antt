@@ -5,7 +5,7 @@ use Rattle.history.specs.Regular.{AreApart}
 use Rattle.store_core.specs.Records.{last_after}
 use Rattle.agent_core.specs.Rules.{HasLimits}
 use Rattle.agent_core.proofs.DefinedLemmas.{charts-apart, dimensions-apart}
-use Rattle.agent_core.proofs.KeptLemmas.{climbs, holds-more, kept-after, next-after, rows-taken, seen-taken, spelt-after, stays}
+use Rattle.agent_core.proofs.KeptLemmas.{collected-climbs, holds-more, kept-after, next-after, rows-taken, seen-taken, spelt-after, stays}
 use Rattle.agent_core.proofs.Outcomes.{always, on_ok}
 use Rattle.agent_core.proofs.keeping.add.Goals as goal
 
@@ -24,7 +24,7 @@ returns-in_err-commit-clause-any_moment g c true_host set h holds follows =
     let kept = c.in-Ok.kept.beat in
     let is_kept = kept-after past store registry lasts latest set h holds c.args.moment beat follows kept c.keep.new.registry c.in-Ok.ensures.applied c.in-Ok.ensures.kept in
     let spelt = spelt-after past store registry lasts latest set h holds c.args.moment beat follows c.keep.new.registry c.in-Ok.ensures.applied c.in-Ok.ensures.spelt in
-    climbs past store registry lasts latest set h holds c.args.moment beat follows kept is_kept spelt (g.H.Host.seen c.commit.new.host).past (c.commit.ensures.any_moment true_host set holds.beats holds.store_of)
+    collected-climbs past store registry lasts latest set h holds c.args.moment beat follows kept is_kept spelt (g.H.Host.seen c.commit.new.host).past (c.commit.ensures.any_moment true_host set holds.beats holds.store_of)
 
 pub returns-in_err-take_rows-clause-any_moment : goal.returns-in_err-take_rows-clause-any_moment
 returns-in_err-take_rows-clause-any_moment g c true_host set h holds follows =
@@ -37,7 +37,7 @@ returns-in_err-take_rows-clause-any_moment g c true_host set h holds follows =
     let kept = c.in-Ok.kept.beat in
     let is_kept = kept-after past store registry lasts latest set h holds c.args.moment beat follows kept c.keep.new.registry c.in-Ok.ensures.applied c.in-Ok.ensures.kept in
     let spelt = spelt-after past store registry lasts latest set h holds c.args.moment beat follows c.keep.new.registry c.in-Ok.ensures.applied c.in-Ok.ensures.spelt in
-    climbs past store registry lasts latest set h holds c.args.moment beat follows kept is_kept spelt (g.H.Host.seen c.commit.new.host).past (c.commit.ensures.any_moment true_host set holds.beats holds.store_of)
+    collected-climbs past store registry lasts latest set h holds c.args.moment beat follows kept is_kept spelt (g.H.Host.seen c.commit.new.host).past (c.commit.ensures.any_moment true_host set holds.beats holds.store_of)
 
 pub returns-clause-any_moment : goal.returns-clause-any_moment
 returns-clause-any_moment g c true_host set h holds follows =
@@ -50,7 +50,7 @@ returns-clause-any_moment g c true_host set h holds follows =
     let kept = c.in-Ok.kept.beat in
     let is_kept = kept-after past store registry lasts latest set h holds c.args.moment beat follows kept c.keep.new.registry c.in-Ok.ensures.applied c.in-Ok.ensures.kept in
     let spelt = spelt-after past store registry lasts latest set h holds c.args.moment beat follows c.keep.new.registry c.in-Ok.ensures.applied c.in-Ok.ensures.spelt in
-    climbs past store registry lasts latest set h holds c.args.moment beat follows kept is_kept spelt (g.H.Host.seen c.commit.new.host).past (c.commit.ensures.any_moment true_host set holds.beats holds.store_of)
+    collected-climbs past store registry lasts latest set h holds c.args.moment beat follows kept is_kept spelt (g.H.Host.seen c.commit.new.host).past (c.commit.ensures.any_moment true_host set holds.beats holds.store_of)
 
 pub returns-clause-done : goal.returns-clause-done
 returns-clause-done g c =

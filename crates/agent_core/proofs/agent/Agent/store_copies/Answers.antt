@@ -1,9 +1,17 @@
-use Rattle.std.proofs.Common.{rules, ◌≡◌, Bool, true, false, ◌<◌, ◌^◌, Some, None, sym, ap, subst, ◌∙◌, if◌then◌else◌}
+use Rattle.std.proofs.Common.{rules, ◌≡◌, List, None, Some, true, false, Bool, subst, sym, ap, ◌∙◌, if◌then◌else◌}
+use Rattle.host_model.specs.Past.{Event}
+use Rattle.host_model.specs.Disks.{EveryDisk}
+use Rattle.host_model.specs.Moments.{Throughout}
+use Rattle.history.specs.History.{Beat as HistoryBeat}
+use Rattle.entry_codec.specs.declared.entry.Settings.{Settings as ASettings}
+use Rattle.replication.specs.declared.message.Data.{Data}
+use Rattle.alarm_events.specs.declared.event.Event.{Event as AlarmEvent}
 use Rattle.replication.specs.Verdict.{is_stored}
-use Rattle.agent_core.specs.Agent.{AgentState}
+use Rattle.agent_core.specs.Agent.{AgentState, IsAgentOf}
 use Rattle.agent_core.specs.Calls.{agent_adds, agent_verdict}
-use Rattle.agent_core.specs.Copying.{copy_refusal}
-use Rattle.agent_core.proofs.CopyCalls.{left-counts, left-events, none-added}
+use Rattle.agent_core.specs.Copying.{beats_of, copy_refusal, events_onto}
+use Rattle.agent_core.specs.Kept.{onto, StandsForFront}
+use Rattle.agent_core.proofs.CopyCalls.{left-events, none-added, stored-adds}
 use Rattle.agent_core.proofs.agent.Agent.store_copies.Goals as goal
 
 pub returns-then-not-is_stored-clause-any_moment : goal.returns-then-not-is_stored-clause-any_moment
@@ -14,17 +22,8 @@ returns-then-not-is_stored-clause-events g c true_host set h is_of =
     let left : is_stored (agent_verdict c.args.self.now c.args.message.now) ≡ false = search rules in
     search (rules, left-events c.args.self.now c.args.message.now left set h)
 
-pub returns-then-not-is_stored-clause-counts : goal.returns-then-not-is_stored-clause-counts
-returns-then-not-is_stored-clause-counts g c =
-    let left : is_stored (agent_verdict c.args.self.now c.args.message.now) ≡ false = search rules in
-    let small : c.args.self.now.count < 2 ^ 64 = subst (λ (a : AgentState). a.count < 2 ^ 64) c.self.view_is c.nothing_stored.ensures.within in
-    left-counts c.args.self.now c.args.message.now left small
-
 pub returns-in-Some-copy_refusal-clause-any_moment : goal.returns-in-Some-copy_refusal-clause-any_moment
 returns-in-Some-copy_refusal-clause-any_moment g c true_host set h is_of = none-added (g.H.Host.seen c.args.host.now).past c.args.self.now set h is_of (agent_adds c.args.self.now c.args.message.now)
-
-pub returns-clause-any_moment : goal.returns-clause-any_moment
-returns-clause-any_moment g c true_host set h is_of = none-added (g.H.Host.seen c.args.host.now).past c.args.self.now set h is_of (agent_adds c.args.self.now c.args.message.now)
 
 pub returns-in-Some-copy_refusal-clause-refused : goal.returns-in-Some-copy_refusal-clause-refused
 returns-in-Some-copy_refusal-clause-refused g c going =
@@ -34,3 +33,42 @@ returns-in-Some-copy_refusal-clause-refused g c going =
     let against : copy_refusal agent.registry agent.role message ≡ Some c.in-Some-copy_refusal.reason
     = ap (λ (a : AgentState). copy_refusal a.registry a.role message) (sym c.self.view_is) ∙ sym c.copy_refusal.ensures ∙ c.in-Some-copy_refusal.is in
     ap (λ (b : Bool). if b then copy_refusal agent.registry agent.role message else None) stored ∙ against
+
+pub returns-in-Ok-clause-any_moment : goal.returns-in-Ok-clause-any_moment
+returns-in-Ok-clause-any_moment g c true_host set h is_of =
+    let agent = c.args.self.now in
+    let message = c.args.message.now in
+    let stored : is_stored (agent_verdict agent message) ≡ true = search rules in
+    let free : copy_refusal agent.registry agent.role message ≡ None
+    = ap (λ (a : AgentState). copy_refusal a.registry a.role message) (sym c.self.view_is) ∙ sym c.copy_refusal.ensures ∙ c.in_default-copy_refusal.is in
+    subst (λ (more : List HistoryBeat). Throughout (EveryDisk (StandsForFront set h more)) (g.H.Host.seen c.args.host.now).past (g.H.Host.seen c.add_copies.new.host).past)
+        (stored-adds agent message stored free) (c.in-Ok.ensures.any_moment true_host set h is_of)
+
+pub returns-in-Ok-clause-done : goal.returns-in-Ok-clause-done
+returns-in-Ok-clause-done g c true_host set h is_of =
+    let agent = c.args.self.now in
+    let message = c.args.message.now in
+    let stored : is_stored (agent_verdict agent message) ≡ true = search rules in
+    let free : copy_refusal agent.registry agent.role message ≡ None
+    = ap (λ (a : AgentState). copy_refusal a.registry a.role message) (sym c.self.view_is) ∙ sym c.copy_refusal.ensures ∙ c.in_default-copy_refusal.is in
+    subst (λ (more : List HistoryBeat). IsAgentOf (g.H.Host.seen c.add_copies.new.host).past c.add_copies.new.self set (onto h more))
+        (stored-adds agent message stored free) (c.in-Ok.ensures.done true_host set h is_of)
+
+pub returns-in-Ok-clause-events : goal.returns-in-Ok-clause-events
+returns-in-Ok-clause-events g c true_host set h is_of =
+    let agent = c.args.self.now in
+    let message = c.args.message.now in
+    let stored : is_stored (agent_verdict agent message) ≡ true = search rules in
+    let free : copy_refusal agent.registry agent.role message ≡ None
+    = ap (λ (a : AgentState). copy_refusal a.registry a.role message) (sym c.self.view_is) ∙ sym c.copy_refusal.ensures ∙ c.in_default-copy_refusal.is in
+    c.in-Ok.ensures.events true_host set h is_of ∙ ap (events_onto set h) (stored-adds agent message stored free)
+
+pub returns-in-Err-clause-any_moment : goal.returns-in-Err-clause-any_moment
+returns-in-Err-clause-any_moment g c true_host set h is_of =
+    let agent = c.args.self.now in
+    let message = c.args.message.now in
+    let stored : is_stored (agent_verdict agent message) ≡ true = search rules in
+    let free : copy_refusal agent.registry agent.role message ≡ None
+    = ap (λ (a : AgentState). copy_refusal a.registry a.role message) (sym c.self.view_is) ∙ sym c.copy_refusal.ensures ∙ c.in_default-copy_refusal.is in
+    subst (λ (more : List HistoryBeat). Throughout (EveryDisk (StandsForFront set h more)) (g.H.Host.seen c.args.host.now).past (g.H.Host.seen c.add_copies.new.host).past)
+        (stored-adds agent message stored free) (c.in-Err.ensures.any_moment true_host set h is_of)

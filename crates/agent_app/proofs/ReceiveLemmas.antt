@@ -1,0 +1,548 @@
+-- What `receive` promises: where the database was opened, and where it was not.
+use Rattle.std.proofs.Common.{◌≡◌, ◌⊎◌, inl, inr, ℕ, Bool, true, false, List, [], ◌∷◌, ◌++◌, length, take, drop, None, Ok, Err, IsErrOf, refl, sym, ap, subst, ◌∙◌, append_assoc, append-nil, true≢false, arith, if◌then◌else◌}
+use Rattle.std.specs.List.{AllByRecursion}
+use Rattle.std.proofs.Math.Seq.{drop-append_seam}
+use Rattle.std.proofs.lemmas.List.{take-append-drop}
+use Rattle.host_model.specs.Cause.{HasCause}
+use Rattle.host_model.specs.declared.status.Status.{Status}
+use Rattle.host_model.specs.declared.status.Status.TheVariants as status
+use Rattle.host_model.specs.Disks.{EveryDisk, reads_as}
+use Rattle.host_model.specs.Moments.{EveryStop, Throughout, begins}
+use Rattle.host_model.specs.Past.{of, told, Event, IsDisk, MayAdd, Told}
+use Rattle.host_model.specs.Seen.{Seen}
+use Rattle.host_model.proofs.CallLemmas.{may_have_moved, moved}
+use Rattle.host_model.proofs.MomentLemmas.{at_end, at_start, full_text, joined}
+use Rattle.history.specs.declared.fault.BlockFault.{BlockFault}
+use Rattle.history.specs.History.{Beat}
+use Rattle.plugin_text.specs.Lines.{rest}
+use Rattle.line_stream.proofs.RunLemmas.{Takes-none}
+use Rattle.point_lines.specs.declared.refusal.Refusal.{Refusal}
+use Rattle.point_lines.specs.declared.refusal.Refusal.TheVariants as refusal
+use Rattle.point_lines.specs.Judged.{refusal_number}
+use Rattle.replication.specs.Copies.{RisesFrom}
+use Rattle.link_frames.specs.declared.frame.Frame.{Frame}
+use Rattle.link_frames.specs.Frames.{HasSpelling}
+use Rattle.entry_codec.specs.declared.entry.Settings.{Settings}
+use Rattle.agent_core.specs.declared.fault.AgentFault.{AgentFault}
+use Rattle.agent_core.specs.declared.fault.AgentFault.TheVariants as fault
+use Rattle.agent_core.specs.Agent.{AgentState, IsAgentOf}
+use Rattle.agent_core.specs.Calls.{Opens}
+use Rattle.agent_core.specs.Copies.{seen_moment, IsCopyOfChild, SeenBeat}
+use Rattle.agent_core.specs.Kept.{StandsForHistory}
+use Rattle.link_session.specs.declared.fault.SessionFault.{SessionFault}
+use Rattle.link_session.specs.declared.fault.SessionFault.TheVariants as session
+use Rattle.link_session.specs.Exchange.{SessionResult}
+use Rattle.link_session.specs.Keeps.{Extends, IsAckedUpTo, Keeps, no_more}
+use Rattle.link_session.specs.Receiving.{keeps_all, AreTrueOf, Copies, ReceivesHistory}
+use Rattle.link_session.specs.Session.{says_all, IsEndFor, LinkSeen}
+use Rattle.link_session.proofs.AckLemmas.{acked-more, acked-since, acked-weaker}
+use Rattle.link_session.proofs.LinkLemmas.{sends-nothing}
+use Rattle.link_session.proofs.ExtendsLemmas.{extends-further, extends-length}
+use Rattle.link_session.proofs.CopyLemmas.{stops-copy}
+use Rattle.link_session.proofs.StoreLemmas.{keeps-more, stands-all}
+use Rattle.agent_app.specs.Convert.{is_limit, refusal_line, refusal_status}
+use Rattle.agent_app.specs.Receive.{done_with, ends_a_receive, last_line, Closes, EndsAs, HoldsCopy, Receives, ReceivesAll, TellsWhy}
+use Rattle.agent_app.specs.Run.{finds_none, is_whole, LeavesOthers}
+use Rattle.agent_app.specs.Running.{opening_status, TellRose, TellsRefusal}
+use Rattle.agent_app.specs.Sessions.{session_status}
+use Rattle.agent_app.proofs.AckLemmas.{acked-refusal}
+use Rattle.agent_app.proofs.CauseLemmas.{apart, cause-as, refusal-inside, stayed, stayed-before}
+use Rattle.agent_app.proofs.OpeningLemmas.{by-fault, disk-failed, failed_by, fault-is, found-finds, opened-disk, opening-stops, unopened-finds, unopened-host, untold-yet}
+use Rattle.agent_app.proofs.SendLemmas.{ended_with, unlinked}
+
+-- ---- how a session ends
+-- the database did not take what came
+abbrev is_refused : SessionResult → Bool
+is_refused (Err (session.Agent (fault.Refused why))) = true
+is_refused result = false
+
+ends-so : (r : SessionResult) → (is_refused r ≡ false) ⊎ ((why : BlockFault) × (r ≡ ended_with (session.Agent (fault.Refused why))))
+ends-so (Ok done) = inl refl
+ends-so (Err (session.Agent (fault.Refused why))) = inr (why, refl)
+ends-so (Err (session.Agent other)) = inl refl
+ends-so (Err other) = inl refl
+
+closed-quiet : (honest : Type 0) (r : SessionResult) (s : Status) (late host' : Seen) → is_refused r ≡ false → Closes honest r s late host' → (s ≡ session_status r) × (host' ≡ late)
+closed-quiet honest (Ok done) s late host' other closed = closed
+closed-quiet honest (Err (session.Agent (fault.Refused why))) s late host' other closed = absurd (true≢false other)
+closed-quiet honest (Err (session.Agent why)) s late host' other closed = closed
+closed-quiet honest (Err why) s late host' other closed = closed
+
+quiet-ends : (r : SessionResult) → is_refused r ≡ false → EndsAs r (session_status r)
+quiet-ends (Ok done) other = refl
+quiet-ends (Err (session.Agent (fault.Refused why))) other = absurd (true≢false other)
+quiet-ends (Err (session.Agent why)) other = refl
+quiet-ends (Err why) other = refl
+
+quiet-line : (r : SessionResult) → is_refused r ≡ false → last_line r ≡ []
+quiet-line (Ok done) other = refl
+quiet-line (Err (session.Agent (fault.Refused why))) other = absurd (true≢false other)
+quiet-line (Err (session.Agent why)) other = refl
+quiet-line (Err why) other = refl
+
+-- ---- statuses
+refusal-ends : (line : ℕ) (why : Refusal) → ends_a_receive (refusal_status line why) ≡ true
+refusal-ends line why = by (is_limit why)
+  where
+    by : (limit : Bool) → ends_a_receive (if limit then status.Limit line (refusal_number why) else status.Refused line (refusal_number why)) ≡ true
+    by true = refl
+    by false = refl
+
+abbrev is_link : Status → Bool
+is_link status.LinkFault = true
+is_link s = false
+
+refusal-unlinked : (line : ℕ) (why : Refusal) → refusal_status line why ≡ status.LinkFault → ⊥
+refusal-unlinked line why e = true≢false (sym (ap is_link e) ∙ by (is_limit why))
+  where
+    by : (limit : Bool) → is_link (if limit then status.Limit line (refusal_number why) else status.Refused line (refusal_number why)) ≡ false
+    by true = refl
+    by false = refl
+
+quiet-status : (r : SessionResult) → is_refused r ≡ false → ends_a_receive (session_status r) ≡ true
+quiet-status (Ok done) other = refl
+quiet-status (Err session.LinkFault) other = refl
+quiet-status (Err (session.Agent (fault.Refused why))) other = absurd (true≢false other)
+quiet-status (Err (session.Agent fault.DiskFault)) other = refl
+quiet-status (Err (session.Agent why)) other = refl
+quiet-status (Err (session.PeerRefused why)) other = refl
+quiet-status (Err session.Ended) other = refl
+quiet-status (Err session.InputLimit) other = refl
+quiet-status (Err session.TellFault) other = refl
+quiet-status (Err session.Memory) other = refl
+
+-- at a status that says that all was stored and told, all was that the session had to store and to tell
+whole-keeps : (r : SessionResult) → is_whole (session_status r) ≡ true → keeps_all r ≡ true
+whole-keeps (Ok done) all = refl
+whole-keeps (Err session.LinkFault) all = refl
+whole-keeps (Err (session.Agent (fault.Refused why))) all = refl
+whole-keeps (Err (session.Agent fault.DiskFault)) all = absurd (true≢false (sym all))
+whole-keeps (Err (session.Agent why)) all = absurd (true≢false (sym all))
+whole-keeps (Err (session.PeerRefused why)) all = refl
+whole-keeps (Err session.Ended) all = refl
+whole-keeps (Err session.InputLimit) all = refl
+whole-keeps (Err session.TellFault) all = absurd (true≢false (sym all))
+whole-keeps (Err session.Memory) all = absurd (true≢false (sym all))
+
+no-link : status.Memory ≡ status.LinkFault → ⊥
+no-link e = cc
+
+no-tell : status.Memory ≡ status.TellFault → ⊥
+no-tell e = cc
+
+no-disk : status.Memory ≡ status.DiskFault → ⊥
+no-disk e = cc
+
+-- a part of the outside failed exactly where the status says so
+link-failed : (r : SessionResult) → is_refused r ≡ false → session_status r ≡ status.LinkFault → r ≡ ended_with session.LinkFault
+link-failed (Ok done) other e = cc
+link-failed (Err session.LinkFault) other e = refl
+link-failed (Err (session.Agent (fault.Refused why))) other e = absurd (true≢false other)
+link-failed (Err (session.Agent fault.DiskFault)) other e = cc
+link-failed (Err (session.Agent why)) other e = absurd (no-link e)
+link-failed (Err (session.PeerRefused why)) other e = cc
+link-failed (Err session.Ended) other e = cc
+link-failed (Err session.InputLimit) other e = cc
+link-failed (Err session.TellFault) other e = cc
+link-failed (Err session.Memory) other e = cc
+
+tell-failed : (r : SessionResult) → is_refused r ≡ false → session_status r ≡ status.TellFault → r ≡ ended_with session.TellFault
+tell-failed (Ok done) other e = cc
+tell-failed (Err session.LinkFault) other e = cc
+tell-failed (Err (session.Agent (fault.Refused why))) other e = absurd (true≢false other)
+tell-failed (Err (session.Agent fault.DiskFault)) other e = cc
+tell-failed (Err (session.Agent why)) other e = absurd (no-tell e)
+tell-failed (Err (session.PeerRefused why)) other e = cc
+tell-failed (Err session.Ended) other e = cc
+tell-failed (Err session.InputLimit) other e = cc
+tell-failed (Err session.TellFault) other e = refl
+tell-failed (Err session.Memory) other e = cc
+
+store-failed : (r : SessionResult) → is_refused r ≡ false → session_status r ≡ status.DiskFault → r ≡ ended_with (session.Agent fault.DiskFault)
+store-failed (Ok done) other e = cc
+store-failed (Err session.LinkFault) other e = cc
+store-failed (Err (session.Agent (fault.Refused why))) other e = absurd (true≢false other)
+store-failed (Err (session.Agent fault.DiskFault)) other e = refl
+store-failed (Err (session.Agent why)) other e = absurd (no-disk e)
+store-failed (Err (session.PeerRefused why)) other e = cc
+store-failed (Err session.Ended) other e = cc
+store-failed (Err session.InputLimit) other e = cc
+store-failed (Err session.TellFault) other e = cc
+store-failed (Err session.Memory) other e = cc
+
+found-one : (s : Status) → finds_none s ≡ true → ends_a_receive s ≡ true → ⊥
+found-one status.NotADatabase none ends = true≢false (sym ends)
+found-one (status.Damaged part) none ends = true≢false (sym ends)
+found-one s none ends = true≢false (sym none)
+
+-- of a session that was refused: the line was told, or that was cut short
+module _ (honest : Type 0) (why : BlockFault) (s : Status) (late host' : Seen) (tells : TellsWhy honest why s late host') where
+  abbrev line : List ℕ
+  line = refusal_line 0 (refusal.Block why)
+
+  refused-as : (s ≡ refusal_status 0 (refusal.Block why)) ⊎ (s ≡ status.TellFault) ⊎ (s ≡ status.Memory)
+  refused-as = by tells.tells
+    where
+      by : TellsRefusal s honest 0 (refusal.Block why) late.past host'.past (TellRose late host') → (s ≡ refusal_status 0 (refusal.Block why)) ⊎ (s ≡ status.TellFault) ⊎ (s ≡ status.Memory)
+      by (inl (is, done)) = inl is
+      by (inr (inl (is, rose, torn))) = inr (inl is)
+      by (inr (inr (is, same))) = inr (inr is)
+
+  refused-ends : ends_a_receive s ≡ true
+  refused-ends = by refused-as
+    where
+      by : (s ≡ refusal_status 0 (refusal.Block why)) ⊎ (s ≡ status.TellFault) ⊎ (s ≡ status.Memory) → ends_a_receive s ≡ true
+      by (inl is) = ap ends_a_receive is ∙ refusal-ends 0 (refusal.Block why)
+      by (inr (inl is)) = ap ends_a_receive is
+      by (inr (inr is)) = ap ends_a_receive is
+
+  refused-unlinked : s ≡ status.LinkFault → ⊥
+  refused-unlinked e = by refused-as
+    where
+      by : (s ≡ refusal_status 0 (refusal.Block why)) ⊎ (s ≡ status.TellFault) ⊎ (s ≡ status.Memory) → ⊥
+      by (inl is) = refusal-unlinked 0 (refusal.Block why) (sym is ∙ e)
+      by (inr (inl is)) = true≢false (sym (ap is_link (sym is ∙ e)))
+      by (inr (inr is)) = no-link (sym is ∙ e)
+
+  refused-stored : s ≡ status.DiskFault → ⊥
+  refused-stored e = by refused-as
+    where
+      told-disk : status.TellFault ≡ status.DiskFault → ⊥
+      told-disk e = cc
+
+      by : (s ≡ refusal_status 0 (refusal.Block why)) ⊎ (s ≡ status.TellFault) ⊎ (s ≡ status.Memory) → ⊥
+      by (inl is) = apart (refusal_status 0 (refusal.Block why)) status.DiskFault (refusal-inside 0 (refusal.Block why)) refl (sym is ∙ e)
+      by (inr (inl is)) = told-disk (sym is ∙ e)
+      by (inr (inr is)) = no-disk (sym is ∙ e)
+
+  -- it touches no file
+  refused-others : LeavesOthers honest late host'
+  refused-others h file other = by tells.tells
+    where
+      torn-by : MayAdd (λ (n : ℕ). Told (take n line)) late.past host'.past → of file host'.past ≡ of file late.past
+      torn-by (inl same) = ap (λ (p : List Event). of file p) same
+      torn-by (inr (n, added)) = ap (λ (p : List Event). of file p) added
+
+      by : TellsRefusal s honest 0 (refusal.Block why) late.past host'.past (TellRose late host') → of file host'.past ≡ of file late.past
+      by (inl (is, done)) = ap (λ (p : List Event). of file p) (done h)
+      by (inr (inl (is, rose, torn))) = torn-by (torn h)
+      by (inr (inr (is, same))) = ap (λ (p : List Event). of file p) same
+
+-- ---- the database was opened
+module _ (honest : Type 0) (host : Seen) (agent : AgentState) (middle : Seen) (opens : Opens honest host (Ok agent) middle) (first : honest → IsDisk host.past (reads_as host.past))
+    (link : LinkSeen) (result : SessionResult) (late : Seen) (agent' : AgentState) (link' : LinkSeen) (receives : ReceivesHistory honest middle agent link result late agent' link')
+    (then_reads : honest → IsDisk middle.past (reads_as middle.past)) (late_reads : honest → IsDisk late.past (reads_as late.past)) where
+  -- over this history, since some moment
+  module _ (h : honest) (set : Settings) (h0 : List Beat) (is-of : IsAgentOf middle.past agent set h0) (start : List Event) (silent : told middle.past ≡ told start)
+      (opening : Throughout (EveryStop (Keeps set h0 h0 (told start))) start middle.past) where
+    copies : Copies set h0 result middle.past late.past link link'
+    copies = receives.copies h set h0 is-of
+
+    abbrev whole : List Beat
+    whole = (done_with set h0 (receives.copies h set h0 is-of).exchanges.frames).now.history
+
+    abbrev made : List ℕ
+    made = (done_with set h0 (receives.copies h set h0 is-of).exchanges.frames).told
+
+    abbrev Kept : List Event → Type 0
+    Kept past = EveryStop (Keeps set h0 whole (told start)) past
+
+    extends : Extends h0 whole
+    extends =
+        let kept = at_start (receives.copies h set h0 is-of).stops (reads_as middle.past) (told middle.past) (then_reads h) (full_text middle.past (told middle.past) refl) in
+        extends-further h0 kept.stored whole kept.since kept.within
+
+    stops : Throughout Kept start late.past
+    stops =
+        joined (keeps-more set h0 h0 whole (told start) extends start middle.past opening)
+        (subst (λ (t : List ℕ). Throughout (EveryStop (Keeps set h0 whole t)) middle.past late.past) silent (receives.copies h set h0 is-of).stops)
+
+    tells : told late.past ≡ told start ++ (receives.copies h set h0 is-of).output.said
+    tells = (receives.copies h set h0 is-of).output.tells ∙ ap (λ (t : List ℕ). t ++ (receives.copies h set h0 is-of).output.said) silent
+
+    abbrev taken : List Frame
+    taken = (receives.copies h set h0 is-of).exchanges.frames
+
+    -- a copy stays one where this is left
+    stays-copy : (new : List Event) → Throughout Kept start new → (floors : List ℕ) (child : List SeenBeat) → RisesFrom seen_moment 0 child → IsCopyOfChild floors child h0 → AreTrueOf floors child taken
+        → Throughout (EveryDisk (HoldsCopy set floors child)) start new
+    stays-copy new held floors child rises copy truth =
+        let cut = (receives.copies h set h0 is-of).exchanges.cut in
+        stops-copy set floors child rises h0 taken start new (subst (AllByRecursion HasSpelling) (sym cut.handed) cut.frames) truth copy held
+
+    -- nothing was told behind
+    quiet-receives : is_refused result ≡ false → Receives (session_status result) set h0 link link' start late.past
+    quiet-receives other =
+        let copies = receives.copies h set h0 is-of in
+        record {
+          result = result;
+          ends_as = quiet-ends result other;
+          exchanges = copies.exchanges;
+          stops = stops;
+          ends = λ all. copies.ends (whole-keeps result all);
+          output = record {
+            sent = copies.output.said;
+            unsent = copies.output.unsaid;
+            whole = ap (λ (t : List ℕ). made ++ t) (quiet-line result other) ∙ append-nil made ∙ copies.output.whole;
+            tells = tells;
+            all = λ all. copies.output.complete (whole-keeps result all);
+          };
+          copy = stays-copy late.past stops;
+        }
+
+    -- the refusal was told, or that was cut short
+    module _ (why : BlockFault) (is : result ≡ ended_with (session.Agent (fault.Refused why))) where
+      abbrev last : List ℕ
+      last = refusal_line 0 (refusal.Block why)
+
+      keeps : keeps_all result ≡ true
+      keeps = ap keeps_all is
+
+      told-all : told late.past ≡ told start ++ made
+      told-all =
+          let copies = receives.copies h set h0 is-of in
+          let all : made ≡ copies.output.said = copies.output.whole ∙ ap (λ (t : List ℕ). copies.output.said ++ t) (copies.output.complete keeps) ∙ append-nil copies.output.said in
+          tells ∙ ap (λ (t : List ℕ). told start ++ t) (sym all)
+
+      acked : IsAckedUpTo (length whole) made
+      acked =
+          let kept = at_end stops (reads_as late.past) (told late.past) (late_reads h) (full_text late.past (told late.past) refl) in
+          let since : drop (length (told start)) (told late.past) ≡ made = ap (λ (t : List ℕ). drop (length (told start)) t) told-all ∙ drop-append_seam (told start) made in
+          acked-weaker (length kept.stored) (length whole) made (extends-length kept.stored whole kept.within) (subst (IsAckedUpTo (length kept.stored)) since kept.acked)
+
+      acked-last : IsAckedUpTo (length whole) (made ++ last)
+      acked-last = acked-more (length whole) made last ((receives.copies h set h0 is-of).closed keeps) acked (acked-refusal (length whole) 0 (refusal.Block why))
+
+      stands : EveryDisk (StandsForHistory set whole) late.past
+      stands = (receives.copies h set h0 is-of).ends keeps
+
+      -- a front of the line was told
+      front-stop : (sent left : List ℕ) → sent ++ left ≡ last → Kept (Told sent ∷ late.past)
+      front-stop sent left line-is disk said images by_then =
+          let front : said ++ (drop by_then.0 sent ++ left) ≡ told start ++ (made ++ last) =
+          ap (λ (t : List ℕ). t ++ (drop by_then.0 sent ++ left)) by_then.1 ∙ append_assoc (told late.past) (take by_then.0 sent) (drop by_then.0 sent ++ left)
+          ∙ ap (λ (t : List ℕ). told late.past ++ t) (sym (append_assoc (take by_then.0 sent) (drop by_then.0 sent) left) ∙ ap (λ (t : List ℕ). t ++ left) (take-append-drop by_then.0 sent) ∙ line-is)
+          ∙ ap (λ (t : List ℕ). t ++ last) told-all ∙ append_assoc (told start) made last in
+          record {
+            stored = whole;
+            since = extends;
+            within = no_more;
+            stands = stands disk images;
+            acked = acked-since (length whole) (told start) (made ++ last) said (drop by_then.0 sent ++ left) front acked-last;
+          }
+
+      told-stops : (new : List Event) → new ≡ Told last ∷ late.past → Throughout Kept start new
+      told-stops new added = joined stops (moved Kept (Told last) late.past new added (at_end stops) (front-stop last [] (append-nil last)))
+
+      torn-stops : (new : List Event) → MayAdd (λ (n : ℕ). Told (take n last)) late.past new → Throughout Kept start new
+      torn-stops new may = joined stops (may_have_moved Kept (λ (n : ℕ). Told (take n last)) late.past new may (at_end stops) (λ n. front-stop (take n last) (drop n last) (take-append-drop n last)))
+
+      output-is : made ++ last_line result ≡ made ++ last
+      output-is = ap (λ (r : SessionResult). made ++ last_line r) is
+
+      -- of a session that ended so
+      ended-so : (s : Status) (new : List Event) → (s ≡ refusal_status 0 (refusal.Block why)) ⊎ (s ≡ status.TellFault) ⊎ (s ≡ status.Memory) → Throughout Kept start new → (is_whole s ≡ true → EveryDisk (StandsForHistory set whole) new)
+          → (sent unsent : List ℕ) → made ++ last ≡ sent ++ unsent → told new ≡ told start ++ sent → (is_whole s ≡ true → unsent ≡ []) → Receives s set h0 link link' start new
+      ended-so s new which held all sent unsent output says complete = record {
+        result = result;
+        ends_as = subst (λ (r : SessionResult). EndsAs r s) (sym is) which;
+        exchanges = (receives.copies h set h0 is-of).exchanges;
+        stops = held;
+        ends = all;
+        output = record { sent = sent; unsent = unsent; whole = output-is ∙ output; tells = says; all = complete };
+        copy = stays-copy new held;
+      }
+
+      cut : {A : Type 0} (s : Status) → is_whole s ≡ false → is_whole s ≡ true → A
+      cut s short all = absurd (true≢false (sym all ∙ short))
+
+      refused-receives : (s : Status) (host' : Seen) → TellsWhy honest why s late host' → Receives s set h0 link link' start host'.past
+      refused-receives s host' tells = by tells.tells
+        where
+          which : (s ≡ refusal_status 0 (refusal.Block why)) ⊎ (s ≡ status.TellFault) ⊎ (s ≡ status.Memory)
+          which = refused-as honest why s late host' tells
+
+          torn-by : s ≡ status.TellFault → MayAdd (λ (n : ℕ). Told (take n last)) late.past host'.past → Receives s set h0 link link' start host'.past
+          torn-by told-not (inl same) =
+              ended-so s host'.past which (torn-stops host'.past (inl same)) (cut s (ap is_whole told-not)) made last refl (ap told same ∙ told-all) (cut s (ap is_whole told-not))
+          torn-by told-not (inr (n, added)) =
+              ended-so s host'.past which (torn-stops host'.past (inr (n, added))) (cut s (ap is_whole told-not)) (made ++ take n last) (drop n last)
+              (ap (λ (t : List ℕ). made ++ t) (sym (take-append-drop n last)) ∙ sym (append_assoc made (take n last) (drop n last)))
+              (ap told added ∙ ap (λ (t : List ℕ). t ++ take n last) told-all ∙ append_assoc (told start) made (take n last)) (cut s (ap is_whole told-not))
+
+          by : TellsRefusal s honest 0 (refusal.Block why) late.past host'.past (TellRose late host') → Receives s set h0 link link' start host'.past
+          by (inl (is-status, done)) =
+              ended-so s host'.past which (told-stops host'.past (done h)) (λ all. subst (λ (p : List Event). EveryDisk (StandsForHistory set whole) p) (sym (done h)) stands) (made ++ last) [] (sym (append-nil (made ++ last)))
+              (ap told (done h) ∙ ap (λ (t : List ℕ). t ++ last) told-all ∙ append_assoc (told start) made last) (λ all. refl)
+          by (inr (inl (told-not, rose, torn))) = torn-by told-not (torn h)
+          by (inr (inr (no-memory, same))) =
+              ended-so s host'.past which (torn-stops host'.past (inl same)) (cut s (ap is_whole no-memory)) made last refl (ap told same ∙ told-all) (cut s (ap is_whole no-memory))
+
+    since : (s : Status) (host' : Seen) → Closes honest result s late host' → Receives s set h0 link link' start host'.past
+    since s host' closed = by (ends-so result)
+      where
+        by : (is_refused result ≡ false) ⊎ ((why : BlockFault) × (result ≡ ended_with (session.Agent (fault.Refused why)))) → Receives s set h0 link link' start host'.past
+        by (inl other) =
+            let how = closed-quiet honest result s late host' other closed in
+            subst (λ (t : Status). Receives t set h0 link link' start host'.past) (sym how.0)
+            (subst (λ (p : Seen). Receives (session_status result) set h0 link link' start p.past) (sym how.1) (quiet-receives other))
+        by (inr (why, is)) = refused-receives why is s host' (subst (λ (r : SessionResult). Closes honest r s late host') is closed)
+
+  module _ (s : Status) (host' : Seen) (closed : Closes honest result s late host') where
+    -- by whatever it ended
+    abbrev Refusal-by : BlockFault → Type 0
+    Refusal-by why = (result ≡ ended_with (session.Agent (fault.Refused why))) × TellsWhy honest why s late host'
+
+    how : ((is_refused result ≡ false) × (s ≡ session_status result) × (host' ≡ late)) ⊎ ((why : BlockFault) × Refusal-by why)
+    how = by (ends-so result)
+      where
+        by : (is_refused result ≡ false) ⊎ ((why : BlockFault) × (result ≡ ended_with (session.Agent (fault.Refused why)))) → ((is_refused result ≡ false) × (s ≡ session_status result) × (host' ≡ late)) ⊎ ((why : BlockFault) × Refusal-by why)
+        by (inl other) = let quiet = closed-quiet honest result s late host' other closed in inl (other, quiet.0, quiet.1)
+        by (inr (why, is)) = inr (why, (is, subst (λ (r : SessionResult). Closes honest r s late host') is closed))
+
+    -- a refusal is no failure of the outside
+    sound : (why : BlockFault) → result ≡ ended_with (session.Agent (fault.Refused why)) → (other : SessionFault) → (ended_with (session.Agent (fault.Refused why)) ≡ ended_with other → ⊥) → IsErrOf result other → ⊥
+    sound why is other never e = never (sym is ∙ e)
+
+    not-link : (why : BlockFault) → ended_with (session.Agent (fault.Refused why)) ≡ ended_with session.LinkFault → ⊥
+    not-link why e = cc
+
+    not-told : (why : BlockFault) → ended_with (session.Agent (fault.Refused why)) ≡ ended_with session.TellFault → ⊥
+    not-told why e = cc
+
+    not-stored : (why : BlockFault) → ended_with (session.Agent (fault.Refused why)) ≡ ended_with (session.Agent fault.DiskFault) → ⊥
+    not-stored why e = cc
+
+    ends : ends_a_receive s ≡ true
+    ends = by how
+      where
+        by : ((is_refused result ≡ false) × (s ≡ session_status result) × (host' ≡ late)) ⊎ ((why : BlockFault) × Refusal-by why) → ends_a_receive s ≡ true
+        by (inl (other, is, same)) = ap ends_a_receive is ∙ quiet-status result other
+        by (inr (why, (is, tells))) = refused-ends honest why s late host' tells
+
+    found : finds_none s ≡ true → ⊥
+    found none = found-one s none ends
+
+    link-cause : HasCause link.faults link'.faults (s ≡ status.LinkFault)
+    link-cause = by how
+      where
+        by : ((is_refused result ≡ false) × (s ≡ session_status result) × (host' ≡ late)) ⊎ ((why : BlockFault) × Refusal-by why) → HasCause link.faults link'.faults (s ≡ status.LinkFault)
+        by (inl (other, is, same)) =
+            cause-as link.faults link'.faults (result ≡ ended_with session.LinkFault) (s ≡ status.LinkFault) (λ e. link-failed result other (sym is ∙ e)) (λ e. is ∙ ap session_status e) receives.cause
+        by (inr (why, (is, tells))) =
+            stayed link.faults link'.faults (s ≡ status.LinkFault) (receives.cause.stays (sound why is session.LinkFault (not-link why))) (refused-unlinked honest why s late host' tells)
+
+    tell-cause : HasCause host.tell_faults host'.tell_faults (s ≡ status.TellFault)
+    tell-cause = stayed-before host.tell_faults middle.tell_faults host'.tell_faults (s ≡ status.TellFault) opens.tells (by how)
+      where
+        by : ((is_refused result ≡ false) × (s ≡ session_status result) × (host' ≡ late)) ⊎ ((why : BlockFault) × Refusal-by why) → HasCause middle.tell_faults host'.tell_faults (s ≡ status.TellFault)
+        by (inl (other, is, same)) =
+            subst (λ (p : Seen). HasCause middle.tell_faults p.tell_faults (s ≡ status.TellFault)) (sym same)
+            (cause-as middle.tell_faults late.tell_faults (result ≡ ended_with session.TellFault) (s ≡ status.TellFault) (λ e. tell-failed result other (sym is ∙ e)) (λ e. is ∙ ap session_status e) receives.stores.tells)
+        by (inr (why, (is, tells))) =
+            stayed-before middle.tell_faults late.tell_faults host'.tell_faults (s ≡ status.TellFault) (receives.stores.tells.stays (sound why is session.TellFault (not-told why))) tells.cause
+
+    disk-cause : HasCause host.disk_faults host'.disk_faults (s ≡ status.DiskFault)
+    disk-cause = stayed-before host.disk_faults middle.disk_faults host'.disk_faults (s ≡ status.DiskFault) (opened-disk honest host agent middle opens) (by how)
+      where
+        by : ((is_refused result ≡ false) × (s ≡ session_status result) × (host' ≡ late)) ⊎ ((why : BlockFault) × Refusal-by why) → HasCause middle.disk_faults host'.disk_faults (s ≡ status.DiskFault)
+        by (inl (other, is, same)) =
+            subst (λ (p : Seen). HasCause middle.disk_faults p.disk_faults (s ≡ status.DiskFault)) (sym same)
+            (cause-as middle.disk_faults late.disk_faults (result ≡ ended_with (session.Agent fault.DiskFault)) (s ≡ status.DiskFault) (λ e. store-failed result other (sym is ∙ e)) (λ e. is ∙ ap session_status e) receives.stores.disk)
+        by (inr (why, (is, tells))) =
+            stayed middle.disk_faults host'.disk_faults (s ≡ status.DiskFault) (tells.disk ∙ receives.stores.disk.stays (sound why is (session.Agent fault.DiskFault) (not-stored why))) (refused-stored honest why s late host' tells)
+
+    others : LeavesOthers honest host host'
+    others h file other = by how ∙ receives.stores.only_here h file other ∙ (opens.only_here h).others file other
+      where
+        by : ((is_refused result ≡ false) × (s ≡ session_status result) × (host' ≡ late)) ⊎ ((why : BlockFault) × Refusal-by why) → of file host'.past ≡ of file late.past
+        by (inl (quiet, is, same)) = ap (λ (p : Seen). of file p.past) same
+        by (inr (why, (is, tells))) = refused-others honest why s late host' tells h file other
+
+    pub opened-receives : ReceivesAll honest s link link' host host'
+    opened-receives = record {
+      receives = λ h set h0 stands.
+          since h set h0 (opens.opened h set h0 (stands (reads_as host.past) (first h))) host.past (opens.only_here h).output
+          (opening-stops set h0 host.past middle.past stands (opens.only_here h).output (opens.any_moment h)) s host' closed;
+      resumes = λ h set h0 here.
+          let is-of = opens.opened h set h0 here in
+          let stands-now = stands-all middle.past agent set h0 is-of in
+          record {
+            read = middle.past;
+            before = opens.any_moment h;
+            silent = (opens.only_here h).output;
+            after = inl (record {
+              stands = stands-now;
+              receives = since h set h0 is-of middle.past refl (opening-stops set h0 middle.past middle.past stands-now refl (begins (λ disk images. images))) s host' closed;
+            });
+          };
+      finds = found-finds honest host agent middle opens s found;
+      statuses = inl ends;
+      leaves = λ none. absurd (found none);
+      untaken = λ h none. absurd (none (opens.notes h));
+      others = others;
+      link_cause = link-cause;
+      tell_cause = tell-cause;
+      disk_cause = disk-cause;
+    }
+
+-- ---- it was not
+opening-ends : (why : AgentFault) → (ends_a_receive (opening_status why) ≡ true) ⊎ (finds_none (opening_status why) ≡ true)
+opening-ends fault.NotADatabase = inr refl
+opening-ends fault.DiskFault = inl refl
+opening-ends (fault.Damaged part) = inr refl
+opening-ends other = inl refl
+
+module _ (honest : Type 0) (host host' : Seen) (first : honest → IsDisk host.past (reads_as host.past)) (why : AgentFault) (opens : Opens honest host (Err why) host') (link : LinkSeen) where
+  -- nothing was heard, said, stored or told
+  unheard : honest → (set : Settings) (h0 : List Beat) → EveryDisk (StandsForHistory set h0) host.past → (r : SessionResult) (s : Status) → EndsAs r s → says_all r ≡ false → IsEndFor r None [] [] link.left → is_whole s ≡ false
+      → Receives s set h0 link link host.past host'.past
+  unheard h set h0 stands r s which unsaid end short = record {
+    result = r;
+    ends_as = which;
+    exchanges = record {
+      taken = [];
+      takes = Takes-none link.left;
+      within = omega arith;
+      frames = [];
+      rest = [];
+      cut = record { found = []; handed = refl; frames = tt; spelt = refl };
+      broken = None;
+      breaks = tt;
+      says = record { said = []; unsaid = []; whole = refl; sends = sends-nothing link.sent; complete = λ all. refl };
+      why = end;
+    };
+    stops = opening-stops set h0 host.past host'.past stands (opens.only_here h).output (opens.any_moment h);
+    ends = λ all. absurd (true≢false (sym all ∙ short));
+    output = record {
+      sent = [];
+      unsent = last_line r;
+      whole = refl;
+      tells = (opens.only_here h).output ∙ sym (append-nil (told host.past));
+      all = λ all. absurd (true≢false (sym all ∙ short));
+    };
+    copy = λ floors child rises copy truth. stops-copy set floors child rises h0 [] host.past host'.past tt truth copy (opening-stops set h0 host.past host'.past stands (opens.only_here h).output (opens.any_moment h));
+  }
+
+  pub unopened-receives : ReceivesAll honest (opening_status why) link link host host'
+  unopened-receives = record {
+    receives = λ h set h0 stands.
+        by-fault honest host host' first (λ (f : AgentFault). Receives (opening_status f) set h0 link link host.past host'.past) why (opens.stands h set h0 (stands (reads_as host.past) (first h)))
+        (unheard h set h0 stands (Err (session.Agent fault.DiskFault)) status.DiskFault refl refl tt refl) (unheard h set h0 stands (Err session.Memory) status.Memory refl refl tt refl);
+    resumes = λ h set h0 here. record {
+      read = host'.past;
+      before = opens.any_moment h;
+      silent = (opens.only_here h).output;
+      after = inr (by-fault honest host host' first (λ (f : AgentFault). (opening_status f ≡ status.DiskFault) ⊎ (opening_status f ≡ status.Memory)) why (opens.stands h set h0 here) (inl refl) (inr refl), refl, refl);
+    };
+    finds = unopened-finds honest host host' first why opens;
+    statuses = opening-ends why;
+    leaves = λ none. (refl, unopened-host honest host host' first why opens);
+    untaken = λ h none. (refl, unopened-host honest host host' first why opens);
+    others = λ h. (opens.only_here h).others;
+    link_cause = stayed link.faults link.faults (opening_status why ≡ status.LinkFault) refl (unlinked why);
+    tell_cause = stayed host.tell_faults host'.tell_faults (opening_status why ≡ status.TellFault) opens.tells (untold-yet honest host host' first why);
+    disk_cause =
+        cause-as host.disk_faults host'.disk_faults (failed_by why ≡ failed_by fault.DiskFault) (opening_status why ≡ status.DiskFault)
+        (disk-failed honest host host' first why) (λ e. ap opening_status (fault-is why fault.DiskFault e)) opens.cause;
+  }

@@ -1,0 +1,154 @@
+-- What `send` promises: where the database was opened, and where it was not.
+use Rattle.std.proofs.Common.{◌≡◌, ◌⊎◌, inl, inr, true, List, Ok, Err, IfErr, refl, sym, ap, subst, ◌∙◌, true≢false}
+use Rattle.host_model.specs.declared.status.Status.{Status}
+use Rattle.host_model.specs.declared.status.Status.TheVariants as status
+use Rattle.host_model.specs.Disks.{EveryDisk, reads_as}
+use Rattle.host_model.specs.Moments.{Throughout}
+use Rattle.host_model.specs.Past.{Event, of, told, IsDisk}
+use Rattle.host_model.specs.Seen.{Seen}
+use Rattle.agent_core.specs.declared.fault.AgentFault.{AgentFault}
+use Rattle.agent_core.specs.declared.fault.AgentFault.TheVariants as fault
+use Rattle.agent_core.specs.Agent.{AgentState}
+use Rattle.agent_core.specs.Calls.{Opens}
+use Rattle.agent_core.specs.Kept.{StandsForHistory}
+use Rattle.link_session.specs.declared.fault.SessionFault.{SessionFault}
+use Rattle.link_session.specs.declared.fault.SessionFault.TheVariants as session
+use Rattle.link_session.specs.Exchange.{SessionResult}
+use Rattle.link_session.specs.Sending.{IsSending, SendsHistory}
+use Rattle.link_session.specs.Session.{LinkSeen}
+use Rattle.link_session.proofs.StoreLemmas.{stands-all}
+use Rattle.agent_app.specs.Run.{finds_none}
+use Rattle.agent_app.specs.Running.{opening_status}
+use Rattle.agent_app.specs.Send.{ends_a_send, SendsAll}
+use Rattle.agent_app.specs.Sessions.{fault_status, session_status}
+use Rattle.agent_app.proofs.CauseLemmas.{cause-as, stayed}
+use Rattle.agent_app.proofs.OpeningLemmas.{by-fault, disk-failed, failed_by, fault-is, found-finds, opened-disk, unopened-finds, unopened-host}
+
+abbrev pub ended_with : SessionFault → SessionResult
+ended_with why = Err why
+
+-- ---- statuses
+-- of a session that sends, whatever the host tells
+sending-ends : (why : SessionFault) → IsSending why → ends_a_send (fault_status why) ≡ true
+sending-ends session.LinkFault is = refl
+sending-ends (session.Agent fault.Memory) is = refl
+sending-ends (session.Agent (fault.Reopen cause)) is = refl
+sending-ends (session.Agent other) is = absurd is
+sending-ends (session.PeerRefused why) is = refl
+sending-ends session.Ended is = refl
+sending-ends session.InputLimit is = refl
+sending-ends session.TellFault is = absurd is
+sending-ends session.Memory is = refl
+
+sent-ends : (r : SessionResult) → IfErr r IsSending → ends_a_send (session_status r) ≡ true
+sent-ends (Ok done) is = refl
+sent-ends (Err why) is = sending-ends why is
+
+found-one : (s : Status) → finds_none s ≡ true → ends_a_send s ≡ true → ⊥
+found-one status.NotADatabase none ends = true≢false (sym ends)
+found-one (status.Damaged part) none ends = true≢false (sym ends)
+found-one s none ends = true≢false (sym none)
+
+opening-ends : (why : AgentFault) → (ends_a_send (opening_status why) ≡ true) ⊎ (finds_none (opening_status why) ≡ true)
+opening-ends fault.NotADatabase = inr refl
+opening-ends fault.DiskFault = inl refl
+opening-ends (fault.Damaged part) = inr refl
+opening-ends other = inl refl
+
+pub unlinked : (why : AgentFault) → opening_status why ≡ status.LinkFault → ⊥
+unlinked fault.NotADatabase e = cc
+unlinked fault.DiskFault e = cc
+unlinked (fault.Damaged part) e = cc
+unlinked other e = apart e
+  where
+    apart : status.Memory ≡ status.LinkFault → ⊥
+    apart e = cc
+
+-- a session that sends never asks the disk to keep anything
+sent-unstored : (r : SessionResult) → IfErr r IsSending → session_status r ≡ status.DiskFault → ⊥
+sent-unstored (Ok done) is e = apart e
+  where
+    apart : status.Ok ≡ status.DiskFault → ⊥
+    apart e = cc
+sent-unstored (Err session.LinkFault) is e = cc
+sent-unstored (Err (session.Agent fault.Memory)) is e = cc
+sent-unstored (Err (session.Agent (fault.Reopen cause))) is e = cc
+sent-unstored (Err (session.Agent other)) is e = absurd is
+sent-unstored (Err (session.PeerRefused why)) is e = cc
+sent-unstored (Err session.Ended) is e = cc
+sent-unstored (Err session.InputLimit) is e = cc
+sent-unstored (Err session.TellFault) is e = absurd is
+sent-unstored (Err session.Memory) is e = cc
+
+-- its status says that the link failed exactly where it did
+link-failed : (r : SessionResult) → IfErr r IsSending → session_status r ≡ status.LinkFault → r ≡ ended_with session.LinkFault
+link-failed (Ok done) is e = absurd (apart e)
+  where
+    apart : status.Ok ≡ status.LinkFault → ⊥
+    apart e = cc
+link-failed (Err session.LinkFault) is e = refl
+link-failed (Err (session.Agent fault.Memory)) is e = cc
+link-failed (Err (session.Agent (fault.Reopen cause))) is e = cc
+link-failed (Err (session.Agent other)) is e = absurd is
+link-failed (Err (session.PeerRefused why)) is e = cc
+link-failed (Err session.Ended) is e = cc
+link-failed (Err session.InputLimit) is e = cc
+link-failed (Err session.TellFault) is e = absurd is
+link-failed (Err session.Memory) is e = cc
+
+-- ---- the database was opened
+module _ (honest : Type 0) (host : Seen) (agent : AgentState) (middle : Seen) (opens : Opens honest host (Ok agent) middle) (link : LinkSeen) (result : SessionResult) (host' : Seen) (agent' : AgentState) (link' : LinkSeen)
+    (sends : SendsHistory honest middle agent link result host' agent' link') where
+  quiet : honest → host'.past ≡ middle.past
+  quiet = sends.reads.quiet
+
+  ends : ends_a_send (session_status result) ≡ true
+  ends = sent-ends result sends.faults
+
+  found : finds_none (session_status result) ≡ true → ⊥
+  found none = found-one (session_status result) none ends
+
+  pub opened-sends : SendsAll honest (session_status result) link link' host host'
+  opened-sends = record {
+    sends = λ h set g here.
+        let is-of = opens.opened h set g here in
+        inl (record {
+          result = result;
+          status_is = refl;
+          exchanges = sends.exchanges h set g is-of;
+          stands = subst (λ (p : List Event). EveryDisk (StandsForHistory set g) p) (sym (quiet h)) (stands-all middle.past agent set g is-of);
+        });
+    host_is = record {
+      output = λ h. ap told (quiet h) ∙ (opens.only_here h).output;
+      tells = sends.reads.tells ∙ opens.tells;
+      any_moment = λ h. subst (λ (p : List Event). Throughout (EveryDisk (IsDisk host.past)) host.past p) (sym (quiet h)) (opens.any_moment h);
+      same = λ h file. ap (λ (p : List Event). reads_as p file) (quiet h) ∙ opens.same h file;
+    };
+    others = λ h file other. ap (λ (p : List Event). of file p) (quiet h) ∙ (opens.only_here h).others file other;
+    finds = found-finds honest host agent middle opens (session_status result) found;
+    statuses = inl ends;
+    leaves = λ none. absurd (found none);
+    untaken = λ h none. absurd (none (opens.notes h));
+    link_cause =
+        cause-as link.faults link'.faults (result ≡ ended_with session.LinkFault) (session_status result ≡ status.LinkFault)
+        (link-failed result sends.faults) (λ is. ap session_status is) sends.cause;
+    disk_cause = stayed host.disk_faults host'.disk_faults (session_status result ≡ status.DiskFault) (sends.reads.disk ∙ opened-disk honest host agent middle opens) (sent-unstored result sends.faults);
+  }
+
+-- ---- it was not
+module _ (honest : Type 0) (host host' : Seen) (first : honest → IsDisk host.past (reads_as host.past)) (why : AgentFault) (opens : Opens honest host (Err why) host') (link : LinkSeen) where
+  pub unopened-sends : SendsAll honest (opening_status why) link link host host'
+  unopened-sends = record {
+    sends = λ h set g here.
+        inr (by-fault honest host host' first (λ (f : AgentFault). (opening_status f ≡ status.DiskFault) ⊎ (opening_status f ≡ status.Memory)) why (opens.stands h set g here) (inl refl) (inr refl), refl);
+    host_is = unopened-host honest host host' first why opens;
+    others = λ h. (opens.only_here h).others;
+    finds = unopened-finds honest host host' first why opens;
+    statuses = opening-ends why;
+    leaves = λ none. refl;
+    untaken = λ h none. refl;
+    link_cause = stayed link.faults link.faults (opening_status why ≡ status.LinkFault) refl (unlinked why);
+    disk_cause =
+        cause-as host.disk_faults host'.disk_faults (failed_by why ≡ failed_by fault.DiskFault) (opening_status why ≡ status.DiskFault)
+        (disk-failed honest host host' first why) (λ e. ap opening_status (fault-is why fault.DiskFault e)) opens.cause;
+  }

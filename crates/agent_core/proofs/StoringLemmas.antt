@@ -1,0 +1,152 @@
+-- The parts of an agent once a gap or a copied beat is stored.
+use Rattle.std.proofs.Common.{◌≡◌, ℕ, ◌+◌, ◌<◌, ◌≤◌, ◌^◌, true, List, [], ◌∷◌, length, map, Option, Some, refl, sym, ap, ◌∙◌, subst, arith, length-append, lt-ltb}
+use Rattle.std.specs.List.{enumerate_from, filter_map, find}
+use Rattle.std.specs.Option.{option_map}
+use Rattle.std.specs.Str.{bytes_eq}
+use Rattle.std.proofs.lemmas.Bool.{cond-false, cond-true, le-ltb}
+use Rattle.std.proofs.lemmas.Option.{same_Some}
+use Rattle.host_model.specs.Past.{Event}
+use Rattle.algorithms.specs.declared.last.Last.{Last}
+use Rattle.history.specs.declared.beat.OpenBeat.{OpenBeat}
+use Rattle.history.specs.declared.beat.OpenRow.{OpenRow}
+use Rattle.history.specs.declared.chart.ChartDef.{ChartDef}
+use Rattle.history.specs.declared.row.Row.{Row}
+use Rattle.history.specs.declared.numbered.NumberedBeat.{NumberedBeat}
+use Rattle.history.specs.History.{Beat, copied, missing, last, registry_of, Copy, Gap}
+use Rattle.history.specs.Numbered.{numbered_charts, numbered_dimensions, numbered_rows, numbered_values, IsThere}
+use Rattle.history.specs.Registry.{Registry}
+use Rattle.alarm_core.specs.declared.latest.Latest.{Latest}
+use Rattle.entry_codec.specs.declared.entry.Entry.{Entry}
+use Rattle.entry_codec.specs.declared.entry.Entry.TheVariants as entry
+use Rattle.entry_codec.specs.declared.entry.Settings.{Settings}
+use Rattle.entry_codec.specs.Entries.{entry_bytes, gap_bytes, is_canonical, HasSpelling}
+use Rattle.field_codec.specs.Spelling.{u32_bytes, u64_bytes}
+use Rattle.field_codec.proofs.Lengths.{length-u32_bytes, length-u64_bytes}
+use Rattle.beat_entries.specs.Copied.{definitions_of, told_chart, told_dimension, told_word}
+use Rattle.beat_tiers.specs.declared.item.BeatPoint.{BeatPoint}
+use Rattle.replication.specs.declared.beats.Beat.{Beat as SentBeat}
+use Rattle.replication.specs.declared.message.Data.{Data}
+use Rattle.store_core.specs.declared.beat.Beat.{Beat as StoreBeat}
+use Rattle.store_core.specs.Beats.{beat_bytes, InForm}
+use Rattle.store_core.specs.Store.{IsStoreOf, StoreState}
+use Rattle.store_core.proofs.BeatLaw.{beat_size}
+use Rattle.agent_core.specs.Agent.{Holds}
+use Rattle.agent_core.specs.Copying.{gap_beat}
+use Rattle.agent_core.specs.Kept.{copied_entry, copied_point, gap_entry, IsCopyOf, IsGapOf}
+use Rattle.agent_core.specs.Replay.{HasRoom, HasSeenCopy}
+use Rattle.agent_core.specs.Roles.{may_copy, role_of}
+use Rattle.agent_core.specs.Storing.{gap_beats, sent_entry, sent_kept, IsSentAs}
+use Rattle.agent_core.proofs.OpeningLemmas.{answers}
+
+-- ---- a gap
+gap-length : (gap : Gap) → length (entry_bytes (gap_entry gap)) ≡ 17
+unfolding entry_bytes gap_bytes
+gap-length gap = simp (length-append, length-u32_bytes, length-u64_bytes) (omega arith)
+
+module _ (gap : Gap) (points : List BeatPoint) (none : points ≡ []) (note : List ℕ) (note_is : note ≡ entry_bytes (gap_entry gap)) where
+  pub gap-form : 0 < gap.to → gap.to < 2 ^ 32 → InForm (record { moment = Some gap.to; points = points; note = note })
+  gap-form some small =
+      let size : length note ≡ 17 = ap length note_is ∙ gap-length gap in
+      subst (λ (ps : List BeatPoint). InForm (record { moment = Some gap.to; points = ps; note = note })) (sym none) (record {
+        short = record { moment = (some, small); points = record { count = omega arith; each = tt }; note = omega (arith, size) };
+        form = refl;
+      })
+
+  pub gap-size : length (beat_bytes (record { moment = Some gap.to; points = points; note = note })) ≤ 2 ^ 26
+  gap-size =
+      let size : length note ≡ 17 = ap length note_is ∙ gap-length gap in
+      let empty : length points ≡ 0 = ap length none in
+      omega (arith, beat_size (record { moment = Some gap.to; points = points; note = note }), empty, size)
+
+pub gap-spelt : (gap : Gap) → gap.child < 2 ^ 64 → gap.from < 2 ^ 32 → gap.to < 2 ^ 32 → HasSpelling (gap_entry gap)
+unfolding is_canonical
+gap-spelt gap child from to = record { short = record { child = child; from = from; to = to }; canonical = refl }
+
+module _ (past : List Event) (store : StoreState) (registry : Registry) (lasts : List (Option Last)) (latest : Latest) (set : Settings) (h : List Beat) (holds : Holds past store registry lasts latest set h) where
+  -- the last moment of the store is that of the history
+  pub store-last : store.last ≡ last h
+  store-last = holds.store_of.last ∙ (answers h holds.beats holds.are).last_is
+
+  module _ (gap : Gap) (kept : StoreBeat) (is_kept : kept ≡ record { moment = Some gap.to; points = []; note = entry_bytes (gap_entry gap) }) (spelt : HasSpelling (gap_entry gap)) where
+    pub gap-of : may_copy (role_of h) ≡ true → store.last < gap.to → IsGapOf h gap kept
+    gap-of role later = record { role = role; later = omega (arith, store-last, later); is_kept = is_kept; spelt = spelt }
+
+    pub holds-gap : IsGapOf h gap kept → (new : List Event) (store' : StoreState) → IsStoreOf new store' set (kept ∷ holds.beats) → Holds new store' registry lasts latest set (missing gap ∷ h)
+    holds-gap of new store' store_of = record {
+      beats = kept ∷ holds.beats;
+      are = (of, holds.are);
+      store_of = store_of;
+      registry_is = holds.registry_is;
+      last_rows_are = record { rows = holds.last_rows_are.rows; within = holds.last_rows_are.within };
+      latest_is = record { charts = holds.latest_is.charts; points = holds.latest_is.points; raws = holds.latest_is.raws };
+    }
+
+  -- ---- a copied beat
+  pub holds-copy : (registry' : Registry) (copy : Copy) (kept : StoreBeat) (moment : ℕ) → IsCopyOf h copy kept → registry' ≡ registry_of (copied copy ∷ h) → kept.moment ≡ Some moment → (new : List Event) (store' : StoreState)
+      → IsStoreOf new store' set (kept ∷ holds.beats) → (lasts' : List (Option Last)) → HasRoom registry' lasts lasts' → (latest' : Latest) → HasSeenCopy registry' latest latest' moment kept.points
+      → Holds new store' registry' lasts' latest' set (copied copy ∷ h)
+  holds-copy registry' copy kept moment of is at new store' store_of lasts' room latest' seen =
+      let moment_is : moment ≡ copy.moment = same_Some moment copy.moment (sym at ∙ ap (λ (k : StoreBeat). k.moment) of.is_kept) in
+      let points : kept.points ≡ map (copied_point registry') copy.words = ap (λ (k : StoreBeat). k.points) of.is_kept ∙ ap (λ (r : Registry). map (copied_point r) copy.words) (sym is) in
+      record {
+        beats = kept ∷ holds.beats;
+        are = (of, holds.are);
+        store_of = store_of;
+        registry_is = is;
+        last_rows_are = room h copy holds.last_rows_are is;
+        latest_is = seen h holds.beats lasts copy holds.are holds.last_rows_are holds.latest_is is moment_is points;
+      }
+
+module _ (registry : Registry) (message : Data) (defines : NumberedBeat) (beat : SentBeat) (g : List Beat) (copy : Copy) (sent : IsSentAs registry message defines beat g copy) where
+  entry-same : entry.Copied (sent_entry registry message defines beat) ≡ copied_entry g copy
+  entry-same =
+      let charts : defines.charts ≡ numbered_charts (registry_of (copied copy ∷ g)) (definitions_of copy) = sent.charts ∙ ap (λ (r : Registry). numbered_charts r (definitions_of copy)) sent.registry_is in
+      let dimensions : defines.dimensions ≡ numbered_dimensions (registry_of (copied copy ∷ g)) (definitions_of copy) = sent.dimensions ∙ ap (λ (r : Registry). numbered_dimensions r (definitions_of copy)) sent.registry_is in
+      λ i. entry.Copied (record {
+        child = sym sent.child i;
+        moment = sym sent.moment i;
+        charts = map told_chart (charts i);
+        dimensions = map told_dimension (dimensions i);
+        words = map told_word (sym sent.words i);
+      })
+
+  -- what is kept of the beat is that of the copy
+  pub copy-of : (kept : StoreBeat) → kept ≡ sent_kept registry message defines beat → HasSpelling (entry.Copied (sent_entry registry message defines beat)) → IsCopyOf g copy kept
+  copy-of kept is spelt =
+      let whole : StoreBeat → StoreBeat = λ kept. kept in
+      record {
+        follows = sent.follows;
+        is_kept = is ∙ (λ i. whole (record {
+          moment = Some (sym sent.moment i);
+          points = map (copied_point (sent.registry_is i)) (sym sent.words i);
+          note = entry_bytes (entry-same i);
+        }));
+        spelt = subst HasSpelling entry-same spelt;
+      }
+
+-- a beat without rows has none that are not there
+pub no-rows-there : (registry : Registry) (beat : NumberedBeat) → beat.rows ≡ [] → IsThere registry beat
+no-rows-there registry beat none = record {
+  charts = λ k d less. absurd (omega (arith, ap length none, less));
+  dimensions = λ k d less. absurd (omega (arith, ap length none, less));
+  limit = λ k d less. absurd (omega (arith, ap length none, less));
+}
+
+abbrev no_row : List Row
+no_row = []
+
+-- and by number it has none
+pub no-numbered-rows : (registry : Registry) (beat : OpenBeat) → beat.rows ≡ [] → numbered_rows registry beat ≡ []
+no-numbered-rows registry beat none = ap (λ (rows : List OpenRow). numbered_rows registry (record beat { rows = rows })) none ∙ by registry.charts 0
+  where
+    by : (defs : List ChartDef) (n : ℕ) → filter_map (λ (place : ℕ × ChartDef). option_map (λ (row : OpenRow). record { chart = place.0; values = numbered_values registry row })
+        (find (λ (row : OpenRow). bytes_eq place.1.id row.chart) [])) (enumerate_from n defs) ≡ no_row
+    by [] n = refl
+    by (def ∷ defs) n = by defs (n + 1)
+
+-- ---- the gap before the beats of a Data
+pub gap-some : (message : Data) → message.prev < message.from → missing (record { child = message.child; from = message.prev; to = message.from }) ∷ [] ≡ gap_beats message
+gap-some message less = ap (map (gap_beat message.child)) (sym (cond-true _ (record { from = message.prev; to = message.from } ∷ []) [] (lt-ltb message.prev message.from less)))
+
+pub gap-none : (message : Data) → message.from ≤ message.prev → [] ≡ gap_beats message
+gap-none message less = ap (map (gap_beat message.child)) (sym (cond-false _ (record { from = message.prev; to = message.from } ∷ []) [] (le-ltb message.prev message.from less)))

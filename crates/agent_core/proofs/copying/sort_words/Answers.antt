@@ -1,0 +1,8 @@
+use Rattle.std.proofs.Common.{rules}
+use Rattle.std.proofs.lemmas.List.Sorted.{IsNonDecreasingBy-from_sort_by_key}
+use Rattle.beat_points.specs.declared.series_word.SeriesWord.{SeriesWord}
+use Rattle.agent_core.proofs.copying.sort_words.Goals as goal
+
+pub returns-clause-rises : goal.returns-clause-rises
+returns-clause-rises c =
+    IsNonDecreasingBy-from_sort_by_key (λ (item : SeriesWord). item.series) c.sort_by_key.new.self.items c.in_ok-sort_by_key.ensures.sorted (λ a r q k. search rules)

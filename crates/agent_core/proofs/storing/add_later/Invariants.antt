@@ -1,0 +1,29 @@
+use Rattle.std.proofs.Common.{◌≡◌, ℕ, List, None, take}
+use Rattle.host_model.specs.declared.file.File.TheVariants.{JournalA}
+use Rattle.host_model.specs.Moments.{OnlyOn}
+use Rattle.history.specs.History.{Beat}
+use Rattle.alarm_core.specs.Course.{held}
+use Rattle.alarm_core.specs.UpTo.{IsUpTo}
+use Rattle.entry_codec.specs.declared.entry.Settings.{Settings}
+use Rattle.replication.specs.Copies.{latest as latest_of}
+use Rattle.replication.specs.Names.{beat_moment}
+use Rattle.store_core.specs.Store.{IsReady, IsReplayed}
+use Rattle.agent_core.specs.Storing.{later_copies, ArePartsAt, MayTakeAll}
+use Rattle.agent_core.proofs.FrontLemmas.{HaveStored}
+use Rattle.agent_core.proofs.storing.add_later.Given as goal
+
+abbrev pub invariant-loop-beat : goal.invariant-loop-beat
+invariant-loop-beat g l = record {
+  stored : g.H.Host.honest → (set : Settings) (h : List Beat)
+      → ArePartsAt (g.H.Host.seen l.initial.host).past l.initial.store l.registry l.initial.last_rows l.initial.latest (held l.initial.alarms) set h → MayTakeAll h (later_copies l.registry l.message l.beats)
+      → HaveStored (g.H.Host.seen l.initial.host).past (g.H.Host.seen l.host).past set h (later_copies l.registry l.message l.beats) l.beat-index l.store l.registry l.last_rows l.latest (held l.alarms) l.events;
+  ready : IsReady g.H.Host.honest (g.H.Host.seen l.host).past l.store;
+  replayed : IsReplayed l.store;
+  going : l.store.fault ≡ None;
+  up_to : IsUpTo l.alarms l.registry;
+  last : l.store.last ≡ latest_of beat_moment l.initial.store.last (take l.beat-index l.beats);
+  settings : l.store.settings ≡ l.initial.store.settings;
+  only_here : g.H.Host.honest → OnlyOn JournalA (g.H.Host.seen l.initial.host).past (g.H.Host.seen l.host).past;
+  faults : (g.H.Host.seen l.host).disk_faults ≡ (g.H.Host.seen l.initial.host).disk_faults;
+  tells : (g.H.Host.seen l.host).tell_faults ≡ (g.H.Host.seen l.initial.host).tell_faults;
+}

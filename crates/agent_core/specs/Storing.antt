@@ -1,0 +1,121 @@
+-- How an agent stores the beats of a Data, one after the other.
+use Rattle.std.specs.Prelude.{◌≡◌, ℕ, ◌<◌, true, List, [], ◌∷◌, map, Option, Some}
+use Rattle.std.specs.List.{list_all}
+use Rattle.std.specs.Option.{option_map}
+use Rattle.host_model.specs.Past.{Event}
+use Rattle.algorithms.specs.declared.last.Last.{Last}
+use Rattle.history.specs.declared.numbered.NumberedBeat.{NumberedBeat}
+use Rattle.history.specs.History.{Beat, collected, copied, health, missing, last, registry_of, Copy, Word}
+use Rattle.history.specs.Numbered.{numbered_charts, numbered_dimensions}
+use Rattle.history.specs.Registry.{Registry, series_of, with_definitions}
+use Rattle.beat_points.specs.declared.series_word.SeriesWord.{SeriesWord}
+use Rattle.entry_codec.specs.declared.entry.Copied.{Copied}
+use Rattle.entry_codec.specs.declared.entry.Entry.TheVariants as entry
+use Rattle.entry_codec.specs.declared.words.CopiedWord.{CopiedWord}
+use Rattle.entry_codec.specs.Entries.{entry_bytes}
+use Rattle.entry_codec.specs.declared.entry.Settings.{Settings}
+use Rattle.beat_entries.specs.Copied.{definitions_of, told_chart, told_dimension, told_word}
+use Rattle.alarm_core.specs.declared.latest.Latest.{Latest}
+use Rattle.alarm_core.specs.Course.{Held}
+use Rattle.replication.specs.declared.beats.Beat.{Beat as SentBeat}
+use Rattle.replication.specs.declared.message.Data.{Data}
+use Rattle.replication.specs.declared.named.NamedPoint.{NamedPoint}
+use Rattle.replication.specs.Copies.{gap_between, RisesFrom}
+use Rattle.replication.specs.Names.{beat_moment, named_beat, named_beats}
+use Rattle.link_frames.specs.DataForm.{has_rising_places, has_storage_numbers, AreApart}
+use Rattle.store_core.specs.declared.beat.Beat.{Beat as StoreBeat}
+use Rattle.store_core.specs.Store.{StoreState}
+use Rattle.agent_core.specs.Agent.{Holds}
+use Rattle.agent_core.specs.Alarms.{alarms_at}
+use Rattle.agent_core.specs.Copying.{copied_beats, copied_of, definitions_in, gap_beat, nothing_defined, numbered_words}
+use Rattle.agent_core.specs.Kept.{copied_point, CopyFollows}
+use Rattle.agent_core.specs.Roles.{may_copy, role_of}
+
+-- a point by name as the word of its series, if the registry has that
+abbrev pub numbered_point : Registry → NamedPoint → Option SeriesWord
+numbered_point registry point = option_map (λ series. record { series = series; word = point.word }) (series_of registry point.chart point.dimension)
+
+-- the word of a series as that of a point, and of an entry
+abbrev pub point_word : Word → SeriesWord
+point_word word = record { series = word.series; word = word.word }
+
+abbrev pub entry_word : SeriesWord → CopiedWord
+entry_word word = record { series = word.series; word = word.word }
+
+-- ---- one beat
+
+-- the words of a beat of a Data, by the numbers of a registry that has its series
+abbrev pub sent_words : Registry → Data → SentBeat → List Word
+sent_words registry message beat = numbered_words registry (named_beat message.names beat).points
+
+-- the entry of such a beat that defines this
+abbrev pub sent_entry : Registry → Data → NumberedBeat → SentBeat → Copied
+sent_entry registry message defines beat = record {
+  child = message.child;
+  moment = beat.moment;
+  charts = map told_chart defines.charts;
+  dimensions = map told_dimension defines.dimensions;
+  words = map told_word (sent_words registry message beat);
+}
+
+-- what a store keeps of it
+abbrev pub sent_kept : Registry → Data → NumberedBeat → SentBeat → StoreBeat
+sent_kept registry message defines beat = record {
+  moment = Some beat.moment;
+  points = map (copied_point registry) (sent_words registry message beat);
+  note = entry_bytes (entry.Copied (sent_entry registry message defines beat));
+}
+
+-- the beat of a Data is this copy of a history, by the numbers of a registry that has its definitions
+pub record IsSentAs (registry : Registry) (message : Data) (defines : NumberedBeat) (beat : SentBeat) (g : List Beat) (copy : Copy) : Type 0 where
+  pub child : copy.child ≡ message.child
+  pub moment : copy.moment ≡ beat.moment
+  pub words : copy.words ≡ sent_words registry message beat
+  pub charts : defines.charts ≡ numbered_charts registry (definitions_of copy)
+  pub dimensions : defines.dimensions ≡ numbered_dimensions registry (definitions_of copy)
+  pub follows : CopyFollows g copy
+  pub registry_is : registry ≡ registry_of (copied copy ∷ g)
+
+-- ---- the parts of an agent
+
+-- these parts of an agent are of this history, and so are its alarms
+pub record ArePartsAt (past : List Event) (store : StoreState) (registry : Registry) (lasts : List (Option Last)) (latest : Latest) (held : Held) (set : Settings) (h : List Beat) : Type 0 where
+  pub holds : Holds past store registry lasts latest set h
+  pub held_is : held ≡ alarms_at set h
+
+-- ---- one beat after the other
+
+-- a copied beat or a gap may follow the history
+abbrev pub MayTake : List Beat → Beat → Type 0
+MayTake g (collected moment beat) = ⊥
+MayTake g (copied copy) = CopyFollows g copy
+MayTake g (health text) = ⊥
+MayTake g (missing gap) = (may_copy (role_of g) ≡ true) × (last g < gap.to)
+
+-- each of the beats may follow those before it
+abbrev pub MayTakeAll : List Beat → List Beat → Type 0
+MayTakeAll g [] = Unit {0}
+MayTakeAll g (beat ∷ more) = MayTake g beat × MayTakeAll (beat ∷ g) more
+
+-- the copies of beats of a Data that define nothing
+abbrev pub later_copies : Registry → Data → List SentBeat → List Beat
+later_copies registry message beats = map (copied_of message.child registry nothing_defined) (named_beats message.names beats)
+
+-- the store may take each of these beats of a Data
+pub record AreSent (last : ℕ) (message : Data) (beats : List SentBeat) : Type 0 where
+  pub names : AreApart message.names
+  pub places : list_all has_rising_places beats ≡ true
+  pub words : list_all has_storage_numbers beats ≡ true
+  pub rises : RisesFrom beat_moment last beats
+
+-- the gap before the beats of a Data, if there is one
+abbrev pub gap_beats : Data → List Beat
+gap_beats message = map (gap_beat message.child) (gap_between message.prev message.from)
+
+-- the copies of these beats of a Data, by a registry with its definitions, which the first of them has
+abbrev pub sent_copies : Registry → Data → List SentBeat → List Beat
+sent_copies registry message beats = copied_beats message.child registry (definitions_in message.names) (named_beats message.names beats)
+
+-- a registry with what the names of a Data define
+abbrev pub with_names : Registry → Data → Registry
+with_names registry message = let defines = definitions_in message.names in with_definitions registry defines.charts defines.dimensions

@@ -1,0 +1,542 @@
+//! How the gap and the beats of a child's message are added to a history.
+
+ghost use Rattle.std.specs.Prelude.{◌≡◌, ◌<◌, ◌≤◌, ◌^◌, ◌++◌, ◌∷◌, ◌⊎◌, [], ℕ, List, Option, Some, None, true, false, length, IfOk, IfErr, IsErrOf, OnOk};
+ghost use Rattle.algorithms.specs.declared.last.Last.{Last as ALast};
+ghost use Rattle.alarm_core.specs.declared.latest.Latest.{Latest as ALatest};
+ghost use Rattle.alarm_core.specs.Course.{held};
+ghost use Rattle.alarm_core.specs.UpTo.{IsUpTo};
+ghost use Rattle.host_model.specs.declared.file.File.TheVariants.{JournalA};
+ghost use Rattle.host_model.specs.Disks.{EveryDisk};
+ghost use Rattle.host_model.specs.Cause.{HasCause};
+ghost use Rattle.host_model.specs.Moments.{Throughout, OnlyOn};
+ghost use Rattle.history.specs.History.{Beat as HistoryBeat, copied, missing, registry_of, Copy};
+ghost use Rattle.history.specs.Numbered.{numbered_charts, numbered_dimensions};
+ghost use Rattle.history.specs.Registry.{Registry as ARegistry, same_chart, same_dimension, with_definitions};
+ghost use Rattle.history.specs.Regular.{AreApart};
+ghost use Rattle.entry_codec.specs.declared.entry.Settings.{Settings as ASettings};
+ghost use Rattle.entry_codec.specs.Entries.{is_collected_canonical, IsWithinLimits};
+ghost use Rattle.replication.specs.Copies.{latest as latest_of};
+ghost use Rattle.replication.specs.Names.{beat_moment};
+ghost use Rattle.link_frames.specs.DataForm.{has_rising_places, has_storage_numbers, IsData};
+ghost use Rattle.link_frames.specs.DataForm.{AreApart as AreNamesApart};
+ghost use Rattle.store_core.specs.Beats.{beat_bytes, InForm};
+ghost use Rattle.store_core.specs.Store.{IsReady, IsReplayed};
+ghost use Rattle.agent_core.specs.Agent.{Holds};
+ghost use Rattle.agent_core.specs.Alarms.{events_at};
+ghost use Rattle.agent_core.specs.Copying.{beats_of, definitions_in, events_onto, names_refusal};
+ghost use Rattle.agent_core.specs.Faults.{IsSpending};
+ghost use Rattle.agent_core.specs.Kept.{onto, IsCopyOf, StandsForFront, StandsForHistory};
+ghost use Rattle.agent_core.specs.Notes.{names_series};
+ghost use Rattle.agent_core.specs.Replay.{HasSeenCopy};
+ghost use Rattle.agent_core.specs.Roles.{may_copy, role_of};
+ghost use Rattle.agent_core.specs.Rules.{lacks_chart, HasLimits, IsOpenBeat};
+ghost use Rattle.agent_core.specs.Storing.{gap_beats, later_copies, sent_copies, with_names, ArePartsAt, AreSent, IsSentAs, MayTakeAll};
+
+use crate::alarming::{Stepping, follow};
+use crate::copying::{definitions_in, kept_copy, kept_gap};
+use crate::fault::AgentFault;
+use crate::keeping::{commit, take_rows, untaken};
+use crate::last_seen::see_copied;
+use alarm_core::{Alarms, EventList, Latest};
+use beat_entries::number_beat;
+use beat_points::LastRows;
+use chart_registry::Registry;
+use fixed_num::ListOf;
+use history::{NumberedBeat, OpenBeat};
+use host_model::Host;
+use replication::{Beat as SentBeat, Data};
+use std::alloc::{AllocError, Global};
+use store_core::{Beat, Store};
+
+/// Adds a gap of a child, the moments above `from` up to `to`, to a store that is still of use. At every moment a
+/// crash leaves the history with the gap or without it.
+pub(crate) fn add_gap<H: Host>(
+    alloc: Global,
+    store: &mut Store,
+    host: &mut H,
+    child: u64,
+    from: u32,
+    to: u32,
+) -> Result<(), AgentFault>
+    requires ready { IsReady H.honest (H.seen host.old).past store.old }
+    requires replayed { IsReplayed store.old }
+    requires going { store.old.fault ≡ None }
+    requires later { store.old.last < to }
+    ensures any_moment { H.honest → (registry : ARegistry) (lasts : List (Option ALast))
+        (latest : ALatest) (set : ASettings) (h : List HistoryBeat)
+        → Holds (H.seen host.old).past store.old registry lasts latest set h
+        → may_copy (role_of h) ≡ true
+        → let gap = missing (record { child = child; from = from; to = to }) in
+        Throughout (EveryDisk (λ disk. StandsForHistory set h disk
+        ⊎ StandsForHistory set (gap ∷ h) disk)) (H.seen host.old).past (H.seen host.new).past }
+    ensures done { OnOk result
+        (H.honest → (registry : ARegistry) (lasts : List (Option ALast)) (latest : ALatest)
+        (set : ASettings) (h : List HistoryBeat)
+        → Holds (H.seen host.old).past store.old registry lasts latest set h
+        → may_copy (role_of h) ≡ true
+        → Holds (H.seen host.new).past store.new registry lasts latest set
+        (missing (record { child = child; from = from; to = to }) ∷ h)) }
+    ensures ready { IsReady H.honest (H.seen host.new).past store.new }
+    ensures replayed { IsReplayed store.new }
+    ensures going { OnOk result (store.new.fault ≡ None) }
+    ensures last { OnOk result (store.new.last ≡ to) }
+    ensures settings { store.new.settings ≡ store.old.settings }
+    ensures faults { IfErr result IsSpending }
+    ensures only_here { H.honest → OnlyOn JournalA (H.seen host.old).past (H.seen host.new).past }
+    ensures cause { HasCause (H.seen host.old).disk_faults (H.seen host.new).disk_faults
+        (IsErrOf result AgentFault.DiskFault) }
+    ensures tells { (H.seen host.new).tell_faults ≡ (H.seen host.old).tell_faults }
+{
+    match kept_gap(alloc, child, from, to) {
+        Ok(kept) => commit(store, host, &kept),
+        Err(_) => Err(AgentFault::Memory),
+    }
+}
+
+/// Takes the points of a copied beat as what was last seen.
+fn see_copy(
+    alloc: Global,
+    latest: &mut Latest,
+    registry: &Registry,
+    moment: u32,
+    kept: &Beat,
+    before: u32,
+) -> Result<(), AgentFault>
+    requires { names_series registry.now kept.now.points ≡ true }
+    ensures seen { OnOk result
+        (HasSeenCopy registry.now latest.old latest.new moment kept.now.points) }
+    ensures before { OnOk result (latest.new.before ≡ before) }
+    ensures memory { IfErr result (λ fault. fault ≡ AgentFault.Memory) }
+{
+    match see_copied(alloc, latest, registry, moment, kept.points.as_slice(), before) {
+        Ok(()) => Ok(()),
+        Err(_) => Err(AgentFault::Memory),
+    }
+}
+
+/// Adds a copied beat, whose definitions the registry has, to the other parts of an agent. At every moment a
+/// crash leaves the history with the beat or without it. After an `Err` the parts are of no more use.
+fn store_copy<H: Host>(
+    alloc: Global,
+    store: &mut Store,
+    registry: &Registry,
+    last_rows: &mut LastRows,
+    latest: &mut Latest,
+    host: &mut H,
+    defines: &NumberedBeat,
+    kept: &Beat,
+    moment: u32,
+) -> Result<(), AgentFault>
+    requires ready { IsReady H.honest (H.seen host.old).past store.old }
+    requires replayed { IsReplayed store.old }
+    requires going { store.old.fault ≡ None }
+    requires later { store.old.last < moment }
+    requires moment { kept.now.moment ≡ Some moment }
+    requires no_rows { defines.now.rows ≡ [] }
+    requires named { names_series registry.now kept.now.points ≡ true }
+    requires form { InForm kept.now }
+    requires size { length (beat_bytes kept.now) ≤ 2 ^ 26 }
+    ensures any_moment { H.honest → (before : ARegistry) (set : ASettings)
+        (g : List HistoryBeat) (copy : Copy)
+        → Holds (H.seen host.old).past store.old before last_rows.old latest.old set g
+        → IsCopyOf g copy kept.now
+        → Throughout (EveryDisk (λ disk. StandsForHistory set g disk
+        ⊎ StandsForHistory set (copied copy ∷ g) disk)) (H.seen host.old).past
+        (H.seen host.new).past }
+    ensures done { OnOk result
+        (H.honest → (before : ARegistry) (set : ASettings) (g : List HistoryBeat) (copy : Copy)
+        → Holds (H.seen host.old).past store.old before last_rows.old latest.old set g
+        → IsCopyOf g copy kept.now → registry.now ≡ registry_of (copied copy ∷ g)
+        → Holds (H.seen host.new).past store.new registry.now last_rows.new latest.new set
+        (copied copy ∷ g)) }
+    ensures ready { IsReady H.honest (H.seen host.new).past store.new }
+    ensures replayed { IsReplayed store.new }
+    ensures going { OnOk result (store.new.fault ≡ None) }
+    ensures last { OnOk result (store.new.last ≡ moment) }
+    ensures before { OnOk result (latest.new.before ≡ store.old.last) }
+    ensures settings { store.new.settings ≡ store.old.settings }
+    ensures faults { IfErr result IsSpending }
+    ensures only_here { H.honest → OnlyOn JournalA (H.seen host.old).past (H.seen host.new).past }
+    ensures cause { HasCause (H.seen host.old).disk_faults (H.seen host.new).disk_faults
+        (IsErrOf result AgentFault.DiskFault) }
+    ensures tells { (H.seen host.new).tell_faults ≡ (H.seen host.old).tell_faults }
+{
+    let before = store.last();
+    commit(store, host, kept)?;
+    take_rows(last_rows, registry, defines)?;
+    see_copy(alloc, latest, registry, moment, kept, before)
+}
+
+/// Adds a beat of a message, whose definitions the registry has, to the other parts of an agent, and gives the
+/// events that its alarms tell. At every moment a crash leaves the history with the beat or without it. `fresh` says
+/// whether definitions came since the alarms were last stepped. After an `Err` the parts are of no more use.
+fn add_copy<H: Host>(
+    alloc: Global,
+    store: &mut Store,
+    registry: &Registry,
+    last_rows: &mut LastRows,
+    latest: &mut Latest,
+    alarms: &mut Alarms,
+    host: &mut H,
+    message: &Data,
+    defines: &NumberedBeat,
+    beat: &SentBeat,
+    fresh: bool,
+) -> Result<EventList, AgentFault>
+    requires ready { IsReady H.honest (H.seen host.old).past store.old }
+    requires replayed { IsReplayed store.old }
+    requires going { store.old.fault ≡ None }
+    requires later { store.old.last < beat.now.moment }
+    requires own { AreApart same_dimension registry.now.dimensions }
+    requires registry { HasLimits registry.now }
+    requires names { AreNamesApart message.now.names }
+    requires places { has_rising_places beat.now ≡ true }
+    requires words { has_storage_numbers beat.now ≡ true }
+    requires within { IsWithinLimits defines.now }
+    requires canonical { is_collected_canonical defines.now ≡ true }
+    requires no_rows { defines.now.rows ≡ [] }
+    requires same { fresh ≡ false → IsUpTo alarms.old registry.now }
+    ensures any_moment { H.honest → (before : ARegistry) (set : ASettings)
+        (g : List HistoryBeat) (copy : Copy)
+        → Holds (H.seen host.old).past store.old before last_rows.old latest.old set g
+        → IsSentAs registry.now message.now defines.now beat.now g copy
+        → Throughout (EveryDisk (λ disk. StandsForHistory set g disk
+        ⊎ StandsForHistory set (copied copy ∷ g) disk)) (H.seen host.old).past
+        (H.seen host.new).past }
+    ensures done { IfOk result
+        (λ events. H.honest → (before : ARegistry) (set : ASettings) (g : List HistoryBeat)
+        (copy : Copy)
+        → ArePartsAt (H.seen host.old).past store.old before last_rows.old latest.old
+        (held alarms.old) set g
+        → IsSentAs registry.now message.now defines.now beat.now g copy
+        → ArePartsAt (H.seen host.new).past store.new registry.now last_rows.new latest.new
+        (held alarms.new) set (copied copy ∷ g) × (events ≡ events_at set (copied copy ∷ g))) }
+    ensures up_to { OnOk result (IsUpTo alarms.new registry.now) }
+    ensures ready { IsReady H.honest (H.seen host.new).past store.new }
+    ensures replayed { IsReplayed store.new }
+    ensures going { OnOk result (store.new.fault ≡ None) }
+    ensures last { OnOk result (store.new.last ≡ beat.now.moment) }
+    ensures settings { store.new.settings ≡ store.old.settings }
+    ensures faults { IfErr result IsSpending }
+    ensures only_here { H.honest → OnlyOn JournalA (H.seen host.old).past (H.seen host.new).past }
+    ensures cause { HasCause (H.seen host.old).disk_faults (H.seen host.new).disk_faults
+        (IsErrOf result AgentFault.DiskFault) }
+    ensures tells { (H.seen host.new).tell_faults ≡ (H.seen host.old).tell_faults }
+{
+    let moment = beat.moment;
+    let Ok(kept) = kept_copy(alloc, registry, message, defines, beat) else {
+        return Err(AgentFault::Memory);
+    };
+    store_copy(alloc, store, registry, last_rows, latest, host, defines, &kept, moment)?;
+    let stepping = Stepping::Beat(moment, fresh);
+    follow(alloc, alarms, store, host, registry, latest, stepping)
+}
+
+/// A beat that defines nothing and sets nothing.
+#[tactic(auto, unfolding(entry_codec::specs::Entries::is_collected_canonical))]
+fn nothing_defined(alloc: Global) -> NumberedBeat
+    ensures charts { result.charts ≡ [] }
+    ensures dimensions { result.dimensions ≡ [] }
+    ensures rows { result.rows ≡ [] }
+    ensures within { IsWithinLimits result }
+    ensures canonical { is_collected_canonical result ≡ true }
+{
+    NumberedBeat {
+        moment: 0,
+        charts: ListOf::new(alloc),
+        dimensions: ListOf::new(alloc),
+        rows: ListOf::new(alloc),
+    }
+}
+
+/// Adds events to those before them.
+fn add_events(events: &mut EventList, more: EventList) -> Result<(), AgentFault>
+    ensures added { OnOk result (events.new ≡ events.old ++ more) }
+    ensures memory { IfErr result (λ fault. fault ≡ AgentFault.Memory) }
+{
+    for event in more.into_vec() {
+        if events.push(event).is_err() {
+            return Err(AgentFault::Memory);
+        }
+    }
+    Ok(())
+}
+
+/// Adds beats of a message that define nothing, each after those before it, to the parts of an agent, and gives the
+/// events of all of them. At every moment a crash leaves the history with the first of them, with none or with all.
+/// After an `Err` the parts are of no more use.
+fn add_later<H: Host>(
+    alloc: Global,
+    store: &mut Store,
+    registry: &Registry,
+    last_rows: &mut LastRows,
+    latest: &mut Latest,
+    alarms: &mut Alarms,
+    host: &mut H,
+    message: &Data,
+    beats: &[SentBeat],
+) -> Result<EventList, AgentFault>
+    requires ready { IsReady H.honest (H.seen host.old).past store.old }
+    requires replayed { IsReplayed store.old }
+    requires going { store.old.fault ≡ None }
+    requires own { AreApart same_dimension registry.now.dimensions }
+    requires registry { HasLimits registry.now }
+    requires up_to { IsUpTo alarms.old registry.now }
+    requires sent { AreSent store.old.last message.now beats.now }
+    ensures any_moment { H.honest → (set : ASettings) (g : List HistoryBeat)
+        → let more = later_copies registry.now message.now beats.now in
+        ArePartsAt (H.seen host.old).past store.old registry.now last_rows.old latest.old
+        (held alarms.old) set g → MayTakeAll g more
+        → Throughout (EveryDisk (StandsForFront set g more)) (H.seen host.old).past
+        (H.seen host.new).past }
+    ensures done { IfOk result
+        (λ events. H.honest → (set : ASettings) (g : List HistoryBeat)
+        → let more = later_copies registry.now message.now beats.now in
+        ArePartsAt (H.seen host.old).past store.old registry.now last_rows.old latest.old
+        (held alarms.old) set g → MayTakeAll g more
+        → ArePartsAt (H.seen host.new).past store.new registry.now last_rows.new latest.new
+        (held alarms.new) set (onto g more) × (events ≡ events_onto set g more)) }
+    ensures up_to { OnOk result (IsUpTo alarms.new registry.now) }
+    ensures ready { IsReady H.honest (H.seen host.new).past store.new }
+    ensures replayed { IsReplayed store.new }
+    ensures going { OnOk result (store.new.fault ≡ None) }
+    ensures last { OnOk result
+        (store.new.last ≡ latest_of beat_moment store.old.last beats.now) }
+    ensures settings { store.new.settings ≡ store.old.settings }
+    ensures faults { IfErr result IsSpending }
+    ensures only_here { H.honest → OnlyOn JournalA (H.seen host.old).past (H.seen host.new).past }
+    ensures cause { HasCause (H.seen host.old).disk_faults (H.seen host.new).disk_faults
+        (IsErrOf result AgentFault.DiskFault) }
+    ensures tells { (H.seen host.new).tell_faults ≡ (H.seen host.old).tell_faults }
+{
+    let defines = nothing_defined(alloc);
+    let mut events = EventList::new(alloc);
+    for beat in beats {
+        let more = add_copy(
+            alloc, store, registry, last_rows, latest, alarms, host, message, &defines, beat, false,
+        )?;
+        add_events(&mut events, more)?;
+    }
+    Ok(events)
+}
+
+/// Adds the beats of a message, each after those before it, where the registry has the definitions of the message,
+/// of which this is the numbered beat: the first has them. The events are those of all of them. At every moment a
+/// crash leaves the history with the first of them, with none or with all. After an `Err` the parts are of no more
+/// use.
+fn add_beats<H: Host>(
+    alloc: Global,
+    store: &mut Store,
+    registry: &Registry,
+    last_rows: &mut LastRows,
+    latest: &mut Latest,
+    alarms: &mut Alarms,
+    host: &mut H,
+    message: &Data,
+    defines: &NumberedBeat,
+    beats: &[SentBeat],
+) -> Result<EventList, AgentFault>
+    requires ready { IsReady H.honest (H.seen host.old).past store.old }
+    requires replayed { IsReplayed store.old }
+    requires going { store.old.fault ≡ None }
+    requires own { AreApart same_dimension registry.now.dimensions }
+    requires registry { HasLimits registry.now }
+    requires sent { AreSent store.old.last message.now beats.now }
+    requires charts { defines.now.charts
+        ≡ numbered_charts registry.now (definitions_in message.now.names) }
+    requires dimensions { defines.now.dimensions
+        ≡ numbered_dimensions registry.now (definitions_in message.now.names) }
+    requires within { IsWithinLimits defines.now }
+    requires canonical { is_collected_canonical defines.now ≡ true }
+    requires no_rows { defines.now.rows ≡ [] }
+    ensures any_moment { H.honest → (before : ARegistry) (set : ASettings)
+        (g : List HistoryBeat)
+        → let more = sent_copies registry.now message.now beats.now in
+        ArePartsAt (H.seen host.old).past store.old before last_rows.old latest.old
+        (held alarms.old) set g → registry.now ≡ with_names before message.now
+        → MayTakeAll g more
+        → Throughout (EveryDisk (StandsForFront set g more)) (H.seen host.old).past
+        (H.seen host.new).past }
+    ensures done { IfOk result
+        (λ events. H.honest → (before : ARegistry) (set : ASettings) (g : List HistoryBeat)
+        → let more = sent_copies registry.now message.now beats.now in
+        ArePartsAt (H.seen host.old).past store.old before last_rows.old latest.old
+        (held alarms.old) set g → registry.now ≡ with_names before message.now
+        → MayTakeAll g more → 0 < length beats.now
+        → ArePartsAt (H.seen host.new).past store.new registry.now last_rows.new latest.new
+        (held alarms.new) set (onto g more) × (events ≡ events_onto set g more)) }
+    ensures up_to { OnOk result (0 < length beats.now → IsUpTo alarms.new registry.now) }
+    ensures ready { IsReady H.honest (H.seen host.new).past store.new }
+    ensures replayed { IsReplayed store.new }
+    ensures going { OnOk result (store.new.fault ≡ None) }
+    ensures last { OnOk result
+        (store.new.last ≡ latest_of beat_moment store.old.last beats.now) }
+    ensures settings { store.new.settings ≡ store.old.settings }
+    ensures faults { IfErr result IsSpending }
+    ensures only_here { H.honest → OnlyOn JournalA (H.seen host.old).past (H.seen host.new).past }
+    ensures cause { HasCause (H.seen host.old).disk_faults (H.seen host.new).disk_faults
+        (IsErrOf result AgentFault.DiskFault) }
+    ensures tells { (H.seen host.new).tell_faults ≡ (H.seen host.old).tell_faults }
+{
+    let Some((first, rest)) = beats.split_first() else {
+        return Ok(EventList::new(alloc));
+    };
+    let mut events = add_copy(
+        alloc, store, registry, last_rows, latest, alarms, host, message, defines, first, true,
+    )?;
+    let more = add_later(
+        alloc, store, registry, last_rows, latest, alarms, host, message, rest,
+    )?;
+    add_events(&mut events, more)?;
+    Ok(events)
+}
+
+/// Adds the gap before the beats of a message, if there is one, to a store that is still of use.
+fn add_gap_before<H: Host>(
+    alloc: Global,
+    store: &mut Store,
+    host: &mut H,
+    message: &Data,
+) -> Result<(), AgentFault>
+    requires ready { IsReady H.honest (H.seen host.old).past store.old }
+    requires replayed { IsReplayed store.old }
+    requires going { store.old.fault ≡ None }
+    requires at { message.now.prev ≡ store.old.last }
+    requires from { message.now.prev ≤ message.now.from }
+    ensures any_moment { H.honest → (registry : ARegistry) (lasts : List (Option ALast))
+        (latest : ALatest) (set : ASettings) (h : List HistoryBeat)
+        → Holds (H.seen host.old).past store.old registry lasts latest set h
+        → may_copy (role_of h) ≡ true
+        → Throughout (EveryDisk (StandsForFront set h (gap_beats message.now)))
+        (H.seen host.old).past (H.seen host.new).past }
+    ensures done { OnOk result
+        (H.honest → (registry : ARegistry) (lasts : List (Option ALast)) (latest : ALatest)
+        (set : ASettings) (h : List HistoryBeat)
+        → Holds (H.seen host.old).past store.old registry lasts latest set h
+        → may_copy (role_of h) ≡ true
+        → Holds (H.seen host.new).past store.new registry lasts latest set
+        (onto h (gap_beats message.now))) }
+    ensures ready { IsReady H.honest (H.seen host.new).past store.new }
+    ensures replayed { IsReplayed store.new }
+    ensures going { OnOk result (store.new.fault ≡ None) }
+    ensures last { OnOk result (store.new.last ≡ message.now.from) }
+    ensures settings { store.new.settings ≡ store.old.settings }
+    ensures faults { IfErr result IsSpending }
+    ensures only_here { H.honest → OnlyOn JournalA (H.seen host.old).past (H.seen host.new).past }
+    ensures cause { HasCause (H.seen host.old).disk_faults (H.seen host.new).disk_faults
+        (IsErrOf result AgentFault.DiskFault) }
+    ensures tells { (H.seen host.new).tell_faults ≡ (H.seen host.old).tell_faults }
+{
+    if message.prev < message.from {
+        add_gap(
+            alloc,
+            store,
+            host,
+            message.child,
+            message.prev,
+            message.from,
+        )
+    } else {
+        Ok(())
+    }
+}
+
+/// Takes definitions that a registry was tested for, and gives them by number. After an `Err` it may have taken a part
+/// of them.
+fn define(
+    alloc: Global,
+    registry: &mut Registry,
+    defs: &OpenBeat,
+) -> Result<NumberedBeat, AgentFault>
+    requires is_open { IsOpenBeat defs.now }
+    requires no_rows { defs.now.rows ≡ [] }
+    requires has_charts { lacks_chart registry.old defs.now ≡ false }
+    requires free { names_refusal registry.old defs.now ≡ None }
+    requires charts { AreApart same_chart registry.old.charts }
+    requires dimensions { AreApart same_dimension registry.old.dimensions }
+    requires limits { HasLimits registry.old }
+    ensures applied { OnOk result
+        (registry.new ≡ with_definitions registry.old defs.now.charts defs.now.dimensions) }
+    ensures numbered_charts { IfOk result
+        (λ numbered. numbered.charts ≡ numbered_charts registry.new defs.now) }
+    ensures numbered_dimensions { IfOk result
+        (λ numbered. numbered.dimensions ≡ numbered_dimensions registry.new defs.now) }
+    ensures within { IfOk result IsWithinLimits }
+    ensures canonical { IfOk result (λ numbered. is_collected_canonical numbered ≡ true) }
+    ensures no_rows { IfOk result (λ numbered. numbered.rows ≡ []) }
+    ensures charts { OnOk result (AreApart same_chart registry.new.charts) }
+    ensures dimensions { OnOk result (AreApart same_dimension registry.new.dimensions) }
+    ensures limits { OnOk result (HasLimits registry.new) }
+    ensures memory { IfErr result (λ fault. fault ≡ AgentFault.Memory) }
+{
+    match registry.apply(defs) {
+        Ok(()) => match number_beat(alloc, registry, 0, defs) {
+            Ok(numbered) => Ok(numbered),
+            Err(_) => Err(AgentFault::Memory),
+        },
+        Err(fault) => {
+            let _none = untaken(fault);
+            Err(AgentFault::Memory)
+        }
+    }
+}
+
+/// Adds the gap and the beats of a message that begins where the history ends to the parts of an agent, and gives the
+/// events of all of them; nothing stands against it. At every moment a crash leaves the history with the first of
+/// them, with none or with all. After an `Err` the parts are of no more use.
+pub(crate) fn add_message<H: Host>(
+    alloc: Global,
+    store: &mut Store,
+    registry: &mut Registry,
+    last_rows: &mut LastRows,
+    latest: &mut Latest,
+    alarms: &mut Alarms,
+    host: &mut H,
+    message: &Data,
+) -> Result<EventList, AgentFault>
+    requires ready { IsReady H.honest (H.seen host.old).past store.old }
+    requires replayed { IsReplayed store.old }
+    requires going { store.old.fault ≡ None }
+    requires at { message.now.prev ≡ store.old.last }
+    requires form { IsData message.now }
+    requires free { names_refusal registry.old (definitions_in message.now.names) ≡ None }
+    requires charts { AreApart same_chart registry.old.charts }
+    requires dimensions { AreApart same_dimension registry.old.dimensions }
+    requires limits { HasLimits registry.old }
+    ensures any_moment { H.honest → (set : ASettings) (h : List HistoryBeat)
+        → ArePartsAt (H.seen host.old).past store.old registry.old last_rows.old latest.old
+        (held alarms.old) set h → may_copy (role_of h) ≡ true
+        → Throughout (EveryDisk (StandsForFront set h (beats_of registry.old message.now)))
+        (H.seen host.old).past (H.seen host.new).past }
+    ensures done { IfOk result
+        (λ events. H.honest → (set : ASettings) (h : List HistoryBeat)
+        → let more = beats_of registry.old message.now in
+        ArePartsAt (H.seen host.old).past store.old registry.old last_rows.old latest.old
+        (held alarms.old) set h → may_copy (role_of h) ≡ true
+        → ArePartsAt (H.seen host.new).past store.new registry.new last_rows.new latest.new
+        (held alarms.new) set (onto h more) × (events ≡ events_onto set h more)) }
+    ensures up_to { OnOk result (IsUpTo alarms.new registry.new) }
+    ensures ready { IsReady H.honest (H.seen host.new).past store.new }
+    ensures replayed { IsReplayed store.new }
+    ensures going { OnOk result (store.new.fault ≡ None) }
+    ensures last { OnOk result (store.new.last ≡ message.now.upto) }
+    ensures charts { OnOk result (AreApart same_chart registry.new.charts) }
+    ensures dimensions { OnOk result (AreApart same_dimension registry.new.dimensions) }
+    ensures limits { OnOk result (HasLimits registry.new) }
+    ensures settings { store.new.settings ≡ store.old.settings }
+    ensures faults { IfErr result IsSpending }
+    ensures only_here { H.honest → OnlyOn JournalA (H.seen host.old).past (H.seen host.new).past }
+    ensures cause { HasCause (H.seen host.old).disk_faults (H.seen host.new).disk_faults
+        (IsErrOf result AgentFault.DiskFault) }
+    ensures tells { (H.seen host.new).tell_faults ≡ (H.seen host.old).tell_faults }
+{
+    let Ok(defs) = definitions_in(alloc, &message.names) else {
+        return Err(AgentFault::Memory);
+    };
+    add_gap_before(alloc, store, host, message)?;
+    let defines = define(alloc, registry, &defs)?;
+    let beats = message.beats.as_slice();
+    add_beats(
+        alloc, store, registry, last_rows, latest, alarms, host, message, &defines, beats,
+    )
+}

@@ -1,0 +1,17 @@
+pub mod ExchangeLemmas
+pub mod HearLemmas
+pub mod IncomingLemmas
+pub mod LinkLemmas
+pub mod SpellingLemmas
+pub mod SendingLemmas
+pub mod StepLemmas
+pub mod ChildLemmas
+pub mod SendLemmas
+pub mod AckLemmas
+pub mod EventLemmas
+pub mod ExtendsLemmas
+pub mod StoreLemmas
+pub mod ReceiveLemmas
+pub mod ParentLemmas
+pub mod DataLemmas
+pub mod CopyLemmas

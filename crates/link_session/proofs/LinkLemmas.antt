@@ -1,0 +1,53 @@
+-- What is sent over a link and taken of it, part by part.
+use Rattle.std.proofs.Common.{◌≡◌, ℕ, Bool, true, List, [], ◌++◌, length, take, Option, Some, None, option_map, refl, sym, ap, subst, ◌∙◌, append_assoc, append-nil}
+use Rattle.std.specs.List.{flat_map}
+use Rattle.std.proofs.Math.Seq.{take-append_seam, take-length}
+use Rattle.std.proofs.lemmas.Grind.{flat_map-append}
+use Rattle.host_model.specs.Link.{Sends, SendsFront}
+use Rattle.host_model.specs.Source.{Takes}
+use Rattle.link_frames.specs.declared.frame.Frame.{Frame}
+use Rattle.link_frames.specs.Frames.{frame_bytes}
+use Rattle.link_session.specs.Session.{SaysFront}
+
+pub sends-nothing : (sent : Option (List ℕ)) → Sends sent [] sent
+sends-nothing None = refl
+sends-nothing (Some bytes) = ap Some (sym (append-nil bytes))
+
+pub sends-both : (a b c : Option (List ℕ)) (x y : List ℕ) → Sends a x b → Sends b y c → Sends a (x ++ y) c
+sends-both None b c x y first second = second ∙ ap (option_map (λ (sent : List ℕ). sent ++ y)) first
+sends-both (Some sent) b c x y first second = second ∙ ap (option_map (λ (sent : List ℕ). sent ++ y)) first ∙ ap Some (append_assoc sent x y)
+
+pub takes-nothing : (left : Option (List ℕ)) → Takes left [] left
+takes-nothing None = refl
+takes-nothing (Some bytes) = refl
+
+pub takes-both : (a b c : Option (List ℕ)) (x y : List ℕ) → Takes a x b → Takes b y c → Takes a (x ++ y) c
+takes-both a b None x y first second = first ∙ ap (option_map (λ (left : List ℕ). x ++ left)) second
+takes-both a b (Some left) x y first second = first ∙ ap (option_map (λ (left : List ℕ). x ++ left)) second ∙ ap Some (sym (append_assoc x y left))
+
+-- nothing was to be said
+pub silent-front : (all : Bool) (sent : Option (List ℕ)) → SaysFront all [] sent sent
+silent-front all sent = record { said = []; unsaid = []; whole = refl; sends = sends-nothing sent; complete = λ _. refl }
+
+-- behind frames that were said, a front of others was
+pub joined-front : (all : Bool) (first more : List Frame) (a b c : Option (List ℕ)) → Sends a (flat_map frame_bytes first) b → SaysFront all more b c → SaysFront all (first ++ more) a c
+joined-front all first more a b c said front = record {
+  said = flat_map frame_bytes first ++ front.said;
+  unsaid = front.unsaid;
+  whole = flat_map-append frame_bytes first more ∙ ap (λ (bytes : List ℕ). flat_map frame_bytes first ++ bytes) front.whole ∙ sym (append_assoc (flat_map frame_bytes first) front.said front.unsaid);
+  sends = sends-both a b c (flat_map frame_bytes first) front.said said front.sends;
+  complete = front.complete;
+}
+
+-- all of them were
+pub all-said : (all : Bool) (frames : List Frame) (a b : Option (List ℕ)) → SaysFront all frames a b → all ≡ true → Sends a (flat_map frame_bytes frames) b
+all-said all frames a b front is =
+    subst (λ (bytes : List ℕ). Sends a bytes b) (sym (front.whole ∙ ap (λ (bytes : List ℕ). front.said ++ bytes) (front.complete is) ∙ append-nil front.said)) front.sends
+
+-- a front of their bytes was sent
+pub front-sends : (all : Bool) (frames : List Frame) (a b : Option (List ℕ)) → SaysFront all frames a b → SendsFront a (flat_map frame_bytes frames) b
+front-sends all frames a b front =
+    (length front.said, subst (λ (bytes : List ℕ). Sends a bytes b) (sym (ap (take (length front.said)) front.whole ∙ take-append_seam front.said front.unsaid)) front.sends)
+
+pub all-sends : (bytes : List ℕ) (a b : Option (List ℕ)) → Sends a bytes b → SendsFront a bytes b
+all-sends bytes a b sends = (length bytes, subst (λ (sent : List ℕ). Sends a sent b) (sym (take-length bytes)) sends)

@@ -1,0 +1,33 @@
+use Rattle.std.proofs.Common.{◌≡◌, Option, Result, Ok, Some, None, inl, refl, subst}
+use Rattle.replication.specs.declared.message.Data.{Data}
+use Rattle.agent_core.specs.declared.fault.AgentFault.{AgentFault}
+use Rattle.agent_core.specs.Calls.{AnswersAsk}
+use Rattle.link_session.proofs.ChildLemmas.{answers-badly, answers-data, answers-none}
+use Rattle.link_session.proofs.SpellingLemmas.{bye-spelt}
+use Rattle.link_session.proofs.child.Child.answer.Goals as goal
+
+pub answer_with-requires-in-Ok-None : goal.answer_with-requires-in-Ok-None
+answer_with-requires-in-Ok-None g c = bye-spelt 0 (inl refl)
+
+pub returns-in-Ok-Some-clause-takes : goal.returns-in-Ok-Some-clause-takes
+returns-in-Ok-Some-clause-takes g c =
+    let host = g.H.Host.seen c.args.host.now in
+    let host' = g.H.Host.seen c.data.new.host in
+    let is : c.data.result ≡ Ok (Some c.in-Ok-Some.message) = cc in
+    answers-data g.H.Host.honest host c.args.agent.now c.args.self.now.last c.args.ask.now host' c.data.new.self c.in-Ok-Some.message c.answer_with.result _ _
+    (subst (λ (r : Result (Option Data) AgentFault). AnswersAsk g.H.Host.honest host c.args.agent.now c.args.ask.now r host' c.data.new.self) is c.data.ensures) c.answer_with.ensures.says
+
+pub returns-in-Ok-None-clause-takes : goal.returns-in-Ok-None-clause-takes
+returns-in-Ok-None-clause-takes g c =
+    let host = g.H.Host.seen c.args.host.now in
+    let host' = g.H.Host.seen c.data.new.host in
+    let is : c.data.result ≡ Ok None = cc in
+    answers-none g.H.Host.honest host c.args.agent.now c.args.self.now.last c.args.ask.now host' c.data.new.self c.answer_with-in-Ok-None.result _ _
+    (subst (λ (r : Result (Option Data) AgentFault). AnswersAsk g.H.Host.honest host c.args.agent.now c.args.ask.now r host' c.data.new.self) is c.data.ensures) c.answer_with-in-Ok-None.ensures.says
+
+pub returns-in-Err-clause-takes : goal.returns-in-Err-clause-takes
+returns-in-Err-clause-takes g c =
+    let host = g.H.Host.seen c.args.host.now in
+    let host' = g.H.Host.seen c.data.new.host in
+    answers-badly g.H.Host.honest host c.args.agent.now c.args.self.now.last c.args.ask.now host' c.data.new.self c.in-Err.fault _
+    (subst (λ (r : Result (Option Data) AgentFault). AnswersAsk g.H.Host.honest host c.args.agent.now c.args.ask.now r host' c.data.new.self) c.in-Err.is c.data.ensures)

@@ -1,0 +1,21 @@
+use Rattle.agent_core.specs.Copies.{data_of_history}
+use Rattle.link_session.specs.Child.{hears_have}
+use Rattle.link_session.proofs.ChildLemmas.{had-less, had-more, had-nothing, takes-refused}
+use Rattle.link_session.proofs.child.Child.hear_have.Goals as goal
+
+pub returns-in_default-clause-takes : goal.returns-in_default-clause-takes
+returns-in_default-clause-takes g c =
+    let host = g.H.Host.seen c.args.host.now in
+    takes-refused g.H.Host.honest host c.args.agent.now (λ set h. hears_have set.id (data_of_history set h) c.args.self.now.last c.args.had) c.args.self.now.last c.refuse.result _ _ c.requires
+    (had-nothing g.H.Host.honest host c.args.agent.now c.args.self.now.last c.args.had c.in_default.is) c.refuse.ensures.leaves
+
+pub returns-clause-takes : goal.returns-clause-takes
+returns-clause-takes g c =
+    let host = g.H.Host.seen c.args.host.now in
+    takes-refused g.H.Host.honest host c.args.agent.now (λ set h. hears_have set.id (data_of_history set h) c.args.self.now.last c.args.had) c.args.self.now.last c.refuse-2.result _ _ c.requires
+    (had-more g.H.Host.honest host c.args.agent.now c.args.self.now.last c.in-Some.upto c.args.had c.in-Some.is c.if-had-upto.false c.if-had-upto-2.false) c.refuse-2.ensures.leaves
+
+pub returns-then-had-upto-2-clause-takes : goal.returns-then-had-upto-2-clause-takes
+returns-then-had-upto-2-clause-takes g c =
+    had-less g.H.Host.honest (g.H.Host.seen c.args.host.now) c.args.agent.now c.args.self.now.last c.in-Some.upto c.args.had (g.L.Link.sent c.args.link.now)
+    c.in-Some.is c.if-had-upto.false c.if-had-upto-2.true c.requires

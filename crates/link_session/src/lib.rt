@@ -1,0 +1,27 @@
+//! A session each way over a link: a child sends its history, and a parent receives it.
+//!
+//! What an end does with each frame that comes is a definition (`specs/Child.antt` and `specs/Parent.antt`), and a
+//! session is the fold of it over the frames in the bytes of the link (`specs/Exchange.antt`). `send` and `receive`
+//! are proved to do just that over every link and host, also silent ones: what was sent is a front of what the
+//! exchange says, and all of it but where something failed; why a session ended is how the exchange ends, or where
+//! the bytes end, break or are too many. `send` writes and tells nothing. Whatever a crash leaves during `receive`,
+//! the disk has every beat whose `STORED` line was told, and a history that was a copy of a child still is one where
+//! each Data that came is true of it. What a parent says answers only frames of which all was stored and told: it says
+//! Have only once the beats are on the disk and told.
+//!
+//! It stands on the agent of `agent_core`, on the frames of `link_frames`, and on the limit of input of `line_stream`.
+#![tactic(auto)]
+
+mod child;
+mod fault;
+mod flow;
+mod incoming;
+mod parent;
+mod saying;
+
+pub use child::send;
+pub use fault::{PeerFault, SessionFault};
+pub use parent::receive;
+
+#[cfg(test)]
+mod tests;
