@@ -55,7 +55,9 @@ fn draw_row(draws: &mut Draws) -> Row {
     let mut row = EMPTY;
     for cell in &mut row {
         if draws.is_rare(3) {
-            *cell = draws.below(1_000_000).saturating_add(1) as u32;
+            *cell = u32::try_from(draws.below(1_000_000))
+                .unwrap_or(0)
+                .saturating_add(1);
         }
     }
     row
