@@ -10,13 +10,13 @@ use std::alloc::{AllocError, Global};
 use std::test::Fail;
 
 /// More calls on the host than a parent makes up to the end of the session.
-pub const CALLS: u64 = 120;
+const CALLS: u64 = 120;
 
 /// The moments of the child's first twelve beats that a parent may have.
 static MOMENTS: [u32; 7] = [1, 2, 3, 9, 10, 11, 12];
 
 /// How far a parent may have come.
-#[derive(Clone, Copy, Debug)]
+#[derive(Clone, Copy)]
 struct Left {
     last: u32,
     /// How many of the beats it has.

@@ -124,8 +124,8 @@ struct Seen {
     held: Row,
 }
 
-/// What is wrong at a moment, where the parent had come to `old` before and has come to `last`.
-/// From `whole` on it is to have all that the child has.
+/// What is wrong at a moment, where the parent had come to `old` before and has to have come to
+/// `last`: up to there it has all that the child still has.
 fn wrong_at(seen: &Seen, old: usize, last: usize) -> Option<&'static str> {
     let is_held = seen.held != EMPTY;
     let was_held = seen.before != EMPTY;

@@ -3,7 +3,7 @@
 use std::alloc::{AllocError, Global};
 
 /// A Data of one chart, `test.one`, and its dimension `a`, by its other fields.
-#[derive(Clone, Copy, Debug)]
+#[derive(Clone, Copy)]
 pub struct Message {
     pub child: u64,
     pub prev: u32,
@@ -16,7 +16,7 @@ pub struct Message {
 }
 
 /// What one end says.
-#[derive(Clone, Copy, Debug)]
+#[derive(Clone, Copy)]
 pub enum Says {
     Hello(u64),
     Ask(u64, u32),
