@@ -1,0 +1,14 @@
+//! A child and a parent, each of which is handed what the other one sent.
+
+mod alarms;
+mod draws;
+mod ends;
+mod faults;
+mod histories;
+mod peers;
+mod refusals;
+mod row;
+mod schedule;
+mod stops;
+mod table;
+mod wire;
