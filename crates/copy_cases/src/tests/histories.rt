@@ -61,18 +61,18 @@ fn try_seeds(
 
 #[test]
 fn a_parent_is_a_copy_of_each_child_that_forgets(rt: HostRuntime) -> Result<(), Fail> {
-    let counts = try_seeds(rt.alloc(), 32, false)?;
+    let counts = try_seeds(rt.alloc(), 16, false)?;
     assert!(rt; counts.is_ok(), "{counts:?}");
     let (has, lacks) = counts.unwrap_or((0, 0));
-    assert!(rt; has >= 200 && lacks >= 50, "{has} and {lacks}");
+    assert!(rt; has >= 50 && lacks >= 10, "{has} and {lacks}");
     Ok(())
 }
 
 #[test]
 fn a_parent_is_a_copy_of_each_child_with_many_beats(rt: HostRuntime) -> Result<(), Fail> {
-    let counts = try_seeds(rt.alloc(), 8, true)?;
+    let counts = try_seeds(rt.alloc(), 4, true)?;
     assert!(rt; counts.is_ok(), "{counts:?}");
     let (has, _) = counts.unwrap_or((0, 0));
-    assert!(rt; has >= 800, "{has}");
+    assert!(rt; has >= 200, "{has}");
     Ok(())
 }
