@@ -84,7 +84,8 @@ impl Ending {
             Status::LinkFault => {
                 "what came before is stored; see that the other agent can be reached, and run again"
             }
-            Status::NotADatabase => "make one by nda new, or go to its folder",
+            Status::NotADatabase =>
+                "go to its folder, or make one by nda new, which overwrites a file nda.2 that is none",
             Status::Exists => "nothing was changed; nda run and nda collect store beats in it",
             Status::Damaged(_) => "nothing was changed; go on from a copy, or in another folder",
             Status::PeerRefused(1) => {
@@ -115,7 +116,7 @@ fn event_of(status: Status) -> &'static str {
         Status::LinkEnded => "the link ended before the other agent was done",
         Status::Disabled => "the collector ended with another status than 0, or wrote DISABLE",
         Status::InputLimit => "2^40 bytes of input were taken, and no end had come",
-        Status::Memory => "there was no memory",
+        Status::Memory => "memory ran out",
         _ => "all was done",
     }
 }

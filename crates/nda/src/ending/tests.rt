@@ -38,7 +38,7 @@ fn each_status_of_an_input_has_its_line(rt: HostRuntime) -> Result<(), Fail> {
         ),
         (
             Status::Memory,
-            "there was no memory; what was told as stored is kept; free some, and run again",
+            "memory ran out; what was told as stored is kept; free some, and run again",
         ),
     ];
     for (status, line) in table {
@@ -56,7 +56,7 @@ fn each_status_of_a_folder_has_its_line(rt: HostRuntime) -> Result<(), Fail> {
         ),
         (
             Status::NotADatabase,
-            "there is no database in this folder; make one by nda new, or go to its folder",
+            "there is no database in this folder; go to its folder, or make one by nda new, which overwrites a file nda.2 that is none",
         ),
         (
             Status::Exists,
@@ -111,6 +111,13 @@ fn each_status_of_a_peer_or_a_collector_has_its_line(rt: HostRuntime) -> Result<
     Ok(())
 }
 
+/// An ending of a command that reads such a text.
+fn of_text(text: TextKind, status: Status) -> Ending {
+    let mut ending = Ending::of(status);
+    ending.text = text;
+    ending
+}
+
 #[test]
 fn a_text_that_is_refused_leaves_what_its_command_says(rt: HostRuntime) -> Result<(), Fail> {
     let table = [
@@ -144,6 +151,16 @@ fn a_text_that_is_refused_leaves_what_its_command_says(rt: HostRuntime) -> Resul
             Status::InputLimit,
             "2^40 bytes of input were taken, and no end had come; the beats before stand; run it again",
         ),
+    ];
+    for (text, status, line) in table {
+        assert_says(&rt, &of_text(text, status), line)?;
+    }
+    Ok(())
+}
+
+#[test]
+fn a_child_that_is_refused_leaves_what_came_before(rt: HostRuntime) -> Result<(), Fail> {
+    let table = [
         (
             TextKind::Frames,
             Status::Refused(0, 29),
@@ -166,9 +183,7 @@ fn a_text_that_is_refused_leaves_what_its_command_says(rt: HostRuntime) -> Resul
         ),
     ];
     for (text, status, line) in table {
-        let mut ending = Ending::of(status);
-        ending.text = text;
-        assert_says(&rt, &ending, line)?;
+        assert_says(&rt, &of_text(text, status), line)?;
     }
     Ok(())
 }
