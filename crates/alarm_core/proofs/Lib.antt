@@ -13,5 +13,6 @@ pub mod LogLemmas
 pub mod TableLemmas
 mod WantedLemmas
 mod ChartLemmas
+pub mod RunLemmas
 mod AgainLemmas
 mod ShortLemmas

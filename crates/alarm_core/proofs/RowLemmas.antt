@@ -60,7 +60,7 @@ map_done {A} {B} f xs i made end so_far =
 
 -- ---- what is told of each
 
-tell_first : (told : Told) (event : Option Event) (more : List Event) → tell_all told (cons_option event more) ≡ tell_all (tell_some told event) more
+pub tell_first : (told : Told) (event : Option Event) (more : List Event) → tell_all told (cons_option event more) ≡ tell_all (tell_some told event) more
 tell_first told None more = refl
 tell_first told (Some event) more = refl
 

@@ -1,18 +1,21 @@
 -- What a beat makes of the states.
-use Rattle.std.specs.Prelude.{ℕ, ◌&&◌, nat_lt, if◌then◌else◌, List, [], length, map, Option, Some, None, option_and_then}
+use Rattle.std.specs.Prelude.{◌≡◌, ℕ, Bool, ◌&&◌, nat_lt, if◌then◌else◌, List, [], length, map, Option, Some, None, option_and_then}
 use Rattle.std.specs.List.{filter_map}
 use Rattle.health_config.specs.Entity.{Alarm}
 use Rattle.history.specs.Registry.{Registry}
 use Rattle.chart_registry.specs.Defining.{chart_id}
 use Rattle.tier_rollup.specs.declared.point.Point.{Point}
+use Rattle.query_engine.specs.Points.{Tiers}
 use Rattle.alarm_events.specs.declared.event.Event.{Event}
 use Rattle.alarm_core.specs.declared.latest.Latest.{Latest}
 use Rattle.alarm_core.specs.declared.sight.Sight.{Sight}
 use Rattle.alarm_core.specs.declared.state.State.{State}
 use Rattle.alarm_core.specs.declared.step.Step.{Step}
+use Rattle.alarm_core.specs.declared.telling.Told.{Told}
 use Rattle.alarm_core.specs.Pairing.{alarm_at, holder_name}
 use Rattle.alarm_core.specs.Seen.{Seen}
-use Rattle.alarm_core.specs.Step.{is_stepped, is_same, found_by, stepped}
+use Rattle.alarm_core.specs.Step.{is_in_new_span, is_stepped, is_same, found_by, stepped}
+use Rattle.alarm_core.specs.Telling.{tell_all}
 
 -- what there is at a beat: the charts, what was last seen of them, the floor of the points and the points
 -- of each series
@@ -23,6 +26,15 @@ pub record Beat : Type 0 where
   pub floor : ℕ
   pub told : ℕ → List Point
 
+abbrev pub beat_with : ℕ → Registry → Latest → Tiers → (ℕ → List Point) → Beat
+beat_with moment registry latest tiers told = record {
+  moment = moment;
+  registry = registry;
+  latest = latest;
+  floor = tiers.floor 0;
+  told = told;
+}
+
 abbrev pub beat_of : Sight → ℕ → (ℕ → List Point) → Beat
 beat_of sight floor told = record {
   moment = sight.moment;
@@ -31,6 +43,10 @@ beat_of sight floor told = record {
   floor = floor;
   told = told;
 }
+
+-- an alarm of so many seconds is stepped at a beat
+abbrev pub is_due : Sight → ℕ → Bool
+is_due sight every = is_in_new_span every sight.latest.now.before sight.moment
 
 -- what an alarm sees at a beat
 abbrev pub seen_at : Beat → Alarm → State → Seen
@@ -94,3 +110,8 @@ states_after beat alarms states = map (state_after beat alarms) states
 -- the events of those that change, in their order
 abbrev pub changes : Beat → List Alarm → List State → List Event
 changes beat alarms states = filter_map (event_of beat alarms) states
+
+-- states were stepped on a beat, and it was told which changed
+pub record Steps (beat : Beat) (alarms : List Alarm) (before after : List State) (told_before told_after : Told) : Type 0 where
+  pub states : after ≡ states_after beat alarms before
+  pub told : told_after ≡ tell_all told_before (changes beat alarms before)

@@ -1,5 +1,5 @@
 -- What alarms say of charts, and whose a state is.
-use Rattle.std.specs.Prelude.{ℕ, false, List, [], map, pos}
+use Rattle.std.specs.Prelude.{◌≡◌, ℕ, false, List, [], map, pos}
 use Rattle.health_config.specs.Entity.{Alarm}
 use Rattle.history.specs.declared.chart.ChartDef.{ChartDef}
 use Rattle.history.specs.declared.chart.ChartKind.TheVariants.{Line}
@@ -40,3 +40,8 @@ owner state = (state.alarm, state.chart)
 -- of which alarm and of which chart the state of a pair is
 abbrev pub owner_of : Pair → Holder × ℕ
 owner_of pair = (holder.Alarm pair.alarm, pair.chart)
+
+-- states are those of pairs, in their order, and none is of an alarm that is lost
+pub record AreTaken (states : List State) (lost : List (List ℕ)) (pairs : List Pair) : Type 0 where
+  pub owners : map owner states ≡ map owner_of pairs
+  pub none_lost : lost ≡ []

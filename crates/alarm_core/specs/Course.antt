@@ -28,7 +28,7 @@ held alarms = record {
   text = alarms.text;
   alarms = map alarm_of alarms.alarms;
   lost = alarms.lost;
-  states = alarms.states;
+  states = alarms.states.items;
   log = alarms.told.log;
 }
 

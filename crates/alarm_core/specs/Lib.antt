@@ -11,12 +11,14 @@ pub mod Gathering
 pub mod ByChart
 pub mod Pairs
 pub mod Charts
+pub mod Runs
 pub mod Same
 pub mod Telling
 pub mod Pairing
 pub mod Beats
 pub mod Course
 pub mod UpTo
+pub mod Taking
 pub mod Rows
 pub mod Faults
 pub mod Kept

@@ -1,7 +1,7 @@
 //! All alarms of a history: their states and their log.
-ghost use Rattle.std.specs.Prelude.{◌≡◌, map};
+ghost use Rattle.std.specs.Prelude.{◌≡◌, map, IsTrue};
 ghost use Rattle.health_config.specs.Entity.{alarm_of};
-ghost use Rattle.alarm_core.specs.Charts.{wanted_on};
+ghost use Rattle.alarm_core.specs.Charts.{AreTaken, wanted_on};
 
 use crate::beats::step_states;
 use crate::charts::{ChartWordsList, Pairing, are_states_of, pairing_of, renew};
@@ -11,8 +11,9 @@ use crate::latest::Latest;
 use crate::pairing::{Turn, pair_states};
 use crate::pairs::PairList;
 use crate::restore::{Restored, are_known, read_config, restore};
+use crate::runs::RunList;
 use crate::sight::Sight;
-use crate::state::{NameList, StateList};
+use crate::state::{NameList, State};
 use crate::telling::Told;
 use alarm_events::{EventList, EventLog, KeptAlarms, Log, is_short, read_alarms, write_alarms};
 use chart_registry::Registry;
@@ -32,11 +33,12 @@ pub struct Alarms {
     alarms: AlarmList,
     /// The names of alarms that were found with a state, and that the configuration has not for its chart.
     lost: NameList,
-    states: StateList,
+    states: Vec<State>,
     told: Told,
     /// The alarms that are computed for the charts that were there when this was worked out.
     pairing: Pairing,
     ghost paired: { pairing.pairs ≡ wanted_on (map alarm_of alarms) pairing.charts },
+    ghost taken: { IsTrue pairing.taken → AreTaken states.items lost pairing.pairs },
 }
 
 impl Alarms {
@@ -49,10 +51,10 @@ impl Alarms {
     ghost use Rattle.tier_rollup.specs.declared.point.Point.{Point as APoint};
     ghost use Rattle.alarm_core.specs.UpTo.{IsUpTo};
     ghost use Rattle.history.specs.Registry.{Registry as ARegistry};
-    ghost use Rattle.alarm_core.specs.Course.{held, nothing, configured, stepped_by, Outcome, states_of_pairs, told_of_pairs};
-    ghost use Rattle.alarm_core.specs.Beats.{Beat, states_after, changes};
+    ghost use Rattle.alarm_core.specs.Course.{held, nothing, configured, stepped_by, Outcome};
+    ghost use Rattle.alarm_core.specs.Taking.{TakesPairs};
+    ghost use Rattle.alarm_core.specs.Beats.{Beat, Steps, beat_with};
     ghost use Rattle.alarm_core.specs.Series.{series_of_all};
-    ghost use Rattle.alarm_core.specs.Telling.{tell_all};
     ghost use Rattle.alarm_core.specs.declared.fault.AlarmFault.TheVariants.{Memory};
 
     /// No alarms, and an empty log. It has room for all events that the log will show.
@@ -66,7 +68,7 @@ impl Alarms {
             text: ByteList::new(alloc),
             alarms: AlarmList::new(alloc),
             lost: NameList::new(alloc),
-            states: StateList::new(alloc),
+            states: Vec::new(alloc),
             told: Told {
                 log: EventLog::new(alloc)?,
                 events: EventList::new(alloc),
@@ -74,6 +76,8 @@ impl Alarms {
             pairing: Pairing {
                 charts: ChartWordsList::new(alloc),
                 pairs: PairList::new(alloc),
+                runs: RunList::new(alloc),
+                taken: false,
                 series: Vec::new(alloc),
             },
         })
@@ -114,8 +118,9 @@ impl Alarms {
         self.text = text;
         self.alarms = alarms;
         self.lost.clear();
-        self.states = made;
+        self.states = made.into_vec();
         self.pairing = pairing;
+        self.pairing.taken = true;
         Ok(replace(&mut self.told.events, EventList::new(self.alloc)))
     }
 
@@ -123,14 +128,19 @@ impl Alarms {
     /// states are those of the pairs, they stay.
     fn take_pairs(&mut self, registry: &Registry, moment: u32) -> Result<(), AllocError>
         requires { IsUpTo self.old registry.now }
-        ensures text { self.new.text ≡ self.old.text }
-        ensures alarms { self.new.alarms ≡ self.old.alarms }
-        ensures lost { OnOk result (self.new.lost ≡ []) }
-        ensures states { OnOk result (self.new.states
-            ≡ states_of_pairs (held self.old) (held self.old).alarms registry.now) }
-        ensures told { OnOk result (self.new.told
-            ≡ told_of_pairs (held self.old) (held self.old).alarms registry.now moment) }
-        ensures pairing { self.new.pairing ≡ self.old.pairing }
+        ensures { OnOk result (TakesPairs self.old registry.now moment self.new) }
+    {
+        if self.pairing.taken {
+            self.told.events.clear();
+            return Ok(());
+        }
+        self.take_new_pairs(registry, moment)
+    }
+
+    /// The same of states that may be others than those of the pairs. It goes through all of them.
+    fn take_new_pairs(&mut self, registry: &Registry, moment: u32) -> Result<(), AllocError>
+        requires { IsUpTo self.old registry.now }
+        ensures { OnOk result (TakesPairs self.old registry.now moment self.new) }
     {
         self.told.events.clear();
         let alarms = self.alarms.as_slice();
@@ -138,6 +148,7 @@ impl Alarms {
         let states = self.states.as_slice();
         if are_states_of(states, pairs) {
             self.lost.clear();
+            self.pairing.taken = true;
             return Ok(());
         }
         let turn = Turn {
@@ -148,7 +159,8 @@ impl Alarms {
         let told = &mut self.told;
         let paired = pair_states(self.alloc, told, &turn, pairs, registry, moment, states)?;
         self.lost.clear();
-        self.states = paired;
+        self.states = paired.into_vec();
+        self.pairing.taken = true;
         Ok(())
     }
 
@@ -165,22 +177,10 @@ impl Alarms {
         points: &mut P,
     ) -> Result<EventList, AlarmFault>
         ensures held { OnOk result ((told : ℕ → List APoint) → P.tells points.old told
-            → held self.new ≡ (stepped_by (held self.old) (record {
-              moment = moment;
-              registry = registry.now;
-              latest = latest.now;
-              floor = (P.tiers points.old).floor 0;
-              told = told;
-            })).held) }
+            → held self.new ≡ (stepped_by (held self.old) (beat_with moment registry.now latest.now (P.tiers points.old) told)).held) }
         ensures events { IfOk result (λ events. (told : ℕ → List APoint)
             → P.tells points.old told
-            → events ≡ (stepped_by (held self.old) (record {
-              moment = moment;
-              registry = registry.now;
-              latest = latest.now;
-              floor = (P.tiers points.old).floor 0;
-              told = told;
-            })).events) }
+            → events ≡ (stepped_by (held self.old) (beat_with moment registry.now latest.now (P.tiers points.old) told)).events) }
         ensures up_to { OnOk result (IsUpTo self.new registry.now) }
         ensures tiers { P.tiers points.new ≡ P.tiers points.old }
         ensures points_held { P.held points.new ≡ P.held points.old }
@@ -207,22 +207,10 @@ impl Alarms {
     ) -> Result<EventList, AlarmFault>
         requires { IsUpTo self.old registry.now }
         ensures held { OnOk result ((told : ℕ → List APoint) → P.tells points.old told
-            → held self.new ≡ (stepped_by (held self.old) (record {
-              moment = moment;
-              registry = registry.now;
-              latest = latest.now;
-              floor = (P.tiers points.old).floor 0;
-              told = told;
-            })).held) }
+            → held self.new ≡ (stepped_by (held self.old) (beat_with moment registry.now latest.now (P.tiers points.old) told)).held) }
         ensures events { IfOk result (λ events. (told : ℕ → List APoint)
             → P.tells points.old told
-            → events ≡ (stepped_by (held self.old) (record {
-              moment = moment;
-              registry = registry.now;
-              latest = latest.now;
-              floor = (P.tiers points.old).floor 0;
-              told = told;
-            })).events) }
+            → events ≡ (stepped_by (held self.old) (beat_with moment registry.now latest.now (P.tiers points.old) told)).events) }
         ensures up_to { OnOk result (IsUpTo self.new registry.now) }
         ensures tiers { P.tiers points.new ≡ P.tiers points.old }
         ensures points_held { P.held points.new ≡ P.held points.old }
@@ -237,7 +225,7 @@ impl Alarms {
         Ok(replace(&mut self.told.events, EventList::new(self.alloc)))
     }
 
-    /// Steps all states on a beat, and tells of those that change. Where there is none nothing is done.
+    /// Steps the states that are due on a beat, and tells of those that change.
     fn step_all<P: Points>(
         &mut self,
         moment: u32,
@@ -245,28 +233,17 @@ impl Alarms {
         latest: &Latest,
         points: &mut P,
     ) -> Result<(), AlarmFault>
-        requires { (self.old.states ≡ [])
+        requires taken { IsTrue self.old.pairing.taken }
+        requires series { (self.old.states.items ≡ [])
             ⊎ (self.old.pairing.series.items ≡ series_of_all registry.now) }
         ensures text { self.new.text ≡ self.old.text }
         ensures alarms { self.new.alarms ≡ self.old.alarms }
         ensures lost { self.new.lost ≡ self.old.lost }
         ensures pairing { self.new.pairing ≡ self.old.pairing }
-        ensures states { OnOk result ((told : ℕ → List APoint) → P.tells points.old told
-            → self.new.states ≡ states_after (record {
-              moment = moment;
-              registry = registry.now;
-              latest = latest.now;
-              floor = (P.tiers points.old).floor 0;
-              told = told;
-            }) (map alarm_of self.old.alarms) self.old.states) }
-        ensures events { OnOk result ((told : ℕ → List APoint) → P.tells points.old told
-            → self.new.told ≡ tell_all self.old.told (changes (record {
-              moment = moment;
-              registry = registry.now;
-              latest = latest.now;
-              floor = (P.tiers points.old).floor 0;
-              told = told;
-            }) (map alarm_of self.old.alarms) self.old.states)) }
+        ensures steps { OnOk result ((told : ℕ → List APoint) → P.tells points.old told
+            → Steps (beat_with moment registry.now latest.now (P.tiers points.old) told)
+            (map alarm_of self.old.alarms) self.old.states.items self.new.states.items
+            self.old.told self.new.told) }
         ensures tiers { P.tiers points.new ≡ P.tiers points.old }
         ensures points_held { P.held points.new ≡ P.held points.old }
         ensures told { (told : ℕ → List APoint) → P.tells points.old told
@@ -284,15 +261,10 @@ impl Alarms {
             latest,
             series: self.pairing.series.as_slice(),
         };
-        let stepped = step_states(
-            self.alloc,
-            points,
-            &sight,
-            self.alarms.as_slice(),
-            self.states.as_slice(),
-            &mut self.told,
-        )?;
-        self.states = stepped;
+        let alarms = self.alarms.as_slice();
+        let runs = self.pairing.runs.as_slice();
+        let states = self.states.as_mut_slice();
+        step_states(self.alloc, points, &sight, alarms, runs, states, &mut self.told)?;
         Ok(())
     }
 
@@ -345,19 +317,16 @@ impl Alarms {
     {
         let (text, alarms) = config.into_parts();
         let pairing = pairing_of(alloc, alarms.as_slice(), registry)?;
-        let Restored { states, lost } = restore(
-            alloc,
-            alarms.as_slice(),
-            pairing.pairs.as_slice(),
-            kept.states.as_slice(),
-        )?;
+        let pairs = pairing.pairs.as_slice();
+        let Restored { states, lost } =
+            restore(alloc, alarms.as_slice(), pairs, kept.states.as_slice())?;
         let log = EventLog::showing(alloc, kept.dropped, kept.events.as_slice())?;
         Ok(Alarms {
             alloc,
             text,
             alarms,
             lost,
-            states,
+            states: states.into_vec(),
             told: Told {
                 log,
                 events: EventList::new(alloc),

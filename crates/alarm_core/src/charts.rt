@@ -1,11 +1,13 @@
 //! What alarms say of charts: where that stays, the pairs stay.
-ghost use Rattle.std.specs.Prelude.{◌≡◌, ◌⊎◌, ◌↔◌, [], ◌∷◌, ◌++◌, map, IsTrue, IfOk, OnOk};
+ghost use Rattle.std.specs.Prelude.{◌≡◌, ◌⊎◌, ◌↔◌, [], ◌∷◌, ◌++◌, false, map, IsTrue, IfOk, OnOk};
 ghost use Rattle.health_config.specs.Entity.{alarm_of};
 ghost use Rattle.alarm_core.specs.Charts.{words_of, wanted_on, owner, owner_of};
 ghost use Rattle.alarm_core.specs.Pairs.{wanted};
+ghost use Rattle.alarm_core.specs.Runs.{AreRunsOf};
 ghost use Rattle.alarm_core.specs.Series.{series_of_all};
 
 use crate::pairs::{Pair, PairList, wanted_pairs};
+use crate::runs::{RunList, runs_of};
 use crate::series::all_series;
 use crate::state::{Holder, State};
 use chart_registry::Registry;
@@ -31,8 +33,13 @@ pub type ChartWordsList = ListOf<ChartWords>;
 pub struct Pairing {
     pub charts: ChartWordsList,
     pub pairs: PairList,
+    /// Where the pairs of each alarm are.
+    pub runs: RunList,
+    /// Whether the states are those of the pairs.
+    pub taken: bool,
     /// The series of each chart, in the order of the charts.
     pub series: Vec<SeriesList>,
+    ghost in_runs: { AreRunsOf pairs runs },
 }
 
 fn chart_words(def: &ChartDef) -> Result<ChartWords, AllocError>
@@ -99,6 +106,8 @@ pub fn renew(
     ensures series { OnOk result ((alarms.now ≡ [])
         ⊎ (pairing.new.series.items ≡ series_of_all registry.now)) }
     ensures paired { pairing.new.pairs ≡ wanted_on (map alarm_of alarms.now) pairing.new.charts }
+    ensures taken { IsTrue pairing.new.taken → IsTrue pairing.old.taken }
+    ensures stay { IsTrue pairing.new.taken → pairing.new.pairs ≡ pairing.old.pairs }
 {
     if alarms.is_empty() {
         return Ok(());
@@ -122,13 +131,17 @@ pub fn pairing_of(
     ensures series { IfOk result (λ pairing. pairing.series.items ≡ series_of_all registry.now) }
     ensures paired { IfOk result
         (λ pairing. pairing.pairs ≡ wanted_on (map alarm_of alarms.now) pairing.charts) }
+    ensures new { IfOk result (λ pairing. pairing.taken ≡ false) }
 {
     let charts = all_words(alloc, registry)?;
     let pairs = wanted_pairs(alloc, alarms, registry)?;
+    let runs = runs_of(alloc, pairs.as_slice())?;
     let series = all_series(alloc, registry)?;
     Ok(Pairing {
         charts,
         pairs,
+        runs,
+        taken: false,
         series,
     })
 }

@@ -69,6 +69,7 @@ mod pairing;
 mod pairs;
 mod record;
 mod restore;
+mod runs;
 mod same;
 mod scene;
 mod series;
