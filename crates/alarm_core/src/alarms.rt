@@ -239,7 +239,8 @@ impl Alarms {
         ensures text { self.new.text ≡ self.old.text }
         ensures alarms { self.new.alarms ≡ self.old.alarms }
         ensures lost { self.new.lost ≡ self.old.lost }
-        ensures pairing { self.new.pairing ≡ self.old.pairing }
+        ensures pairs { self.new.pairing.pairs ≡ self.old.pairing.pairs }
+        ensures series { self.new.pairing.series ≡ self.old.pairing.series }
         ensures steps { OnOk result ((told : ℕ → List APoint) → P.tells points.old told
             → Steps (beat_with moment registry.now latest.now (P.tiers points.old) told)
             (map alarm_of self.old.alarms) self.old.states.items self.new.states.items
