@@ -1,14 +1,11 @@
-use Rattle.std.proofs.Common.{◌≡◌, ℕ, ◌<◌, Some, length, get_or, map, arith, refl, sym, ap, subst, ◌∙◌}
+use Rattle.std.proofs.Common.{◌≡◌, ℕ, ◌<◌, Some, length, map, arith, ap, ◌∙◌}
 use Rattle.std.proofs.lemmas.List.Elements.{All-set}
-use Rattle.query_engine.specs.Points.{Tiers}
 use Rattle.health_config.specs.Entity.{alarm_of}
 use Rattle.alarm_core.specs.declared.state.Holder.{Holder}
 use Rattle.alarm_core.specs.declared.state.State.{State}
-use Rattle.alarm_core.specs.declared.telling.Told.{Told}
-use Rattle.alarm_core.specs.Beats.{Beat, beat_of, state_after, event_of}
+use Rattle.alarm_core.specs.Beats.{beat_of, state_after, event_of}
 use Rattle.alarm_core.specs.Charts.{owner}
 use Rattle.alarm_core.specs.Pairing.{alarm_at}
-use Rattle.alarm_core.specs.Telling.{tell_some}
 use Rattle.alarm_core.proofs.RunLemmas.{in_place, told_in_place, same_owner}
 use Rattle.alarm_core.proofs.beats.step_due.Goals as goal
 

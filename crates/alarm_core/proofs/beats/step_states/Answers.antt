@@ -1,5 +1,4 @@
-use Rattle.std.proofs.Common.{◌≡◌, ℕ, ◌+◌, ◌-◌, ◌≤◌, List, length, get_or, map, take, drop, arith, refl, sym, ap, ◌∙◌}
-use Rattle.std.specs.List.{flat_map}
+use Rattle.std.proofs.Common.{ℕ, ◌+◌, ◌-◌, List, length, get_or, map, arith, refl, ap, ◌∙◌}
 use Rattle.std.proofs.lemmas.List.{length-map}
 use Rattle.health_config.specs.Entity.{alarm_of}
 use Rattle.alarm_core.specs.declared.runs.Run.{Run}
@@ -7,7 +6,6 @@ use Rattle.alarm_core.specs.declared.state.Holder.{Holder}
 use Rattle.alarm_core.specs.declared.state.State.{State}
 use Rattle.alarm_core.specs.Beats.{beat_of, state_after, event_of}
 use Rattle.alarm_core.specs.Charts.{owner}
-use Rattle.alarm_core.specs.Runs.{alarms_in}
 use borrow.Rule.Slice.PartMut.{put_mid}
 use Rattle.alarm_core.proofs.RunLemmas.{next_run, run_length, behind_run, run_in_place, told_of_run, owners_of_run}
 use Rattle.alarm_core.proofs.beats.step_states.Goals as goal

@@ -1,8 +1,4 @@
-use Rattle.std.proofs.Common.{List, subst}
-use Rattle.alarm_core.specs.declared.runs.Run.{Run}
-use Rattle.alarm_core.specs.declared.state.State.{State}
 use Rattle.alarm_core.specs.Charts.{AreTaken}
-use Rattle.alarm_core.specs.Runs.{StandIn}
 use Rattle.alarm_core.proofs.RunLemmas.{taken_stand}
 use Rattle.alarm_core.proofs.alarms.Alarms.step_all.Goals as goal
 
