@@ -25,8 +25,8 @@ fn push(runs: &mut RunList, run: Run) -> Result<(), AllocError>
     runs.push(run).map_err(|_| AllocError)
 }
 
-/// The run of one more pair: the run before with it, or where that is of another alarm, a new one. Then the
-/// run before is added.
+/// The run of one more pair: the run before with it, or where that is of another alarm, a new one. Then
+/// the run before is added.
 fn with_pair(runs: &mut RunList, run: Run, pair: Pair) -> Result<Run, AllocError>
     requires { run.len + 1 < 2 ^ 64 }
     ensures alarms { IfOk result (λ next. flat_map alarms_in runs.new ++ alarms_in next

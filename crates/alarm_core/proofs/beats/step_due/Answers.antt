@@ -34,8 +34,7 @@ loop-state-preserved g c =
             let beat = beat_of c.args.sight.now ((g.P.Points.tiers c.args.points.now).floor 0) told in
             let still = c.loop-state.invariant.keeps.still told tells in
             let made = rw c.loop-state.invariant.keeps.same at (c.in_ok-step_one.ensures.state told still) in
-            let event = rw c.loop-state.invariant.keeps.same at (c.in_ok-step_one.ensures.event told still) in
-            (
+            let event = rw c.loop-state.invariant.keeps.same at (c.in_ok-step_one.ensures.event told still) in (
               in_place (state_after beat alarms) states i after _ inside made ∙ (c.loop-state.invariant.keeps.so_far told tells).0,
               told_in_place (event_of beat alarms) states i after _ c.loop-state.told c.step_one.new.told inside event ∙ (c.loop-state.invariant.keeps.so_far told tells).1,
             );

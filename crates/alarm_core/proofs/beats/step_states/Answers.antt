@@ -69,11 +69,10 @@ loop-run-preserved g c =
         unfailed = c.in_ok-step_run.ensures.cause.stays (λ e. absurd cc) ∙ c.loop-run.invariant.keeps.unfailed;
         so_far = λ told tells.
             let beat = beat_of c.args.sight.now ((g.P.Points.tiers c.args.points.now).floor 0) told in
-            let steps = rw c.loop-run.invariant.keeps.same at (c.in_ok-step_run.ensures.steps told (c.loop-run.invariant.keeps.still told tells)) in
-            (
+            let steps = rw c.loop-run.invariant.keeps.same at (c.in_ok-step_run.ensures.steps told (c.loop-run.invariant.keeps.still told tells)) in (
               run_in_place (state_after beat alarms) states part first stop next.order next.within long steps.states ∙ (c.loop-run.invariant.keeps.so_far told tells).0,
               told_of_run (event_of beat alarms) states part first stop c.loop-run.told c.step_run.new.told next.order next.within long steps.told
-              ∙ (c.loop-run.invariant.keeps.so_far told tells).1,
+                  ∙ (c.loop-run.invariant.keeps.so_far told tells).1,
             );
       };
     }

@@ -5,4 +5,3 @@ use Rattle.alarm_core.proofs.runs.runs_of.Goals as goal
 pub with_pair-requires : goal.with_pair-requires
 with_pair-requires c =
     omega (arith, run_short c.loop-pair.runs c.loop-pair.run c.args.pairs.now c.loop-pair.pair-index c.loop-pair.invariant.alarms, c.loop-pair-test.true)
-
