@@ -91,7 +91,7 @@ next_run runs k d states first stop is inside low stand =
 
 -- states of pairs stand in the runs of these
 pub taken_stand : (pairs : List Pair) (runs : List Run) (states : List State) → AreRunsOf pairs runs → map owner states ≡ map owner_of pairs → StandIn runs states
-taken_stand pairs runs states are same = alarms states pairs same ∙ ap (map holder.Alarm) (sym are)
+taken_stand pairs runs states are same = alarms states pairs same ∙ ap (map holder.Alarm) (sym are.alarms)
   where
     alarms : (ss : List State) (ps : List Pair) → map owner ss ≡ map owner_of ps → map (λ (state : State). state.alarm) ss ≡ map holder.Alarm (map (λ (pair : Pair). pair.alarm) ps)
     alarms [] [] is = refl

@@ -1,6 +1,6 @@
 -- Runs: the pairs and the states of an alarm stand one behind the other.
-use Rattle.std.specs.Prelude.{◌≡◌, ℕ, List, map, replicate}
-use Rattle.std.specs.List.{flat_map}
+use Rattle.std.specs.Prelude.{◌≡◌, ℕ, ◌==◌, List, ◌++◌, map, replicate}
+use Rattle.std.specs.List.{dedup, dedup_from, flat_map}
 use Rattle.alarm_core.specs.declared.pairs.Pair.{Pair}
 use Rattle.alarm_core.specs.declared.runs.Run.{Run}
 use Rattle.alarm_core.specs.declared.state.Holder.TheVariants as holder
@@ -10,9 +10,15 @@ use Rattle.alarm_core.specs.declared.state.State.{State}
 abbrev pub alarms_in : Run → List ℕ
 alarms_in run = replicate run.len run.alarm
 
--- runs are those of pairs: one behind the other they have the alarms of the pairs
-abbrev pub AreRunsOf : List Pair → List Run → Type 0
-AreRunsOf pairs runs = flat_map alarms_in runs ≡ map (λ pair. pair.alarm) pairs
+-- runs are those of pairs: one behind the other they have the alarms of the pairs, and each ends only where
+-- another alarm begins
+pub record AreRunsOf (pairs : List Pair) (runs : List Run) : Type 0 where
+  pub alarms : flat_map alarms_in runs ≡ map (λ pair. pair.alarm) pairs
+  pub whole : map (λ run. run.alarm) runs ≡ dedup ◌==◌ (map (λ pair. pair.alarm) pairs)
+
+-- the alarms of runs, of a run behind them, and of those that come where more pairs are of these alarms
+abbrev pub alarms_with : List Run → Run → List ℕ → List ℕ
+alarms_with runs run more = map (λ run. run.alarm) runs ++ dedup_from ◌==◌ run.alarm more
 
 -- and of states
 abbrev pub StandIn : List Run → List State → Type 0

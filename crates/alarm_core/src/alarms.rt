@@ -51,9 +51,9 @@ impl Alarms {
     ghost use Rattle.tier_rollup.specs.declared.point.Point.{Point as APoint};
     ghost use Rattle.alarm_core.specs.UpTo.{IsUpTo};
     ghost use Rattle.history.specs.Registry.{Registry as ARegistry};
-    ghost use Rattle.alarm_core.specs.Course.{held, nothing, configured, stepped_by, Outcome};
+    ghost use Rattle.alarm_core.specs.Course.{held, nothing, configured, stepped_by};
     ghost use Rattle.alarm_core.specs.Taking.{TakesPairs};
-    ghost use Rattle.alarm_core.specs.Beats.{Beat, Steps, beat_with};
+    ghost use Rattle.alarm_core.specs.Beats.{Steps, beat_with};
     ghost use Rattle.alarm_core.specs.Series.{series_of_all};
     ghost use Rattle.alarm_core.specs.declared.fault.AlarmFault.TheVariants.{Memory};
 
@@ -124,8 +124,8 @@ impl Alarms {
         Ok(replace(&mut self.told.events, EventList::new(self.alloc)))
     }
 
-    /// Takes the charts that the alarms are paired with: tells which states go, and makes new ones. Where the
-    /// states are those of the pairs, they stay.
+    /// Takes the charts that the alarms are paired with: tells which states go, and makes new ones.
+    /// Where the states are those of the pairs, they stay.
     fn take_pairs(&mut self, registry: &Registry, moment: u32) -> Result<(), AllocError>
         requires { IsUpTo self.old registry.now }
         ensures { OnOk result (TakesPairs self.old registry.now moment self.new) }
@@ -177,10 +177,12 @@ impl Alarms {
         points: &mut P,
     ) -> Result<EventList, AlarmFault>
         ensures held { OnOk result ((told : ℕ → List APoint) → P.tells points.old told
-            → held self.new ≡ (stepped_by (held self.old) (beat_with moment registry.now latest.now (P.tiers points.old) told)).held) }
+            → held self.new ≡ (stepped_by (held self.old)
+            (beat_with moment registry.now latest.now (P.tiers points.old) told)).held) }
         ensures events { IfOk result (λ events. (told : ℕ → List APoint)
             → P.tells points.old told
-            → events ≡ (stepped_by (held self.old) (beat_with moment registry.now latest.now (P.tiers points.old) told)).events) }
+            → events ≡ (stepped_by (held self.old)
+            (beat_with moment registry.now latest.now (P.tiers points.old) told)).events) }
         ensures up_to { OnOk result (IsUpTo self.new registry.now) }
         ensures tiers { P.tiers points.new ≡ P.tiers points.old }
         ensures points_held { P.held points.new ≡ P.held points.old }
@@ -207,10 +209,12 @@ impl Alarms {
     ) -> Result<EventList, AlarmFault>
         requires { IsUpTo self.old registry.now }
         ensures held { OnOk result ((told : ℕ → List APoint) → P.tells points.old told
-            → held self.new ≡ (stepped_by (held self.old) (beat_with moment registry.now latest.now (P.tiers points.old) told)).held) }
+            → held self.new ≡ (stepped_by (held self.old)
+            (beat_with moment registry.now latest.now (P.tiers points.old) told)).held) }
         ensures events { IfOk result (λ events. (told : ℕ → List APoint)
             → P.tells points.old told
-            → events ≡ (stepped_by (held self.old) (beat_with moment registry.now latest.now (P.tiers points.old) told)).events) }
+            → events ≡ (stepped_by (held self.old)
+            (beat_with moment registry.now latest.now (P.tiers points.old) told)).events) }
         ensures up_to { OnOk result (IsUpTo self.new registry.now) }
         ensures tiers { P.tiers points.new ≡ P.tiers points.old }
         ensures points_held { P.held points.new ≡ P.held points.old }
@@ -239,7 +243,8 @@ impl Alarms {
         ensures text { self.new.text ≡ self.old.text }
         ensures alarms { self.new.alarms ≡ self.old.alarms }
         ensures lost { self.new.lost ≡ self.old.lost }
-        ensures pairing { self.new.pairing ≡ self.old.pairing }
+        ensures pairs { self.new.pairing.pairs ≡ self.old.pairing.pairs }
+        ensures series { self.new.pairing.series ≡ self.old.pairing.series }
         ensures steps { OnOk result ((told : ℕ → List APoint) → P.tells points.old told
             → Steps (beat_with moment registry.now latest.now (P.tiers points.old) told)
             (map alarm_of self.old.alarms) self.old.states.items self.new.states.items
@@ -264,7 +269,15 @@ impl Alarms {
         let alarms = self.alarms.as_slice();
         let runs = self.pairing.runs.as_slice();
         let states = self.states.as_mut_slice();
-        step_states(self.alloc, points, &sight, alarms, runs, states, &mut self.told)?;
+        step_states(
+            self.alloc,
+            points,
+            &sight,
+            alarms,
+            runs,
+            states,
+            &mut self.told,
+        )?;
         Ok(())
     }
 
@@ -318,8 +331,12 @@ impl Alarms {
         let (text, alarms) = config.into_parts();
         let pairing = pairing_of(alloc, alarms.as_slice(), registry)?;
         let pairs = pairing.pairs.as_slice();
-        let Restored { states, lost } =
-            restore(alloc, alarms.as_slice(), pairs, kept.states.as_slice())?;
+        let Restored { states, lost } = restore(
+            alloc,
+            alarms.as_slice(),
+            pairs,
+            kept.states.as_slice(),
+        )?;
         let log = EventLog::showing(alloc, kept.dropped, kept.events.as_slice())?;
         Ok(Alarms {
             alloc,

@@ -230,8 +230,8 @@ fn step_run<P: Points>(
     step_due(alloc, points, sight, alarms, alarm, states, told)
 }
 
-/// Steps the states of the alarms that are due, and tells of those that change. It tests each alarm of the runs
-/// once, and reads no state of one that is not due.
+/// Steps the states of the alarms that are due, and tells of those that change. It tests each alarm of
+/// the runs once, and reads no state of one that is not due.
 pub fn step_states<P: Points>(
     alloc: Global,
     points: &mut P,
@@ -255,7 +255,15 @@ pub fn step_states<P: Points>(
     let mut first = 0;
     for run in runs {
         let stop = first + run.len;
-        step_run(alloc, points, sight, alarms, run.alarm, &mut states[first..stop], told)?;
+        step_run(
+            alloc,
+            points,
+            sight,
+            alarms,
+            run.alarm,
+            &mut states[first..stop],
+            told,
+        )?;
         first = stop;
     }
     Ok(())

@@ -7,7 +7,8 @@
 //! - `Course.antt`: one call, and all calls
 //! - `UpTo.antt`: when a beat may take the charts and dimensions for those of the call before
 //! - `Pairs.antt`: which alarms are computed for which charts
-//! - `Same.antt`, `Pairing.antt`: which states stay, go and come
+//! - `Runs.antt`: which pairs and states are of one alarm
+//! - `Same.antt`, `Pairing.antt`, `Taking.antt`: which states stay, go and come
 //! - `Beats.antt`: what a beat makes of the states
 //! - `Telling.antt`: how events get their numbers and come into the log
 //! - `Kept.antt`: what is kept as bytes, and read again
@@ -38,12 +39,15 @@
 //! through all dimensions. `step_again`, for a beat that defines no chart and no dimension, does neither. Nor
 //! does a `step` where there is no alarm.
 //!
-//! Where the states are not those of the pairs, states go and come: each state is compared with the pairs of
-//! its chart, and each pair with the states of its chart, by all that the alarms say. `configure` always does
-//! that. `from_bytes` compares the name of each state with those of the pairs of its chart.
+//! A `step` that works out the pairs anew goes once through all states, to see whether they are those
+//! of the pairs, and so does the first step behind `from_bytes`. Where they are not, states go and
+//! come: each state is compared with the pairs of its chart, and each pair with the states of its
+//! chart, by all that the alarms say. `configure` always does that. `from_bytes` compares the name of
+//! each state with those of the pairs of its chart.
 //!
-//! A beat goes twice through all states, to see that they are those of the pairs and to step them. A state
-//! that is due costs what its expressions cost, and reads the points of its lookup. A name that is no
+//! Beside that, a beat tests of each alarm that has a chart, once, whether it is due, and steps the
+//! states of those that are due where they stand. It reads and copies no other state. A state that is
+//! due costs what its expressions cost, and reads the points of its lookup. A name that is no
 //! dimension's id goes through the names of the chart's dimensions.
 //!
 //! It stands on `health_config` for alarms, on `health_expr` for expressions and values, on

@@ -1,7 +1,7 @@
 //! Which pairs are of one alarm.
-ghost use Rattle.std.specs.Prelude.{◌≡◌, ◌+◌, ◌^◌, ◌<◌, [], ◌∷◌, ◌++◌, IfOk, OnOk};
+ghost use Rattle.std.specs.Prelude.{◌≡◌, ℕ, ◌+◌, ◌^◌, ◌<◌, List, [], ◌∷◌, ◌++◌, IfOk, OnOk};
 ghost use Rattle.std.specs.List.{flat_map};
-ghost use Rattle.alarm_core.specs.Runs.{AreRunsOf, alarms_in};
+ghost use Rattle.alarm_core.specs.Runs.{AreRunsOf, alarms_in, alarms_with};
 
 use crate::pairs::Pair;
 use fixed_num::ListOf;
@@ -19,23 +19,20 @@ pub struct Run {
 /// Runs, in the order of the pairs.
 pub type RunList = ListOf<Run>;
 
-/// Adds a run, where it has pairs.
 fn push(runs: &mut RunList, run: Run) -> Result<(), AllocError>
-    ensures { OnOk result
-        (flat_map alarms_in runs.new ≡ flat_map alarms_in runs.old ++ alarms_in run) }
+    ensures { OnOk result (runs.new ≡ runs.old ++ run ∷ []) }
 {
-    if run.len == 0 {
-        return Ok(());
-    }
     runs.push(run).map_err(|_| AllocError)
 }
 
-/// The run of one more pair: the run before with it, or where that is of another alarm, a new one. Then the
-/// run before is added.
+/// The run of one more pair: the run before with it, or where that is of another alarm, a new one. Then
+/// the run before is added.
 fn with_pair(runs: &mut RunList, run: Run, pair: Pair) -> Result<Run, AllocError>
     requires { run.len + 1 < 2 ^ 64 }
-    ensures { IfOk result (λ next. flat_map alarms_in runs.new ++ alarms_in next
+    ensures alarms { IfOk result (λ next. flat_map alarms_in runs.new ++ alarms_in next
         ≡ (flat_map alarms_in runs.old ++ alarms_in run) ++ pair.alarm ∷ []) }
+    ensures whole { IfOk result (λ next. (more : List ℕ) → alarms_with runs.new next more
+        ≡ alarms_with runs.old run (pair.alarm ∷ more)) }
 {
     if run.alarm == pair.alarm {
         return Ok(Run {
@@ -50,12 +47,18 @@ fn with_pair(runs: &mut RunList, run: Run, pair: Pair) -> Result<Run, AllocError
     })
 }
 
-/// The runs of pairs. It goes once through the pairs.
+/// The runs of pairs, each as long as it can be. It goes once through the pairs.
 pub fn runs_of(alloc: Global, pairs: &[Pair]) -> Result<RunList, AllocError>
     ensures { IfOk result (AreRunsOf pairs.now) }
 {
     let mut runs = RunList::new(alloc);
-    let mut run = Run { alarm: 0, len: 0 };
+    let Some(first) = pairs.first() else {
+        return Ok(runs);
+    };
+    let mut run = Run {
+        alarm: first.alarm,
+        len: 0,
+    };
     for pair in pairs {
         run = with_pair(&mut runs, run, *pair)?;
     }

@@ -1,14 +1,11 @@
-use Rattle.std.proofs.Common.{◌≡◌, ℕ, ◌<◌, Some, length, get_or, map, arith, refl, sym, ap, subst, ◌∙◌}
+use Rattle.std.proofs.Common.{◌≡◌, ℕ, ◌<◌, Some, length, map, arith, ap, ◌∙◌}
 use Rattle.std.proofs.lemmas.List.Elements.{All-set}
-use Rattle.query_engine.specs.Points.{Tiers}
 use Rattle.health_config.specs.Entity.{alarm_of}
 use Rattle.alarm_core.specs.declared.state.Holder.{Holder}
 use Rattle.alarm_core.specs.declared.state.State.{State}
-use Rattle.alarm_core.specs.declared.telling.Told.{Told}
-use Rattle.alarm_core.specs.Beats.{Beat, beat_of, state_after, event_of}
+use Rattle.alarm_core.specs.Beats.{beat_of, state_after, event_of}
 use Rattle.alarm_core.specs.Charts.{owner}
 use Rattle.alarm_core.specs.Pairing.{alarm_at}
-use Rattle.alarm_core.specs.Telling.{tell_some}
 use Rattle.alarm_core.proofs.RunLemmas.{in_place, told_in_place, same_owner}
 use Rattle.alarm_core.proofs.beats.step_due.Goals as goal
 
@@ -37,8 +34,7 @@ loop-state-preserved g c =
             let beat = beat_of c.args.sight.now ((g.P.Points.tiers c.args.points.now).floor 0) told in
             let still = c.loop-state.invariant.keeps.still told tells in
             let made = rw c.loop-state.invariant.keeps.same at (c.in_ok-step_one.ensures.state told still) in
-            let event = rw c.loop-state.invariant.keeps.same at (c.in_ok-step_one.ensures.event told still) in
-            (
+            let event = rw c.loop-state.invariant.keeps.same at (c.in_ok-step_one.ensures.event told still) in (
               in_place (state_after beat alarms) states i after _ inside made ∙ (c.loop-state.invariant.keeps.so_far told tells).0,
               told_in_place (event_of beat alarms) states i after _ c.loop-state.told c.step_one.new.told inside event ∙ (c.loop-state.invariant.keeps.so_far told tells).1,
             );

@@ -1,4 +1,4 @@
-use Rattle.std.proofs.Common.{◌≡◌, Option, None, map, sym, ap, ◌∙◌}
+use Rattle.std.proofs.Common.{map, sym, ◌∙◌}
 use Rattle.health_config.specs.Entity.{alarm_of}
 use Rattle.alarm_core.specs.Beats.{beat_of}
 use Rattle.alarm_core.proofs.RunLemmas.{none_steps, undue_steps}

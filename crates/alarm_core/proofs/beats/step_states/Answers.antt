@@ -1,5 +1,4 @@
-use Rattle.std.proofs.Common.{◌≡◌, ℕ, ◌+◌, ◌-◌, ◌≤◌, List, length, get_or, map, take, drop, arith, refl, sym, ap, ◌∙◌}
-use Rattle.std.specs.List.{flat_map}
+use Rattle.std.proofs.Common.{ℕ, ◌+◌, ◌-◌, List, length, get_or, map, arith, refl, ap, ◌∙◌}
 use Rattle.std.proofs.lemmas.List.{length-map}
 use Rattle.health_config.specs.Entity.{alarm_of}
 use Rattle.alarm_core.specs.declared.runs.Run.{Run}
@@ -7,7 +6,6 @@ use Rattle.alarm_core.specs.declared.state.Holder.{Holder}
 use Rattle.alarm_core.specs.declared.state.State.{State}
 use Rattle.alarm_core.specs.Beats.{beat_of, state_after, event_of}
 use Rattle.alarm_core.specs.Charts.{owner}
-use Rattle.alarm_core.specs.Runs.{alarms_in}
 use borrow.Rule.Slice.PartMut.{put_mid}
 use Rattle.alarm_core.proofs.RunLemmas.{next_run, run_length, behind_run, run_in_place, told_of_run, owners_of_run}
 use Rattle.alarm_core.proofs.beats.step_states.Goals as goal
@@ -71,11 +69,10 @@ loop-run-preserved g c =
         unfailed = c.in_ok-step_run.ensures.cause.stays (λ e. absurd cc) ∙ c.loop-run.invariant.keeps.unfailed;
         so_far = λ told tells.
             let beat = beat_of c.args.sight.now ((g.P.Points.tiers c.args.points.now).floor 0) told in
-            let steps = rw c.loop-run.invariant.keeps.same at (c.in_ok-step_run.ensures.steps told (c.loop-run.invariant.keeps.still told tells)) in
-            (
+            let steps = rw c.loop-run.invariant.keeps.same at (c.in_ok-step_run.ensures.steps told (c.loop-run.invariant.keeps.still told tells)) in (
               run_in_place (state_after beat alarms) states part first stop next.order next.within long steps.states ∙ (c.loop-run.invariant.keeps.so_far told tells).0,
               told_of_run (event_of beat alarms) states part first stop c.loop-run.told c.step_run.new.told next.order next.within long steps.told
-              ∙ (c.loop-run.invariant.keeps.so_far told tells).1,
+                  ∙ (c.loop-run.invariant.keeps.so_far told tells).1,
             );
       };
     }

@@ -1,11 +1,7 @@
-use Rattle.std.proofs.Common.{◌<◌, ℕ, List, ◌++◌, ◌∷◌, [], length, map, take, ap, sym, ◌∙◌, arith}
-use Rattle.std.proofs.lemmas.List.{take_all}
-use Rattle.alarm_core.specs.declared.pairs.Pair.{Pair}
-use Rattle.alarm_core.proofs.ChartLemmas.{map_more}
+use Rattle.std.proofs.Common.{arith}
 use Rattle.alarm_core.proofs.RunLemmas.{run_short}
 use Rattle.alarm_core.proofs.runs.runs_of.Goals as goal
 
 pub with_pair-requires : goal.with_pair-requires
 with_pair-requires c =
-    omega (arith, run_short c.loop-pair.runs c.loop-pair.run c.args.pairs.now c.loop-pair.pair-index c.loop-pair.invariant, c.loop-pair-test.true)
-
+    omega (arith, run_short c.loop-pair.runs c.loop-pair.run c.args.pairs.now c.loop-pair.pair-index c.loop-pair.invariant.alarms, c.loop-pair-test.true)
