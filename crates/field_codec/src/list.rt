@@ -1,41 +1,49 @@
 //! Lists of items: how they are taken and put.
 ghost use Rattle.std.specs.Prelude.{◌≡◌, ℕ, List, [], ◌∷◌, ◌++◌, ◌↔◌, Ok, IsTrue, IfOk, IfErr, OnOk, IsOkUnless};
 ghost use Rattle.std.specs.List.{flat_map, AllByRecursion};
+ghost use Rattle.field_codec.specs.Lists.{IsRefusal, read_list, read_items, IsShortListOf};
 ghost use Rattle.field_codec.specs.Reading.{ReadOf};
 ghost use Rattle.field_codec.specs.Spelling.{list_bytes};
-ghost use Rattle.alarm_events.specs.Lists.{IsRefusal, read_list, read_items, IsShortListOf};
 
-use field_codec::{FieldFault, Reader, Writer};
+use crate::fault::FieldFault;
+use crate::reader::Reader;
+use crate::writer::Writer;
 use fixed_num::ListOf;
 use std::alloc::Global;
 
-/// What alarms have lists of.
-pub(crate) trait Item: Drop {
+/// What `Format` has lists of. The format is a type of the crate that spells the items, so that a crate
+/// can give the types of other crates a spelling of its own.
+pub trait ListItem<Format>: Drop {
     /// Holds of the values that have a spelling.
     ghost is_item: { Self → Type 0 };
 
-    /// Holds of the values whose texts are short enough and whose numbers are small enough for a spelling.
+    /// Holds of the values whose texts and lists are short enough, and whose numbers are small enough, for
+    /// a spelling.
     ghost is_short_item: { Self → Type 0 };
 
     ghost item_bytes: { Self → List ℕ };
 
     ghost read_item: { List ℕ → ReadOf Self };
 
+    /// Whether the value has a spelling.
     fn is_short(&self) -> bool
-        ensures { IsTrue result ↔ is_short_item self.now };
+        ensures short { IsTrue result ↔ is_short_item self.now }
+        ensures item { IsTrue result ↔ is_item self.now };
 
+    /// Writes the spelling of the value behind what is there. `Memory` where none is left.
     fn put(&self, writer: &mut Writer) -> Result<(), FieldFault>
         requires { is_short_item self.now }
         ensures put { OnOk result (writer.new ≡ writer.old ++ item_bytes self.now) }
         ensures item { OnOk result (is_item self.now) }
         ensures memory { IsOkUnless result FieldFault.Memory };
 
+    /// Reads a value of the bytes ahead, or says why none stands there. `Memory` where none is left.
     fn take(alloc: Global, reader: &mut Reader<'_>) -> Result<Self, FieldFault>
         ensures taken { IfOk result (λ item. read_item reader.old ≡ Ok (item, reader.new)) }
         ensures fault { IfErr result (IsRefusal (read_item reader.old)) };
 }
 
-fn push<T: Item>(items: &mut ListOf<T>, item: T) -> Result<(), FieldFault>
+fn push<T: Drop>(items: &mut ListOf<T>, item: T) -> Result<(), FieldFault>
     ensures ok { OnOk result (items.new ≡ items.old ++ item ∷ []) }
     ensures memory { IsOkUnless result FieldFault.Memory }
 {
@@ -43,7 +51,7 @@ fn push<T: Item>(items: &mut ListOf<T>, item: T) -> Result<(), FieldFault>
 }
 
 /// So many items, one after the other.
-fn take_items<T: Item>(
+fn take_items<Format, T: ListItem<Format>>(
     alloc: Global,
     count: u32,
     reader: &mut Reader<'_>,
@@ -60,9 +68,10 @@ fn take_items<T: Item>(
     Ok(items)
 }
 
-/// The items behind their count. The list grows with what is read, and not by the count.
+/// Reads a list of the bytes ahead: the items behind their count. The list grows with what is read, and
+/// not by the count. `Memory` where none is left.
 #[tactic(auto, unfolding(crate::specs::Lists::read_list))]
-pub(crate) fn take_list<T: Item>(
+pub fn take_list<Format, T: ListItem<Format>>(
     alloc: Global,
     reader: &mut Reader<'_>,
 ) -> Result<ListOf<T>, FieldFault>
@@ -71,10 +80,13 @@ pub(crate) fn take_list<T: Item>(
     ensures fault { IfErr result (IsRefusal (read_list T.read_item reader.old)) }
 {
     let count = reader.take_u32()?;
-    take_items(alloc, count, reader)
+    take_items::<Format, T>(alloc, count, reader)
 }
 
-fn put_items<T: Item>(items: &[T], writer: &mut Writer) -> Result<(), FieldFault>
+fn put_items<Format, T: ListItem<Format>>(
+    items: &[T],
+    writer: &mut Writer,
+) -> Result<(), FieldFault>
     requires { AllByRecursion T.is_short_item items.now }
     ensures put { OnOk result (writer.new ≡ writer.old ++ flat_map T.item_bytes items.now) }
     ensures items { OnOk result (AllByRecursion T.is_item items.now) }
@@ -86,8 +98,12 @@ fn put_items<T: Item>(items: &[T], writer: &mut Writer) -> Result<(), FieldFault
     Ok(())
 }
 
-#[tactic(auto, unfolding(field_codec::specs::Spelling::list_bytes))]
-pub(crate) fn put_list<T: Item>(items: &ListOf<T>, writer: &mut Writer) -> Result<(), FieldFault>
+/// Writes the spelling of a list behind what is there: its count and its items. `Memory` where none is left.
+#[tactic(auto, unfolding(crate::specs::Spelling::list_bytes))]
+pub fn put_list<Format, T: ListItem<Format>>(
+    items: &ListOf<T>,
+    writer: &mut Writer,
+) -> Result<(), FieldFault>
     requires { IsShortListOf T.is_short_item items.now }
     ensures put { OnOk result (writer.new ≡ writer.old ++ list_bytes T.item_bytes items.now) }
     ensures list { OnOk result (IsShortListOf T.is_item items.now) }
@@ -95,11 +111,12 @@ pub(crate) fn put_list<T: Item>(items: &ListOf<T>, writer: &mut Writer) -> Resul
 {
     let items = items.as_slice();
     writer.put_u32(items.len() as u32)?;
-    put_items(items, writer)
+    put_items::<Format, T>(items, writer)
 }
 
-fn all_short<T: Item>(items: &[T]) -> bool
-    ensures { IsTrue result ↔ AllByRecursion T.is_short_item items.now }
+fn are_short<Format, T: ListItem<Format>>(items: &[T]) -> bool
+    ensures short { IsTrue result ↔ AllByRecursion T.is_short_item items.now }
+    ensures items { IsTrue result ↔ AllByRecursion T.is_item items.now }
 {
     for item in items {
         if !item.is_short() {
@@ -109,10 +126,11 @@ fn all_short<T: Item>(items: &[T]) -> bool
     true
 }
 
-/// Whether four bytes count the length of a list, and its items are short enough for a spelling.
-pub(crate) fn is_short_list<T: Item>(items: &ListOf<T>) -> bool
-    ensures { IsTrue result ↔ IsShortListOf T.is_short_item items.now }
+/// Whether a list has a spelling: as many items as a u32 counts, and each of them has one.
+pub fn is_short_list<Format, T: ListItem<Format>>(items: &ListOf<T>) -> bool
+    ensures short { IsTrue result ↔ IsShortListOf T.is_short_item items.now }
+    ensures list { IsTrue result ↔ IsShortListOf T.is_item items.now }
 {
     let items = items.as_slice();
-    items.len() <= u32::MAX as usize && all_short(items)
+    items.len() <= u32::MAX as usize && are_short::<Format, T>(items)
 }

@@ -9,7 +9,7 @@ use Rattle.field_codec.specs.Reading.{ReadOf, read_as, read_u32, read_text}
 use Rattle.field_codec.specs.Spelling.{u32_bytes, text_bytes, list_bytes}
 use Rattle.field_codec.proofs.Combined.{done, done_is, field_from, same_values, as_field, read_as-ok}
 use Rattle.field_codec.proofs.Fields.{u32_field, text_field}
-use Rattle.alarm_events.specs.Lists.{◌>>◌, read_items, read_counted_items, read_list, IsShortListOf, IsText}
+use Rattle.field_codec.specs.Lists.{◌>>◌, read_items, read_counted_items, read_list, IsShortListOf, IsText}
 
 -- ---- one field after the other
 

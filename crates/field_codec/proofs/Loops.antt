@@ -3,7 +3,7 @@ use Rattle.std.proofs.Common.{◌≡◌, ℕ, suc, ◌-◌, ◌+◌, ◌≤◌, 
 use Rattle.std.proofs.lemmas.List.{append-nil}
 use Rattle.field_codec.specs.declared.fault.FieldFault.{FieldFault}
 use Rattle.field_codec.specs.Reading.{ReadOf, read_as}
-use Rattle.alarm_events.specs.Lists.{read_items}
+use Rattle.field_codec.specs.Lists.{read_items}
 
 -- the items that were read before, in front of those that are still read
 abbrev pub with_front : {X : Type 0} → List X → ReadOf (List X) → ReadOf (List X)
