@@ -7,7 +7,7 @@ use Rattle.field_codec.specs.declared.fault.FieldFault.TheVariants.{Range}
 use Rattle.field_codec.specs.Field.{IsBytes, IsField}
 use Rattle.field_codec.specs.Reading.{read_passing, read_u8, read_i128}
 use Rattle.field_codec.specs.Spelling.{u8_bytes, i128_bytes}
-use Rattle.field_codec.proofs.Combined.{done_is, field_from, passing_field, read_as-ok}
+use Rattle.field_codec.proofs.Combined.{done_is, field_from, passing_field, read_as-ok, same_values}
 use Rattle.field_codec.proofs.Fields.{u32_field, u64_field, i128_field, flag_field, bytes_field}
 use Rattle.field_codec.proofs.Lists.{◌⊗◌, made_of, list_field, short_text_field}
 use Rattle.health_expr.specs.declared.value.Value.{Value}
@@ -16,7 +16,7 @@ use Rattle.alarm_events.specs.declared.status.Status.{Status}
 use Rattle.alarm_events.specs.declared.status.Status.TheVariants.{Removed, Undefined, Uninitialized, Clear, Warning, Critical}
 use Rattle.alarm_events.specs.Status.{number, status_of}
 use Rattle.alarm_events.specs.declared.delay.Delay.{Delay}
-use Rattle.alarm_events.specs.Alarms.{alarms_of, alarms_bytes, read_fields, AreFields}
+use Rattle.alarm_events.specs.Alarms.{alarms_of, alarms_bytes, are_few, read_fields, read_kept, AreFields, HasSpelling}
 use Rattle.alarm_events.specs.Delays as delays
 use Rattle.alarm_events.specs.Delays.{Parts, delay_bytes, read_delay, is_delay, delay_of, IsSpelledDelay}
 use Rattle.alarm_events.specs.Dues.{due_bytes, read_due, is_due, due_of, parts_of, IsSpelledDue}
@@ -194,3 +194,12 @@ alarms_field =
     made_of AreFields alarms_of (λ k. (((k.text, k.states), k.dropped), k.events)) (bytes_field ⊗ list_field state_field ⊗ u64_field ⊗ list_field event_field)
     (λ x fits. (record { text = fits.0.0.0; states = fits.0.0.1; dropped = fits.0.1; events = fits.1 }, refl))
     (λ k fits. ((((fits.text, fits.states), fits.dropped), fits.events), refl))
+
+-- the alarms that have a spelling, with whatever follows them
+pub kept_field : IsField HasSpelling alarms_bytes read_kept
+unfolding read_kept
+kept_field =
+    same_values (λ k. AreFields k × (are_few k ≡ true)) HasSpelling alarms_bytes read_kept
+    (λ k fits. record { fields = fits.0; few = fits.1 })
+    (λ k fits. (fits.fields, fits.few))
+    (passing_field AreFields alarms_bytes read_fields are_few Range alarms_field)

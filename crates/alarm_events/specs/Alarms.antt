@@ -3,7 +3,7 @@ use Rattle.std.specs.Prelude.{◌≡◌, ℕ, ◌<◌, ◌^◌, ◌==◌, Bool, 
 use Rattle.field_codec.specs.declared.fault.FieldFault.{FieldFault}
 use Rattle.field_codec.specs.declared.fault.FieldFault.TheVariants as field
 use Rattle.field_codec.specs.Lists.{◌>>◌, read_list, IsShortListOf}
-use Rattle.field_codec.specs.Reading.{ReadOf, read_as, read_u64, read_bytes}
+use Rattle.field_codec.specs.Reading.{ReadOf, read_as, read_passing, read_u64, read_bytes}
 use Rattle.field_codec.specs.Spelling.{u64_bytes, sized_bytes, list_bytes}
 use Rattle.alarm_events.specs.declared.event.Event.{Event}
 use Rattle.alarm_events.specs.declared.kept_fault.KeptFault.{KeptFault}
@@ -33,19 +33,23 @@ read_fields bytes = read_as alarms_of (read_bytes bytes >> read_list read_state 
 unfoldable pub alarms_bytes : KeptAlarms → List ℕ
 alarms_bytes k = sized_bytes k.text ++ list_bytes state_bytes k.states ++ u64_bytes k.dropped ++ list_bytes event_bytes k.events
 
--- ---- the whole
-
 -- there are no more states and events than there may be
 abbrev pub are_few : KeptAlarms → Bool
 are_few k = nat_le (length k.states) MOST_STATES && nat_le (length k.events) SHOWN
 
--- the alarms, where nothing follows them and they are few
+-- the alarms, with whatever follows them
+unfoldable pub read_kept : List ℕ → ReadOf KeptAlarms
+read_kept bytes = read_passing are_few field.Range (read_fields bytes)
+
+-- ---- the whole
+
+-- the alarms, where nothing follows them
 abbrev pub whole_alarms : ReadOf KeptAlarms → Option KeptAlarms
-whole_alarms (Ok read) = if (length read.1 == 0) && are_few read.0 then Some read.0 else None
+whole_alarms (Ok read) = if length read.1 == 0 then Some read.0 else None
 whole_alarms (Err fault) = None
 
 unfoldable pub read_alarms : List ℕ → Option KeptAlarms
-read_alarms bytes = whole_alarms (read_fields bytes)
+read_alarms bytes = whole_alarms (read_kept bytes)
 
 -- the texts are short, the values within the limit of expressions, and the states and events few
 pub record IsShort (k : KeptAlarms) : Type 0 where

@@ -1,7 +1,7 @@
 ghost use Rattle.std.specs.Prelude.{◌≡◌, ℕ, List, Some};
-ghost use Rattle.field_codec.specs.Field.{IsBytes};
+ghost use Rattle.field_codec.specs.Field.{IsBytes, IsField};
 ghost use Rattle.alarm_events.specs.declared.kept.KeptAlarms.{KeptAlarms};
-ghost use Rattle.alarm_events.specs.Alarms.{alarms_bytes, read_alarms, HasSpelling};
+ghost use Rattle.alarm_events.specs.Alarms.{alarms_bytes, read_alarms, read_kept, HasSpelling};
 
 /// The law of kept alarms: a spelling reads as its alarms, with nothing left, and what bytes read as has them
 /// as its spelling. So two never share a spelling. It does nothing.
@@ -14,4 +14,7 @@ pub fn every_kept()
         → read_alarms bytes ≡ Some kept → bytes ≡ alarms_bytes kept }
     ensures one_value { (a b : KeptAlarms) → HasSpelling a → HasSpelling b
         → alarms_bytes a ≡ alarms_bytes b → a ≡ b }
+
+    // The same where other fields follow.
+    ensures among_fields { IsField HasSpelling alarms_bytes read_kept }
 {}

@@ -9,7 +9,8 @@
 //! number of those before them. Its spelling is the fields one after the other, and nothing follows. What is
 //! written is the spelling, and what is read of bytes has them as its spelling: so alarms have one spelling,
 //! two never share one, and what was written is read again. Bytes that are no spelling are refused. A list
-//! grows with the items that are read, so that a count takes no memory by itself.
+//! grows with the items that are read, so that a count takes no memory by itself. `put_alarms` and
+//! `take_alarms` write and read them among other fields.
 //!
 //! It stands on `health_expr` for values, on `fixed_num` for texts and numbers, on `field_codec` for the fields
 //! and lists of bytes, and on the kit's `circular_buffer` for the ring.
@@ -40,11 +41,11 @@ pub use kept::{KeptAlarms, MOST_STATES};
 pub use kept_fault::KeptFault;
 pub use law::every_kept;
 pub use log::{EventLog, Log, SHOWN};
-pub use reading::read_alarms;
+pub use reading::{read_alarms, take_alarms};
 pub use short::is_short;
 pub use state::{KeptState, KeptStateList};
 pub use status::Status;
-pub use writing::write_alarms;
+pub use writing::{put_alarms, write_alarms};
 
 #[cfg(test)]
 mod tests;

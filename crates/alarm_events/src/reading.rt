@@ -1,7 +1,7 @@
 ghost use Rattle.std.specs.Prelude.{◌≡◌, ◌⊎◌, Some, None, Ok, Err, IfOk, IfErr};
 ghost use Rattle.field_codec.specs.Lists.{IsRefusal};
 ghost use Rattle.field_codec.specs.Reading.{read_bytes};
-ghost use Rattle.alarm_events.specs.Alarms.{alarms_bytes, read_fields, read_alarms, are_few, HasSpelling};
+ghost use Rattle.alarm_events.specs.Alarms.{alarms_bytes, read_fields, read_kept, read_alarms, are_few, HasSpelling};
 
 use crate::kept::{KeptAlarms, MOST_STATES};
 use crate::kept_fault::KeptFault;
@@ -43,6 +43,20 @@ pub(crate) fn are_few(kept: &KeptAlarms) -> bool
     kept.states.len() <= MOST_STATES && kept.events.len() <= SHOWN
 }
 
+/// Reads alarms of the bytes ahead, as fields that others may follow. `Short`, `Range` or `NotText` where none
+/// stand there, `Memory` where none is left.
+#[tactic(auto, unfolding(crate::specs::Alarms::read_kept))]
+pub fn take_alarms(alloc: Global, reader: &mut Reader<'_>) -> Result<KeptAlarms, FieldFault>
+    ensures taken { IfOk result (λ kept. read_kept reader.old ≡ Ok (kept, reader.new)) }
+    ensures fault { IfErr result (IsRefusal (read_kept reader.old)) }
+{
+    let kept = take_fields(alloc, reader)?;
+    if !are_few(&kept) {
+        return Err(FieldFault::Range);
+    }
+    Ok(kept)
+}
+
 #[tactic(auto, unfolding(crate::specs::Alarms::read_alarms))]
 fn take_whole(alloc: Global, bytes: &[u8]) -> Result<KeptAlarms, KeptFault>
     ensures value { IfOk result (λ kept. read_alarms bytes.now ≡ Some kept) }
@@ -50,8 +64,8 @@ fn take_whole(alloc: Global, bytes: &[u8]) -> Result<KeptAlarms, KeptFault>
         ⊎ ((fault ≡ KeptFault.BadBytes) × (read_alarms bytes.now ≡ None))) }
 {
     let mut reader = Reader::new(bytes);
-    let kept = take_fields(alloc, &mut reader)?;
-    if !reader.done() || !are_few(&kept) {
+    let kept = take_alarms(alloc, &mut reader)?;
+    if !reader.done() {
         return Err(KeptFault::BadBytes);
     }
     Ok(kept)

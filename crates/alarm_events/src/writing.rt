@@ -5,8 +5,10 @@ use crate::kept::KeptAlarms;
 use field_codec::{ByteList, FieldFault, Writer, list};
 use std::alloc::{AllocError, Global};
 
+/// Writes the spelling of alarms behind what is there, as fields that others may follow. `is_short` tells
+/// whether they have one. `Memory` where none is left.
 #[tactic(auto, unfolding(crate::specs::Alarms::alarms_bytes))]
-fn put_alarms(kept: &KeptAlarms, writer: &mut Writer) -> Result<(), FieldFault>
+pub fn put_alarms(kept: &KeptAlarms, writer: &mut Writer) -> Result<(), FieldFault>
     requires { IsShort kept.now }
     ensures put { OnOk result (writer.new ≡ writer.old ++ alarms_bytes kept.now) }
     ensures written { OnOk result (HasSpelling kept.now) }

@@ -33,6 +33,7 @@ pub use charts::{CopiedChart, CopiedChartList};
 pub use dimensions::{CopiedDimension, CopiedDimensionList};
 pub use entry::{Copied, Entry, Gap, Settings, TierSettings};
 pub use fault::EntryFault;
+pub use format::EntryFormat;
 pub use law::{any_length, every_entry};
 pub use reading::read_entry;
 pub use words::{CopiedWord, CopiedWordList};

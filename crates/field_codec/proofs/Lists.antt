@@ -9,7 +9,7 @@ use Rattle.field_codec.specs.Reading.{ReadOf, read_as, read_u32, read_text}
 use Rattle.field_codec.specs.Spelling.{u32_bytes, text_bytes, list_bytes}
 use Rattle.field_codec.proofs.Combined.{done, done_is, field_from, same_values, as_field, read_as-ok}
 use Rattle.field_codec.proofs.Fields.{u32_field, text_field}
-use Rattle.field_codec.specs.Lists.{◌>>◌, read_items, read_counted_items, read_list, IsShortListOf, IsText}
+use Rattle.field_codec.specs.Lists.{◌>>◌, read_items, read_by, read_counted_items, read_list, IsListOf, IsShortListOf, IsText}
 
 -- ---- one field after the other
 
@@ -39,6 +39,32 @@ pub ◌⊗◌ : {X Y : Type 0} {V : X → Type 0} {W : Y → Type 0} {s : X → 
     let after_fits = IsBytes-rest (s p.0) found.0 bytes front fits in (
       (first.has_spelling bytes p.0 found.0 fits found.1, second.has_spelling found.0 p.1 rest after_fits found.2),
       front ∙ ap (λ (after : List ℕ). s p.0 ++ after) (second.is_spelt found.0 p.1 rest after_fits found.2) ∙ sym (append_assoc (s p.0) (t p.1) rest),
+    ))
+
+-- what was read first, and what was read by it
+by-ok : {X Y : Type 0} (first : ReadOf X) (second : X → List ℕ → ReadOf Y) (both : X × Y) (rest : List ℕ) → read_by first second ≡ Ok (both, rest)
+    → (after : List ℕ) × (first ≡ Ok (both.0, after)) × (second both.0 after ≡ Ok (both.1, rest))
+by-ok {X} {Y} (Ok first) second both rest e =
+    let found = read_as-ok (λ (value : Y). (first.0, value)) (second first.0 first.1) both rest e in (
+      first.1,
+      ap (λ (p : X × Y). done (p.0, first.1)) found.2,
+      subst (λ (p : X × Y). second p.0 first.1 ≡ Ok (p.1, rest)) found.2 found.1,
+    )
+by-ok (Err fault) second both rest e = absurd cc
+
+-- one field, and then another that is read by it
+pub by_field : {X Y : Type 0} (V : X → Type 0) (W : X → Y → Type 0) (s : X → List ℕ) (t : Y → List ℕ) (r : List ℕ → ReadOf X) (q : X → List ℕ → ReadOf Y)
+    → IsField V s r → ((x : X) → IsField (W x) t (q x))
+    → IsField (λ (p : X × Y). V p.0 × W p.0 p.1) (λ (p : X × Y). s p.0 ++ t p.1) (λ bytes. read_by (r bytes) q)
+by_field {X} {Y} V W s t r q first second =
+    field_from (λ (p : X × Y). V p.0 × W p.0 p.1) (λ (p : X × Y). s p.0 ++ t p.1) (λ bytes. read_by (r bytes) q)
+    (λ p rest fits. rw (append_assoc (s p.0) (t p.1) rest, first.reads_back p.0 (t p.1 ++ rest) fits.0, (second p.0).reads_back p.1 rest fits.1) refl)
+    (λ bytes p rest fits e.
+    let found = by-ok (r bytes) q p rest e in
+    let front = first.is_spelt bytes p.0 found.0 fits found.1 in
+    let after_fits = IsBytes-rest (s p.0) found.0 bytes front fits in (
+      (first.has_spelling bytes p.0 found.0 fits found.1, (second p.0).has_spelling found.0 p.1 rest after_fits found.2),
+      front ∙ ap (λ (after : List ℕ). s p.0 ++ after) ((second p.0).is_spelt found.0 p.1 rest after_fits found.2) ∙ sym (append_assoc (s p.0) (t p.1) rest),
     ))
 
 -- what is made of fields
@@ -80,6 +106,16 @@ items_taken {X} {V} {s} {r} field (suc count) bytes items rest fits e =
     ∙ ap (λ (all : List ℕ). all ++ rest) (sym (flat_map-cons s x others)) in
     subst (λ (read : List X). AreItems V s (suc count) bytes read rest) made.2
     (record { counted = ap suc more.counted; each = (field.has_spelling bytes x found.0 fits found.1, more.each); spelt = spelt })
+
+-- so many items, with no count
+pub items_field : {X : Type 0} {V : X → Type 0} {s : X → List ℕ} {r : List ℕ → ReadOf X} → IsField V s r → (count : ℕ)
+    → IsField (IsListOf V count) (flat_map s) (read_items r count)
+items_field {X} {V} {s} {r} field count =
+    field_from (IsListOf V count) (flat_map s) (read_items r count)
+    (λ items rest fits. ap (λ (n : ℕ). read_items r n (flat_map s items ++ rest)) (sym fits.count) ∙ items_again field items rest fits.each)
+    (λ bytes items rest fits e.
+    let taken = items_taken field count bytes items rest fits e in
+    (record { count = taken.counted; each = taken.each }, taken.spelt))
 
 -- the count that was read, and the bytes after it
 counted_items-ok : {X : Type 0} (r : List ℕ → ReadOf X) (count : ReadOf ℕ) (items : List X) (rest : List ℕ) → read_counted_items r count ≡ Ok (items, rest)

@@ -12,6 +12,11 @@ abbrev pub ◌>>◌ : {X Y : Type 0} → ReadOf X → (List ℕ → ReadOf Y) �
 (Ok read) >> next = read_as (λ value. (read.0, value)) (next read.1)
 (Err fault) >> next = Err fault
 
+-- what was read, with what `next` reads by it of the bytes after it
+abbrev pub read_by : {X Y : Type 0} → ReadOf X → (X → List ℕ → ReadOf Y) → ReadOf (X × Y)
+read_by (Ok read) next = read_as (λ value. (read.0, value)) (next read.0 read.1)
+read_by (Err fault) next = Err fault
+
 -- the fault of a call that reads so: memory ran out, or it is the one that reading gives
 abbrev pub IsRefusal : {X : Type 0} → ReadOf X → FieldFault → Type 0
 IsRefusal read fault = (fault ≡ Memory) ⊎ (read ≡ Err fault)
@@ -32,6 +37,11 @@ read_list item bytes = read_counted_items item (read_u32 bytes)
 -- the lists that have a spelling
 pub record IsShortListOf {X : Type 0} (IsItem : X → Type 0) (items : List X) : Type 0 where
   pub count : length items < 2 ^ 32
+  pub each : AllByRecursion IsItem items
+
+-- the lists of so many items that have a spelling with no count
+pub record IsListOf {X : Type 0} (IsItem : X → Type 0) (size : ℕ) (items : List X) : Type 0 where
+  pub count : length items ≡ size
   pub each : AllByRecursion IsItem items
 
 -- the texts that have a spelling

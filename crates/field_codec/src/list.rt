@@ -50,8 +50,9 @@ fn push<T: Drop>(items: &mut ListOf<T>, item: T) -> Result<(), FieldFault>
     items.push(item).map_err(|_| FieldFault::Memory)
 }
 
-/// So many items, one after the other.
-fn take_items<Format, T: ListItem<Format>>(
+/// Reads so many items of the bytes ahead, one after the other. The list grows with what is read. `Memory`
+/// where none is left.
+pub fn take_items<Format, T: ListItem<Format>>(
     alloc: Global,
     count: u32,
     reader: &mut Reader<'_>,
@@ -83,7 +84,8 @@ pub fn take_list<Format, T: ListItem<Format>>(
     take_items::<Format, T>(alloc, count, reader)
 }
 
-fn put_items<Format, T: ListItem<Format>>(
+/// Writes the spellings of items behind what is there, with no count. `Memory` where none is left.
+pub fn put_items<Format, T: ListItem<Format>>(
     items: &[T],
     writer: &mut Writer,
 ) -> Result<(), FieldFault>
@@ -114,7 +116,8 @@ pub fn put_list<Format, T: ListItem<Format>>(
     put_items::<Format, T>(items, writer)
 }
 
-fn are_short<Format, T: ListItem<Format>>(items: &[T]) -> bool
+/// Whether each item has a spelling.
+pub fn are_short<Format, T: ListItem<Format>>(items: &[T]) -> bool
     ensures short { IsTrue result ↔ AllByRecursion T.is_short_item items.now }
     ensures items { IsTrue result ↔ AllByRecursion T.is_item items.now }
 {

@@ -1,4 +1,5 @@
 use Rattle.alarm_events.proofs.AlarmsLaw.{reads_back, is_read, one_value}
+use Rattle.alarm_events.proofs.Fields.{kept_field}
 use Rattle.alarm_events.proofs.law.every_kept.Goals as goal
 
 pub returns : goal.returns
@@ -7,4 +8,5 @@ returns c = record {
   has_spelling = λ k bytes fits is. (is_read bytes k fits is).0;
   is_spelt = λ k bytes fits is. (is_read bytes k fits is).1;
   one_value = one_value;
+  among_fields = kept_field;
 }

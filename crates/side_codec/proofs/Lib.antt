@@ -1,0 +1,5 @@
+pub mod Any
+pub mod Fields
+pub mod Parts
+pub mod Registered
+pub mod SidesLaw
