@@ -3,10 +3,9 @@
 ghost use Rattle.std.specs.Prelude.{◌≡◌, ◌↔◌, ◌<◌, ◌≤◌, ◌^◌, [], ◌∷◌, ◌⊎◌, ℕ, List, Option, Some, None, true, false, length, All, IfOk, IfErr, IfSome, OnOk, IsErrOf};
 ghost use Rattle.algorithms.specs.declared.last.Last.{Last as ALast};
 ghost use Rattle.alarm_core.specs.declared.latest.Latest.{Latest as ALatest};
-ghost use Rattle.host_model.specs.declared.file.File.TheVariants.{JournalA};
 ghost use Rattle.host_model.specs.Disks.{EveryDisk};
 ghost use Rattle.host_model.specs.Cause.{HasCause};
-ghost use Rattle.host_model.specs.Moments.{Throughout, OnlyOn};
+ghost use Rattle.host_model.specs.Moments.{Throughout};
 ghost use Rattle.history.specs.declared.beat.OpenBeat.{OpenBeat as AnOpenBeat};
 ghost use Rattle.history.specs.History.{Beat as HistoryBeat, collected, health};
 ghost use Rattle.history.specs.Registry.{Registry as ARegistry, same_chart, same_dimension, with_definitions};
@@ -17,11 +16,12 @@ ghost use Rattle.history.specs.Numbered.{numbered_beat, IsThere};
 ghost use Rattle.entry_codec.specs.declared.entry.Entry.TheVariants as entry;
 ghost use Rattle.entry_codec.specs.declared.entry.Settings.{Settings as ASettings};
 ghost use Rattle.entry_codec.specs.Entries.{entry_bytes, is_collected_canonical, HasSpelling, IsWithinLimits};
-ghost use Rattle.store_core.specs.declared.beat.Beat.{Beat as StoreBeat};
 ghost use Rattle.store_core.specs.Beats.{beat_bytes, InForm};
+ghost use Rattle.store_core.specs.Own.{OnlyOwn};
 ghost use Rattle.store_core.specs.Records.{last_after};
 ghost use Rattle.store_core.specs.Stands.{StandsAround};
 ghost use Rattle.store_core.specs.Store.{IsReady, IsReplayed, IsStoreOf};
+ghost use Rattle.store_core.specs.Stored.{Stored as AStored, stored_with};
 ghost use Rattle.agent_core.specs.Agent.{Holds};
 ghost use Rattle.agent_core.specs.Faults.{IsSpending};
 ghost use Rattle.agent_core.specs.Kept.{kept_of, Follows, StandsForHistory};
@@ -186,21 +186,21 @@ pub(crate) fn commit<H: Host>(
     requires later { IfSome kept.now.moment (λ moment. store.old.last < moment) }
     requires form { InForm kept.now }
     requires size { length (beat_bytes kept.now) ≤ 2 ^ 26 }
-    ensures any_moment { H.honest → (set : ASettings) (beats : List StoreBeat)
-        → IsStoreOf (H.seen host.old).past store.old set beats
-        → Throughout (EveryDisk (StandsAround set beats kept.now)) (H.seen host.old).past
+    ensures any_moment { H.honest → (set : ASettings) (stored : AStored)
+        → IsStoreOf (H.seen host.old).past store.old set stored
+        → Throughout (EveryDisk (StandsAround set stored kept.now)) (H.seen host.old).past
         (H.seen host.new).past }
     ensures stored { OnOk result
-        (H.honest → (set : ASettings) (beats : List StoreBeat)
-        → IsStoreOf (H.seen host.old).past store.old set beats
-        → IsStoreOf (H.seen host.new).past store.new set (kept.now ∷ beats)) }
+        (H.honest → (set : ASettings) (stored : AStored)
+        → IsStoreOf (H.seen host.old).past store.old set stored
+        → IsStoreOf (H.seen host.new).past store.new set (stored_with stored kept.now)) }
     ensures ready { IsReady H.honest (H.seen host.new).past store.new }
     ensures replayed { IsReplayed store.new }
     ensures going { OnOk result (store.new.fault ≡ None) }
     ensures last { OnOk result (store.new.last ≡ last_after store.old.last kept.now.moment) }
     ensures settings { store.new.settings ≡ store.old.settings }
     ensures faults { IfErr result IsSpending }
-    ensures only_here { H.honest → OnlyOn JournalA (H.seen host.old).past (H.seen host.new).past }
+    ensures only_here { H.honest → OnlyOwn (H.seen host.old).past (H.seen host.new).past }
     ensures cause { HasCause (H.seen host.old).disk_faults (H.seen host.new).disk_faults
         (IsErrOf result AgentFault.DiskFault) }
     ensures tells { (H.seen host.new).tell_faults ≡ (H.seen host.old).tell_faults }
@@ -248,7 +248,7 @@ fn health_beat(alloc: Global, text: &[u8]) -> Result<Beat, AllocError>
     }
 }
 
-/// Adds a configuration, whose text nothing refuses, to a store that is still of use. At every moment a stop
+/// Adds a configuration, whose text nothing refuses, to a store that is still of use. At every moment a crash
 /// leaves the history with the configuration or without it.
 pub(crate) fn add_health<H: Host>(
     alloc: Global,
@@ -279,7 +279,7 @@ pub(crate) fn add_health<H: Host>(
     ensures last { OnOk result (store.new.last ≡ store.old.last) }
     ensures settings { store.new.settings ≡ store.old.settings }
     ensures faults { IfErr result IsSpending }
-    ensures only_here { H.honest → OnlyOn JournalA (H.seen host.old).past (H.seen host.new).past }
+    ensures only_here { H.honest → OnlyOwn (H.seen host.old).past (H.seen host.new).past }
     ensures cause { HasCause (H.seen host.old).disk_faults (H.seen host.new).disk_faults
         (IsErrOf result AgentFault.DiskFault) }
     ensures tells { (H.seen host.new).tell_faults ≡ (H.seen host.old).tell_faults }
@@ -337,7 +337,7 @@ pub(crate) fn defines_some(beat: &OpenBeat) -> bool
     !beat.charts.is_empty() || !beat.dimensions.is_empty()
 }
 
-/// Adds a beat that may follow the history to the parts of an agent. At every moment a stop leaves the
+/// Adds a beat that may follow the history to the parts of an agent. At every moment a crash leaves the
 /// history with the beat or without it. After an `Err` the parts are of no more use.
 pub(crate) fn add<H: Host>(
     alloc: Global,
@@ -386,7 +386,7 @@ pub(crate) fn add<H: Host>(
     ensures before { OnOk result (latest.new.before ≡ store.old.last) }
     ensures settings { store.new.settings ≡ store.old.settings }
     ensures faults { IfErr result IsSpending }
-    ensures only_here { H.honest → OnlyOn JournalA (H.seen host.old).past (H.seen host.new).past }
+    ensures only_here { H.honest → OnlyOwn (H.seen host.old).past (H.seen host.new).past }
     ensures cause { HasCause (H.seen host.old).disk_faults (H.seen host.new).disk_faults
         (IsErrOf result AgentFault.DiskFault) }
     ensures tells { (H.seen host.new).tell_faults ≡ (H.seen host.old).tell_faults }

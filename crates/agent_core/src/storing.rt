@@ -5,10 +5,9 @@ ghost use Rattle.algorithms.specs.declared.last.Last.{Last as ALast};
 ghost use Rattle.alarm_core.specs.declared.latest.Latest.{Latest as ALatest};
 ghost use Rattle.alarm_core.specs.Course.{held};
 ghost use Rattle.alarm_core.specs.UpTo.{IsUpTo};
-ghost use Rattle.host_model.specs.declared.file.File.TheVariants.{JournalA};
 ghost use Rattle.host_model.specs.Disks.{EveryDisk};
 ghost use Rattle.host_model.specs.Cause.{HasCause};
-ghost use Rattle.host_model.specs.Moments.{Throughout, OnlyOn};
+ghost use Rattle.host_model.specs.Moments.{Throughout};
 ghost use Rattle.history.specs.History.{Beat as HistoryBeat, copied, missing, registry_of, Copy};
 ghost use Rattle.history.specs.Numbered.{numbered_charts, numbered_dimensions};
 ghost use Rattle.history.specs.Registry.{Registry as ARegistry, same_chart, same_dimension, with_definitions};
@@ -20,6 +19,7 @@ ghost use Rattle.replication.specs.Names.{beat_moment};
 ghost use Rattle.link_frames.specs.DataForm.{has_rising_places, has_storage_numbers, IsData};
 ghost use Rattle.link_frames.specs.DataForm.{AreApart as AreNamesApart};
 ghost use Rattle.store_core.specs.Beats.{beat_bytes, InForm};
+ghost use Rattle.store_core.specs.Own.{OnlyOwn};
 ghost use Rattle.store_core.specs.Store.{IsReady, IsReplayed};
 ghost use Rattle.agent_core.specs.Agent.{Holds};
 ghost use Rattle.agent_core.specs.Alarms.{events_at};
@@ -82,7 +82,7 @@ pub(crate) fn add_gap<H: Host>(
     ensures last { OnOk result (store.new.last ≡ to) }
     ensures settings { store.new.settings ≡ store.old.settings }
     ensures faults { IfErr result IsSpending }
-    ensures only_here { H.honest → OnlyOn JournalA (H.seen host.old).past (H.seen host.new).past }
+    ensures only_here { H.honest → OnlyOwn (H.seen host.old).past (H.seen host.new).past }
     ensures cause { HasCause (H.seen host.old).disk_faults (H.seen host.new).disk_faults
         (IsErrOf result AgentFault.DiskFault) }
     ensures tells { (H.seen host.new).tell_faults ≡ (H.seen host.old).tell_faults }
@@ -163,7 +163,7 @@ fn store_copy<H: Host>(
     ensures before { OnOk result (latest.new.before ≡ store.old.last) }
     ensures settings { store.new.settings ≡ store.old.settings }
     ensures faults { IfErr result IsSpending }
-    ensures only_here { H.honest → OnlyOn JournalA (H.seen host.old).past (H.seen host.new).past }
+    ensures only_here { H.honest → OnlyOwn (H.seen host.old).past (H.seen host.new).past }
     ensures cause { HasCause (H.seen host.old).disk_faults (H.seen host.new).disk_faults
         (IsErrOf result AgentFault.DiskFault) }
     ensures tells { (H.seen host.new).tell_faults ≡ (H.seen host.old).tell_faults }
@@ -225,7 +225,7 @@ fn add_copy<H: Host>(
     ensures last { OnOk result (store.new.last ≡ beat.now.moment) }
     ensures settings { store.new.settings ≡ store.old.settings }
     ensures faults { IfErr result IsSpending }
-    ensures only_here { H.honest → OnlyOn JournalA (H.seen host.old).past (H.seen host.new).past }
+    ensures only_here { H.honest → OnlyOwn (H.seen host.old).past (H.seen host.new).past }
     ensures cause { HasCause (H.seen host.old).disk_faults (H.seen host.new).disk_faults
         (IsErrOf result AgentFault.DiskFault) }
     ensures tells { (H.seen host.new).tell_faults ≡ (H.seen host.old).tell_faults }
@@ -313,7 +313,7 @@ fn add_later<H: Host>(
         (store.new.last ≡ latest_of beat_moment store.old.last beats.now) }
     ensures settings { store.new.settings ≡ store.old.settings }
     ensures faults { IfErr result IsSpending }
-    ensures only_here { H.honest → OnlyOn JournalA (H.seen host.old).past (H.seen host.new).past }
+    ensures only_here { H.honest → OnlyOwn (H.seen host.old).past (H.seen host.new).past }
     ensures cause { HasCause (H.seen host.old).disk_faults (H.seen host.new).disk_faults
         (IsErrOf result AgentFault.DiskFault) }
     ensures tells { (H.seen host.new).tell_faults ≡ (H.seen host.old).tell_faults }
@@ -382,7 +382,7 @@ fn add_beats<H: Host>(
         (store.new.last ≡ latest_of beat_moment store.old.last beats.now) }
     ensures settings { store.new.settings ≡ store.old.settings }
     ensures faults { IfErr result IsSpending }
-    ensures only_here { H.honest → OnlyOn JournalA (H.seen host.old).past (H.seen host.new).past }
+    ensures only_here { H.honest → OnlyOwn (H.seen host.old).past (H.seen host.new).past }
     ensures cause { HasCause (H.seen host.old).disk_faults (H.seen host.new).disk_faults
         (IsErrOf result AgentFault.DiskFault) }
     ensures tells { (H.seen host.new).tell_faults ≡ (H.seen host.old).tell_faults }
@@ -431,7 +431,7 @@ fn add_gap_before<H: Host>(
     ensures last { OnOk result (store.new.last ≡ message.now.from) }
     ensures settings { store.new.settings ≡ store.old.settings }
     ensures faults { IfErr result IsSpending }
-    ensures only_here { H.honest → OnlyOn JournalA (H.seen host.old).past (H.seen host.new).past }
+    ensures only_here { H.honest → OnlyOwn (H.seen host.old).past (H.seen host.new).past }
     ensures cause { HasCause (H.seen host.old).disk_faults (H.seen host.new).disk_faults
         (IsErrOf result AgentFault.DiskFault) }
     ensures tells { (H.seen host.new).tell_faults ≡ (H.seen host.old).tell_faults }
@@ -534,7 +534,7 @@ pub(crate) fn add_message<H: Host>(
     ensures limits { OnOk result (HasLimits registry.new) }
     ensures settings { store.new.settings ≡ store.old.settings }
     ensures faults { IfErr result IsSpending }
-    ensures only_here { H.honest → OnlyOn JournalA (H.seen host.old).past (H.seen host.new).past }
+    ensures only_here { H.honest → OnlyOwn (H.seen host.old).past (H.seen host.new).past }
     ensures cause { HasCause (H.seen host.old).disk_faults (H.seen host.new).disk_faults
         (IsErrOf result AgentFault.DiskFault) }
     ensures tells { (H.seen host.new).tell_faults ≡ (H.seen host.old).tell_faults }
