@@ -24,6 +24,7 @@ const EMPTY: u64 = 17;
 const MOST: u64 = 1 << 60;
 
 /// Whether there is a database on the disk.
+#[tactic(auto, unfolding(crate::specs::Stands::is_made))]
 pub(crate) fn is_made<H: Host>(host: &mut H) -> Result<bool, Failed>
     ensures value { IfOk result
         (λ made. H.honest → made ≡ is_made (reads_as (H.seen host.old).past)) }

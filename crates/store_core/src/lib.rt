@@ -10,8 +10,8 @@
 //! `create` a crash leaves what it might have left before the call, no database, or the one that
 //! has stored nothing. `open` gives just what is on the disk, or says that there is no database or
 //! that it is damaged; the store then stands at the base, and `replay` gives the beats since one by
-//! one. No call touches a file that is not the store's own. Once the disk has failed or memory was refused, each
-//! call on the store answers so, with the first cause.
+//! one. No call touches a file that is not the store's own. Once the disk has failed or memory was
+//! refused, each call on the store answers so, with the first cause.
 //!
 //! A store keeps in memory what the tiers of its settings keep of its beats: points, records of
 //! minutes and of hours, and their floors. Until a commit or a replay has failed `floor`, `kept`
@@ -26,10 +26,10 @@
 //! is written, and after a refusal the store is as it was, but for the cause.
 //!
 //! It stands on `journal_core` for the records, on `beat_tiers` for the tiers, on `query_engine`
-//! for the trait of a view, on `host_model` for what a crash may leave, and on `entry_codec` for the
-//! entry of the settings. Over a host that tells nothing of its past each call is still safe and
-//! returns. While it is opened its records, and then the beats that wait for their replay, are in
-//! memory.
+//! for the trait of a view, on `host_model` for what a crash may leave, and on `entry_codec` for
+//! the entry of the settings. Over a host that tells nothing of its past each call is still safe
+//! and returns. While it is opened its records, and then the beats that wait for their replay, are
+//! in memory.
 #![tactic(auto)]
 
 mod beat;
