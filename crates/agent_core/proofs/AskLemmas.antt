@@ -176,7 +176,7 @@ module _ (series : ℕ) where
   filter-sendable test [] forms below = tt
   filter-sendable test (beat ∷ beats) forms below =
       let keeps = has_points (seen beat) && test (seen beat) in
-      let rest = filter (λ beat. has_points beat && test beat) (map seen stored.after) in
+      let rest = filter (λ beat. has_points beat && test beat) (map seen beats) in
       let others = filter-sendable test beats forms.1 below.1 in
       cond_both keeps (seen beat ∷ rest) rest (AllByRecursion Sends)
       (λ passes. (beat-sendable beat forms.0 below.0 (and_parts (has_points (seen beat)) (test (seen beat)) passes).0, others)) (λ fails. others)

@@ -1,7 +1,7 @@
 use Rattle.std.proofs.Common.{◌≡◌, None, sym, subst}
 use Rattle.agent_core.specs.Agent.{AgentState, Holds}
 use Rattle.agent_core.proofs.Outcomes.{short-changes, short-reads, short-reopens}
-use Rattle.agent_core.proofs.agent.copies.Agent.answer.Goals as goal
+use Rattle.agent_core.proofs.agent.Agent.answer.Goals as goal
 
 pub returns-in-Ok-clause-answered : goal.returns-in-Ok-clause-answered
 returns-in-Ok-clause-answered g c set h is_of =

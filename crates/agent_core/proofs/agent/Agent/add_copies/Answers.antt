@@ -8,7 +8,7 @@ use Rattle.agent_core.specs.Kept.{onto}
 use Rattle.agent_core.specs.Roles.{may_copy, role_of}
 use Rattle.agent_core.specs.Storing.{ArePartsAt}
 use Rattle.agent_core.proofs.CopyCalls.{agent-copied, agent-parts, nothing-against}
-use Rattle.agent_core.proofs.agent.copies.Agent.add_copies.Goals as goal
+use Rattle.agent_core.proofs.agent.Agent.add_copies.Goals as goal
 
 pub returns-in-Ok-clause-done : goal.returns-in-Ok-clause-done
 returns-in-Ok-clause-done g c true_host set h is_of =

@@ -8,7 +8,7 @@ use Rattle.agent_core.specs.Calls.{agent_adds, agent_verdict}
 use Rattle.agent_core.specs.Copying.{copy_refusal, events_onto}
 use Rattle.agent_core.specs.Kept.{onto, StandsForFront}
 use Rattle.agent_core.proofs.CopyCalls.{left-events, none-added, stored-adds}
-use Rattle.agent_core.proofs.agent.copies.Agent.store_copies.Goals as goal
+use Rattle.agent_core.proofs.agent.Agent.store_copies.Goals as goal
 
 pub returns-then-not-is_stored-clause-any_moment : goal.returns-then-not-is_stored-clause-any_moment
 returns-then-not-is_stored-clause-any_moment g c true_host set h is_of = none-added (g.H.Host.seen c.args.host.now).past c.args.self.now set h is_of (agent_adds c.args.self.now c.args.message.now)
