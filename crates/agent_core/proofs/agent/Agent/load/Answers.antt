@@ -1,4 +1,4 @@
-use Rattle.std.proofs.Common.{ℕ, List, true, false, refl, sym, inr, subst}
+use Rattle.std.proofs.Common.{List, true, false, refl, sym, inr, subst}
 use Rattle.std.proofs.lemmas.Result.{IfErr-at_err, IfOk-weaker, on_ok_weaker}
 use Rattle.host_model.specs.Disks.{reads_as, EveryDisk}
 use Rattle.host_model.specs.Seen.{Seen}
