@@ -1,5 +1,5 @@
 -- What a store is when it was opened.
-use Rattle.std.proofs.Common.{◌≡◌, ℕ, true, List, [], Option, Some, None, refl, sym, ap, ◌∙◌, subst}
+use Rattle.std.proofs.Common.{◌≡◌, ℕ, true, List, Option, Some, None, sym, ap, ◌∙◌, subst}
 use Rattle.host_model.specs.declared.file.File.TheVariants.{JournalA}
 use Rattle.host_model.specs.Images.{contents}
 use Rattle.host_model.specs.Past.{Event, of}
@@ -13,7 +13,7 @@ use Rattle.store_core.specs.declared.beat.Beat.{Beat}
 use Rattle.store_core.specs.FirstRecord.{are_tiers}
 use Rattle.store_core.specs.Tiers.{first_tier, other_tiers, HasTiers}
 use Rattle.store_core.proofs.TierLemmas.{tiers_begin}
-use Rattle.store_core.specs.Records.{history_in, records, with_all, AreBeats}
+use Rattle.store_core.specs.Records.{history_in, records, AreBeats}
 use Rattle.store_core.specs.Stands.{Stands}
 use Rattle.store_core.specs.Store.{IsPlaced, OpensAt, StoreState}
 use Rattle.store_core.specs.Stored.{Stored, base_of, nothing_stored, stored_with_all}
