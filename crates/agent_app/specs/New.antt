@@ -7,7 +7,7 @@ use Rattle.host_model.specs.Disks.{EveryDisk, reads_as}
 use Rattle.host_model.specs.declared.file.File.TheVariants.{JournalA}
 use Rattle.host_model.specs.Moments.{Throughout, OnlyOn}
 use Rattle.host_model.specs.Past.{IsDisk}
-use Rattle.entry_codec.specs.declared.entry.Settings.{Settings}
+use Rattle.tier_settings.specs.declared.settings.Settings.{Settings}
 use Rattle.store_core.specs.Stands.{is_made}
 use Rattle.host_model.specs.Seen.{Seen}
 use Rattle.agent_core.specs.Kept.{StandsForHistory, StandsForNew}

@@ -7,9 +7,9 @@ ghost use Rattle.host_model.specs.Cause.{HasCause};
 ghost use Rattle.host_model.specs.Moments.{Throughout, OnlyOn};
 ghost use Rattle.history.specs.History.{Beat as HistoryBeat, child as child_of, collected, health, last as last_of};
 ghost use Rattle.history.specs.Limits.{keeps_limits};
-ghost use Rattle.entry_codec.specs.declared.entry.Settings.{Settings as ASettings};
+ghost use Rattle.tier_settings.specs.declared.settings.Settings.{Settings as ASettings};
 ghost use Rattle.store_core.specs.declared.beat.Beat.{Beat as StoreBeat};
-ghost use Rattle.store_core.specs.FirstRecord.{InLimits};
+ghost use Rattle.tier_settings.specs.Limits.{InLimits};
 ghost use Rattle.store_core.specs.Stands.{is_made, IsDamaged, Stands};
 ghost use Rattle.store_core.specs.Store.{counted, raised, OpensAt};
 ghost use Rattle.replication.specs.Verdict.{is_stored};
@@ -50,7 +50,6 @@ use alarm_core::{Alarms, EventList, Latest, Log};
 use beat_points::LastRows;
 use chart_registry::Registry;
 use collect_block::{Feed, Step};
-use entry_codec::Settings;
 use fixed_num::Text;
 use health_config::{Config, ConfigFault};
 use history::{BlockFault, Line, OpenBeat};
@@ -59,6 +58,7 @@ use replication::{Ask, Data, Parent, Verdict};
 use std::alloc::Global;
 use std::marker::Model;
 use store_core::{Kept, Store, Why};
+use tier_settings::Settings;
 
 /// The agent of one history, with the host that its database is on. Each call on it is handed that host,
 /// which since the agent was made or opened only its calls, and `tell`, have touched.
