@@ -6,6 +6,7 @@ ghost use Rattle.query_engine.specs.Windows.{table_of};
 ghost use Rattle.entry_codec.specs.declared.entry.Settings.{Settings as ASettings};
 ghost use Rattle.store_core.specs.declared.beat.Beat.{Beat as ABeat};
 ghost use Rattle.store_core.specs.Store.{IsStoreAt};
+ghost use Rattle.store_core.specs.Stored.{Stored as AStored};
 ghost use Rattle.store_core.specs.Tiers.{floor_at};
 ghost use Rattle.store_core.specs.View.{points_of, widths};
 
@@ -44,8 +45,8 @@ pub fn answer_by<H: Host>(
 ) -> Result<Table, PointFault>
     requires going { store.old.fault ≡ None }
     ensures answered { IfOk result (λ table. (past : List Event) (set : ASettings)
-        (beats rest : List ABeat) → IsStoreAt past store.old set beats rest
-        → table ≡ table_of widths (floor_at set beats) (points_of beats) request.now) }
+        (stored : AStored) (rest : List ABeat) → IsStoreAt past store.old set stored rest
+        → table ≡ table_of widths (floor_at set stored) (points_of stored) request.now) }
     ensures same_store { store.new ≡ store.old }
     ensures same_host { H.seen host.new ≡ H.seen host.old }
     ensures no_disk { IsErrOf result PointFault.Disk → ⊥ }
