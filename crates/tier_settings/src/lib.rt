@@ -17,6 +17,6 @@ mod settings;
 mod tests;
 mod tier;
 
-pub use limits::{MOST_EXTENTS, MOST_ITEMS, WIDTHS, has_widths, is_in_limits, widths};
+pub use limits::{MOST_EXTENTS, MOST_ITEMS, WIDTHS, are_tiers, has_widths, is_in_limits, widths};
 pub use settings::Settings;
 pub use tier::{Tier, TierList};

@@ -29,7 +29,8 @@ fn is_tier(tier: &Tier) -> bool
     1 <= tier.items && tier.items <= MOST_ITEMS && 1 <= tier.extents && tier.extents <= MOST_EXTENTS
 }
 
-fn are_tiers(tiers: &[Tier]) -> bool
+/// Whether each of the tiers keeps the limits of its items and segments.
+pub fn are_tiers(tiers: &[Tier]) -> bool
     ensures { result ≡ list_all is_tier tiers.now }
 {
     tiers.iter().all(is_tier)
