@@ -16,7 +16,7 @@ use Rattle.history.specs.History.{Beat}
 use Rattle.alarm_events.specs.declared.event.Event.{Event as AlarmEvent}
 use Rattle.alarm_events.specs.declared.log.Log.{Log}
 use Rattle.alarm_events.specs.Log.{Shown}
-use Rattle.entry_codec.specs.declared.entry.Settings.{Settings}
+use Rattle.tier_settings.specs.declared.settings.Settings.{Settings}
 use Rattle.agent_core.specs.declared.fault.AgentFault.{AgentFault}
 use Rattle.agent_core.specs.declared.fault.AgentFault.TheVariants as fault
 use Rattle.agent_core.specs.Agent.{AgentState, IsAgentOf}

@@ -10,7 +10,7 @@ use Rattle.host_model.specs.Past.{Event}
 use Rattle.host_model.specs.Spawner.{Child, Children}
 use Rattle.history.specs.History.{Beat, last}
 use Rattle.point_lines.specs.declared.refusal.Refusal.{Refusal}
-use Rattle.entry_codec.specs.declared.entry.Settings.{Settings}
+use Rattle.tier_settings.specs.declared.settings.Settings.{Settings}
 use Rattle.line_stream.specs.Run.{input_limit}
 use Rattle.plugin_runner.specs.declared.fault.RunFault.{RunFault}
 use Rattle.plugin_runner.specs.declared.fault.RunFault.TheVariants as fault

@@ -11,7 +11,7 @@ use Rattle.history.specs.History.{Beat, last}
 use Rattle.history.specs.Registry.{Registry}
 use Rattle.collect_block.specs.Feed.{CountsFor, IsFeedOf}
 use Rattle.point_lines.specs.declared.refusal.Refusal.{Refusal}
-use Rattle.entry_codec.specs.declared.entry.Settings.{Settings}
+use Rattle.tier_settings.specs.declared.settings.Settings.{Settings}
 use Rattle.line_stream.specs.Run.{input_limit, Ended, at_end, at_fault}
 use Rattle.plugin_runner.specs.declared.collecting.Halt.{Halt}
 use Rattle.plugin_runner.specs.declared.collecting.Halt.TheVariants.{AtEnd, Within, Failed}

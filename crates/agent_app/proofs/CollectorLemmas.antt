@@ -7,7 +7,7 @@ use Rattle.std.specs.Prelude.{if◌then◌else◌, nat_le, not}
 use Rattle.std.specs.List.{list_any}
 use Rattle.std.specs.Option.{option_map, option_and_then}
 use Rattle.std.specs.Str.{bytes_eq}
-use Rattle.agent_app.specs.Command.{addressed, alone, collect_of, command_of, form_of, is_option, is_question, longer, number_of, settings_of, up_to, IsCollector}
+use Rattle.agent_app.specs.Command.{addressed, alone, collect_of, command_of, form_of, is_option, is_question, longer, number_of, plan_of, up_to, IsCollector}
 use Rattle.agent_app.specs.declared.command.TheConstants.{EVERY_LIMIT, STARTS_LIMIT}
 use Rattle.agent_app.specs.declared.command.Command.{Command}
 use Rattle.agent_app.specs.declared.command.Command.TheVariants.{Collect, Convert, Health, Log, New, Query, Receive, Run, Send}
@@ -33,7 +33,7 @@ is_collect None = false
 is_collect (Some Convert) = false
 is_collect (Some Health) = false
 is_collect (Some (Log form)) = false
-is_collect (Some (New settings)) = false
+is_collect (Some (New plan)) = false
 is_collect (Some Query) = false
 is_collect (Some Receive) = false
 is_collect (Some Run) = false
@@ -45,7 +45,7 @@ every_of None = 0
 every_of (Some Convert) = 0
 every_of (Some Health) = 0
 every_of (Some (Log form)) = 0
-every_of (Some (New settings)) = 0
+every_of (Some (New plan)) = 0
 every_of (Some Query) = 0
 every_of (Some Receive) = 0
 every_of (Some Run) = 0
@@ -57,7 +57,7 @@ starts_of None = 0
 starts_of (Some Convert) = 0
 starts_of (Some Health) = 0
 starts_of (Some (Log form)) = 0
-starts_of (Some (New settings)) = 0
+starts_of (Some (New plan)) = 0
 starts_of (Some Query) = 0
 starts_of (Some Receive) = 0
 starts_of (Some Run) = 0
@@ -118,7 +118,7 @@ module _ (every starts : ℕ) where
       rest : Option Command
       rest =
           if bytes_eq word (codes "log") then option_map Log (form_of more)
-          else if bytes_eq word (codes "new") then option_map New (settings_of more)
+          else if bytes_eq word (codes "new") then option_map New (plan_of more)
           else if bytes_eq word (codes "query") && is_question more then Some Query
           else if bytes_eq word (codes "receive") && not (list_any is_option more) then addressed Receive more
           else if bytes_eq word (codes "send") && not (list_any is_option more) then addressed Send more
@@ -127,7 +127,7 @@ module _ (every starts : ℕ) where
       other : is_collect rest ≡ false
       other =
           either (bytes_eq word (codes "log")) _ _ (other_of Log (form_of more) (λ form. refl))
-          (either (bytes_eq word (codes "new")) _ _ (other_of New (settings_of more) (λ settings. refl))
+          (either (bytes_eq word (codes "new")) _ _ (other_of New (plan_of more) (λ plan. refl))
           (either (bytes_eq word (codes "query") && is_question more) _ _ refl
           (either (bytes_eq word (codes "receive") && not (list_any is_option more)) _ _ (other_addressed Receive more refl)
           (either (bytes_eq word (codes "send") && not (list_any is_option more)) _ _ (other_addressed Send more refl) refl))))

@@ -19,9 +19,9 @@ use Rattle.clap.specs.Simple.{subcommand_of}
 use Rattle.clap.specs.Faults.{fault_of}
 use Rattle.clap.specs.declared.error.kind.ErrorKind.{ErrorKind}
 use Rattle.clap.specs.declared.error.kind.ErrorKind.TheVariants as kind
-use Rattle.agent_app.specs.Command.{addressed, collect_of, command_of, form_named, form_of, is_option, number_of, settings_of, settings_with, tier_of, up_to}
-use Rattle.agent_app.specs.Forms.{addressed_in, collect_in, command_in, form_in, forms, settings_in}
-use Rattle.entry_codec.specs.declared.entry.TierSettings.{TierSettings}
+use Rattle.agent_app.specs.Command.{addressed, collect_of, command_of, form_named, form_of, is_option, number_of, plan_of, plan_with, quota_of, up_to}
+use Rattle.agent_app.specs.Forms.{addressed_in, collect_in, command_in, form_in, forms, plan_in}
+use Rattle.tier_settings.specs.declared.limits.TheConstants.{MOST_ITEMS}
 use Rattle.agent_app.specs.declared.command.TheConstants.{EVERY_LIMIT, STARTS_LIMIT}
 use Rattle.agent_app.specs.declared.command.Command.{Command}
 use Rattle.agent_app.specs.declared.command.Command.TheVariants.{Collect, New, Query, Receive, Send}
@@ -76,16 +76,16 @@ some_fit n some most =
     let c : nat_lt usize_max n ≡ false = grind (arith, nat_tests) in
     rw (a, b, c) refl
 
-pub settings-past : (words : List Text) → 7 < length words → settings_of words ≡ None
-settings-past [] past = refl
-settings-past (a ∷ []) past = absurd (omega arith)
-settings-past (a ∷ b ∷ []) past = refl
-settings-past (a ∷ b ∷ c ∷ []) past = refl
-settings-past (a ∷ b ∷ c ∷ d ∷ []) past = refl
-settings-past (a ∷ b ∷ c ∷ d ∷ e ∷ []) past = refl
-settings-past (a ∷ b ∷ c ∷ d ∷ e ∷ f ∷ []) past = refl
-settings-past (a ∷ b ∷ c ∷ d ∷ e ∷ f ∷ g ∷ []) past = absurd (omega arith)
-settings-past (a ∷ b ∷ c ∷ d ∷ e ∷ f ∷ g ∷ h ∷ more) past = refl
+pub plan-past : (words : List Text) → 7 < length words → plan_of words ≡ None
+plan-past [] past = refl
+plan-past (a ∷ []) past = absurd (omega arith)
+plan-past (a ∷ b ∷ []) past = refl
+plan-past (a ∷ b ∷ c ∷ []) past = refl
+plan-past (a ∷ b ∷ c ∷ d ∷ []) past = refl
+plan-past (a ∷ b ∷ c ∷ d ∷ e ∷ []) past = refl
+plan-past (a ∷ b ∷ c ∷ d ∷ e ∷ f ∷ []) past = refl
+plan-past (a ∷ b ∷ c ∷ d ∷ e ∷ f ∷ g ∷ []) past = absurd (omega arith)
+plan-past (a ∷ b ∷ c ∷ d ∷ e ∷ f ∷ g ∷ h ∷ more) past = refl
 
 pub collect-read : {B : Type 0} (f : B → Text) (words : List B) (d : B) (every starts : ℕ) → 2 < length words
     → option_and_then (up_to EVERY_LIMIT) (number_of (f (slice_index_or words 0 d))) ≡ Some every
@@ -149,7 +149,7 @@ agrees-new [] plain = refused _ _ _ (new_fault [] ∙ leaf_missing 1 7 refl (cod
 agrees-new (w ∷ more) plain =
     let fault : fault_of forms (codes "new" ∷ w ∷ more) ≡ range_kinds 1 7 (length (w ∷ more)) = new_fault (w ∷ more) ∙ leaf_fault 1 7 refl (codes "new") w more plain in (
       λ e. rw (new_rows (w ∷ more), leaf_rows 1 7 refl w more plain) refl,
-      λ k ks e. ap (option_map New) (settings-past (w ∷ more) (past_7 (length (w ∷ more)) k ks (omega arith) (sym fault ∙ e))),
+      λ k ks e. ap (option_map New) (plan-past (w ∷ more) (past_7 (length (w ∷ more)) k ks (omega arith) (sym fault ∙ e))),
     )
 
 agrees-query : (more : List Text) → length more ≤ usize_max → list_any is_option more ≡ false → Agrees (codes "query" ∷ more)
@@ -232,33 +232,33 @@ nothing_then : {X Y : Type 0} (f : X → Option Y) (o : Option X) → ((x : X) �
 nothing_then f None none = refl
 nothing_then f (Some x) none = none x
 
-no_items : (items extents : Text) → is_option items ≡ true → tier_of items extents ≡ None
+no_items : (items extents : Text) → is_option items ≡ true → quota_of items extents ≡ None
 no_items items extents e = rw (no_number items e) refl
 
-no_extents : (items extents : Text) → is_option extents ≡ true → tier_of items extents ≡ None
-no_extents items extents e = rw (no_number extents e) (nothing_then _ (option_and_then (up_to 262144) (number_of items)) (λ i. refl))
+no_extents : (items extents : Text) → is_option extents ≡ true → quota_of items extents ≡ None
+no_extents items extents e = rw (no_number extents e) (nothing_then _ (option_and_then (up_to MOST_ITEMS) (number_of items)) (λ i. refl))
 
-no_tier : (items extents : Text) → (is_option items || is_option extents) ≡ true → tier_of items extents ≡ None
-no_tier items extents e = by (is_option items) refl e
+no_quota : (items extents : Text) → (is_option items || is_option extents) ≡ true → quota_of items extents ≡ None
+no_quota items extents e = by (is_option items) refl e
   where
-    by : (b : Bool) → is_option items ≡ b → (b || is_option extents) ≡ true → tier_of items extents ≡ None
+    by : (b : Bool) → is_option items ≡ b → (b || is_option extents) ≡ true → quota_of items extents ≡ None
     by true is h = no_items items extents is
     by false is h = no_extents items extents h
 
-without_tier0 : (id : Option ℕ) (tier1 tier2 : Option TierSettings) → settings_with id None tier1 tier2 ≡ None
-without_tier0 None tier1 tier2 = refl
-without_tier0 (Some id) tier1 tier2 = refl
+without_quota0 : (id : Option ℕ) (quota1 quota2 : Option (ℕ × ℕ)) → plan_with id None quota1 quota2 ≡ None
+without_quota0 None quota1 quota2 = refl
+without_quota0 (Some id) quota1 quota2 = refl
 
-without_tier1 : (id : Option ℕ) (tier0 tier2 : Option TierSettings) → settings_with id tier0 None tier2 ≡ None
-without_tier1 None tier0 tier2 = refl
-without_tier1 (Some id) None tier2 = refl
-without_tier1 (Some id) (Some tier0) tier2 = refl
+without_quota1 : (id : Option ℕ) (quota0 quota2 : Option (ℕ × ℕ)) → plan_with id quota0 None quota2 ≡ None
+without_quota1 None quota0 quota2 = refl
+without_quota1 (Some id) None quota2 = refl
+without_quota1 (Some id) (Some quota0) quota2 = refl
 
-without_tier2 : (id : Option ℕ) (tier0 tier1 : Option TierSettings) → settings_with id tier0 tier1 None ≡ None
-without_tier2 None tier0 tier1 = refl
-without_tier2 (Some id) None tier1 = refl
-without_tier2 (Some id) (Some tier0) None = refl
-without_tier2 (Some id) (Some tier0) (Some tier1) = refl
+without_quota2 : (id : Option ℕ) (quota0 quota1 : Option (ℕ × ℕ)) → plan_with id quota0 quota1 None ≡ None
+without_quota2 None quota0 quota1 = refl
+without_quota2 (Some id) None quota1 = refl
+without_quota2 (Some id) (Some quota0) None = refl
+without_quota2 (Some id) (Some quota0) (Some quota1) = refl
 
 or_last : (b : Bool) → (b || false) ≡ true → b ≡ true
 or_last true e = refl
@@ -274,22 +274,22 @@ any_of_7 false false false false true f g is = inr (inr (inl refl))
 any_of_7 false false false false false true g is = inr (inr (inr refl))
 any_of_7 false false false false false false g is = inr (inr (inr (or_last g is)))
 
-no_settings : (words : List Text) → list_any is_option words ≡ true → settings_of words ≡ None
-no_settings [] is = refl
-no_settings (a ∷ []) is = rw (no_number a (or_last (is_option a) is)) refl
-no_settings (a ∷ b ∷ []) is = refl
-no_settings (a ∷ b ∷ c ∷ []) is = refl
-no_settings (a ∷ b ∷ c ∷ d ∷ []) is = refl
-no_settings (a ∷ b ∷ c ∷ d ∷ e ∷ []) is = refl
-no_settings (a ∷ b ∷ c ∷ d ∷ e ∷ f ∷ []) is = refl
-no_settings (a ∷ b ∷ c ∷ d ∷ e ∷ f ∷ g ∷ []) is =
+no_plan : (words : List Text) → list_any is_option words ≡ true → plan_of words ≡ None
+no_plan [] is = refl
+no_plan (a ∷ []) is = rw (no_number a (or_last (is_option a) is)) refl
+no_plan (a ∷ b ∷ []) is = refl
+no_plan (a ∷ b ∷ c ∷ []) is = refl
+no_plan (a ∷ b ∷ c ∷ d ∷ []) is = refl
+no_plan (a ∷ b ∷ c ∷ d ∷ e ∷ []) is = refl
+no_plan (a ∷ b ∷ c ∷ d ∷ e ∷ f ∷ []) is = refl
+no_plan (a ∷ b ∷ c ∷ d ∷ e ∷ f ∷ g ∷ []) is =
     elim (any_of_7 (is_option a) (is_option b) (is_option c) (is_option d) (is_option e) (is_option f) (is_option g) is) [
       | inl h ↦ rw (no_number a h) refl
-      | inr (inl h) ↦ rw (no_tier b c h) (without_tier0 (number_of a) (tier_of d e) (tier_of f g))
-      | inr (inr (inl h)) ↦ rw (no_tier d e h) (without_tier1 (number_of a) (tier_of b c) (tier_of f g))
-      | inr (inr (inr h)) ↦ rw (no_tier f g h) (without_tier2 (number_of a) (tier_of b c) (tier_of d e))
+      | inr (inl h) ↦ rw (no_quota b c h) (without_quota0 (number_of a) (quota_of d e) (quota_of f g))
+      | inr (inr (inl h)) ↦ rw (no_quota d e h) (without_quota1 (number_of a) (quota_of b c) (quota_of f g))
+      | inr (inr (inr h)) ↦ rw (no_quota f g h) (without_quota2 (number_of a) (quota_of b c) (quota_of d e))
     ]
-no_settings (a ∷ b ∷ c ∷ d ∷ e ∷ f ∷ g ∷ h ∷ more) is = refl
+no_plan (a ∷ b ∷ c ∷ d ∷ e ∷ f ∷ g ∷ h ∷ more) is = refl
 
 no_form : (words : List Text) → list_any is_option words ≡ true → form_of words ≡ None
 no_form [] is = refl
@@ -330,22 +330,22 @@ options-none (w ∷ next ∷ more) is = by (is_option w) refl is
   where
     by : (b : Bool) → is_option w ≡ b → (b || list_any is_option (next ∷ more)) ≡ true → command_of (w ∷ next ∷ more) ≡ None
     by true e h = begins w (next ∷ more) e
-    by false e h = rw (no_form (next ∷ more) h, no_settings (next ∷ more) h, h)
+    by false e h = rw (no_form (next ∷ more) h, no_plan (next ∷ more) h, h)
         (no_command (bytes_eq w (codes "collect")) (collect_of (next ∷ more)) _
         ∙ none_either (bytes_eq w (codes "log")) (bytes_eq w (codes "new")) (bytes_eq w (codes "query")) (bytes_eq w (codes "receive")) (bytes_eq w (codes "send")) (nat_le 5 (length (next ∷ more))) (next ∷ more))
 
 -- ---- settings
 
-pub settings-between : (words : List Text) → 1 < length words → length words < 7 → settings_of words ≡ None
-settings-between [] least most = refl
-settings-between (a ∷ []) least most = absurd (omega arith)
-settings-between (a ∷ b ∷ []) least most = refl
-settings-between (a ∷ b ∷ c ∷ []) least most = refl
-settings-between (a ∷ b ∷ c ∷ d ∷ []) least most = refl
-settings-between (a ∷ b ∷ c ∷ d ∷ e ∷ []) least most = refl
-settings-between (a ∷ b ∷ c ∷ d ∷ e ∷ f ∷ []) least most = refl
-settings-between (a ∷ b ∷ c ∷ d ∷ e ∷ f ∷ g ∷ []) least most = absurd (omega arith)
-settings-between (a ∷ b ∷ c ∷ d ∷ e ∷ f ∷ g ∷ h ∷ more) least most = refl
+pub plan-between : (words : List Text) → 1 < length words → length words < 7 → plan_of words ≡ None
+plan-between [] least most = refl
+plan-between (a ∷ []) least most = absurd (omega arith)
+plan-between (a ∷ b ∷ []) least most = refl
+plan-between (a ∷ b ∷ c ∷ []) least most = refl
+plan-between (a ∷ b ∷ c ∷ d ∷ []) least most = refl
+plan-between (a ∷ b ∷ c ∷ d ∷ e ∷ []) least most = refl
+plan-between (a ∷ b ∷ c ∷ d ∷ e ∷ f ∷ []) least most = refl
+plan-between (a ∷ b ∷ c ∷ d ∷ e ∷ f ∷ g ∷ []) least most = absurd (omega arith)
+plan-between (a ∷ b ∷ c ∷ d ∷ e ∷ f ∷ g ∷ h ∷ more) least most = refl
 
 -- ---- what a parse refuses
 
@@ -360,8 +360,8 @@ refused-none words most plain e has other = elim has [
     by [] is among = absurd among
     by (k ∷ ks) is among = (agrees words most plain).1 k ks is
 
-pub settings-found : (f : Found) (o : Option (List Text)) → o ≡ option_map raw_values (matched_of f (codes "words")) → option_and_then settings_of o ≡ settings_in (rows_of f)
-settings-found f o is = ap (option_and_then settings_of) (is ∙ raw_values-rows f (codes "words"))
+pub plan-found : (f : Found) (o : Option (List Text)) → o ≡ option_map raw_values (matched_of f (codes "words")) → option_and_then plan_of o ≡ plan_in (rows_of f)
+plan-found f o is = ap (option_and_then plan_of) (is ∙ raw_values-rows f (codes "words"))
 
 pub collect-found : (f : Found) (o : Option (List Text)) → o ≡ option_map raw_values (matched_of f (codes "words")) → option_and_then collect_of o ≡ collect_in (rows_of f)
 collect-found f o is = ap (option_and_then collect_of) (is ∙ raw_values-rows f (codes "words"))

@@ -16,7 +16,7 @@ use Rattle.health_config.specs.declared.config.TheConstants.{TEXT_LIMIT}
 use Rattle.health_config.specs.Config.{config_read}
 use Rattle.history.specs.History.{Beat, health}
 use Rattle.line_stream.proofs.RunLemmas.{rose-later, Takes-none}
-use Rattle.entry_codec.specs.declared.entry.Settings.{Settings}
+use Rattle.tier_settings.specs.declared.settings.Settings.{Settings}
 use Rattle.agent_core.specs.declared.fault.AgentFault.{AgentFault}
 use Rattle.agent_core.specs.declared.fault.AgentFault.TheVariants as fault
 use Rattle.agent_core.specs.Agent.{AgentState}

@@ -16,7 +16,7 @@ use Rattle.host_model.proofs.CallLemmas.{unmoved}
 use Rattle.host_model.proofs.DiskLemmas.{untold}
 use Rattle.host_model.proofs.MomentLemmas.{at_end, full_text, joined, weakened}
 use Rattle.history.specs.History.{Beat, last}
-use Rattle.entry_codec.specs.declared.entry.Settings.{Settings}
+use Rattle.tier_settings.specs.declared.settings.Settings.{Settings}
 use Rattle.line_stream.proofs.RunLemmas.{Takes-none}
 use Rattle.store_core.specs.Stands.{is_made}
 use Rattle.store_core.proofs.StandLemmas.{stands_made}

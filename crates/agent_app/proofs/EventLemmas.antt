@@ -2,7 +2,7 @@
 use Rattle.std.proofs.Common.{◌≡◌, ℕ, ◌^◌, ◌<◌, ◌≤◌, List, [], ◌∷◌, subst, append-nil}
 use Rattle.history.specs.History.{Beat}
 use Rattle.plugin_text.specs.Lines.{rest}
-use Rattle.entry_codec.specs.declared.entry.Settings.{Settings}
+use Rattle.tier_settings.specs.declared.settings.Settings.{Settings}
 use Rattle.store_core.specs.declared.beat.Beat.{Beat as StoreBeat}
 use Rattle.alarm_events.specs.declared.event.Event.{Event}
 use Rattle.agent_core.specs.Alarms.{events_at}

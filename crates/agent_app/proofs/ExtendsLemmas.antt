@@ -7,7 +7,7 @@ use Rattle.history.specs.Looking.{beat}
 use Rattle.history.specs.Read.{history_at, is_disable}
 use Rattle.plugin_text.specs.Lines.{parts, fits}
 use Rattle.point_lines.specs.declared.refusal.Refusal.{Refusal}
-use Rattle.entry_codec.specs.declared.entry.Settings.{Settings}
+use Rattle.tier_settings.specs.declared.settings.Settings.{Settings}
 use Rattle.agent_core.specs.Rules.{history_with}
 use Rattle.link_session.specs.Keeps.{Extends, no_more, one_more}
 use Rattle.link_session.proofs.ExtendsLemmas.{extends-further}

@@ -17,7 +17,7 @@ use Rattle.health_config.specs.declared.fault.ConfigFault.{ConfigFault}
 use Rattle.health_config.specs.Fault.{fault_line, fault_number}
 use Rattle.history.specs.History.{Beat, health}
 use Rattle.query_text.proofs.ReplyLemmas.{free-append, IsFree}
-use Rattle.entry_codec.specs.declared.entry.Settings.{Settings}
+use Rattle.tier_settings.specs.declared.settings.Settings.{Settings}
 use Rattle.alarm_events.specs.declared.event.Event.{Event as AlarmEvent}
 use Rattle.store_core.specs.Store.{counted}
 use Rattle.agent_core.specs.declared.fault.AgentFault.{AgentFault}

@@ -1,7 +1,7 @@
 -- What `new` promises where it made a database.
 use Rattle.std.proofs.Common.{◌≡◌, inl, inr, [], Result, Ok, Err, refl, ap, sym, ◌∙◌, true≢false}
 use Rattle.host_model.specs.declared.status.Status.TheVariants as status
-use Rattle.entry_codec.specs.declared.entry.Settings.{Settings}
+use Rattle.tier_settings.specs.declared.settings.Settings.{Settings}
 use Rattle.agent_core.specs.declared.fault.AgentFault.{AgentFault}
 use Rattle.agent_core.specs.declared.fault.AgentFault.TheVariants as fault
 use Rattle.agent_core.specs.Agent.{AgentState}

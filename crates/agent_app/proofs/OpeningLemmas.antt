@@ -12,7 +12,7 @@ use Rattle.host_model.proofs.DiskLemmas.{untold}
 use Rattle.history.specs.History.{Beat}
 use Rattle.history.specs.Registry.{Registry}
 use Rattle.collect_block.specs.Feed.{CountsFor, IsFeedOf}
-use Rattle.entry_codec.specs.declared.entry.Settings.{Settings}
+use Rattle.tier_settings.specs.declared.settings.Settings.{Settings}
 use Rattle.line_stream.specs.Run.{input_limit, Ended, Ran}
 use Rattle.line_stream.proofs.RunLemmas.{rose-later, Takes-none}
 use Rattle.store_core.specs.Stands.{is_made}

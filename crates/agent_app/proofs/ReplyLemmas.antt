@@ -27,7 +27,7 @@ use Rattle.query_text.specs.Asked.{chart_read, group_read, in_limits, number_rea
 use Rattle.query_text.specs.Fault.{◌>>=◌}
 use Rattle.query_text.specs.Replies.{is_reply_line, HasOneLineIds, IsReply}
 use Rattle.query_text.proofs.ReplyLemmas.{fault-reply, table-reply}
-use Rattle.entry_codec.specs.declared.entry.Settings.{Settings}
+use Rattle.tier_settings.specs.declared.settings.Settings.{Settings}
 use Rattle.store_core.specs.declared.beat.Beat.{Beat as StoreBeat}
 use Rattle.agent_core.specs.Answers.{reply_of, reply_to}
 use Rattle.agent_core.specs.Kept.{AreBeatsOf}

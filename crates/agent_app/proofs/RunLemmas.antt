@@ -13,7 +13,7 @@ use Rattle.plugin_text.specs.Lines.{fits, lines, parts, rest, BeginsWithLines, H
 use Rattle.plugin_text.proofs.LongLemmas.{IsLongAfter-append}
 use Rattle.plugin_text.proofs.PartsLemmas.{parts_whole}
 use Rattle.point_lines.specs.declared.refusal.Refusal.{Refusal}
-use Rattle.entry_codec.specs.declared.entry.Settings.{Settings}
+use Rattle.tier_settings.specs.declared.settings.Settings.{Settings}
 use Rattle.line_stream.specs.Chain.{Acts, acts_of, Chain, begins, goes_on, pauses}
 use Rattle.line_stream.specs.Run.{input_limit, Ended, at_line, at_pause, at_long_line, at_end, at_fault, at_limit, at_want}
 use Rattle.line_stream.proofs.RunLemmas.{rose-later}

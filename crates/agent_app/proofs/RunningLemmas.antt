@@ -14,7 +14,7 @@ use Rattle.history.specs.History.{Beat}
 use Rattle.history.specs.Read.{history_at, refusal_at}
 use Rattle.plugin_text.specs.Lines.{rest}
 use Rattle.collect_block.specs.Feed.{CountsFor, IsFeedOf}
-use Rattle.entry_codec.specs.declared.entry.Settings.{Settings}
+use Rattle.tier_settings.specs.declared.settings.Settings.{Settings}
 use Rattle.agent_core.specs.Agent.{IsAgentOf}
 use Rattle.agent_core.specs.Kept.{StandsForHistory, StandsForOneOf}
 use Rattle.agent_core.specs.Rules.{history_with}

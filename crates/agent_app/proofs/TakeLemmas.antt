@@ -27,7 +27,7 @@ use Rattle.point_lines.specs.Judged.{refusal_number}
 use Rattle.point_lines.proofs.StepLemmas.{counts-at}
 use Rattle.collect_block.specs.declared.feed.Feed.{Feed}
 use Rattle.collect_block.specs.Feed.{Becomes, CountsFor, IsFeedOf}
-use Rattle.entry_codec.specs.declared.entry.Settings.{Settings}
+use Rattle.tier_settings.specs.declared.settings.Settings.{Settings}
 use Rattle.alarm_events.specs.declared.event.Event.{Event as AlarmEvent}
 use Rattle.agent_core.specs.declared.fault.AgentFault.{AgentFault}
 use Rattle.agent_core.specs.declared.fault.AgentFault.TheVariants as agent_fault

@@ -8,7 +8,7 @@ use Rattle.host_model.specs.Seen.{Seen}
 use Rattle.agent_core.specs.declared.fault.AgentFault.TheVariants as fault
 use Rattle.agent_core.specs.Calls.{Opens}
 use Rattle.history.specs.History.{Beat}
-use Rattle.entry_codec.specs.declared.entry.Settings.{Settings}
+use Rattle.tier_settings.specs.declared.settings.Settings.{Settings}
 use Rattle.link_session.specs.Session.{LinkSeen}
 use Rattle.line_stream.proofs.RunLemmas.{Takes-none}
 use Rattle.agent_app.specs.declared.collect.Collector.{Collector}

@@ -9,7 +9,7 @@ use Rattle.host_model.specs.Seen.{Seen}
 use Rattle.host_model.specs.Spawner.{Child, Children}
 use Rattle.history.specs.History.{Beat, last}
 use Rattle.point_lines.specs.declared.refusal.Refusal.{Refusal}
-use Rattle.entry_codec.specs.declared.entry.Settings.{Settings}
+use Rattle.tier_settings.specs.declared.settings.Settings.{Settings}
 use Rattle.line_stream.specs.Run.{input_limit}
 use Rattle.plugin_runner.specs.declared.collecting.Halt.{Halt}
 use Rattle.plugin_runner.specs.declared.collecting.Halt.TheVariants.{AtEnd, Within, Failed}

@@ -5,13 +5,16 @@ use Rattle.std.specs.Option.{option_map, option_and_then}
 use Rattle.std.specs.Str.{bytes_eq}
 use Rattle.std.specs.Str.Parse.{digits_value}
 use Rattle.fixed_num.specs.UnitsText.{is_numeral}
-use Rattle.entry_codec.specs.declared.entry.Settings.{Settings}
-use Rattle.entry_codec.specs.declared.entry.TierSettings.{TierSettings}
+use Rattle.tier_settings.specs.declared.limits.TheConstants.{MOST_EXTENTS, MOST_ITEMS}
+use Rattle.tier_settings.specs.declared.settings.Settings.{Settings}
+use Rattle.tier_settings.specs.Limits.{is_tier}
+use Rattle.tier_settings.specs.Settings.{settings_of, tier_of}
 use Rattle.agent_app.specs.declared.command.Command.{Command}
 use Rattle.agent_app.specs.declared.command.Command.TheVariants.{Collect, Convert, Health, Log, New, Query, Receive, Run, Send}
 use Rattle.agent_app.specs.declared.command.TheConstants.{EVERY_LIMIT, STARTS_LIMIT}
 use Rattle.agent_app.specs.declared.command.Form.{Form}
 use Rattle.agent_app.specs.declared.command.Form.TheVariants as form
+use Rattle.agent_app.specs.declared.command.Plan.{Plan}
 
 -- ---- numbers
 
@@ -32,32 +35,35 @@ up_to most n = if nat_le 1 n && nat_le n most then Some n else None
 
 -- ---- settings
 
+-- the settings of a database that is to be made
+abbrev pub settings_for : Plan → Settings
+settings_for plan = settings_of plan.id plan.quotas
+
+-- a tier may have these items and segments, whatever its width
+abbrev pub is_quota : ℕ × ℕ → Bool
+is_quota quota = is_tier (tier_of 1 quota)
+
 -- 1 to 262,144 items make a segment full, and 1 to 1,024 segments are kept
-abbrev pub tier_of : List ℕ → List ℕ → Option TierSettings
-tier_of items extents =
-    option_and_then (λ (i : ℕ). option_map (λ (e : ℕ). record { items = i; extents = e }) (option_and_then (up_to 1024) (number_of extents)))
-    (option_and_then (up_to 262144) (number_of items))
+abbrev pub quota_of : List ℕ → List ℕ → Option (ℕ × ℕ)
+quota_of items extents =
+    option_and_then (λ (i : ℕ). option_map (λ (e : ℕ). (i, e)) (option_and_then (up_to MOST_EXTENTS) (number_of extents)))
+    (option_and_then (up_to MOST_ITEMS) (number_of items))
 
 -- what a database keeps where nothing is said of it
-abbrev pub default_settings : ℕ → Settings
-default_settings id = record {
-  id = id;
-  tier0 = record { items = 262144; extents = 256 };
-  tier1 = record { items = 65536; extents = 64 };
-  tier2 = record { items = 65536; extents = 16 };
-}
+abbrev pub default_plan : ℕ → Plan
+default_plan id = record { id = id; quotas = (262144, 256) ∷ (65536, 64) ∷ (65536, 16) ∷ [] }
 
--- settings of these parts, where all of them are there
-abbrev pub settings_with : Option ℕ → Option TierSettings → Option TierSettings → Option TierSettings → Option Settings
-settings_with (Some id) (Some tier0) (Some tier1) (Some tier2) = Some (record { id = id; tier0 = tier0; tier1 = tier1; tier2 = tier2 })
-settings_with id tier0 tier1 tier2 = None
+-- the settings of these parts, where all of them are there
+abbrev pub plan_with : Option ℕ → Option (ℕ × ℕ) → Option (ℕ × ℕ) → Option (ℕ × ℕ) → Option Plan
+plan_with (Some id) (Some quota0) (Some quota1) (Some quota2) = Some (record { id = id; quotas = quota0 ∷ quota1 ∷ quota2 ∷ [] })
+plan_with id quota0 quota1 quota2 = None
 
 -- an id, and then nothing or the items and the segments of each tier
-abbrev pub settings_of : List (List ℕ) → Option Settings
-settings_of (id ∷ []) = option_map default_settings (number_of id)
-settings_of (id ∷ items0 ∷ extents0 ∷ items1 ∷ extents1 ∷ items2 ∷ extents2 ∷ []) =
-    settings_with (number_of id) (tier_of items0 extents0) (tier_of items1 extents1) (tier_of items2 extents2)
-settings_of words = None
+abbrev pub plan_of : List (List ℕ) → Option Plan
+plan_of (id ∷ []) = option_map default_plan (number_of id)
+plan_of (id ∷ items0 ∷ extents0 ∷ items1 ∷ extents1 ∷ items2 ∷ extents2 ∷ []) =
+    plan_with (number_of id) (quota_of items0 extents0) (quota_of items1 extents1) (quota_of items2 extents2)
+plan_of words = None
 
 -- ---- a collector
 
@@ -117,7 +123,7 @@ abbrev pub longer : List ℕ → List (List ℕ) → Option Command
 longer word more =
     if bytes_eq word (codes "collect") && not (list_any is_option more) then collect_of more
     else if bytes_eq word (codes "log") then option_map Log (form_of more)
-    else if bytes_eq word (codes "new") then option_map New (settings_of more)
+    else if bytes_eq word (codes "new") then option_map New (plan_of more)
     else if bytes_eq word (codes "query") && is_question more then Some Query
     else if bytes_eq word (codes "receive") && not (list_any is_option more) then addressed Receive more
     else if bytes_eq word (codes "send") && not (list_any is_option more) then addressed Send more

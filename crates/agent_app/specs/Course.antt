@@ -8,7 +8,7 @@ use Rattle.host_model.specs.Past.{told}
 use Rattle.host_model.specs.Seen.{Seen}
 use Rattle.host_model.specs.Source.{Takes}
 use Rattle.history.specs.History.{Beat, last}
-use Rattle.entry_codec.specs.declared.entry.Settings.{Settings}
+use Rattle.tier_settings.specs.declared.settings.Settings.{Settings}
 use Rattle.store_core.specs.Stands.{is_made}
 use Rattle.agent_core.specs.Kept.{StandsForHistory}
 use Rattle.link_session.specs.Keeps.{Extends, IsAckedUpTo}

@@ -6,11 +6,11 @@ use Rattle.clap.specs.Lexer.{usize_max}
 use Rattle.clap.specs.Walk.{Row, Rule, all_of}
 use Rattle.clap.specs.Simple.{App, new_app, new_rule, on_top, with_rule, with_subcommand}
 use Rattle.clap.specs.declared.builder.action.ArgAction.TheVariants.{Append}
-use Rattle.agent_app.specs.Command.{addressed, collect_of, form_of, settings_of}
-use Rattle.entry_codec.specs.declared.entry.Settings.{Settings}
+use Rattle.agent_app.specs.Command.{addressed, collect_of, form_of, plan_of}
 use Rattle.agent_app.specs.declared.command.Command.{Command}
 use Rattle.agent_app.specs.declared.command.Command.TheVariants.{Convert, Health, Log, New, Query, Receive, Run, Send}
 use Rattle.agent_app.specs.declared.command.Form.{Form}
+use Rattle.agent_app.specs.declared.command.Plan.{Plan}
 
 -- so many words
 abbrev pub words_rule : ℕ → ℕ → Rule
@@ -49,8 +49,8 @@ abbrev pub collect_in : List Row → Option Command
 collect_in rows = option_and_then collect_of (all_of (codes "words") rows)
 
 -- the settings that the words behind `new` give
-abbrev pub settings_in : List Row → Option Settings
-settings_in rows = option_and_then settings_of (all_of (codes "words") rows)
+abbrev pub plan_in : List Row → Option Plan
+plan_in rows = option_and_then plan_of (all_of (codes "words") rows)
 
 -- the form that the words behind `log` give
 abbrev pub form_in : List Row → Option Form
@@ -63,7 +63,7 @@ named name rows =
     else if bytes_eq name (codes "convert") then Some Convert
     else if bytes_eq name (codes "health") then Some Health
     else if bytes_eq name (codes "log") then option_map Log (form_in rows)
-    else if bytes_eq name (codes "new") then option_map New (settings_in rows)
+    else if bytes_eq name (codes "new") then option_map New (plan_in rows)
     else if bytes_eq name (codes "query") then Some Query
     else if bytes_eq name (codes "receive") then addressed_in Receive rows
     else if bytes_eq name (codes "run") then Some Run

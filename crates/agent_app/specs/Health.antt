@@ -14,7 +14,7 @@ use Rattle.health_config.specs.declared.fault.ConfigFault.TheVariants.{TooManyAl
 use Rattle.health_config.specs.declared.config.TheConstants.{TEXT_LIMIT}
 use Rattle.health_config.specs.Fault.{fault_line, fault_number}
 use Rattle.history.specs.History.{Beat, health}
-use Rattle.entry_codec.specs.declared.entry.Settings.{Settings}
+use Rattle.tier_settings.specs.declared.settings.Settings.{Settings}
 use Rattle.store_core.specs.Store.{counted}
 use Rattle.agent_core.specs.Agent.{AgentState, IsAgentOf}
 use Rattle.agent_core.specs.Alarms.{events_at}

@@ -1,7 +1,7 @@
 -- What `log` answers of a history.
 use Rattle.std.specs.Prelude.{ℕ, List}
 use Rattle.alarm_events.specs.Log.{Shown}
-use Rattle.entry_codec.specs.declared.entry.Settings.{Settings}
+use Rattle.tier_settings.specs.declared.settings.Settings.{Settings}
 use Rattle.history.specs.History.{Beat}
 use Rattle.agent_core.specs.Alarms.{log_at}
 use Rattle.agent_app.specs.declared.command.Form.{Form}

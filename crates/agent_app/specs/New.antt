@@ -6,7 +6,7 @@ use Rattle.host_model.specs.Cause.{HasCause}
 use Rattle.host_model.specs.Disks.{EveryDisk, reads_as}
 use Rattle.host_model.specs.Moments.{Throughout}
 use Rattle.host_model.specs.Past.{IsDisk}
-use Rattle.entry_codec.specs.declared.entry.Settings.{Settings}
+use Rattle.tier_settings.specs.declared.settings.Settings.{Settings}
 use Rattle.store_core.specs.Own.{OnlyOwn}
 use Rattle.store_core.specs.Stands.{is_made}
 use Rattle.host_model.specs.Seen.{Seen}

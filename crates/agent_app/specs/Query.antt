@@ -10,7 +10,7 @@ use Rattle.host_model.specs.Moments.{EveryStop, Throughout}
 use Rattle.host_model.specs.Past.{told, IsDisk}
 use Rattle.host_model.specs.Seen.{Seen}
 use Rattle.history.specs.History.{Beat}
-use Rattle.entry_codec.specs.declared.entry.Settings.{Settings}
+use Rattle.tier_settings.specs.declared.settings.Settings.{Settings}
 use Rattle.agent_core.specs.Agent.{AgentState, IsAgentOf}
 use Rattle.agent_core.specs.Answers.{reply_of}
 use Rattle.agent_core.specs.Kept.{StandsForHistory}

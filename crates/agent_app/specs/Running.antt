@@ -12,7 +12,7 @@ use Rattle.plugin_text.specs.Lines.{lines, parts, rest, fits}
 use Rattle.point_lines.specs.declared.refusal.Refusal.{Refusal}
 use Rattle.chart_registry.specs.Accepted.{AreAccepted, IsWithin}
 use Rattle.collect_block.specs.Feed.{CountsFor, IsFeedOf}
-use Rattle.entry_codec.specs.declared.entry.Settings.{Settings}
+use Rattle.tier_settings.specs.declared.settings.Settings.{Settings}
 use Rattle.agent_core.specs.declared.fault.AgentFault.{AgentFault}
 use Rattle.agent_core.specs.declared.fault.AgentFault.TheVariants as agent_fault
 use Rattle.agent_core.specs.Agent.{IsAgentOf, AgentIsReady}

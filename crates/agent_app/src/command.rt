@@ -2,19 +2,19 @@ ghost use Rattle.std.specs.Prelude.{◌≡◌, ℕ, ◌≤◌, ◌<◌, ◌^◌,
 ghost use Rattle.std.specs.List.{list_any};
 ghost use Rattle.std.specs.Option.{option_and_then};
 ghost use Rattle.clap.specs.Words.{found_of, rows_of, subcommand_rows_of};
-ghost use Rattle.entry_codec.specs.declared.entry.Settings.{Settings as ASettings};
 ghost use Rattle.fixed_num.specs.UnitsText.{is_numeral};
-ghost use Rattle.store_core.specs.FirstRecord.{is_tier, InLimits};
-ghost use Rattle.agent_app.specs.Command.{addressed, collect_of, command_of, default_settings, form_named, form_of, has_leading_zero, is_option, number_of, settings_of, settings_with, tier_of, up_to, IsCollector};
-ghost use Rattle.agent_app.specs.Forms.{addressed_in, collect_in, command_in, form_in, settings_in};
+ghost use Rattle.tier_settings.specs.Limits.{InLimits};
+ghost use Rattle.agent_app.specs.declared.command.Plan.{Plan as APlan};
+ghost use Rattle.agent_app.specs.Command.{addressed, collect_of, command_of, default_plan, form_named, form_of, has_leading_zero, is_option, is_quota, number_of, plan_of, plan_with, quota_of, settings_for, up_to, IsCollector};
+ghost use Rattle.agent_app.specs.Forms.{addressed_in, collect_in, command_in, form_in, plan_in};
 
 use crate::forms::parse;
-use agent_core::{Settings, TierSettings};
 use clap::ArgMatches;
 use clap::error::ErrorKind;
 use fixed_num::{Text, WordsList};
 use history::UPDATE_EVERY_LIMIT;
 use std::alloc::{AllocError, Global};
+use tier_settings::{MOST_EXTENTS, MOST_ITEMS};
 
 /// The most seconds that may lie between the beats of a collector.
 pub const EVERY_LIMIT: u32 = UPDATE_EVERY_LIMIT;
@@ -29,6 +29,15 @@ pub enum Form {
     Text,
     /// One line of JSON.
     Json,
+}
+
+/// The settings of a database that is to be made.
+#[derive(Clone, Copy, Debug, PartialEq, Eq)]
+pub struct Plan {
+    /// The number of the database.
+    pub id: u64,
+    /// The items and the segments of each tier, that of the points first.
+    pub quotas: [(u32, u32); 3],
 }
 
 /// What the words of a command line ask for.
@@ -48,7 +57,7 @@ pub enum Command {
     /// Tells the log of alarms in this form.
     Log(Form),
     /// Makes a database with these settings.
-    New(Settings),
+    New(Plan),
     /// Answers the question that the words behind the first ask.
     Query,
     /// Stores the copies that a child sends, which comes to the address behind the first word.
@@ -64,8 +73,8 @@ impl Command {
     /// memory.
     pub fn read(alloc: Global, words: &WordsList) -> Result<Option<Command>, AllocError>
         ensures command { IfOk result (λ command. command ≡ command_of words.now) }
-        ensures limits { (settings : ASettings) → result ≡ Ok (Some (Command.New settings))
-            → InLimits settings }
+        ensures limits { (plan : APlan) → result ≡ Ok (Some (Command.New plan))
+            → InLimits (settings_for plan) }
         ensures collector { (every starts : ℕ)
             → result ≡ Ok (Some (Command.Collect every starts))
             → IsCollector every starts words.now }
@@ -96,8 +105,8 @@ fn read_plain<'a>(alloc: Global, words: &'a [&'a str]) -> Result<Option<Command>
     requires count { length words.now < 2 ^ 64 }
     ensures command { IfOk result (λ command.
         command ≡ command_of (map (λ word. word.now) words.now)) }
-    ensures limits { (settings : ASettings) → result ≡ Ok (Some (Command.New settings))
-        → InLimits settings }
+    ensures limits { (plan : APlan) → result ≡ Ok (Some (Command.New plan))
+        → InLimits (settings_for plan) }
 {
     match parse(alloc, words) {
         Ok(matches) => Ok(command_in(&matches)),
@@ -111,8 +120,8 @@ fn read_plain<'a>(alloc: Global, words: &'a [&'a str]) -> Result<Option<Command>
 /// The command that `clap` found.
 fn command_in(matches: &ArgMatches<'_>) -> Option<Command>
     ensures command { result ≡ command_in (subcommand_rows_of matches.now) }
-    ensures limits { (settings : ASettings) → result ≡ Some (Command.New settings)
-        → InLimits settings }
+    ensures limits { (plan : APlan) → result ≡ Some (Command.New plan)
+        → InLimits (settings_for plan) }
 {
     let (name, found) = matches.subcommand()?;
     match name {
@@ -120,7 +129,7 @@ fn command_in(matches: &ArgMatches<'_>) -> Option<Command>
         "convert" => Some(Command::Convert),
         "health" => Some(Command::Health),
         "log" => Some(Command::Log(form_in(found)?)),
-        "new" => Some(Command::New(settings_in(found)?)),
+        "new" => Some(Command::New(plan_in(found)?)),
         "query" => Some(Command::Query),
         "receive" => addressed_in(Command::Receive, found),
         "run" => Some(Command::Run),
@@ -195,11 +204,11 @@ fn form_named(word: &str) -> Option<Form>
 }
 
 /// The settings that the words behind `new` give.
-fn settings_in(found: &ArgMatches<'_>) -> Option<Settings>
-    ensures settings { result ≡ settings_in (rows_of (found_of found.now)) }
-    ensures limits { IfSome result InLimits }
+fn plan_in(found: &ArgMatches<'_>) -> Option<Plan>
+    ensures plan { result ≡ plan_in (rows_of (found_of found.now)) }
+    ensures limits { IfSome result (λ plan. InLimits (settings_for plan)) }
 {
-    read_settings(found.get_raw("words")?)
+    read_plan(found.get_raw("words")?)
 }
 
 /// Whether one of the words begins with `-`.
@@ -220,74 +229,61 @@ fn is_option(word: &str) -> bool
 }
 
 /// What a database is to keep: an id, and then nothing or the items and the segments of each tier.
-fn read_settings(words: &[&str]) -> Option<Settings>
-    ensures settings { result ≡ settings_of (map (λ word. word.now) words.now) }
-    ensures limits { IfSome result InLimits }
+fn read_plan(words: &[&str]) -> Option<Plan>
+    ensures plan { result ≡ plan_of (map (λ word. word.now) words.now) }
+    ensures limits { IfSome result (λ plan. InLimits (settings_for plan)) }
 {
     match words {
-        [id] => Some(default_settings(read_number(id)?)),
-        [id, items0, extents0, items1, extents1, items2, extents2] => settings_with(
+        [id] => Some(default_plan(read_number(id)?)),
+        [id, items0, extents0, items1, extents1, items2, extents2] => plan_with(
             read_number(id),
-            read_tier(items0, extents0),
-            read_tier(items1, extents1),
-            read_tier(items2, extents2),
+            read_quota(items0, extents0),
+            read_quota(items1, extents1),
+            read_quota(items2, extents2),
         ),
         _ => None,
     }
 }
 
-/// Settings of these parts, where all of them are there.
-fn settings_with(
+/// The settings of these parts, where all of them are there.
+fn plan_with(
     id: Option<u64>,
-    tier0: Option<TierSettings>,
-    tier1: Option<TierSettings>,
-    tier2: Option<TierSettings>,
-) -> Option<Settings>
-    requires tier0 { IfSome tier0 (λ tier. is_tier tier ≡ true) }
-    requires tier1 { IfSome tier1 (λ tier. is_tier tier ≡ true) }
-    requires tier2 { IfSome tier2 (λ tier. is_tier tier ≡ true) }
-    ensures settings { result ≡ settings_with id tier0 tier1 tier2 }
-    ensures limits { IfSome result InLimits }
+    quota0: Option<(u32, u32)>,
+    quota1: Option<(u32, u32)>,
+    quota2: Option<(u32, u32)>,
+) -> Option<Plan>
+    requires quota0 { IfSome quota0 (λ quota. is_quota quota ≡ true) }
+    requires quota1 { IfSome quota1 (λ quota. is_quota quota ≡ true) }
+    requires quota2 { IfSome quota2 (λ quota. is_quota quota ≡ true) }
+    ensures plan { result ≡ plan_with id quota0 quota1 quota2 }
+    ensures limits { IfSome result (λ plan. InLimits (settings_for plan)) }
 {
-    Some(Settings {
+    Some(Plan {
         id: id?,
-        tier0: tier0?,
-        tier1: tier1?,
-        tier2: tier2?,
+        quotas: [quota0?, quota1?, quota2?],
     })
 }
 
 /// What a database keeps where nothing is said of it.
-fn default_settings(id: u64) -> Settings
-    ensures settings { result ≡ default_settings id }
-    ensures limits { InLimits result }
+fn default_plan(id: u64) -> Plan
+    ensures plan { result ≡ default_plan id }
+    ensures limits { InLimits (settings_for result) }
 {
-    Settings {
+    Plan {
         id,
-        tier0: TierSettings {
-            items: 262_144,
-            extents: 256,
-        },
-        tier1: TierSettings {
-            items: 65_536,
-            extents: 64,
-        },
-        tier2: TierSettings {
-            items: 65_536,
-            extents: 16,
-        },
+        quotas: [(262_144, 256), (65_536, 64), (65_536, 16)],
     }
 }
 
-/// How much a tier is to keep.
-fn read_tier(items: &str, extents: &str) -> Option<TierSettings>
-    ensures tier { result ≡ tier_of items.now extents.now }
-    ensures limits { IfSome result (λ tier. is_tier tier ≡ true) }
+/// How much a tier is to keep: its items and its segments.
+fn read_quota(items: &str, extents: &str) -> Option<(u32, u32)>
+    ensures quota { result ≡ quota_of items.now extents.now }
+    ensures limits { IfSome result (λ quota. is_quota quota ≡ true) }
 {
-    Some(TierSettings {
-        items: read_up_to(262_144, items)?,
-        extents: read_up_to(1_024, extents)?,
-    })
+    Some((
+        read_up_to(MOST_ITEMS, items)?,
+        read_up_to(MOST_EXTENTS, extents)?,
+    ))
 }
 
 /// The number that a word says, where it is not 0 and at most so large.

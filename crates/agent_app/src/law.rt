@@ -5,7 +5,7 @@ ghost use Rattle.host_model.specs.Disks.{EveryDisk};
 ghost use Rattle.host_model.specs.Moments.{EveryStop, Throughout};
 ghost use Rattle.host_model.specs.Past.{told};
 ghost use Rattle.history.specs.History.{Beat};
-ghost use Rattle.entry_codec.specs.declared.entry.Settings.{Settings as ASettings};
+ghost use Rattle.tier_settings.specs.declared.settings.Settings.{Settings as ASettings};
 ghost use Rattle.agent_app.specs.declared.collect.Collector.{Collector as ACollector};
 ghost use Rattle.agent_app.specs.Collect.{CollectsAll, Outside};
 ghost use Rattle.agent_app.specs.Course.{Course, Database, HoldsRuns, MayHaveMade, OfCollector, OfSource, OneRun};

@@ -13,9 +13,10 @@
 
 ghost use Rattle.std.specs.Prelude.{◌≡◌, ◌⊎◌, ℕ, None, Some};
 ghost use Rattle.agent_app.specs.Collect.{collector_of, outside_of, CollectsAll};
-ghost use Rattle.agent_app.specs.Command.{command_of};
+ghost use Rattle.agent_app.specs.Command.{command_of, settings_for};
 ghost use Rattle.agent_app.specs.Convert.{Converts, EndsAsText, LeavesDisk};
 ghost use Rattle.agent_app.specs.declared.command.Form.{Form as AForm};
+ghost use Rattle.agent_app.specs.declared.command.Plan.{Plan as APlan};
 ghost use Rattle.agent_app.specs.Health.{ConfiguresAll};
 ghost use Rattle.agent_app.specs.Log.{log_for};
 ghost use Rattle.agent_app.specs.New.{Makes};
@@ -23,7 +24,6 @@ ghost use Rattle.agent_app.specs.Query.{question_of, reply_for, Asks};
 ghost use Rattle.agent_app.specs.Receive.{ReceivesAll};
 ghost use Rattle.agent_app.specs.Run.{RunsAll};
 ghost use Rattle.agent_app.specs.Send.{SendsAll};
-ghost use Rattle.entry_codec.specs.declared.entry.Settings.{Settings as ASettings};
 ghost use Rattle.link_session.specs.Session.{link_seen};
 
 use collect::collect_words;
@@ -143,12 +143,12 @@ pub fn agent_main<S: Source, H: Host, L: Link, P: Spawner, C: Clock>(
         (H.seen host.old).tell_faults (H.seen host.new).tell_faults }
 
     // What a new database is, and what crashes leave of it.
-    ensures makes { (settings : ASettings) → command_of words.now ≡ Some (Command.New settings) →
-        Makes H.honest settings result (H.seen host.old) (H.seen host.new) }
+    ensures makes { (plan : APlan) → command_of words.now ≡ Some (Command.New plan) →
+        Makes H.honest (settings_for plan) result (H.seen host.old) (H.seen host.new) }
 
     // It takes nothing of the input.
-    ensures new_takes_nothing { (settings : ASettings) →
-        command_of words.now ≡ Some (Command.New settings) → source.new ≡ source.old }
+    ensures new_takes_nothing { (plan : APlan) →
+        command_of words.now ≡ Some (Command.New plan) → source.new ≡ source.old }
 
     // What a run stores and tells, what crashes leave, and why it ended.
     ensures runs { command_of words.now ≡ Some Command.Run →
@@ -219,7 +219,7 @@ pub fn agent_main<S: Source, H: Host, L: Link, P: Spawner, C: Clock>(
         Ok(Some(Command::Convert)) => convert(alloc, source, host),
         Ok(Some(Command::Health)) => health(alloc, source, host),
         Ok(Some(Command::Log(form))) => log(alloc, form, host),
-        Ok(Some(Command::New(settings))) => new(alloc, &settings, host),
+        Ok(Some(Command::New(plan))) => new(alloc, plan, host),
         Ok(Some(Command::Query)) => query(alloc, words, host),
         Ok(Some(Command::Receive)) => receive(alloc, host, link),
         Ok(Some(Command::Run)) => run(alloc, source, host),

@@ -5,10 +5,11 @@ ghost use Rattle.history.specs.Registry.{same_chart, same_dimension};
 ghost use Rattle.history.specs.Regular.{AreApart, same_row};
 ghost use Rattle.agent_cases.specs.Ready.{AreReady};
 ghost use Rattle.agent_core.specs.Rules.{IsOpenBeat};
+ghost use Rattle.tier_settings.specs.Limits.{InLimits};
 
 use agent_core::{
-    Agent, AgentFault, ConfigFault, EventList, Reply, Said, Settings, TierSettings, Why,
-    is_in_limits, write_reply,
+    Agent, AgentFault, ConfigFault, EventList, Reply, Said, Settings, Why,
+    write_reply,
 };
 use collect_block::Feed;
 use fixed_num::Text;
@@ -23,17 +24,12 @@ use std::test::Fail;
 mod alarms;
 mod opening;
 
-const TIER: TierSettings = TierSettings {
-    items: 262_144,
-    extents: 1024,
-};
-
-const SETTINGS: Settings = Settings {
-    id: 7,
-    tier0: TIER,
-    tier1: TIER,
-    tier2: TIER,
-};
+/// The settings with the id 7, and as much in each tier as may be.
+fn settings(alloc: Global) -> Result<Settings, AllocError>
+    ensures { IfOk result InLimits }
+{
+    Settings::new(alloc, 7, [(262_144, 1_024); 3])
+}
 
 /// An agent, and the feed of the text that it takes.
 #[derive(Drop)]
@@ -135,22 +131,10 @@ fn make<H: Host>(alloc: Global, host: &mut H) -> Result<Taking, AgentFault>
     ensures { IfOk result
         (λ taking. AreReady H.honest (H.seen host.new).past taking.agent taking.feed) }
 {
-    make_with(alloc, host, &SETTINGS)
-}
-
-/// The agent of a new database with these settings.
-fn make_with<H: Host>(
-    alloc: Global,
-    host: &mut H,
-    settings: &Settings,
-) -> Result<Taking, AgentFault>
-    ensures { IfOk result
-        (λ taking. AreReady H.honest (H.seen host.new).past taking.agent taking.feed) }
-{
-    if !is_in_limits(settings) {
+    let Ok(settings) = settings(alloc) else {
         return Err(AgentFault::Memory);
-    }
-    match Agent::create(alloc, host, settings) {
+    };
+    match Agent::create(alloc, host, &settings) {
         Ok(agent) => Ok(Taking {
             agent,
             feed: Feed::new(alloc, 1),

@@ -10,7 +10,7 @@ use Rattle.alarm_events.specs.declared.event.Event.{Event}
 use Rattle.alarm_core.specs.declared.latest.Latest.{Latest}
 use Rattle.alarm_core.specs.Beats.{Beat as AlarmBeat}
 use Rattle.alarm_core.specs.Course.{configured, nothing, stepped_by, Held, Outcome}
-use Rattle.entry_codec.specs.declared.entry.Settings.{Settings}
+use Rattle.tier_settings.specs.declared.settings.Settings.{Settings}
 use Rattle.tier_rollup.specs.declared.point.Point.{Point}
 use Rattle.beat_tiers.specs.State.{tier_floor}
 use Rattle.store_core.specs.declared.beat.Beat.{Beat as StoreBeat}

@@ -22,11 +22,13 @@ use Rattle.query_text.specs.declared.fault.QueryFault.TheVariants as fault
 use Rattle.query_text.specs.Asked.{query_read}
 use Rattle.query_text.specs.Fault.{IsFaultFor}
 use Rattle.query_text.specs.Told.{fault_text, table_text}
-use Rattle.entry_codec.specs.declared.entry.Settings.{Settings}
+use Rattle.tier_settings.specs.declared.settings.Settings.{Settings}
 use Rattle.store_core.specs.declared.beat.Beat.{Beat as StoreBeat}
 use Rattle.store_core.specs.Stored.{Stored}
-use Rattle.store_core.specs.Tiers.{first_tier, floor_at, kept_of, seen, tier_with}
-use Rattle.store_core.specs.View.{points_of, widths}
+use Rattle.store_core.specs.Tiers.{floor_at, kept_of, seen}
+use Rattle.store_core.specs.View.{points_of}
+use Rattle.tier_settings.specs.Limits.{widths}
+use Rattle.tier_settings.specs.Settings.{first_tier, tier_with}
 use Rattle.agent_core.specs.Answers.{floor_of_history, kept_of_history, points_of_history, reply_of, reply_to, tier_beat, tier_beats, told_point}
 use Rattle.agent_core.specs.Kept.{copied_point, point_of, AreBeatsOf, IsBeatOf, IsStoredOf}
 

@@ -30,7 +30,7 @@ use Rattle.replication.proofs.Copies.{all-map}
 use Rattle.replication.proofs.FrontLaws.{data_of-take}
 use Rattle.replication.proofs.NamesLaws.{above-map}
 use Rattle.replication.proofs.Wholes.{all-of-map}
-use Rattle.entry_codec.specs.declared.entry.Settings.{Settings}
+use Rattle.tier_settings.specs.declared.settings.Settings.{Settings}
 use Rattle.entry_codec.specs.Lists.{is_ascending}
 use Rattle.link_frames.specs.declared.frame.Frame.TheVariants as frame
 use Rattle.link_frames.specs.Children.{KeepsRules}
@@ -43,7 +43,8 @@ use Rattle.store_core.specs.declared.beat.Beat.{Beat as StoreBeat}
 use Rattle.store_core.specs.Beats.{is_point, is_timed, series_of, InForm}
 use Rattle.store_core.specs.Store.{IsStoreOf, StoreState}
 use Rattle.store_core.specs.Stored.{Stored}
-use Rattle.store_core.specs.Tiers.{first_tier, floor_at, kept_of, seen}
+use Rattle.store_core.specs.Tiers.{floor_at, kept_of, seen}
+use Rattle.tier_settings.specs.Settings.{first_tier}
 use Rattle.agent_core.specs.Answers.{floor_of_history, kept_of_history}
 use Rattle.agent_core.specs.Asking.{AreInUtf8, HaveCharts, IsSendable}
 use Rattle.agent_core.specs.Copies.{data_of_history, names_of, sent_beat, word_of_point}

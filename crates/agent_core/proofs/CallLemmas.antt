@@ -6,7 +6,7 @@ use Rattle.alarm_events.specs.Log.{shown}
 use Rattle.alarm_core.specs.Course.{called, configured, events_of, held_after, nothing, stepped_by, Call, Held}
 use Rattle.alarm_core.specs.Course as course
 use Rattle.alarm_core.proofs.LogLemmas.{calls_shown}
-use Rattle.entry_codec.specs.declared.entry.Settings.{Settings}
+use Rattle.tier_settings.specs.declared.settings.Settings.{Settings}
 use Rattle.agent_core.specs.Alarms.{alarm_beat, alarms_at, alarms_by, all_events, log_at}
 use Rattle.agent_core.specs.Health.{alarms_of}
 

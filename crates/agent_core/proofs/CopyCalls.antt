@@ -11,7 +11,7 @@ use Rattle.chart_registry.proofs.AcceptedLemmas.{passed}
 use Rattle.alarm_core.specs.Course.{held}
 use Rattle.replication.specs.declared.message.Data.{Data}
 use Rattle.replication.specs.Verdict.{is_stored, verdict_by}
-use Rattle.entry_codec.specs.declared.entry.Settings.{Settings}
+use Rattle.tier_settings.specs.declared.settings.Settings.{Settings}
 use Rattle.store_core.specs.Store.{counted}
 use Rattle.agent_core.specs.Agent.{AgentState, IsAgentOf}
 use Rattle.agent_core.specs.Calls.{agent_adds, agent_verdict}

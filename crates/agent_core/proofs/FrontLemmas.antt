@@ -25,7 +25,7 @@ use Rattle.chart_registry.specs.Accepted.{IsWithin}
 use Rattle.alarm_core.specs.declared.latest.Latest.{Latest}
 use Rattle.alarm_core.specs.Course.{Held}
 use Rattle.alarm_events.specs.declared.event.Event.{Event as AlarmEvent}
-use Rattle.entry_codec.specs.declared.entry.Settings.{Settings}
+use Rattle.tier_settings.specs.declared.settings.Settings.{Settings}
 use Rattle.replication.specs.declared.beats.Beat.{Beat as SentBeat}
 use Rattle.replication.specs.declared.message.Data.{Data}
 use Rattle.replication.specs.Copies.{latest as latest_of, RisesFrom}

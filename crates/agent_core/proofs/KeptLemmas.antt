@@ -18,7 +18,7 @@ use Rattle.history.specs.Numbered.{numbered_beat}
 use Rattle.history.specs.Regular.{IsRegular}
 use Rattle.entry_codec.specs.declared.entry.Entry.TheVariants as entry
 use Rattle.alarm_core.specs.Course.{held}
-use Rattle.entry_codec.specs.declared.entry.Settings.{Settings}
+use Rattle.tier_settings.specs.declared.settings.Settings.{Settings}
 use Rattle.entry_codec.specs.Entries.{entry_bytes, HasSpelling}
 use Rattle.store_core.specs.declared.beat.Beat.{Beat as StoreBeat}
 use Rattle.beat_tiers.specs.declared.item.BeatPoint.{BeatPoint}

@@ -10,7 +10,7 @@ use Rattle.algorithms.specs.declared.last.Last.{Last}
 use Rattle.history.specs.Registry.{empty, Registry, same_chart, same_dimension}
 use Rattle.beat_points.specs.LastRows.{AreLastOf}
 use Rattle.history.specs.Regular.{AreApart}
-use Rattle.entry_codec.specs.declared.entry.Settings.{Settings}
+use Rattle.tier_settings.specs.declared.settings.Settings.{Settings}
 use Rattle.store_core.specs.declared.fault.StoreFault.{StoreFault}
 use Rattle.store_core.specs.declared.fault.StoreFault.TheVariants as store_fault
 use Rattle.store_core.specs.Stands.{StandsIfMade}

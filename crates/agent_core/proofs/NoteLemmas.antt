@@ -4,7 +4,7 @@ use Rattle.std.specs.Option.{option_map_or}
 use Rattle.host_model.specs.declared.file.File.{File}
 use Rattle.host_model.specs.Past.{Event}
 use Rattle.entry_codec.specs.declared.entry.Entry.{Entry}
-use Rattle.entry_codec.specs.declared.entry.Settings.{Settings}
+use Rattle.tier_settings.specs.declared.settings.Settings.{Settings}
 use Rattle.entry_codec.specs.Entries.{read_entry}
 use Rattle.beat_entries.proofs.Steps.{number-yes}
 use Rattle.store_core.specs.declared.beat.Beat.{Beat as StoreBeat}

@@ -8,7 +8,7 @@ use Rattle.history.specs.History.{Beat, last}
 use Rattle.beat_points.specs.LastRows.{AreLastOf}
 use Rattle.alarm_core.specs.declared.latest.Latest.{Latest}
 use Rattle.alarm_core.specs.Course.{held, nothing, Held}
-use Rattle.entry_codec.specs.declared.entry.Settings.{Settings}
+use Rattle.tier_settings.specs.declared.settings.Settings.{Settings}
 use Rattle.store_core.specs.declared.beat.Beat.{Beat as StoreBeat}
 use Rattle.store_core.specs.Stands.{Stands}
 use Rattle.store_core.specs.Store.{counted, IsReplayed, IsStoreAt, IsStoreOf, OpensAt, Replays, StoreState}

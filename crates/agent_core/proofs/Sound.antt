@@ -16,7 +16,7 @@ use Rattle.collect_block.specs.Feed.{CountsAt, IsFeedOf}
 use Rattle.replication.specs.declared.ask.Ask.{Ask}
 use Rattle.replication.specs.declared.message.Data.{Data}
 use Rattle.replication.specs.declared.verdict.Verdict.{Verdict}
-use Rattle.entry_codec.specs.declared.entry.Settings.{Settings}
+use Rattle.tier_settings.specs.declared.settings.Settings.{Settings}
 use Rattle.store_core.specs.declared.fault.Why.{Why}
 use Rattle.store_core.specs.declared.fault.Why.TheVariants as why
 use Rattle.beat_tiers.specs.declared.kept.Kept.{Kept}

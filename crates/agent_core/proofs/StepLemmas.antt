@@ -18,7 +18,7 @@ use Rattle.collect_block.specs.declared.step.Step.{Step}
 use Rattle.collect_block.specs.declared.step.Step.TheVariants as step
 use Rattle.collect_block.specs.Feed.{step_of, Becomes, CountsAt, CountsFor, CountsPast, IsFeedOf}
 use Rattle.collect_block.specs.Feed as block_feed
-use Rattle.entry_codec.specs.declared.entry.Settings.{Settings}
+use Rattle.tier_settings.specs.declared.settings.Settings.{Settings}
 use Rattle.store_core.specs.declared.fault.Why.{Why}
 use Rattle.store_core.specs.declared.fault.Why.TheVariants as why
 use Rattle.store_core.specs.Own.{OnlyOwn}

@@ -17,7 +17,7 @@ use Rattle.history.specs.Numbered.{numbered_charts, numbered_dimensions, numbere
 use Rattle.history.specs.Registry.{Registry}
 use Rattle.alarm_core.specs.declared.latest.Latest.{Latest}
 use Rattle.entry_codec.specs.declared.entry.Entry.TheVariants as entry
-use Rattle.entry_codec.specs.declared.entry.Settings.{Settings}
+use Rattle.tier_settings.specs.declared.settings.Settings.{Settings}
 use Rattle.entry_codec.specs.Entries.{entry_bytes, gap_bytes, is_canonical, HasSpelling}
 use Rattle.field_codec.proofs.Lengths.{length-u32_bytes, length-u64_bytes}
 use Rattle.beat_entries.specs.Copied.{definitions_of, told_chart, told_dimension, told_word}

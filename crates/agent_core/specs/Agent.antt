@@ -11,7 +11,7 @@ use Rattle.alarm_core.specs.declared.latest.Latest.{Latest}
 use Rattle.alarm_core.specs.declared.alarms.Alarms.{Alarms}
 use Rattle.alarm_core.specs.Course.{held}
 use Rattle.alarm_core.specs.UpTo.{IsUpTo}
-use Rattle.entry_codec.specs.declared.entry.Settings.{Settings}
+use Rattle.tier_settings.specs.declared.settings.Settings.{Settings}
 use Rattle.store_core.specs.declared.fault.Why.{Why}
 use Rattle.store_core.specs.Store.{counted, IsReady, IsReplayed, IsStoreOf, StoreState}
 use Rattle.store_core.specs.Stored.{Stored}

@@ -8,7 +8,7 @@ use Rattle.alarm_events.specs.declared.event.Event.{Event}
 use Rattle.alarm_events.specs.Log.{Shown}
 use Rattle.alarm_core.specs.Beats.{Beat as AlarmBeat}
 use Rattle.alarm_core.specs.Course.{configured, nothing, stepped_by, Held, Outcome}
-use Rattle.entry_codec.specs.declared.entry.Settings.{Settings}
+use Rattle.tier_settings.specs.declared.settings.Settings.{Settings}
 use Rattle.agent_core.specs.declared.alarming.Stepping.{Stepping}
 use Rattle.agent_core.specs.declared.alarming.Stepping.TheVariants as stepping
 use Rattle.agent_core.specs.Answers.{floor_of_history, points_of_history}

@@ -14,9 +14,9 @@ use Rattle.query_engine.specs.Windows.{table_of}
 use Rattle.query_text.specs.declared.fault.QueryFault.{QueryFault}
 use Rattle.query_text.specs.Asked.{query_read}
 use Rattle.query_text.specs.Told.{fault_text, table_text}
-use Rattle.entry_codec.specs.declared.entry.Settings.{Settings}
-use Rattle.store_core.specs.Tiers.{first_tier, tier_with}
-use Rattle.store_core.specs.View.{widths}
+use Rattle.tier_settings.specs.declared.settings.Settings.{Settings}
+use Rattle.tier_settings.specs.Limits.{widths}
+use Rattle.tier_settings.specs.Settings.{first_tier, tier_with}
 use Rattle.agent_core.specs.Kept.{copied_point, stored_points}
 
 -- ---- what tiers see of a history

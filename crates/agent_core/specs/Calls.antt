@@ -20,7 +20,7 @@ use Rattle.replication.specs.Verdict.{is_stored, verdict_by}
 use Rattle.link_frames.specs.declared.frame.Frame.TheVariants as frame
 use Rattle.link_frames.specs.Frames.{HasSpelling}
 use Rattle.alarm_events.specs.declared.log.Log.{Log}
-use Rattle.entry_codec.specs.declared.entry.Settings.{Settings}
+use Rattle.tier_settings.specs.declared.settings.Settings.{Settings}
 use Rattle.beat_tiers.specs.declared.kept.Kept.{Kept}
 use Rattle.store_core.specs.Own.{OnlyOwn}
 use Rattle.store_core.specs.Stands.{is_made, IsDamaged, Stands}

@@ -26,7 +26,7 @@ use Rattle.replication.specs.declared.names.Names.{Names}
 use Rattle.replication.specs.Answer.{data_of}
 use Rattle.replication.specs.Copies.{IsCopy, IsTrueOf, Message}
 use Rattle.replication.specs.Names.{named_beat}
-use Rattle.entry_codec.specs.declared.entry.Settings.{Settings}
+use Rattle.tier_settings.specs.declared.settings.Settings.{Settings}
 use Rattle.agent_core.specs.Answers.{floor_of_history, kept_of_history}
 
 -- ---- beats by name

@@ -24,7 +24,7 @@ use Rattle.replication.specs.Copies.{gap_between}
 use Rattle.replication.specs.Names.{named_beats}
 use Rattle.replication.specs.Verdict.{is_stored, verdict_by}
 use Rattle.alarm_events.specs.declared.event.Event.{Event}
-use Rattle.entry_codec.specs.declared.entry.Settings.{Settings}
+use Rattle.tier_settings.specs.declared.settings.Settings.{Settings}
 use Rattle.agent_core.specs.declared.left.Role.{Role}
 use Rattle.agent_core.specs.Alarms.{events_at}
 use Rattle.agent_core.specs.Roles.{may_copy, role_of}

@@ -13,7 +13,7 @@ use Rattle.beat_points.specs.declared.series_word.SeriesWord.{SeriesWord}
 use Rattle.beat_points.specs.Points.{beat_points}
 use Rattle.entry_codec.specs.declared.entry.Entry.{Entry}
 use Rattle.entry_codec.specs.declared.entry.Entry.TheVariants as entry
-use Rattle.entry_codec.specs.declared.entry.Settings.{Settings}
+use Rattle.tier_settings.specs.declared.settings.Settings.{Settings}
 use Rattle.entry_codec.specs.Entries.{entry_bytes, HasSpelling}
 use Rattle.beat_entries.specs.Copied.{copied_entry_of, MayCopy}
 use Rattle.history.specs.Numbered.{numbered_beat}

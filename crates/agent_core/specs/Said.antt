@@ -4,7 +4,7 @@ use Rattle.history.specs.declared.line.Line.{Line}
 use Rattle.history.specs.declared.line.Line.TheVariants as line
 use Rattle.history.specs.History.{Beat}
 use Rattle.alarm_events.specs.declared.event.Event.{Event}
-use Rattle.entry_codec.specs.declared.entry.Settings.{Settings}
+use Rattle.tier_settings.specs.declared.settings.Settings.{Settings}
 use Rattle.agent_core.specs.declared.reply.Said.{Said}
 use Rattle.agent_core.specs.declared.reply.Said.TheVariants.{Nothing, Stored, Table, Disabled}
 use Rattle.agent_core.specs.Alarms.{events_at}

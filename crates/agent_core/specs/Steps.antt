@@ -9,7 +9,7 @@ use Rattle.history.specs.Registry.{Registry}
 use Rattle.collect_block.specs.declared.step.Step.{Step}
 use Rattle.collect_block.specs.declared.step.Step.TheVariants as step
 use Rattle.alarm_events.specs.declared.event.Event.{Event}
-use Rattle.entry_codec.specs.declared.entry.Settings.{Settings}
+use Rattle.tier_settings.specs.declared.settings.Settings.{Settings}
 use Rattle.store_core.specs.Own.{OnlyOwn}
 use Rattle.store_core.specs.Store.{raised}
 use Rattle.agent_core.specs.declared.fault.AgentFault.{AgentFault}

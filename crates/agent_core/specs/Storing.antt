@@ -13,7 +13,7 @@ use Rattle.entry_codec.specs.declared.entry.Copied.{Copied}
 use Rattle.entry_codec.specs.declared.entry.Entry.TheVariants as entry
 use Rattle.entry_codec.specs.declared.words.CopiedWord.{CopiedWord}
 use Rattle.entry_codec.specs.Entries.{entry_bytes}
-use Rattle.entry_codec.specs.declared.entry.Settings.{Settings}
+use Rattle.tier_settings.specs.declared.settings.Settings.{Settings}
 use Rattle.beat_entries.specs.Copied.{definitions_of, told_chart, told_dimension, told_word}
 use Rattle.alarm_core.specs.declared.latest.Latest.{Latest}
 use Rattle.alarm_core.specs.Course.{Held}

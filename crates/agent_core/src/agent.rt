@@ -6,8 +6,8 @@ ghost use Rattle.host_model.specs.Cause.{HasCause};
 ghost use Rattle.host_model.specs.Moments.{Throughout};
 ghost use Rattle.history.specs.History.{Beat as HistoryBeat, collected, health, last as last_of};
 ghost use Rattle.history.specs.Limits.{keeps_limits};
-ghost use Rattle.entry_codec.specs.declared.entry.Settings.{Settings as ASettings};
-ghost use Rattle.store_core.specs.FirstRecord.{InLimits};
+ghost use Rattle.tier_settings.specs.declared.settings.Settings.{Settings as ASettings};
+ghost use Rattle.tier_settings.specs.Limits.{InLimits};
 ghost use Rattle.store_core.specs.Own.{OnlyOwn};
 ghost use Rattle.store_core.specs.Stands.{is_made, IsDamaged, Stands};
 ghost use Rattle.store_core.specs.Store.{raised, OpensAt};
@@ -43,7 +43,6 @@ use alarm_core::{Alarms, Latest, Log};
 use beat_points::LastRows;
 use chart_registry::Registry;
 use collect_block::{Feed, Step};
-use entry_codec::Settings;
 use fixed_num::Text;
 use health_config::{Config, ConfigFault};
 use history::{BlockFault, Line, OpenBeat};
@@ -51,6 +50,7 @@ use host_model::Host;
 use std::alloc::Global;
 use std::marker::Model;
 use store_core::{Kept, Store, Why};
+use tier_settings::Settings;
 
 /// The agent of one history, with the host that its database is on. Each call on it is handed that host,
 /// which since the agent was made or opened only its calls, and `tell`, have touched.

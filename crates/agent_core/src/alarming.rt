@@ -9,7 +9,7 @@ ghost use Rattle.alarm_core.specs.Course.{configured, held, stepped_by};
 ghost use Rattle.alarm_core.specs.UpTo.{IsUpTo};
 ghost use Rattle.host_model.specs.Cause.{HasCause};
 ghost use Rattle.tier_rollup.specs.declared.point.Point.{Point as APoint};
-ghost use Rattle.entry_codec.specs.declared.entry.Settings.{Settings as ASettings};
+ghost use Rattle.tier_settings.specs.declared.settings.Settings.{Settings as ASettings};
 ghost use Rattle.store_core.specs.declared.beat.Beat.{Beat as StoreBeat};
 ghost use Rattle.store_core.specs.Store.{IsStoreAt};
 ghost use Rattle.store_core.specs.Stored.{Stored as AStored};

@@ -5,11 +5,12 @@ ghost use Rattle.host_model.specs.Past.{Event};
 ghost use Rattle.history.specs.History.{Beat as HistoryBeat, registry_of};
 ghost use Rattle.query_engine.specs.Windows.{table_of};
 ghost use Rattle.query_text.specs.Told.{fault_text};
-ghost use Rattle.entry_codec.specs.declared.entry.Settings.{Settings as ASettings};
+ghost use Rattle.tier_settings.specs.declared.settings.Settings.{Settings as ASettings};
 ghost use Rattle.store_core.specs.Store.{IsStoreOf};
 ghost use Rattle.store_core.specs.Stored.{Stored as AStored};
 ghost use Rattle.store_core.specs.Tiers.{floor_at, kept_of};
-ghost use Rattle.store_core.specs.View.{points_of, widths};
+ghost use Rattle.store_core.specs.View.{points_of};
+ghost use Rattle.tier_settings.specs.Limits.{widths};
 ghost use Rattle.agent_core.specs.Answers.{reply_of, reply_to};
 ghost use Rattle.agent_core.specs.Kept.{IsStoredOf};
 

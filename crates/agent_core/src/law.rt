@@ -11,7 +11,7 @@ ghost use Rattle.chart_registry.specs.Accepted.{AreAccepted, IsWithin};
 ghost use Rattle.beat_tiers.specs.declared.kept.Kept.{Kept as AKept};
 ghost use Rattle.alarm_events.specs.Log.{shown};
 ghost use Rattle.beat_tiers.specs.Beats.{series_points};
-ghost use Rattle.entry_codec.specs.declared.entry.Settings.{Settings as ASettings};
+ghost use Rattle.tier_settings.specs.declared.settings.Settings.{Settings as ASettings};
 ghost use Rattle.replication.specs.declared.ask.Ask.{Ask as AnAsk};
 ghost use Rattle.replication.specs.declared.message.Data.{Data};
 ghost use Rattle.replication.specs.declared.verdict.Verdict.{Verdict};

@@ -54,10 +54,10 @@ mod storing;
 
 pub use agent::Agent;
 pub use alarm_core::{Event, EventList, Latest, Log, Status, write_event};
-pub use entry_codec::{Settings, TierSettings};
 pub use fault::AgentFault;
 pub use health_config::ConfigFault;
 pub use law::{any_call, any_copy, any_history, any_log, any_notes, any_text};
 pub use replication::{Ask, Data, Verdict};
 pub use reply::{Reply, Said, write_reply};
-pub use store_core::{Kept, KeptBeat, KeptBeatList, KeptPoint, KeptPointList, Why, is_in_limits};
+pub use store_core::{Kept, KeptBeat, KeptBeatList, KeptPoint, KeptPointList, Why};
+pub use tier_settings::{Settings, is_in_limits};

@@ -11,7 +11,7 @@ ghost use Rattle.history.specs.History.{Beat as HistoryBeat, copied, missing, re
 ghost use Rattle.history.specs.Numbered.{numbered_charts, numbered_dimensions};
 ghost use Rattle.history.specs.Registry.{Registry as ARegistry, same_chart, same_dimension, with_definitions};
 ghost use Rattle.history.specs.Regular.{AreApart};
-ghost use Rattle.entry_codec.specs.declared.entry.Settings.{Settings as ASettings};
+ghost use Rattle.tier_settings.specs.declared.settings.Settings.{Settings as ASettings};
 ghost use Rattle.entry_codec.specs.Entries.{is_collected_canonical, IsWithinLimits};
 ghost use Rattle.replication.specs.Copies.{latest as latest_of};
 ghost use Rattle.replication.specs.Names.{beat_moment};

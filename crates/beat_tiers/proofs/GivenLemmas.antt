@@ -7,7 +7,7 @@ use Rattle.std.proofs.lemmas.Bool.{cases_lt, cond-true, cond-false, cond_both, l
 use Rattle.fixed_num.specs.declared.units.Record.{Record}
 use Rattle.beat_tiers.specs.declared.item.BeatPoint.{BeatPoint}
 use Rattle.beat_tiers.specs.declared.item.Item.{Item}
-use Rattle.beat_tiers.specs.declared.tier.Tier.{Tier}
+use Rattle.tier_settings.specs.declared.tier.Tier.{Tier}
 use Rattle.beat_tiers.specs.Beats.{TierBeat, AreAbove, last, record_of, records_in, series_limit}
 use Rattle.beat_tiers.specs.Floors.{Cuts, cut_after, cuts_of, items_added}
 use Rattle.beat_tiers.specs.Segments.{SegmentsOf, items_of}

@@ -7,7 +7,7 @@ use Rattle.beat_tiers.specs.declared.item.BeatPoint.{BeatPoint}
 use Rattle.beat_tiers.specs.declared.item.Item.{Item}
 use Rattle.beat_tiers.specs.declared.item.Stepped.{Stepped}
 use Rattle.beat_tiers.specs.declared.segments.Segment.{Segment}
-use Rattle.beat_tiers.specs.declared.tier.Tier.{Tier}
+use Rattle.tier_settings.specs.declared.tier.Tier.{Tier}
 use Rattle.beat_tiers.specs.Beats.{TierBeat, last}
 use Rattle.beat_tiers.specs.Floors.{cuts_of, has_points, is_kept}
 use Rattle.beat_tiers.specs.Segments.{SegmentsOf, counted, ended, expire_after, sealed_at, with_items, without_first}

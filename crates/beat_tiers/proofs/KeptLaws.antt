@@ -3,7 +3,7 @@ use Rattle.std.proofs.Common.{◌≡◌, ℕ, ◌+◌, ◌^◌, ◌<◌, ◌&&�
 use Rattle.std.proofs.lemmas.Bool.{ltb-true}
 use Rattle.beat_tiers.specs.declared.item.Stepped.{Stepped}
 use Rattle.beat_tiers.specs.declared.item.BeatPoint.{BeatPoint}
-use Rattle.beat_tiers.specs.declared.tier.Tier.{Tier}
+use Rattle.tier_settings.specs.declared.tier.Tier.{Tier}
 use Rattle.beat_tiers.specs.Beats.{TierBeat, Follows, last}
 use Rattle.beat_tiers.specs.Floors.{beats_before, cuts_of, has_points, is_kept, kept_beats}
 use Rattle.beat_tiers.specs.Kept.{beats_in, kept_beat_of, kept_in}

@@ -9,7 +9,7 @@ use Rattle.tier_rollup.specs.declared.point.Point.{Point}
 use Rattle.beat_tiers.specs.declared.item.BeatPoint.{BeatPoint}
 use Rattle.beat_tiers.specs.declared.item.Item.{Item}
 use Rattle.beat_tiers.specs.declared.item.Stepped.{Stepped}
-use Rattle.beat_tiers.specs.declared.tier.Tier.{Tier}
+use Rattle.tier_settings.specs.declared.tier.Tier.{Tier}
 use Rattle.beat_tiers.specs.Beats.{TierBeat, AreAbove, is_series, last, point_in, series_points}
 use Rattle.beat_tiers.specs.Floors.{cuts_of, floor_of}
 use Rattle.beat_tiers.specs.Segments.{SegmentsOf, items_of}

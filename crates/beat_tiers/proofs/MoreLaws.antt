@@ -4,7 +4,7 @@ use Rattle.std.specs.Option.{option_map_or}
 use Rattle.std.proofs.Math.Nat.{le-div_iff_mul-le, mul-le-mul_left}
 use Rattle.std.proofs.lemmas.Bool.{cases_lt, cond-false, cond_both, le-leb, leb-false, lt-leb, lt-ltb, le-ltb, ne_eqb}
 use Rattle.beat_tiers.specs.declared.item.BeatPoint.{BeatPoint}
-use Rattle.beat_tiers.specs.declared.tier.Tier.{Tier}
+use Rattle.tier_settings.specs.declared.tier.Tier.{Tier}
 use Rattle.beat_tiers.specs.Beats.{TierBeat, is_closed, last, records_in}
 use Rattle.beat_tiers.specs.Floors.{Cuts, closing, cut_after, cuts_of, floor_after, floor_of, items_added}
 use Rattle.beat_tiers.specs.Tiers.{AreBeats}

@@ -8,7 +8,7 @@ use Rattle.std.proofs.lemmas.Bool.{and_left, and_right, and_from, cases_Bool, ca
 use Rattle.fixed_num.specs.declared.units.Record.{Record}
 use Rattle.beat_tiers.specs.declared.item.BeatPoint.{BeatPoint}
 use Rattle.beat_tiers.specs.declared.item.Item.{Item}
-use Rattle.beat_tiers.specs.declared.tier.Tier.{Tier}
+use Rattle.tier_settings.specs.declared.tier.Tier.{Tier}
 use Rattle.beat_tiers.specs.Beats.{TierBeat, last, record_of, records_in}
 use Rattle.beat_tiers.specs.Floors.{floor_after, floor_of}
 use Rattle.beat_tiers.specs.State.{RecordTierState, closed_record, floor_in, is_item, open_record, record_in, record_items}

@@ -5,7 +5,7 @@ use Rattle.std.proofs.lemmas.List.{length-append, length-map, length-reverse, ma
 use Rattle.std.proofs.lemmas.List.Sums.{length-filter, count_by-le-length}
 use Rattle.beat_tiers.specs.declared.item.Item.{Item}
 use Rattle.beat_tiers.specs.declared.segments.Segment.{Segment}
-use Rattle.beat_tiers.specs.declared.tier.Tier.{Tier}
+use Rattle.tier_settings.specs.declared.tier.Tier.{Tier}
 use Rattle.beat_tiers.specs.Floors.{Cuts, cut_after}
 use Rattle.beat_tiers.specs.Segments.{SegmentsOf, counted, ended, expire_after, sealed_at, with_items as and_items, without_first}
 use Rattle.beat_tiers.specs.Tiers.{Group, with_group, is_after, is_between_groups, items_in, AreSplit, AreSegmentsOf}

@@ -1,6 +1,6 @@
 -- What the tiers of some beats keep is in order, and answers by the whole list of them.
 use Rattle.std.proofs.Common.{◌≡◌, ℕ, ◌+◌, ◌/◌, List, Some, filter, reverse, slice_get, arith, subst, sym}
-use Rattle.beat_tiers.specs.declared.tier.Tier.{Tier}
+use Rattle.tier_settings.specs.declared.tier.Tier.{Tier}
 use Rattle.beat_tiers.specs.Beats.{TierBeat, last, series_points}
 use Rattle.beat_tiers.specs.Floors.{cuts_of, floor_of}
 use Rattle.beat_tiers.specs.Segments.{items_of}

@@ -11,7 +11,7 @@ use Rattle.tier_rollup.proofs.BucketLemmas.{ends_after}
 use Rattle.beat_tiers.specs.declared.item.BeatPoint.{BeatPoint}
 use Rattle.beat_tiers.specs.declared.item.Item.{Item}
 use Rattle.beat_tiers.specs.declared.item.Stepped.{Stepped}
-use Rattle.beat_tiers.specs.declared.tier.Tier.{Tier}
+use Rattle.tier_settings.specs.declared.tier.Tier.{Tier}
 use Rattle.beat_tiers.specs.Beats.{TierBeat, Follows, last, record_of, records_in, series_limit}
 use Rattle.beat_tiers.specs.Floors.{closing, cut_after, cuts_of, items_added}
 use Rattle.beat_tiers.specs.Segments.{SegmentsOf, ended, with_items}

@@ -6,7 +6,7 @@ use Rattle.std.specs.Option.{option_map}
 use Rattle.fixed_num.specs.declared.units.Record.{Record}
 use Rattle.beat_tiers.specs.declared.item.Stepped.{Stepped}
 use Rattle.beat_tiers.specs.declared.item.BeatPoint.{BeatPoint}
-use Rattle.beat_tiers.specs.declared.tier.Tier.{Tier}
+use Rattle.tier_settings.specs.declared.tier.Tier.{Tier}
 use Rattle.beat_tiers.specs.Segments.{SegmentsOf}
 use Rattle.beat_tiers.specs.State.{RecordTierState, TiersState}
 

@@ -2,7 +2,7 @@
 use Rattle.std.specs.Prelude.{ℕ, ◌+◌, ◌-◌, ◌^◌, min, nat_lt, if◌then◌else◌, List, [], ◌∷◌, ◌++◌, length, flat_map, Option, Some, None}
 use Rattle.beat_tiers.specs.declared.item.Item.{Item}
 use Rattle.beat_tiers.specs.declared.segments.Segment.{Segment}
-use Rattle.beat_tiers.specs.declared.tier.Tier.{Tier}
+use Rattle.tier_settings.specs.declared.tier.Tier.{Tier}
 
 pub record SegmentsOf (T : Type 0) : Type 0 where
   -- the moment of the beat that sealed the last segment that has expired

@@ -13,7 +13,7 @@ use Rattle.tier_rollup.specs.Growing.{with_value}
 use Rattle.beat_tiers.specs.declared.item.BeatPoint.{BeatPoint}
 use Rattle.beat_tiers.specs.declared.item.Item.{Item}
 use Rattle.beat_tiers.specs.declared.item.Stepped.{Stepped}
-use Rattle.beat_tiers.specs.declared.tier.Tier.{Tier}
+use Rattle.tier_settings.specs.declared.tier.Tier.{Tier}
 use Rattle.beat_tiers.specs.Floors.{floor_after}
 use Rattle.beat_tiers.specs.Segments.{SegmentsOf, ended, items_of, no_segments, with_items}
 

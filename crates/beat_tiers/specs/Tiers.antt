@@ -6,7 +6,7 @@ use Rattle.tier_rollup.specs.declared.point.Point.{Point}
 use Rattle.beat_tiers.specs.declared.item.Item.{Item}
 use Rattle.beat_tiers.specs.declared.item.Stepped.{Stepped}
 use Rattle.beat_tiers.specs.declared.segments.Segment.{Segment}
-use Rattle.beat_tiers.specs.declared.tier.Tier.{Tier}
+use Rattle.tier_settings.specs.declared.tier.Tier.{Tier}
 use Rattle.beat_tiers.specs.Beats.{TierBeat, Follows, last, record_of, records_in}
 use Rattle.beat_tiers.specs.Floors.{Cuts, cuts_of}
 use Rattle.beat_tiers.specs.Segments.{SegmentsOf}

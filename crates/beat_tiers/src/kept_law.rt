@@ -1,5 +1,5 @@
 ghost use Rattle.std.specs.Prelude.{◌≡◌, List, [], ◌∷◌, map};
-ghost use Rattle.beat_tiers.specs.declared.tier.Tier.{Tier as ATier};
+ghost use Rattle.tier_settings.specs.declared.tier.Tier.{Tier as ATier};
 ghost use Rattle.beat_tiers.specs.Beats.{TierBeat, Follows};
 ghost use Rattle.beat_tiers.specs.Floors.{beats_before, kept_beats};
 ghost use Rattle.beat_tiers.specs.Kept.{kept_beat_of, kept_in};

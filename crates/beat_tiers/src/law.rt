@@ -1,6 +1,6 @@
 ghost use Rattle.std.specs.Prelude.{◌≡◌, ℕ, ◌+◌, List, [], ◌∷◌, filter, reverse, slice_get, Some};
 ghost use Rattle.std.specs.List.{AllByRecursion};
-ghost use Rattle.beat_tiers.specs.declared.tier.Tier.{Tier as ATier};
+ghost use Rattle.tier_settings.specs.declared.tier.Tier.{Tier as ATier};
 ghost use Rattle.beat_tiers.specs.Beats.{TierBeat, Follows, series_points};
 ghost use Rattle.beat_tiers.specs.Floors.{floor_of};
 ghost use Rattle.beat_tiers.specs.Segments.{items_of};

@@ -25,8 +25,9 @@
 //! series between these places, by halves too. Of the items since the last cut it reads those of
 //! all series between the places. So it does not cost by what is kept before and behind them.
 //!
-//! It stands on `tier_rollup` for records, on `storage_number` for the values of words, and on
-//! lists of `fixed_num`. It knows no disk and no history.
+//! It stands on `tier_settings` for the settings of a tier, on `tier_rollup` for records, on
+//! `storage_number` for the values of words, and on lists of `fixed_num`. It knows no disk and no
+//! history.
 #![tactic(auto)]
 
 mod above;
@@ -41,7 +42,6 @@ mod searching;
 mod segments;
 #[cfg(test)]
 mod tests;
-mod tier;
 mod tiers;
 
 pub use item::{BeatPoint, BeatPointList, Item, Stepped};
@@ -49,5 +49,5 @@ pub use kept::{Kept, KeptBeat, KeptBeatList, KeptPoint, KeptPointList};
 pub use kept_law::any_kept_beats;
 pub use law::any_beats;
 pub use more_law::any_more_beat;
-pub use tier::Tier;
+pub use tier_settings::Tier;
 pub use tiers::Tiers;

@@ -1,6 +1,6 @@
 ghost use Rattle.std.specs.Prelude.{◌≡◌, ◌≢◌, ℕ, ◌/◌, ◌≤◌, false, List, [], ◌∷◌, length, Some, if◌then◌else◌};
 ghost use Rattle.beat_tiers.specs.declared.item.BeatPoint.{BeatPoint as ABeatPoint};
-ghost use Rattle.beat_tiers.specs.declared.tier.Tier.{Tier as ATier};
+ghost use Rattle.tier_settings.specs.declared.tier.Tier.{Tier as ATier};
 ghost use Rattle.beat_tiers.specs.Beats.{TierBeat, is_closed, last, records_in};
 ghost use Rattle.beat_tiers.specs.Floors.{floor_of, items_added};
 ghost use Rattle.beat_tiers.specs.Tiers.{AreBeats};

@@ -10,13 +10,13 @@ ghost use Rattle.beat_tiers.specs.Tiers.{AreOrdered, IsFirstRecord, IsTier};
 use crate::item::{BeatPoint, Item};
 use crate::searching;
 use crate::segments::Segments;
-use crate::tier::Tier;
 use fixed_num::Record;
 use std::alloc::{AllocError, Global};
 use std::collections::BTreeMap;
 use std::marker::Model;
 use storage_number::{Point as Value, unpack};
 use tier_rollup::with_value;
+use tier_settings::Tier;
 
 /// The slots of a bucket by series: a slot has the record of its series, or is the memory for one.
 type Slots = BTreeMap<u32, Option<Record>>;

@@ -7,11 +7,11 @@ ghost use Rattle.beat_tiers.specs.Segments.{no_segments, with_item, ended, expir
 
 use crate::item::Item;
 use crate::sealed::Sealed;
-use crate::tier::Tier;
 use fixed_num::ListOf;
 use std::alloc::{AllocError, Global};
 use std::collections::VecDeque;
 use std::marker::Model;
+use tier_settings::Tier;
 
 /// Items that were cut off together.
 #[derive(Debug, Drop)]

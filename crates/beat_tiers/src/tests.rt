@@ -2,7 +2,6 @@ ghost use Rattle.std.specs.Prelude.{◌≡◌, ◌≤◌};
 
 use crate::item::BeatPoint;
 use crate::kept::{KeptBeat, KeptPoint};
-use crate::tier::Tier;
 use crate::tiers::Tiers;
 use fixed_num::{Frac, Record, Units};
 use std::alloc::{AllocError, Global};
@@ -10,6 +9,7 @@ use std::process::Abort;
 use std::test::Fail;
 use storage_number::pack;
 use tier_rollup::{Point, PointList};
+use tier_settings::Tier;
 
 mod floors;
 mod plain;

@@ -11,12 +11,12 @@ use crate::item::{BeatPoint, Item, Stepped};
 use crate::kept::{self, Kept, KeptBeatList};
 use crate::record_tier::RecordTier;
 use crate::segments::Segments;
-use crate::tier::Tier;
 use crate::{above, searching};
 use fixed_num::Record;
 use std::alloc::{AllocError, Global};
 use std::marker::Model;
 use tier_rollup::PointList;
+use tier_settings::Tier;
 
 /// What the tiers of a database keep of its beats.
 #[derive(Debug, Drop)]

@@ -1,7 +1,11 @@
 -- Entries: the one spelling of each, which of them have one, and what bytes read as.
 use Rattle.std.specs.Prelude.{◌≡◌, ◌≢◌, ℕ, zero, suc, ◌<◌, ◌≤◌, ◌^◌, Bool, true, ◌&&◌, ◌==◌, List, [], ◌∷◌, ◌++◌, length, map, All, Result, Ok, Err, if◌then◌else◌}
-use Rattle.std.specs.List.{list_all, sum_by}
+use Rattle.std.specs.List.{flat_map, list_all, sum_by, AllByRecursion}
 use Rattle.storage_number.specs.Word.{is_word}
+use Rattle.tier_settings.specs.declared.settings.Settings.{Settings}
+use Rattle.tier_settings.specs.declared.tier.Tier.{Tier}
+use Rattle.tier_settings.specs.Limits.{HasWidths}
+use Rattle.tier_settings.specs.Settings.{settings_of}
 use Rattle.field_codec.specs.declared.fault.FieldFault.{FieldFault}
 use Rattle.field_codec.specs.declared.fault.FieldFault.TheVariants as fields
 use Rattle.field_codec.specs.Lists.{◌>>◌, read_list, IsShortListOf}
@@ -16,8 +20,6 @@ use Rattle.entry_codec.specs.declared.entry.Copied.{Copied}
 use Rattle.entry_codec.specs.declared.entry.Entry.{Entry}
 use Rattle.entry_codec.specs.declared.entry.Entry.TheVariants as entry
 use Rattle.entry_codec.specs.declared.entry.Gap.{Gap}
-use Rattle.entry_codec.specs.declared.entry.Settings.{Settings}
-use Rattle.entry_codec.specs.declared.entry.TierSettings.{TierSettings}
 use Rattle.entry_codec.specs.declared.fault.EntryFault.{EntryFault}
 use Rattle.entry_codec.specs.declared.fault.EntryFault.TheVariants as faults
 use Rattle.history.specs.Limits.{chart_keeps_limits, dimension_keeps_limits}
@@ -32,16 +34,15 @@ use Rattle.entry_codec.specs.Words.{read_word, word_bytes, IsCopiedWord, IsShort
 
 -- ---- settings
 
-abbrev pub tier_of : ℕ × ℕ → TierSettings
-tier_of (items, extents) = record { items = items; extents = extents }
+-- the items and extents of a tier
+unfoldable pub read_quota : List ℕ → ReadOf (ℕ × ℕ)
+read_quota bytes = read_u32 bytes >> read_u32
 
-unfoldable pub read_tier : List ℕ → ReadOf TierSettings
-read_tier bytes = read_as tier_of (read_u32 bytes >> read_u32)
-
-unfoldable pub tier_bytes : TierSettings → List ℕ
+-- the width of a tier is not spelt: it follows from its place
+unfoldable pub tier_bytes : Tier → List ℕ
 tier_bytes t = u32_bytes t.items ++ u32_bytes t.extents
 
-pub record IsTier (t : TierSettings) : Type 0 where
+pub record IsTier (t : Tier) : Type 0 where
   pub items : t.items < 2 ^ 32
   pub extents : t.extents < 2 ^ 32
 
@@ -49,20 +50,20 @@ pub record IsTier (t : TierSettings) : Type 0 where
 unfoldable pub read_version : List ℕ → ReadOf ℕ
 read_version bytes = read_passing (λ version. version == 1) fields.Range (read_u8 bytes)
 
-abbrev pub settings_of : (((ℕ × ℕ) × TierSettings) × TierSettings) × TierSettings → Settings
-settings_of ((((_, id), tier0), tier1), tier2) = record { id = id; tier0 = tier0; tier1 = tier1; tier2 = tier2 }
+abbrev pub settings_with : (((ℕ × ℕ) × (ℕ × ℕ)) × (ℕ × ℕ)) × (ℕ × ℕ) → Settings
+settings_with ((((_, id), first), second), third) = settings_of id (first ∷ second ∷ third ∷ [])
 
+-- the version, the id, and the items and extents of three tiers
 unfoldable pub read_settings : List ℕ → ReadOf Settings
-read_settings bytes = read_as settings_of (read_version bytes >> read_u64 >> read_tier >> read_tier >> read_tier)
+read_settings bytes = read_as settings_with (read_version bytes >> read_u64 >> read_quota >> read_quota >> read_quota)
 
 unfoldable pub settings_bytes : Settings → List ℕ
-settings_bytes s = u8_bytes 1 ++ u64_bytes s.id ++ tier_bytes s.tier0 ++ tier_bytes s.tier1 ++ tier_bytes s.tier2
+settings_bytes s = u8_bytes 1 ++ u64_bytes s.id ++ flat_map tier_bytes s.tiers
 
 pub record IsSettings (s : Settings) : Type 0 where
   pub id : s.id < 2 ^ 64
-  pub tier0 : IsTier s.tier0
-  pub tier1 : IsTier s.tier1
-  pub tier2 : IsTier s.tier2
+  pub widths : HasWidths s.tiers
+  pub tiers : AllByRecursion IsTier s.tiers
 
 -- ---- a collected beat
 

@@ -3,25 +3,7 @@ use crate::dimensions::CopiedDimensionList;
 use crate::words::CopiedWordList;
 use field_codec::ByteList;
 use history::NumberedBeat;
-
-/// How much a tier keeps.
-#[derive(Clone, Copy, Debug, PartialEq, Eq)]
-pub struct TierSettings {
-    /// How many points or records make a segment full.
-    pub items: u32,
-    /// How many full segments are kept.
-    pub extents: u32,
-}
-
-/// What a history was made with.
-#[derive(Clone, Copy, Debug, PartialEq, Eq)]
-pub struct Settings {
-    /// The number of the history.
-    pub id: u64,
-    pub tier0: TierSettings,
-    pub tier1: TierSettings,
-    pub tier2: TierSettings,
-}
+use tier_settings::Settings;
 
 /// A beat that was copied from a child.
 #[derive(Debug, Drop)]

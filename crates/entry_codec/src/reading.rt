@@ -1,23 +1,25 @@
 ghost use Rattle.std.specs.Prelude.{◌≡◌, ℕ, ◌⊎◌, Ok, Err, IfOk, IfErr};
 ghost use Rattle.field_codec.specs.Lists.{IsRefusal};
 ghost use Rattle.field_codec.specs.Reading.{read_bytes};
-ghost use Rattle.entry_codec.specs.Entries.{entry_bytes, read_collected, read_copied, read_entry, read_fields, read_gap, read_kind_fields, read_settings, read_tier, read_version, HasSpelling, IsNoSpelling};
+ghost use Rattle.entry_codec.specs.Entries.{entry_bytes, read_collected, read_copied, read_entry, read_fields, read_gap, read_kind_fields, read_quota, read_settings, read_version, HasSpelling, IsNoSpelling};
 
 use crate::canonical;
-use crate::entry::{Copied, Entry, Gap, Settings, TierSettings};
+use crate::entry::{Copied, Entry, Gap};
 use crate::fault::EntryFault;
 use field_codec::{ByteList, FieldFault, Reader, list};
 use history::NumberedBeat;
 use std::alloc::Global;
+use tier_settings::Settings;
 
-#[tactic(auto, unfolding(crate::specs::Entries::read_tier))]
-fn take_tier(reader: &mut Reader<'_>) -> Result<TierSettings, FieldFault>
-    ensures taken { IfOk result (λ tier. read_tier reader.old ≡ Ok (tier, reader.new)) }
-    ensures fault { IfErr result (λ fault. read_tier reader.old ≡ Err fault) }
+/// The items and extents of a tier.
+#[tactic(auto, unfolding(crate::specs::Entries::read_quota))]
+fn take_quota(reader: &mut Reader<'_>) -> Result<(u32, u32), FieldFault>
+    ensures taken { IfOk result (λ quota. read_quota reader.old ≡ Ok (quota, reader.new)) }
+    ensures fault { IfErr result (λ fault. read_quota reader.old ≡ Err fault) }
 {
     let items = reader.take_u32()?;
     let extents = reader.take_u32()?;
-    Ok(TierSettings { items, extents })
+    Ok((items, extents))
 }
 
 #[tactic(auto, unfolding(crate::specs::Entries::read_version))]
@@ -33,21 +35,16 @@ fn take_version(reader: &mut Reader<'_>) -> Result<(), FieldFault>
 }
 
 #[tactic(auto, unfolding(crate::specs::Entries::read_settings))]
-fn take_settings(reader: &mut Reader<'_>) -> Result<Settings, FieldFault>
+fn take_settings(alloc: Global, reader: &mut Reader<'_>) -> Result<Settings, FieldFault>
     ensures taken { IfOk result (λ settings. read_settings reader.old ≡ Ok (settings, reader.new)) }
-    ensures fault { IfErr result (λ fault. read_settings reader.old ≡ Err fault) }
+    ensures fault { IfErr result (IsRefusal (read_settings reader.old)) }
 {
     take_version(reader)?;
     let id = reader.take_u64()?;
-    let tier0 = take_tier(reader)?;
-    let tier1 = take_tier(reader)?;
-    let tier2 = take_tier(reader)?;
-    Ok(Settings {
-        id,
-        tier0,
-        tier1,
-        tier2,
-    })
+    let first = take_quota(reader)?;
+    let second = take_quota(reader)?;
+    let third = take_quota(reader)?;
+    Ok(Settings::new(alloc, id, [first, second, third])?)
 }
 
 #[tactic(auto, unfolding(crate::specs::Entries::read_collected))]
@@ -116,7 +113,7 @@ fn take_kind(alloc: Global, kind: u8, reader: &mut Reader<'_>) -> Result<Entry, 
         (λ fault. (fault ≡ EntryFault.Memory) ⊎ (read_kind_fields kind reader.old ≡ Err fault)) }
 {
     match kind {
-        0 => Ok(Entry::Settings(take_settings(reader)?)),
+        0 => Ok(Entry::Settings(take_settings(alloc, reader)?)),
         1 => Ok(Entry::Collected(take_collected(alloc, reader)?)),
         2 => Ok(Entry::Copied(take_copied(alloc, reader)?)),
         3 => Ok(Entry::Health(take_health(alloc, reader)?)),

@@ -1,21 +1,33 @@
 ghost use Rattle.std.specs.Prelude.{◌≡◌, ◌<◌, ◌^◌, ◌++◌, ◌↔◌, true, length, Ok, Err, IsTrue, IfOk, OnOk, IsOkUnless};
+ghost use Rattle.std.specs.List.{flat_map, AllByRecursion};
 ghost use Rattle.entry_codec.specs.Entries.{collected_bytes, copied_bytes, entry_bytes, gap_bytes, is_collected_canonical, read_entry, settings_bytes, tier_bytes, HasSpelling, IsCollected, IsCopied, IsGap, IsSettings, IsShort, IsShortCollected, IsShortCopied, IsTier, IsWithinLimits};
 ghost use Rattle.entry_codec.specs.declared.entry.Entry.TheVariants as entry;
 
 use crate::canonical;
-use crate::entry::{Copied, Entry, Gap, Settings, TierSettings};
+use crate::entry::{Copied, Entry, Gap};
 use crate::fault::EntryFault;
 use field_codec::{ByteList, FieldFault, Writer, list};
 use history::NumberedBeat;
 use std::alloc::{AllocError, Global};
+use tier_settings::{Settings, Tier, has_widths};
 
 #[tactic(auto, unfolding(crate::specs::Entries::tier_bytes))]
-fn put_tier(tier: &TierSettings, writer: &mut Writer) -> Result<(), FieldFault>
+fn put_tier(tier: &Tier, writer: &mut Writer) -> Result<(), FieldFault>
     ensures put { OnOk result (writer.new ≡ writer.old ++ tier_bytes tier.now) }
     ensures memory { IsOkUnless result FieldFault.Memory }
 {
     writer.put_u32(tier.items)?;
     writer.put_u32(tier.extents)
+}
+
+fn put_tiers(tiers: &[Tier], writer: &mut Writer) -> Result<(), FieldFault>
+    ensures put { OnOk result (writer.new ≡ writer.old ++ flat_map tier_bytes tiers.now) }
+    ensures memory { IsOkUnless result FieldFault.Memory }
+{
+    for tier in tiers {
+        put_tier(tier, writer)?;
+    }
+    Ok(())
 }
 
 #[tactic(auto, unfolding(crate::specs::Entries::settings_bytes))]
@@ -25,9 +37,7 @@ fn put_settings(settings: &Settings, writer: &mut Writer) -> Result<(), FieldFau
 {
     writer.put_u8(1)?;
     writer.put_u64(settings.id)?;
-    put_tier(&settings.tier0, writer)?;
-    put_tier(&settings.tier1, writer)?;
-    put_tier(&settings.tier2, writer)
+    put_tiers(settings.tiers.as_slice(), writer)
 }
 
 #[tactic(auto, unfolding(crate::specs::Entries::collected_bytes))]
@@ -98,18 +108,25 @@ fn put_entry(entry: &Entry, writer: &mut Writer) -> Result<(), FieldFault>
 
 // Below, a number that is read is known to be in the range of its type.
 
-fn is_tier(tier: &TierSettings) -> bool
+fn is_tier(tier: &Tier) -> bool
     ensures { IsTrue result ↔ IsTier tier.now }
 {
     let (_items, _extents) = (tier.items, tier.extents);
     true
 }
 
+fn are_tiers(tiers: &[Tier]) -> bool
+    ensures { IsTrue result ↔ AllByRecursion IsTier tiers.now }
+{
+    tiers.iter().all(is_tier)
+}
+
 fn is_settings(settings: &Settings) -> bool
     ensures { IsTrue result ↔ IsSettings settings.now }
 {
     let _id = settings.id;
-    is_tier(&settings.tier0) && is_tier(&settings.tier1) && is_tier(&settings.tier2)
+    let tiers = settings.tiers.as_slice();
+    has_widths(tiers) && are_tiers(tiers)
 }
 
 fn is_collected(collected: &NumberedBeat) -> bool
@@ -150,8 +167,8 @@ fn is_short(entry: &Entry) -> bool
 }
 
 /// Whether an entry has a spelling: its lists are in the order of their numbers, each number once, its
-/// words are storage numbers, no text is longer than 65,535 bytes, and no list and no bytes are longer
-/// than a u32 counts.
+/// words are storage numbers, no text is longer than 65,535 bytes, no list and no bytes are longer than a
+/// u32 counts, and the tiers of settings have the widths that those of a database have.
 pub fn has_spelling(entry: &Entry) -> bool
     ensures { IsTrue result ↔ HasSpelling entry.now }
 {

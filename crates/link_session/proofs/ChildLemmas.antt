@@ -9,7 +9,7 @@ use Rattle.replication.specs.declared.message.Data.{Data}
 use Rattle.link_frames.specs.declared.frame.Frame.{Frame}
 use Rattle.link_frames.specs.declared.frame.Frame.TheVariants as frame
 use Rattle.link_frames.specs.Frames.{bad_frame, done, wrong_child}
-use Rattle.entry_codec.specs.declared.entry.Settings.{Settings}
+use Rattle.tier_settings.specs.declared.settings.Settings.{Settings}
 use Rattle.agent_core.specs.declared.fault.AgentFault.{AgentFault}
 use Rattle.agent_core.specs.Agent.{id_of, AgentIsReady, AgentState, IsAgentOf}
 use Rattle.agent_core.specs.Calls.{AnswersAsk}

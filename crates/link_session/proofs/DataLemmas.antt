@@ -17,7 +17,7 @@ use Rattle.replication.specs.Verdict.{is_stored, verdict_by}
 use Rattle.link_frames.specs.declared.frame.Frame.TheVariants as frame
 use Rattle.plugin_text.specs.Lines.{rest}
 use Rattle.alarm_events.specs.declared.event.Event.{Event as AlarmEvent}
-use Rattle.entry_codec.specs.declared.entry.Settings.{Settings}
+use Rattle.tier_settings.specs.declared.settings.Settings.{Settings}
 use Rattle.store_core.specs.declared.fault.Why.{Why}
 use Rattle.store_core.specs.Store.{counted}
 use Rattle.store_core.proofs.StoreLemmas.{ready_elsewhere}

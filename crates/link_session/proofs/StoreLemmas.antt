@@ -10,7 +10,7 @@ use Rattle.host_model.proofs.DiskLemmas.{untold}
 use Rattle.host_model.proofs.MomentLemmas.{at_end, joined, weakened}
 use Rattle.history.specs.History.{Beat}
 use Rattle.plugin_text.specs.Lines.{rest}
-use Rattle.entry_codec.specs.declared.entry.Settings.{Settings}
+use Rattle.tier_settings.specs.declared.settings.Settings.{Settings}
 use Rattle.agent_core.specs.Agent.{AgentState, IsAgentOf}
 use Rattle.agent_core.specs.Kept.{onto, StandsForFront, StandsForHistory}
 use Rattle.agent_core.proofs.KeptLemmas.{agent-told, stays}

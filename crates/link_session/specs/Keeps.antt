@@ -3,7 +3,7 @@ use Rattle.std.specs.Prelude.{◌≡◌, ℕ, ◌^◌, ◌<◌, ◌≤◌, List,
 use Rattle.host_model.specs.declared.file.File.{File}
 use Rattle.history.specs.History.{Beat}
 use Rattle.plugin_text.specs.Lines.{lines}
-use Rattle.entry_codec.specs.declared.entry.Settings.{Settings}
+use Rattle.tier_settings.specs.declared.settings.Settings.{Settings}
 use Rattle.agent_core.specs.Kept.{StandsForHistory}
 
 -- a history goes on from another

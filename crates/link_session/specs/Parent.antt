@@ -9,7 +9,7 @@ use Rattle.replication.specs.declared.verdict.Verdict.TheVariants as verdict
 use Rattle.link_frames.specs.declared.frame.Frame.{Frame}
 use Rattle.link_frames.specs.declared.frame.Frame.TheVariants as frame
 use Rattle.link_frames.specs.Frames.{done, wrong_child}
-use Rattle.entry_codec.specs.declared.entry.Settings.{Settings}
+use Rattle.tier_settings.specs.declared.settings.Settings.{Settings}
 use Rattle.store_core.specs.Store.{counted}
 use Rattle.agent_core.specs.declared.fault.AgentFault.TheVariants.{Refused}
 use Rattle.agent_core.specs.Copying.{added_to, copy_refusal, events_onto, verdict_of}

@@ -7,7 +7,7 @@ ghost use Rattle.link_frames.specs.declared.frame.Frame.TheVariants as frame;
 ghost use Rattle.link_frames.specs.Frames.{HasSpelling};
 ghost use Rattle.host_model.specs.Past.{Event};
 ghost use Rattle.history.specs.History.{Beat as HistoryBeat};
-ghost use Rattle.entry_codec.specs.declared.entry.Settings.{Settings as ASettings};
+ghost use Rattle.tier_settings.specs.declared.settings.Settings.{Settings as ASettings};
 ghost use Rattle.agent_core.specs.Agent.{AgentIsReady, IsAgentOf};
 ghost use Rattle.agent_core.specs.Copying.{verdict_of};
 ghost use Rattle.agent_core.specs.Replies.{reply_text};

@@ -1,20 +1,18 @@
+ghost use Rattle.std.specs.Prelude.{IfOk};
+ghost use Rattle.tier_settings.specs.Limits.{InLimits};
+
 use crate::{SessionFault, receive, send};
-use agent_core::{Agent, Settings, TierSettings};
+use agent_core::{Agent, Settings};
 use host_model::{CallList, MemoryHost, MemoryLink};
-use std::alloc::Global;
+use std::alloc::{AllocError, Global};
 use std::test::Fail;
 
-const TIER: TierSettings = TierSettings {
-    items: 262_144,
-    extents: 1024,
-};
-
-const SETTINGS: Settings = Settings {
-    id: 7,
-    tier0: TIER,
-    tier1: TIER,
-    tier2: TIER,
-};
+/// The settings with the id 7, and as much in each tier as may be.
+fn settings(alloc: Global) -> Result<Settings, AllocError>
+    ensures { IfOk result InLimits }
+{
+    Settings::new(alloc, 7, [(262_144, 1_024); 3])
+}
 
 /// The child with the id 7 begins.
 const HELLO: [u8; 13] = [9, 0, 0, 0, 1, 7, 0, 0, 0, 0, 0, 0, 0];
@@ -36,7 +34,7 @@ fn link_with(alloc: Global, first: &[u8], second: &[u8]) -> Result<MemoryLink, F
 fn a_child_with_nothing_is_done_at_once(rt: HostRuntime) -> Result<(), Fail> {
     let alloc = rt.alloc();
     let mut host = MemoryHost::new(alloc, CallList::new(alloc))?;
-    let mut agent = Agent::create(alloc, &mut host, &SETTINGS)?;
+    let mut agent = Agent::create(alloc, &mut host, &settings(alloc)?)?;
     let mut link = link_with(alloc, &ASK, &[])?;
     assert_eq!(rt; send(alloc, &mut agent, &mut host, &mut link), Ok(()));
     let mut said = Vec::from_slice(alloc, &HELLO)?;
@@ -49,7 +47,7 @@ fn a_child_with_nothing_is_done_at_once(rt: HostRuntime) -> Result<(), Fail> {
 fn a_parent_asks_until_the_child_is_done(rt: HostRuntime) -> Result<(), Fail> {
     let alloc = rt.alloc();
     let mut host = MemoryHost::new(alloc, CallList::new(alloc))?;
-    let mut agent = Agent::create(alloc, &mut host, &SETTINGS)?;
+    let mut agent = Agent::create(alloc, &mut host, &settings(alloc)?)?;
     let mut link = link_with(alloc, &HELLO, &DONE)?;
     assert_eq!(rt; receive(alloc, &mut agent, &mut host, &mut link), Ok(()));
     assert_eq!(rt; link.sent(), ASK.as_slice());

@@ -7,12 +7,13 @@ use Rattle.query_engine.specs.declared.request.Request.{Request}
 use Rattle.query_engine.specs.declared.table.Table.{Table}
 use Rattle.query_engine.specs.Windows.{is_lowest, may_read, row_of, table_of, tier_for}
 use Rattle.host_model.specs.Past.{Event}
-use Rattle.entry_codec.specs.declared.entry.Settings.{Settings}
+use Rattle.tier_settings.specs.declared.settings.Settings.{Settings}
 use Rattle.store_core.specs.declared.beat.Beat.{Beat}
 use Rattle.store_core.specs.Store.{IsStoreAt, StoreState}
 use Rattle.store_core.specs.Stored.{Stored}
 use Rattle.store_core.specs.Tiers.{floor_at}
-use Rattle.store_core.specs.View.{Tells, points_of, widths}
+use Rattle.store_core.specs.View.{Tells, points_of}
+use Rattle.tier_settings.specs.Limits.{widths}
 use Rattle.store_core.proofs.TierLemmas.{floor_is}
 
 -- one of three numbers, by the number of a tier

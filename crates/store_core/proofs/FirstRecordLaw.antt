@@ -1,14 +1,15 @@
 -- The law of the first record: its bytes read as the settings, and what bytes read as has them.
-use Rattle.std.proofs.Common.{◌≡◌, ℕ, suc, ◌≤◌, Bool, true, false, ◌&&◌, cond, List, [], ◌∷◌, ◌++◌, length, map, Option, Some, None, Result, Ok, Err, refl, sym, ap, ◌∙◌, subst, arith}
-use Rattle.std.specs.Prelude.{nat_le}
+use Rattle.std.proofs.Common.{◌≡◌, ℕ, suc, Bool, true, false, ◌&&◌, cond, List, [], ◌∷◌, ◌++◌, length, map, Option, Some, None, Result, Ok, Err, refl, sym, ap, ◌∙◌, subst, arith}
 use Rattle.std.specs.List.{list_all}
-use Rattle.std.proofs.lemmas.Bool.{and_parts, leb-true}
+use Rattle.std.proofs.lemmas.Bool.{and_parts}
 use Rattle.field_codec.specs.Field.{IsBytes}
 use Rattle.field_codec.specs.Spelling.{sized_bytes, u8_bytes, u32_bytes, u64_bytes, list_bytes}
 use Rattle.entry_codec.specs.declared.entry.Entry.{Entry}
 use Rattle.entry_codec.specs.declared.entry.Entry.TheVariants.{Settings as ASettings, Collected, Copied, Health, Gap}
-use Rattle.entry_codec.specs.declared.entry.Settings.{Settings}
-use Rattle.entry_codec.specs.declared.entry.TierSettings.{TierSettings}
+use Rattle.tier_settings.specs.declared.settings.Settings.{Settings}
+use Rattle.tier_settings.specs.declared.tier.Tier.{Tier}
+use Rattle.tier_settings.specs.Limits.{are_tiers, HasWidths, InLimits}
+use Rattle.tier_settings.proofs.TierLemmas.{each_tier, IsWithin}
 use Rattle.entry_codec.specs.declared.fault.EntryFault.{EntryFault}
 use Rattle.entry_codec.specs.Entries.{entry_bytes, is_canonical, read_entry, settings_bytes, tier_bytes, HasSpelling, IsSettings, IsTier}
 use Rattle.entry_codec.specs.Lists.{is_ascending}
@@ -16,48 +17,45 @@ use Rattle.entry_codec.proofs.EntriesLaw.{reads_back, is_read}
 use Rattle.store_core.specs.declared.beat.Beat.{Beat}
 use Rattle.beat_tiers.specs.declared.item.BeatPoint.{BeatPoint}
 use Rattle.store_core.specs.Beats.{beat_bytes, beat_in, is_point, is_timed, moment_bytes, point_bytes, series_of, InForm}
-use Rattle.store_core.specs.FirstRecord.{are_tiers, is_tier, settings_beat, settings_body, settings_in, settings_of_beat, settings_of_entry, settings_of_note, InLimits}
+use Rattle.store_core.specs.FirstRecord.{settings_beat, settings_body, settings_in, settings_of_beat, settings_of_entry, settings_of_note}
 use Rattle.store_core.proofs.BeatLaw.{beat_again, beat_found}
 
-pub tier_fits : (t : TierSettings) → is_tier t ≡ true → IsTier t
-tier_fits t holds =
-    let all = and_parts (nat_le 1 t.items && nat_le t.items 262144 && nat_le 1 t.extents) (nat_le t.extents 1024) holds in
-    let three = and_parts (nat_le 1 t.items && nat_le t.items 262144) (nat_le 1 t.extents) all.0 in
-    let two = and_parts (nat_le 1 t.items) (nat_le t.items 262144) three.0 in
-    let items : t.items ≤ 262144 = leb-true t.items 262144 two.1 in
-    let extents : t.extents ≤ 1024 = leb-true t.extents 1024 all.1 in
-    record { items = omega arith; extents = omega arith }
+tier_fits : (tier : Tier) → IsWithin tier → IsTier tier
+tier_fits tier is = record { items = omega (arith, is.most_items); extents = omega (arith, is.most_extents) }
 
 -- settings within the limits have a spelling
 pub settings_fit : (set : Settings) → InLimits set → HasSpelling (ASettings set)
 unfolding is_canonical
-settings_fit set limits =
-    let all = and_parts (is_tier set.tier0 && is_tier set.tier1) (is_tier set.tier2) limits.tiers in
-    let two = and_parts (is_tier set.tier0) (is_tier set.tier1) all.0 in
-    record {
-      short = record {
-        id = limits.id;
-        tier0 = tier_fits set.tier0 two.0;
-        tier1 = tier_fits set.tier1 two.1;
-        tier2 = tier_fits set.tier2 all.1;
-      };
-      canonical = refl;
-    }
+settings_fit set limits = record {
+  short = record {
+    id = limits.id;
+    widths = limits.widths;
+    tiers = each_tier IsTier (λ tier wide is. tier_fits tier is) set.tiers limits.widths limits.tiers;
+  };
+  canonical = refl;
+}
 
-pub length-note : (set : Settings) → length (entry_bytes (ASettings set)) ≡ 34
+pub length-note : (set : Settings) → InLimits set → length (entry_bytes (ASettings set)) ≡ 34
 unfolding entry_bytes settings_bytes tier_bytes u8_bytes u32_bytes u64_bytes
-length-note set = refl
+length-note set limits = by set.id set.tiers limits.widths
+  where
+    by : (id : ℕ) (tiers : List Tier) → HasWidths tiers → length (entry_bytes (ASettings (record { id = id; tiers = tiers }))) ≡ 34
+    by id [] has = absurd cc
+    by id (a ∷ []) has = absurd cc
+    by id (a ∷ b ∷ []) has = absurd cc
+    by id (a ∷ b ∷ c ∷ []) has = refl
+    by id (a ∷ b ∷ c ∷ d ∷ tiers) has = absurd cc
 
-pub length-settings_body : (set : Settings) → length (settings_body set) ≡ 46
-unfolding settings_body beat_bytes moment_bytes list_bytes sized_bytes entry_bytes settings_bytes tier_bytes u8_bytes u32_bytes u64_bytes
-length-settings_body set = refl
+pub length-settings_body : (set : Settings) → InLimits set → length (settings_body set) ≡ 46
+unfolding settings_body beat_bytes moment_bytes list_bytes sized_bytes u8_bytes u32_bytes
+length-settings_body set limits = rw (length-note set limits) refl
 
-pub settings_form : (set : Settings) → InForm (settings_beat set)
-settings_form set = record {
+pub settings_form : (set : Settings) → InLimits set → InForm (settings_beat set)
+settings_form set limits = record {
   short = record {
     moment = tt;
     points = record { count = omega arith; each = tt };
-    note = omega (arith, length-note set);
+    note = omega (arith, length-note set limits);
   };
   form = refl;
 }
@@ -66,7 +64,7 @@ settings_form set = record {
 pub settings_again : (set : Settings) → InLimits set → settings_in (settings_body set) ≡ Some set
 unfolding settings_in settings_body
 settings_again set limits =
-    let beat : beat_in (beat_bytes (settings_beat set)) ≡ Some (settings_beat set) = beat_again (settings_beat set) (settings_form set) in
+    let beat : beat_in (beat_bytes (settings_beat set)) ≡ Some (settings_beat set) = beat_again (settings_beat set) (settings_form set limits) in
     let entry : read_entry (entry_bytes (ASettings set)) ≡ Ok (ASettings set) = reads_back (ASettings set) (settings_fit set limits) in
     ap settings_of_beat beat ∙ ap settings_of_entry entry ∙ rw limits.tiers refl
 
@@ -141,4 +139,4 @@ settings_found bytes set fits is =
     let form = and_parts (is_ascending (map series_of beat.points) && list_all is_point beat.points) (is_timed beat.moment beat.points) known.0.form in
     let short : IsSettings set = read.0.short in
     let same : beat ≡ settings_beat set = made_beat beat set found.untimed (no_points beat.moment beat.points found.untimed form.1) read.1 in
-    (record { id = short.id; tiers = entry.1 }, known.1 ∙ ap beat_bytes same)
+    (record { id = short.id; widths = short.widths; tiers = entry.1 }, known.1 ∙ ap beat_bytes same)

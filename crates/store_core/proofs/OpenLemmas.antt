@@ -1,5 +1,5 @@
 -- What a store is when it was opened.
-use Rattle.std.proofs.Common.{◌≡◌, ℕ, true, List, Option, Some, None, sym, ap, ◌∙◌, subst}
+use Rattle.std.proofs.Common.{◌≡◌, ℕ, List, Option, Some, None, sym, ap, ◌∙◌, subst}
 use Rattle.host_model.specs.declared.file.File.TheVariants.{JournalA}
 use Rattle.host_model.specs.Images.{contents}
 use Rattle.host_model.specs.Past.{Event, of}
@@ -8,10 +8,11 @@ use Rattle.journal_core.specs.Form.{StandsFor}
 use Rattle.journal_core.specs.Journal.{IsOpen, JournalState}
 use Rattle.journal_core.proofs.GrammarLemmas.{records_once}
 use Rattle.beat_tiers.specs.State.{TiersState, no_beats}
-use Rattle.entry_codec.specs.declared.entry.Settings.{Settings}
+use Rattle.tier_settings.specs.declared.settings.Settings.{Settings}
 use Rattle.store_core.specs.declared.beat.Beat.{Beat}
-use Rattle.store_core.specs.FirstRecord.{are_tiers}
-use Rattle.store_core.specs.Tiers.{first_tier, other_tiers, HasTiers}
+use Rattle.store_core.specs.Tiers.{HasTiers}
+use Rattle.tier_settings.specs.Limits.{InLimits}
+use Rattle.tier_settings.specs.Settings.{first_tier, other_tiers}
 use Rattle.store_core.proofs.TierLemmas.{tiers_begin}
 use Rattle.store_core.specs.Records.{history_in, records, AreBeats}
 use Rattle.store_core.specs.Stands.{Stands}
@@ -59,7 +60,7 @@ opens old new store bodies found read count last tiers going set stored stands =
         count = count;
         last = last;
         tiers = subst (λ (s : Settings). HasTiers s (base_of stored) store.tiers) (ap (λ (p : Settings × List Beat). p.0) same)
-            (subst (λ (state : TiersState). HasTiers store.settings (base_of stored) state) (sym tiers) (tiers_begin store.settings (subst (λ (s : Settings). are_tiers s ≡ true) (sym (ap (λ (p : Settings × List Beat). p.0) same)) stands.limits.tiers)));
+            (subst (λ (state : TiersState). HasTiers store.settings (base_of stored) state) (sym tiers) (tiers_begin store.settings (subst InLimits (sym (ap (λ (p : Settings × List Beat). p.0) same)) stands.limits)));
         before = ap (λ (state : TiersState). state.points.before) tiers;
         going = going;
       };

@@ -3,10 +3,11 @@ use Rattle.std.proofs.Common.{◌≡◌, ℕ, Bool, true, false, cond, List, [],
 use Rattle.std.specs.List.{AllByRecursion}
 use Rattle.std.specs.Option.{option_map}
 use Rattle.field_codec.specs.Field.{IsBytes}
-use Rattle.entry_codec.specs.declared.entry.Settings.{Settings}
+use Rattle.tier_settings.specs.declared.settings.Settings.{Settings}
 use Rattle.store_core.specs.declared.beat.Beat.{Beat}
 use Rattle.store_core.specs.Beats.{beat_bytes, beat_in, InForm}
-use Rattle.store_core.specs.FirstRecord.{settings_body, settings_in, InLimits}
+use Rattle.store_core.specs.FirstRecord.{settings_body, settings_in}
+use Rattle.tier_settings.specs.Limits.{InLimits}
 use Rattle.store_core.specs.Records.{beats_from, history_in, if_later, is_later, last_after, last_moment, next_beat, records, then_beats, with_all, with_settings, AreBeats}
 use Rattle.store_core.proofs.BeatLaw.{beat_again, beat_found}
 use Rattle.store_core.proofs.FirstRecordLaw.{settings_again, settings_found}

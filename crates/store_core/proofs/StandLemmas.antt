@@ -7,7 +7,7 @@ use Rattle.host_model.specs.declared.file.File.TheVariants.{JournalA}
 use Rattle.journal_core.specs.Form.{header, length_field, opened, StandsFor}
 use Rattle.journal_core.proofs.FormLemmas.{length-header, length-length_field}
 use Rattle.journal_core.proofs.GrammarLemmas.{records_once}
-use Rattle.entry_codec.specs.declared.entry.Settings.{Settings}
+use Rattle.tier_settings.specs.declared.settings.Settings.{Settings}
 use Rattle.store_core.specs.declared.beat.Beat.{Beat}
 use Rattle.store_core.specs.Beats.{beat_bytes}
 use Rattle.store_core.specs.FirstRecord.{settings_body}

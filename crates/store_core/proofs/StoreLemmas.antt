@@ -11,10 +11,11 @@ use Rattle.host_model.proofs.FileLemmas.{image_when_synced}
 use Rattle.host_model.proofs.MomentLemmas.{weakened}
 use Rattle.journal_core.specs.Form.{StandsFor}
 use Rattle.journal_core.specs.Journal.{IsOpen, JournalState, StandsForEither}
-use Rattle.entry_codec.specs.declared.entry.Settings.{Settings}
+use Rattle.tier_settings.specs.declared.settings.Settings.{Settings}
 use Rattle.store_core.specs.declared.beat.Beat.{Beat}
 use Rattle.store_core.specs.Beats.{beat_bytes, InForm}
-use Rattle.store_core.specs.FirstRecord.{settings_body, InLimits}
+use Rattle.store_core.specs.FirstRecord.{settings_body}
+use Rattle.tier_settings.specs.Limits.{InLimits}
 use Rattle.store_core.specs.Records.{is_later, last_after, last_moment, records, with_all, AreBeats}
 use Rattle.store_core.specs.Stored.{Stored, stored_with, stored_with_all}
 use Rattle.store_core.specs.Stands.{HoldsIfBegun, Stands, StandsAround, StandsIfMade}
@@ -26,11 +27,12 @@ use Rattle.store_core.proofs.StandLemmas.{empty_not_begun, made_begun}
 use Rattle.store_core.proofs.TierLemmas.{before_more, first_is, tiers_more}
 use Rattle.beat_tiers.specs.declared.kept.Kept.{Kept}
 use Rattle.beat_tiers.specs.declared.kept.KeptBeat.{KeptBeat}
-use Rattle.beat_tiers.specs.declared.tier.Tier.{Tier}
+use Rattle.tier_settings.specs.declared.tier.Tier.{Tier}
 use Rattle.beat_tiers.specs.Floors.{beats_before, kept_beats}
 use Rattle.beat_tiers.specs.Kept.{kept_beat_of, kept_in}
 use Rattle.beat_tiers.proofs.KeptLaws.{beats_are_kept}
-use Rattle.store_core.specs.Tiers.{first_tier, kept_of, other_tiers, seen}
+use Rattle.store_core.specs.Tiers.{kept_of, seen}
+use Rattle.tier_settings.specs.Settings.{first_tier}
 
 -- what an open journal reads as
 pub open_reads : (changes : List Change) (journal : JournalState) (bodies : List (List ℕ)) → IsPlaced journal → IsOpen changes journal bodies → StandsFor 0 (contents changes) bodies
@@ -86,7 +88,7 @@ pub kept_by : (past : List Event) (store : StoreState) (set : Settings) (stored 
 kept_by past store set stored rest is_at =
     let kept : (before : ℕ) (kept_beats : List KeptBeat) → Kept = λ before kept_beats. record { before = before; beats = kept_beats } in
     ap (λ (n : ℕ). kept n (kept_in store.tiers.points).beats) is_at.before
-    ∙ ap (kept (beats_before (first_tier set) (map seen stored.after))) (beats_are_kept (first_tier set ∷ other_tiers set) (map seen stored.after) store.tiers is_at.tiers
+    ∙ ap (kept (beats_before (first_tier set) (map seen stored.after))) (beats_are_kept set.tiers (map seen stored.after) store.tiers is_at.tiers.are
     ∙ ap (λ (tier : Tier). map kept_beat_of (kept_beats tier (map seen stored.after))) (first_is set stored store.tiers is_at.tiers))
 
 -- a store that has replayed all is that of all that is stored

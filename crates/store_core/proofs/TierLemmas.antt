@@ -1,47 +1,47 @@
 -- The tiers of a store, with a beat more.
 use Rattle.std.proofs.Common.{◌≡◌, ℕ, zero, suc, ◌<◌, ◌≤◌, ◌+◌, ◌^◌, Bool, true, false, nat_lt, min, ◌-◌, List, [], ◌∷◌, map, Option, Some, None, slice_get, refl, ap, sym, subst, ◌∙◌, inl, inr, arith, if◌then◌else◌}
 use Rattle.std.specs.List.{AllByRecursion, list_all}
-use Rattle.std.specs.Option.{option_map_or}
-use Rattle.std.proofs.lemmas.Bool.{and_parts, cases_eq, leb-true, ltb-true, lt-ltb}
-use Rattle.std.proofs.lemmas.Option.{none-some, same_Some}
-use Rattle.entry_codec.specs.declared.entry.Settings.{Settings}
-use Rattle.entry_codec.specs.declared.entry.TierSettings.{TierSettings}
+use Rattle.std.specs.Option.{option_map, option_map_or}
+use Rattle.std.proofs.lemmas.Bool.{and_parts, cases_eq, ltb-true, lt-ltb}
+use Rattle.std.proofs.lemmas.Option.{none-some, same_Some, slice_get-map}
+use Rattle.tier_settings.specs.declared.settings.Settings.{Settings}
+use Rattle.tier_settings.specs.declared.tier.Tier.{Tier}
+use Rattle.tier_settings.specs.Limits.{InLimits}
+use Rattle.tier_settings.specs.Settings.{first_tier, no_tier, other_tiers, tier_with}
+use Rattle.tier_settings.proofs.TierLemmas.{each_tier, split, tier_there as settings_have, IsWithin}
 use Rattle.entry_codec.specs.Lists.{is_ascending}
 use Rattle.beat_tiers.specs.declared.item.BeatPoint.{BeatPoint}
-use Rattle.beat_tiers.specs.declared.tier.Tier.{Tier}
 use Rattle.beat_tiers.specs.Floors.{beats_before, cut_after, cuts_of, floor_after, floor_of, items_added}
 use Rattle.beat_tiers.specs.Beats.{AreAbove, Follows, TierBeat, last}
 use Rattle.beat_tiers.specs.State.{RecordTierState, TiersState, after_beat, floor_in, no_beats, tier_floor}
-use Rattle.beat_tiers.specs.Tiers.{AreBeats as AreTierBeats, IsTier}
+use Rattle.beat_tiers.specs.Tiers.{AreBeats as AreTierBeats, AreTiersOf, IsTier}
 use Rattle.beat_tiers.proofs.KeptLaws.{before_with}
 use Rattle.beat_tiers.proofs.TierLemmas.{tier_at, tiers_none, tiers_with}
 use Rattle.store_core.specs.declared.beat.Beat.{Beat}
 use Rattle.store_core.specs.Beats.{IsMoment, is_point, is_timed, series_of}
-use Rattle.store_core.specs.FirstRecord.{are_tiers, is_tier}
 use Rattle.store_core.specs.Records.{is_later, last_after, last_moment, AreBeats}
 use Rattle.store_core.specs.Stored.{Stored, nothing_stored, stored_with}
-use Rattle.store_core.specs.Tiers.{first_tier, floor_at, other_tiers, seen, tier_of, tier_with, HasTiers}
+use Rattle.store_core.specs.Tiers.{floor_at, seen, HasTiers}
 
 -- ---- settings
-tier_in : (width : ℕ) (tier : TierSettings) → 1 ≤ width → is_tier tier ≡ true → IsTier (tier_of width tier)
-tier_in width tier wide is =
-    let all = and_parts _ _ is in
-    let both = and_parts _ _ all.0 in
-    record {
-      width = wide;
-      items = leb-true 1 tier.items (and_parts _ _ both.0).0;
-      extents = leb-true 1 tier.extents both.1;
-    }
+wide_enough : (tier : Tier) → 1 ≤ tier.width → IsWithin tier → IsTier tier
+wide_enough tier wide is = record { width = wide; items = is.some_items; extents = is.some_extents }
 
-pub is_first : (set : Settings) → are_tiers set ≡ true → IsTier (first_tier set)
-is_first set are = tier_in 1 set.tier0 (omega arith) (and_parts _ _ (and_parts _ _ are).0).0
+are_all : (set : Settings) → InLimits set → AllByRecursion IsTier (first_tier set ∷ other_tiers set)
+are_all set limits = subst (AllByRecursion IsTier) (split set limits.widths) (each_tier IsTier wide_enough set.tiers limits.widths limits.tiers)
 
-pub are_others : (set : Settings) → are_tiers set ≡ true → AllByRecursion IsTier (other_tiers set)
-are_others set are =
-    (tier_in 60 set.tier1 (omega arith) (and_parts _ _ (and_parts _ _ are).0).1, (tier_in 3600 set.tier2 (omega arith) (and_parts _ _ are).1, tt))
+pub is_first : (set : Settings) → InLimits set → IsTier (first_tier set)
+is_first set limits = (are_all set limits).0
 
-pub tiers_begin : (set : Settings) → are_tiers set ≡ true → HasTiers set nothing_stored (no_beats (first_tier set) (other_tiers set))
-tiers_begin set are = tiers_none (first_tier set) (other_tiers set) (is_first set are) (are_others set are)
+pub are_others : (set : Settings) → InLimits set → AllByRecursion IsTier (other_tiers set)
+are_others set limits = (are_all set limits).1
+
+pub tiers_begin : (set : Settings) → InLimits set → HasTiers set nothing_stored (no_beats (first_tier set) (other_tiers set))
+tiers_begin set limits = record {
+  widths = limits.widths;
+  are = subst (λ (tiers : List Tier). AreTiersOf tiers [] (no_beats (first_tier set) (other_tiers set))) (sym (split set limits.widths))
+      (tiers_none (first_tier set) (other_tiers set) (is_first set limits) (are_others set limits));
+}
 
 -- ---- a beat more
 same_last : (beats : List Beat) → last (map seen beats) ≡ last_moment beats
@@ -99,7 +99,7 @@ follows beats beat are =
 pub tiers_more : (set : Settings) (stored : Stored) (beat : Beat) (tiers : TiersState) → HasTiers set stored tiers → AreBeats (stored_with stored beat).after
     → HasTiers set (stored_with stored beat) (after_beat beat.moment beat.points tiers)
 tiers_more set stored beat tiers has are =
-    tiers_with (first_tier set ∷ other_tiers set) (map seen stored.after) beat.moment beat.points tiers has (follows stored.after beat are)
+    record { widths = has.widths; are = tiers_with set.tiers (map seen stored.after) beat.moment beat.points tiers has.are (follows stored.after beat are) }
 
 -- ---- floors
 
@@ -144,24 +144,15 @@ same_floor number tier other beats expired is same =
     ap (λ (o : Option ℕ). option_map_or (floor_after number tier) o 0) is ∙ ap (λ (t : Tier). floor_of number t beats) same
 
 module _ (set : Settings) (stored : Stored) (tiers : TiersState) (has : HasTiers set stored tiers) where
-  heads : {A : Type 0} (x y : A) (xs ys : List A) → x ∷ xs ≡ y ∷ ys → x ≡ y
-  heads x y xs ys e = cc
-
-  tails : {A : Type 0} (x y : A) (xs ys : List A) → x ∷ xs ≡ y ∷ ys → xs ≡ ys
-  tails x y xs ys e = cc
-
   pub first_is : tiers.first ≡ first_tier set
-  first_is = sym (heads (first_tier set) tiers.first (other_tiers set) (map (λ (one : RecordTierState). one.tier) tiers.records) has.set_is)
-
-  others_are : map (λ (one : RecordTierState). one.tier) tiers.records ≡ other_tiers set
-  others_are = sym (tails (first_tier set) tiers.first (other_tiers set) (map (λ (one : RecordTierState). one.tier) tiers.records) has.set_is)
+  first_is = sym (ap (λ (all : List Tier). option_map_or (λ (tier : Tier). tier) (slice_get all 0) no_tier) has.are.set_is)
 
   first_floor : tier_floor tiers 0 ≡ floor_at set stored 0
   first_floor =
       let floor : floor_in 0 tiers.first tiers.points.expired ≡ floor_of 0 (first_tier set) (map seen stored.after) =
-      same_floor 0 tiers.first (first_tier set) (map seen stored.after) tiers.points.expired has.points.expired first_is in
-      let some : 1 ≤ (first_tier set).extents = subst (λ (tier : Tier). 1 ≤ tier.extents) first_is has.settings.extents in
-      let low = first_low (first_tier set) (map seen stored.after) some has.beats_are in
+      same_floor 0 tiers.first (first_tier set) (map seen stored.after) tiers.points.expired has.are.points.expired first_is in
+      let some : 1 ≤ (first_tier set).extents = subst (λ (tier : Tier). 1 ≤ tier.extents) first_is has.are.settings.extents in
+      let low = first_low (first_tier set) (map seen stored.after) some has.are.beats_are in
       ap (λ (n : ℕ). min n (2 ^ 32 - 1)) floor ∙ min_low (floor_of 0 (first_tier set) (map seen stored.after)) low
     where
       min_low : (n : ℕ) → n < 2 ^ 32 → min n (2 ^ 32 - 1) ≡ n
@@ -175,36 +166,21 @@ module _ (set : Settings) (stored : Stored) (tiers : TiersState) (has : HasTiers
     pub number_is : number ≡ place + 1
     pub tier_is : one.tier ≡ tier_with set number
 
-  tier_in_records : (records : List RecordTierState) → tiers.records ≡ records → map (λ (one : RecordTierState). one.tier) records ≡ other_tiers set → (number : ℕ) → (number ≡ 0 → ⊥) → number < 3 → TierAt number
-  tier_in_records [] is tiers_are number some few = absurd cc
-  tier_in_records (one ∷ []) is tiers_are number some few = absurd (short (tails one.tier (tier_of 60 set.tier1) [] (tier_of 3600 set.tier2 ∷ []) tiers_are))
-    where
-      short : [] ≡ tier_of 3600 set.tier2 ∷ [] → ⊥
-      short e = cc
-  tier_in_records (one ∷ two ∷ rest) is tiers_are zero some few = absurd (some refl)
-  tier_in_records (one ∷ two ∷ rest) is tiers_are (suc zero) some few = record {
-    place = 0;
-    one = one;
-    there = ap (λ (all : List RecordTierState). slice_get all 0) is;
-    number_is = refl;
-    tier_is = heads one.tier (tier_of 60 set.tier1) (two.tier ∷ map (λ (one : RecordTierState). one.tier) rest) (tier_of 3600 set.tier2 ∷ []) tiers_are;
-  }
-  tier_in_records (one ∷ two ∷ rest) is tiers_are (suc (suc zero)) some few = record {
-    place = 1;
-    one = two;
-    there = ap (λ (all : List RecordTierState). slice_get all 1) is;
-    number_is = refl;
-    tier_is = heads two.tier (tier_of 3600 set.tier2) (map (λ (one : RecordTierState). one.tier) rest) []
-        (tails one.tier (tier_of 60 set.tier1) (two.tier ∷ map (λ (one : RecordTierState). one.tier) rest) (tier_of 3600 set.tier2 ∷ []) tiers_are);
-  }
-  tier_in_records (one ∷ two ∷ rest) is tiers_are (suc (suc (suc n))) some few = absurd (omega (arith, few))
-
   pub tier_there : (number : ℕ) → (number ≡ 0 → ⊥) → number < 3 → TierAt number
-  tier_there number some few = tier_in_records tiers.records refl others_are number some few
+  tier_there zero some few = absurd (some refl)
+  tier_there (suc place) some few =
+      let of_tiers : slice_get (map (λ (one : RecordTierState). one.tier) tiers.records) place ≡ Some (tier_with set (suc place)) =
+      sym (ap (λ (all : List Tier). slice_get all (suc place)) has.are.set_is) ∙ settings_have set has.widths (suc place) few in
+      by (slice_get tiers.records place) refl (sym (slice_get-map (λ (one : RecordTierState). one.tier) tiers.records place) ∙ of_tiers)
+    where
+      by : (found : Option RecordTierState) → slice_get tiers.records place ≡ found → option_map (λ (one : RecordTierState). one.tier) found ≡ Some (tier_with set (suc place)) → TierAt (suc place)
+      by None is of_tiers = absurd (none-some (tier_with set (suc place)) of_tiers)
+      by (Some one) is of_tiers =
+          record { place = place; one = one; there = is; number_is = omega arith; tier_is = same_Some one.tier (tier_with set (suc place)) of_tiers }
 
   record_floor : (number : ℕ) (at : TierAt number) → tier_floor tiers number ≡ floor_at set stored number
   record_floor number at =
-      let here = tier_at (map seen stored.after) 1 at.place tiers.records at.one has.records at.there in
+      let here = tier_at (map seen stored.after) 1 at.place tiers.records at.one has.are.records at.there in
       ap (tier_floor tiers) at.number_is
       ∙ by (at.place + 1) at.place refl (slice_get tiers.records at.place) refl
       ∙ ap (λ (found : Option RecordTierState). option_map_or (λ (one : RecordTierState). floor_in (at.place + 1) one.tier one.segments.expired) found 0) at.there
@@ -232,6 +208,6 @@ pub before_more : (set : Settings) (stored : Stored) (beat : Beat) (tiers : Tier
     → (after_beat beat.moment beat.points tiers).points.before ≡ beats_before (first_tier set) (map seen (stored_with stored beat).after)
 before_more set stored beat tiers has are is =
     let first = first_is set stored tiers has in
-    before_with (first_tier set ∷ other_tiers set) (map seen stored.after) beat.moment beat.points tiers has (follows stored.after beat are) (tiers_more set stored beat tiers has are)
+    before_with set.tiers (map seen stored.after) beat.moment beat.points tiers has.are (follows stored.after beat are) (tiers_more set stored beat tiers has are).are
     (is ∙ ap (λ (tier : Tier). beats_before tier (map seen stored.after)) (sym first))
     ∙ ap (λ (tier : Tier). beats_before tier (map seen (stored_with stored beat).after)) first

@@ -1,12 +1,12 @@
 -- What a view of a store answers is what it tells.
-use Rattle.std.proofs.Common.{◌≡◌, ℕ, zero, suc, ◌+◌, ◌*◌, ◌<◌, cond, nat_lt, List, [], ◌∷◌, ◌++◌, filter, map, reverse, slice_get, Option, Some, None, arith, refl, sym, ap, subst, ◌∙◌}
+use Rattle.std.proofs.Common.{◌≡◌, ℕ, ◌+◌, ◌*◌, ◌<◌, cond, nat_lt, List, [], ◌∷◌, ◌++◌, filter, map, reverse, slice_get, Option, Some, None, arith, refl, sym, ap, subst, ◌∙◌}
 use Rattle.std.specs.List.{cons_option, slice_index}
 use Rattle.std.proofs.lemmas.List.{append-nil}
 use Rattle.std.proofs.lemmas.List.Elements.{filter_map-append}
 use Rattle.fixed_num.specs.declared.units.Record.{Record}
 use Rattle.tier_rollup.specs.Buckets.{Added, bucket_record}
 use Rattle.tier_rollup.specs.declared.point.Point.{Point}
-use Rattle.beat_tiers.specs.declared.tier.Tier.{Tier}
+use Rattle.tier_settings.specs.declared.tier.Tier.{Tier}
 use Rattle.beat_tiers.specs.Beats.{series_points}
 use Rattle.beat_tiers.specs.Floors.{floor_of}
 use Rattle.beat_tiers.specs.Segments.{items_of}
@@ -17,11 +17,13 @@ use Rattle.beat_tiers.proofs.GroupLemmas.{reverse_cons}
 use Rattle.beat_tiers.proofs.StateLaws.{points_are, points_ordered, records_are, records_closed, records_ordered}
 use Rattle.query_engine.specs.Points.{IsFirstRecord, points_between, record_at, value_of, values}
 use Rattle.query_engine.proofs.SeriesLemmas.{reversed_record}
-use Rattle.entry_codec.specs.declared.entry.Settings.{Settings}
+use Rattle.tier_settings.specs.declared.settings.Settings.{Settings}
 use Rattle.store_core.specs.Store.{StoreState}
 use Rattle.store_core.specs.Stored.{Stored}
-use Rattle.store_core.specs.Tiers.{HasTiers, first_tier, other_tiers, seen, tier_with}
-use Rattle.store_core.specs.View.{Tells, points_of, widths}
+use Rattle.store_core.specs.Tiers.{HasTiers, seen}
+use Rattle.tier_settings.proofs.TierLemmas.{width_is}
+use Rattle.store_core.specs.View.{Tells, points_of}
+use Rattle.tier_settings.specs.Limits.{widths}
 use Rattle.store_core.proofs.TierLemmas.{TierAt, first_is, floor_is, tier_there}
 
 -- ---- the values of points in the other order
@@ -48,14 +50,8 @@ module _ (set : Settings) (stored : Stored) (tiers : TiersState) (has : HasTiers
   points_told series from to =
       let floor : floor_of 0 tiers.first (map seen stored.after) ≡ tier_floor tiers 0 =
       ap (λ (tier : Tier). floor_of 0 tier (map seen stored.after)) (first_is set stored tiers has) ∙ sym (floor_is set stored tiers has 0 (omega arith)) in
-      points_are (first_tier set ∷ other_tiers set) (map seen stored.after) tiers has series from to
+      points_are set.tiers (map seen stored.after) tiers has.are series from to
       ∙ ap (λ (n : ℕ). filter (is_between n from to) (points_of stored series)) floor
-
-  width_is : (number : ℕ) → (number ≡ 0 → ⊥) → number < 3 → (tier_with set number).width ≡ slice_index widths number
-  width_is zero some few = absurd (some refl)
-  width_is (suc zero) some few = refl
-  width_is (suc (suc zero)) some few = refl
-  width_is (suc (suc (suc number))) some few = absurd (omega (arith, few))
 
   record_told : (number : ℕ) → (number ≡ 0 → ⊥) → number < 3 → (at : TierAt set stored tiers has number) (series bucket : ℕ)
       → record_in (at.place + 1) at.one tiers.last series bucket ≡ record_at (slice_index widths number) (tier_floor tiers number) bucket (points_of stored series)
@@ -64,8 +60,8 @@ module _ (set : Settings) (stored : Stored) (tiers : TiersState) (has : HasTiers
       ap (λ (n : ℕ). floor_of n at.one.tier (map seen stored.after)) (sym at.number_is)
       ∙ ap (λ (tier : Tier). floor_of number tier (map seen stored.after)) at.tier_is
       ∙ sym (floor_is set stored tiers has number few) in
-      let width : at.one.tier.width ≡ slice_index widths number = ap (λ (tier : Tier). tier.width) at.tier_is ∙ width_is number some few in
-      records_are (first_tier set ∷ other_tiers set) (map seen stored.after) tiers has at.place at.one at.there series bucket
+      let width : at.one.tier.width ≡ slice_index widths number = ap (λ (tier : Tier). tier.width) at.tier_is ∙ width_is set has.widths number few in
+      records_are set.tiers (map seen stored.after) tiers has.are at.place at.one at.there series bucket
       ∙ ap (λ (n : ℕ). record_above n at.one.tier.width bucket (map seen stored.after) series) floor
       ∙ ap (λ (n : ℕ). record_above (tier_floor tiers number) n bucket (map seen stored.after) series) width
       ∙ ap (λ (found : Option Record). cond (nat_lt (bucket * slice_index widths number) (tier_floor tiers number)) None found)
@@ -93,7 +89,7 @@ module _ (store : StoreState) (told : ℕ → List Point) (tells : Tells store t
   pub points_found : (series from to : ℕ) (found : List Point) → (AreOrdered (items_of tiers.points) → found ≡ points_in tiers series from to)
       → found ≡ points_between (tier_floor store.tiers 0) from to (told series)
   points_found series from to found is =
-      is (points_ordered (first_tier tells.set ∷ other_tiers tells.set) (map seen tells.stored.after) tiers has)
+      is (points_ordered tells.set.tiers (map seen tells.stored.after) tiers has.are)
       ∙ points_told tells.set tells.stored tiers has series from to
       ∙ ap (λ (t : TiersState). points_between (tier_floor t 0) from to (points_of tells.stored series)) same
       ∙ ap (points_between (tier_floor store.tiers 0) from to) (series_is series)
@@ -109,10 +105,10 @@ module _ (store : StoreState) (told : ℕ → List Point) (tells : Tells store t
         ∙ ap (record_at (slice_index widths number) (tier_floor store.tiers number) bucket) (series_is series)
 
     ordered : AreOrdered (items_of at.one.segments)
-    ordered = records_ordered (first_tier tells.set ∷ other_tiers tells.set) (map seen tells.stored.after) tiers has at.place at.one at.there
+    ordered = records_ordered tells.set.tiers (map seen tells.stored.after) tiers has.are at.place at.one at.there
 
     closed : AreClosed tiers.last at.one
-    closed = records_closed (first_tier tells.set ∷ other_tiers tells.set) (map seen tells.stored.after) tiers has at.place at.one at.there
+    closed = records_closed tells.set.tiers (map seen tells.stored.after) tiers has.are at.place at.one at.there
 
     pub record_found : (bucket : ℕ) (found : Option Record)
         → ((place : ℕ) (one : RecordTierState) → slice_get tiers.records place ≡ Some one → number ≡ place + 1 → AreOrdered (items_of one.segments) → found ≡ record_in (place + 1) one tiers.last series bucket)

@@ -1,25 +1,13 @@
 -- The first record of a journal: the settings, as the note of a beat without a moment and without points.
-use Rattle.std.specs.Prelude.{◌≡◌, ℕ, ◌<◌, ◌^◌, Bool, true, ◌&&◌, nat_le, List, [], Option, Some, None, Result, Ok, Err, if◌then◌else◌}
+use Rattle.std.specs.Prelude.{ℕ, List, [], Option, Some, None, Result, Ok, Err, if◌then◌else◌}
 use Rattle.entry_codec.specs.declared.entry.Entry.{Entry}
 use Rattle.entry_codec.specs.declared.entry.Entry.TheVariants.{Settings as ASettings, Collected, Copied, Health, Gap}
-use Rattle.entry_codec.specs.declared.entry.Settings.{Settings}
-use Rattle.entry_codec.specs.declared.entry.TierSettings.{TierSettings}
+use Rattle.tier_settings.specs.declared.settings.Settings.{Settings}
 use Rattle.entry_codec.specs.declared.fault.EntryFault.{EntryFault}
 use Rattle.entry_codec.specs.Entries.{entry_bytes, read_entry}
+use Rattle.tier_settings.specs.Limits.{are_tiers}
 use Rattle.store_core.specs.declared.beat.Beat.{Beat}
 use Rattle.store_core.specs.Beats.{beat_bytes, beat_in}
-
--- 1 to 262,144 items make a segment full, and 1 to 1,024 segments are kept
-abbrev pub is_tier : TierSettings → Bool
-is_tier t = nat_le 1 t.items && nat_le t.items 262144 && nat_le 1 t.extents && nat_le t.extents 1024
-
-abbrev pub are_tiers : Settings → Bool
-are_tiers set = is_tier set.tier0 && is_tier set.tier1 && is_tier set.tier2
-
--- the settings that a database may have
-pub record InLimits (set : Settings) : Type 0 where
-  pub id : set.id < 2 ^ 64
-  pub tiers : are_tiers set ≡ true
 
 abbrev pub settings_beat : Settings → Beat
 settings_beat set = record { moment = None; points = []; note = entry_bytes (ASettings set) }

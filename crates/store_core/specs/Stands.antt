@@ -3,9 +3,9 @@ use Rattle.std.specs.Prelude.{◌≡◌, ◌⊎◌, ℕ, Bool, true, false, ◌&
 use Rattle.host_model.specs.declared.file.File.{File}
 use Rattle.host_model.specs.declared.file.File.TheVariants.{JournalA}
 use Rattle.journal_core.specs.Form.{StandsFor}
-use Rattle.entry_codec.specs.declared.entry.Settings.{Settings}
+use Rattle.tier_settings.specs.declared.settings.Settings.{Settings}
 use Rattle.store_core.specs.declared.beat.Beat.{Beat}
-use Rattle.store_core.specs.FirstRecord.{InLimits}
+use Rattle.tier_settings.specs.Limits.{InLimits}
 use Rattle.store_core.specs.Records.{records, AreBeats}
 use Rattle.store_core.specs.Stored.{Stored, nothing_stored, stored_with}
 

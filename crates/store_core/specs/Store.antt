@@ -5,13 +5,14 @@ use Rattle.host_model.specs.Past.{Event, of}
 use Rattle.journal_core.specs.Journal.{JournalState, IsOpen}
 use Rattle.beat_tiers.specs.Floors.{beats_before}
 use Rattle.beat_tiers.specs.State.{TiersState, after_beat, no_beats}
-use Rattle.entry_codec.specs.declared.entry.Settings.{Settings}
+use Rattle.tier_settings.specs.declared.settings.Settings.{Settings}
 use Rattle.store_core.specs.declared.beat.Beat.{Beat}
 use Rattle.store_core.specs.declared.fault.Why.{Why}
-use Rattle.store_core.specs.FirstRecord.{InLimits}
+use Rattle.tier_settings.specs.Limits.{InLimits}
 use Rattle.store_core.specs.Records.{last_moment, records, AreBeats}
 use Rattle.store_core.specs.Stored.{Stored, base_of, stored_with, stored_with_all}
-use Rattle.store_core.specs.Tiers.{first_tier, other_tiers, seen, HasTiers}
+use Rattle.store_core.specs.Tiers.{seen, HasTiers}
+use Rattle.tier_settings.specs.Settings.{first_tier, other_tiers}
 
 pub record StoreState : Type 0 where
   pub settings : Settings

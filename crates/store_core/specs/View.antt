@@ -6,11 +6,11 @@ use Rattle.tier_rollup.specs.declared.point.Point.{Point}
 use Rattle.beat_tiers.specs.Beats.{series_points}
 use Rattle.beat_tiers.specs.State.{tier_floor}
 use Rattle.query_engine.specs.Points.{Tiers}
-use Rattle.entry_codec.specs.declared.entry.Settings.{Settings}
+use Rattle.tier_settings.specs.declared.settings.Settings.{Settings}
 use Rattle.store_core.specs.Store.{StoreState}
 use Rattle.store_core.specs.Stored.{Stored}
 use Rattle.store_core.specs.Tiers.{HasTiers, seen}
-pub use Rattle.store_core.specs.Tiers.{widths}
+use Rattle.tier_settings.specs.Limits.{widths}
 
 -- the widths, and the floors of what is kept
 abbrev pub view_tiers : StoreState → Tiers

@@ -7,16 +7,17 @@ ghost use Rattle.host_model.specs.declared.file.File.{File as AFile};
 ghost use Rattle.host_model.specs.Past.{Event, Told};
 ghost use Rattle.host_model.specs.Disks.{EveryDisk};
 ghost use Rattle.field_codec.specs.Field.{IsBytes};
-ghost use Rattle.entry_codec.specs.declared.entry.Settings.{Settings as ASettings};
+ghost use Rattle.tier_settings.specs.declared.settings.Settings.{Settings as ASettings};
 ghost use Rattle.store_core.specs.declared.beat.Beat.{Beat as ABeat};
 ghost use Rattle.store_core.specs.Beats.{beat_bytes, beat_in, InForm};
 ghost use Rattle.store_core.specs.Records.{history_in, records, with_all, AreBeats};
-ghost use Rattle.store_core.specs.FirstRecord.{InLimits};
+ghost use Rattle.tier_settings.specs.Limits.{InLimits};
 ghost use Rattle.store_core.specs.Stands.{is_made, Stands};
 ghost use Rattle.store_core.specs.Store.{IsStoreAt, IsStoreOf, StoreState};
 ghost use Rattle.store_core.specs.Stored.{Stored as AStored};
 ghost use Rattle.store_core.specs.Tiers.{floor_at};
-ghost use Rattle.store_core.specs.View.{points_of, widths};
+ghost use Rattle.store_core.specs.View.{points_of};
+ghost use Rattle.tier_settings.specs.Limits.{widths};
 
 /// Laws of databases, for any disk and any store; the call does nothing. A disk holds one database
 /// at most, what a store has stored is what each crash leaves, and telling changes nothing of it.

@@ -47,12 +47,11 @@ mod writing;
 
 pub use beat::{Beat, BeatPoint, BeatPointList};
 pub use beat_tiers::{Kept, KeptBeat, KeptBeatList, KeptPoint, KeptPointList};
-pub use entry_codec::{Settings, TierSettings};
 pub use fault::{StoreFault, Why};
 pub use fixed_num::ByteList;
 pub use law::any_database;
-pub use settings::is_in_limits;
 pub use store::Store;
+pub use tier_settings::{Settings, Tier, is_in_limits};
 pub use view::{StoreView, answer_by};
 
 #[cfg(test)]

@@ -9,9 +9,9 @@ use crate::beat::Beat;
 use crate::reading::read_beat;
 use crate::settings::read_settings;
 use crate::waiting::Waiting;
-use entry_codec::Settings;
 use fixed_num::ByteList;
 use std::alloc::{AllocError, Global};
+use tier_settings::Settings;
 
 /// The last moment after one more beat.
 pub(crate) fn last_after(last: u32, moment: Option<u32>) -> u32

@@ -1,74 +1,32 @@
 //! The first record of a journal.
 
-ghost use Rattle.std.specs.Prelude.{◌≡◌, ◌↔◌, true, Ok, Err, IsTrue, IfOk};
+ghost use Rattle.std.specs.Prelude.{◌≡◌, Ok, Err, IfOk};
 ghost use Rattle.beat_tiers.specs.Room.{tiers_held};
 ghost use Rattle.beat_tiers.specs.State.{no_beats};
 ghost use Rattle.field_codec.specs.Field.{IsBytes};
 ghost use Rattle.entry_codec.specs.Entries.{entry_bytes, read_entry};
-ghost use Rattle.store_core.specs.FirstRecord.{are_tiers, is_tier, settings_beat, settings_body, settings_in, settings_of_entry, settings_of_beat, InLimits};
-ghost use Rattle.store_core.specs.Tiers.{first_tier, other_tiers, tier_of};
+ghost use Rattle.store_core.specs.FirstRecord.{settings_beat, settings_body, settings_in, settings_of_entry, settings_of_beat};
+ghost use Rattle.tier_settings.specs.Limits.{InLimits};
+ghost use Rattle.tier_settings.specs.Settings.{first_tier, other_tiers};
 
 use crate::beat::{Beat, BeatPointList};
 use crate::reading::read_beat;
 use crate::writing::write_beat;
-use beat_tiers::{Tier, Tiers};
-use entry_codec::{Entry, EntryFault, Settings, TierSettings, read_entry, write_entry};
+use beat_tiers::Tiers;
+use entry_codec::{Entry, EntryFault, read_entry, write_entry};
 use fixed_num::ByteList;
 use std::alloc::{AllocError, Global};
-
-fn is_tier(tier: &TierSettings) -> bool
-    ensures { result ≡ is_tier tier.now }
-{
-    1 <= tier.items && tier.items <= 262_144 && 1 <= tier.extents && tier.extents <= 1024
-}
-
-fn are_tiers(settings: &Settings) -> bool
-    ensures { result ≡ are_tiers settings.now }
-{
-    is_tier(&settings.tier0) && is_tier(&settings.tier1) && is_tier(&settings.tier2)
-}
-
-/// Whether a database may have these settings: in each tier 1 to 262,144 items make a segment full,
-/// and 1 to 1,024 segments are kept.
-pub fn is_in_limits(settings: &Settings) -> bool
-    ensures { IsTrue result ↔ InLimits settings.now }
-{
-    // A number that is read is known to be in the range of its type.
-    let _id = settings.id;
-    are_tiers(settings)
-}
-
-const SECOND: u32 = 1;
-
-const MINUTE: u32 = 60;
-
-const HOUR: u32 = 3_600;
-
-/// The seconds of a bucket of each tier.
-pub(crate) const WIDTHS: [u32; 3] = [SECOND, MINUTE, HOUR];
-
-fn tier_of(width: u32, tier: &TierSettings) -> Tier
-    ensures { result ≡ tier_of width tier.now }
-{
-    Tier {
-        width,
-        items: tier.items,
-        extents: tier.extents,
-    }
-}
+use tier_settings::{Settings, are_tiers};
 
 /// The tiers of no beat.
 #[tactic(auto, using(crate::proofs::TierLemmas::is_first, crate::proofs::TierLemmas::are_others))]
 pub(crate) fn new_tiers(alloc: Global, settings: &Settings) -> Result<Tiers, AllocError>
-    requires { are_tiers settings.now ≡ true }
+    requires { InLimits settings.now }
     ensures { IfOk result (λ tiers. tiers_held tiers
         ≡ no_beats (first_tier settings.now) (other_tiers settings.now)) }
 {
-    let others = [
-        tier_of(MINUTE, &settings.tier1),
-        tier_of(HOUR, &settings.tier2),
-    ];
-    Tiers::new(alloc, tier_of(SECOND, &settings.tier0), &others)
+    let tiers = settings.tiers.as_slice();
+    Tiers::new(alloc, tiers[0], &tiers[1..])
 }
 
 /// The entry that the note of the first record is.
@@ -76,7 +34,7 @@ fn note_of(alloc: Global, settings: &Settings) -> Result<ByteList, AllocError>
     requires { InLimits settings.now }
     ensures { IfOk result (λ note. note ≡ entry_bytes (Entry.Settings settings.now)) }
 {
-    match write_entry(alloc, &Entry::Settings(*settings)) {
+    match write_entry(alloc, &Entry::Settings(settings.copy(alloc)?)) {
         Ok(note) => Ok(note),
         Err(_) => Err(AllocError),
     }
@@ -105,7 +63,7 @@ fn settings_of(alloc: Global, note: &[u8]) -> Result<Option<Settings>, AllocErro
 {
     match read_entry(alloc, note) {
         Ok(Entry::Settings(settings)) => {
-            if are_tiers(&settings) {
+            if are_tiers(settings.tiers.as_slice()) {
                 Ok(Some(settings))
             } else {
                 Ok(None)

@@ -9,15 +9,16 @@ ghost use Rattle.beat_tiers.specs.Above.{is_above, RiseAbove};
 ghost use Rattle.beat_tiers.specs.Room.{tiers_held, HasRoomFor};
 ghost use Rattle.beat_tiers.specs.Kept.{kept_in};
 ghost use Rattle.beat_tiers.specs.State.{after_beat, no_beats, tier_floor};
-ghost use Rattle.entry_codec.specs.declared.entry.Settings.{Settings as ASettings};
+ghost use Rattle.tier_settings.specs.declared.settings.Settings.{Settings as ASettings};
 ghost use Rattle.store_core.specs.declared.beat.Beat.{Beat as ABeat};
 ghost use Rattle.store_core.specs.Beats.{beat_bytes, InForm};
 ghost use Rattle.store_core.specs.Faults.{fault_after, IsCommitFault, IsCreateFault, IsOpenFault, IsReplayFault, IsStepFault, LeavesAll, Reopens};
-ghost use Rattle.store_core.specs.FirstRecord.{InLimits};
+ghost use Rattle.tier_settings.specs.Limits.{InLimits};
 ghost use Rattle.store_core.specs.Own.{OnlyOwn};
 ghost use Rattle.store_core.specs.Records.{is_later, last_after};
 ghost use Rattle.store_core.specs.Stored.{Stored as AStored, nothing_stored, stored_with};
-ghost use Rattle.store_core.specs.Tiers.{first_tier, floor_at, kept_of, other_tiers};
+ghost use Rattle.store_core.specs.Tiers.{floor_at, kept_of};
+ghost use Rattle.tier_settings.specs.Settings.{first_tier, other_tiers};
 ghost use Rattle.store_core.specs.Stands.{is_made, IsDamaged, Stands, StandsAround, StandsIfMade};
 
 use crate::beat::Beat;
@@ -28,11 +29,11 @@ use crate::settings::{new_tiers, write_settings};
 use crate::waiting::Waiting;
 use crate::writing::write_beat;
 use beat_tiers::{Kept, KeptBeatList, Tiers};
-use entry_codec::Settings;
 use host_model::{File, Host};
 use journal_core::{Journal, JournalFault};
 use std::alloc::{AllocError, Global};
 use std::marker::Model;
+use tier_settings::Settings;
 
 /// A database that has been made or opened, with the host that it is on. Each call on it is handed
 /// that host, which since then only its calls, and `tell`, have touched.
@@ -134,10 +135,13 @@ impl Store {
         let Ok(tiers) = new_tiers(alloc, settings) else {
             return Err(StoreFault::Memory);
         };
+        let Ok(settings) = settings.copy(alloc) else {
+            return Err(StoreFault::Memory);
+        };
         let journal = file::make(host, body.as_slice())?;
         Ok(Store {
             alloc,
-            settings: *settings,
+            settings,
             count: 0,
             last: 0,
             fault: None,

@@ -3,19 +3,20 @@
 ghost use Rattle.std.specs.Prelude.{◌≡◌, List, None, refl, IfOk, IsErrOf};
 ghost use Rattle.host_model.specs.Past.{Event};
 ghost use Rattle.query_engine.specs.Windows.{table_of};
-ghost use Rattle.entry_codec.specs.declared.entry.Settings.{Settings as ASettings};
+ghost use Rattle.tier_settings.specs.declared.settings.Settings.{Settings as ASettings};
 ghost use Rattle.store_core.specs.declared.beat.Beat.{Beat as ABeat};
 ghost use Rattle.store_core.specs.Store.{IsStoreAt};
 ghost use Rattle.store_core.specs.Stored.{Stored as AStored};
 ghost use Rattle.store_core.specs.Tiers.{floor_at};
-ghost use Rattle.store_core.specs.View.{points_of, widths};
+ghost use Rattle.store_core.specs.View.{points_of};
+ghost use Rattle.tier_settings.specs.Limits.{widths};
 
-use crate::settings::WIDTHS;
 use crate::store::Store;
 use fixed_num::Record;
 use host_model::Host;
 use query_engine::{PointFault, PointList, Points, Request, Table};
 use std::alloc::Global;
+use tier_settings::widths;
 
 /// A store and its host: it answers by the points, records and floors of the beats that were
 /// applied. All is in memory, so that no call touches the host. Of a store whose commit or replay
@@ -54,12 +55,6 @@ pub fn answer_by<H: Host>(
 {
     let mut view = StoreView { store, host };
     query_engine::answer(alloc, &mut view, request)
-}
-
-fn widths() -> &'static [u32]
-    ensures { result.now ≡ widths }
-{
-    &WIDTHS
 }
 
 impl<'a, 'b, H: Host> Points for StoreView<'a, 'b, H> {

@@ -2,6 +2,7 @@ use Rattle.std.proofs.Common.{ℕ, List, Option, inr, refl}
 use Rattle.host_model.specs.Seen.{Seen}
 use Rattle.link_session.specs.Session.{link_seen, LinkSeen}
 use Rattle.agent_app.specs.Collect.{collector_of, outside_of, Outside}
+use Rattle.agent_app.specs.Command.{settings_for}
 use Rattle.agent_app.specs.Query.{question_of, reply_for}
 use Rattle.agent_app.specs.Log.{log_for}
 use Rattle.agent_app.proofs.WantLemmas.{no-usage, want-asks, want-collects, want-complete, want-configures, want-converts, want-leaves, want-makes, want-receives, want-runs, want-sends}
@@ -21,8 +22,8 @@ returns-in-Err g c =
       converts = λ is. want-converts g.H.Host.honest left host.past faults host.tell_faults;
       leaves_disk = λ is. want-leaves g.H.Host.honest host;
       complete = λ is. want-complete left faults host.tell_faults;
-      makes = λ settings is. want-makes g.H.Host.honest host (λ h file. g.met.H.Host.reads_an_image c.args.host.now file h) settings;
-      new_takes_nothing = λ settings is. refl;
+      makes = λ plan is. want-makes g.H.Host.honest host (λ h file. g.met.H.Host.reads_an_image c.args.host.now file h) (settings_for plan);
+      new_takes_nothing = λ plan is. refl;
       runs = λ is. want-runs g.H.Host.honest host (λ h file. g.met.H.Host.reads_an_image c.args.host.now file h) left faults;
       collects = λ every starts is. want-collects g.H.Host.honest host (λ h file. g.met.H.Host.reads_an_image c.args.host.now file h) (collector_of every starts c.args.words.now) outside;
       collect_takes_nothing = λ every starts is. refl;

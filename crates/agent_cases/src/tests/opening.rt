@@ -43,10 +43,7 @@ fn note(
     points: &[BeatPoint],
 ) -> Result<(), Fail> {
     let beat = kept(alloc, Some(60), bytes, points)?;
-    if !is_in_limits(&SETTINGS) {
-        return Err(Fail::from(StoreFault::Memory));
-    }
-    let mut store = Store::create(alloc, host, &SETTINGS)?;
+    let mut store = Store::create(alloc, host, &settings(alloc)?)?;
     store.commit(host, &beat)?;
     Ok(())
 }
@@ -57,10 +54,7 @@ fn two_notes(alloc: Global, host: &mut MemoryHost, first: &Beat, second: &Beat) 
     requires sizes { (length (beat_bytes first.now) ≤ 2 ^ 26)
         × (length (beat_bytes second.now) ≤ 2 ^ 26) }
 {
-    if !is_in_limits(&SETTINGS) {
-        return Err(Fail::from(StoreFault::Memory));
-    }
-    let mut store = Store::create(alloc, host, &SETTINGS)?;
+    let mut store = Store::create(alloc, host, &settings(alloc)?)?;
     store.commit(host, first)?;
     store.commit(host, second)?;
     Ok(())

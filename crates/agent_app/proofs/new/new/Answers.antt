@@ -1,19 +1,9 @@
-use Rattle.std.proofs.Common.{◌≡◌, arith}
 use Rattle.host_model.specs.Seen.{Seen}
-use Rattle.agent_core.specs.declared.fault.AgentFault.TheVariants as fault
-use Rattle.agent_app.proofs.NewLemmas.{made-new, want-new}
+use Rattle.agent_app.specs.Command.{settings_for}
+use Rattle.agent_app.proofs.WantLemmas.{want-makes}
 use Rattle.agent_app.proofs.new.new.Goals as goal
-
-pub returns-in-Ok : goal.returns-in-Ok
-returns-in-Ok g c =
-    let host : Seen = g.H.Host.seen c.args.host.now in
-    let host' : Seen = g.H.Host.seen c.create.new.host in
-    made-new g.H.Host.honest c.args.settings.now host host' c.in-Ok._agent c.in-Ok.ensures
 
 pub returns-in-Err : goal.returns-in-Err
 returns-in-Err g c =
     let host : Seen = g.H.Host.seen c.args.host.now in
-    let host' : Seen = g.H.Host.seen c.create.new.host in
-    let known : c.in-Err.field-0 ≡ fault.Exists → ⊥ = λ e. grind (arith, e) in
-    let stored : c.in-Err.field-0 ≡ fault.DiskFault → ⊥ = λ e. grind (arith, e) in
-    want-new g.H.Host.honest c.args.settings.now host host' c.in-Err.field-0 c.in-Err.ensures known stored
+    want-makes g.H.Host.honest host (λ h file. g.met.H.Host.reads_an_image c.args.host.now file h) (settings_for c.args.plan)

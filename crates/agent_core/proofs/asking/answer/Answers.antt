@@ -2,7 +2,7 @@ use Rattle.std.proofs.Common.{◌≡◌, ℕ, [], map, take, sym, ap, subst, ◌
 use Rattle.std.specs.List.{filter}
 use Rattle.beat_tiers.specs.Above.{is_above}
 use Rattle.replication.specs.Answer.{data_of, from_of}
-use Rattle.entry_codec.specs.declared.entry.Settings.{Settings}
+use Rattle.tier_settings.specs.declared.settings.Settings.{Settings}
 use Rattle.store_core.specs.Tiers.{kept_of}
 use Rattle.agent_core.specs.Copies.{names_of, sent_beat}
 use Rattle.agent_core.proofs.AskLemmas.{answer-is, found-sendable, not-asked}

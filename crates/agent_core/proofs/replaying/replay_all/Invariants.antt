@@ -5,7 +5,7 @@ use Rattle.history.specs.Registry.{same_chart, same_dimension}
 use Rattle.history.specs.Regular.{AreApart}
 use Rattle.alarm_core.specs.Course.{held}
 use Rattle.alarm_core.specs.UpTo.{IsUpTo}
-use Rattle.entry_codec.specs.declared.entry.Settings.{Settings}
+use Rattle.tier_settings.specs.declared.settings.Settings.{Settings}
 use Rattle.store_core.specs.Stored.{Stored}
 use Rattle.agent_core.specs.Replay.{HasTaken, IsReplaying}
 use Rattle.agent_core.specs.Rules.{HasLimits}

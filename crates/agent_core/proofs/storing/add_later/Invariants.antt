@@ -2,7 +2,7 @@ use Rattle.std.proofs.Common.{◌≡◌, List, None, take}
 use Rattle.history.specs.History.{Beat}
 use Rattle.alarm_core.specs.Course.{held}
 use Rattle.alarm_core.specs.UpTo.{IsUpTo}
-use Rattle.entry_codec.specs.declared.entry.Settings.{Settings}
+use Rattle.tier_settings.specs.declared.settings.Settings.{Settings}
 use Rattle.replication.specs.Copies.{latest as latest_of}
 use Rattle.replication.specs.Names.{beat_moment}
 use Rattle.store_core.specs.Own.{OnlyOwn}

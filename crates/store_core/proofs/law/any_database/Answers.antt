@@ -7,7 +7,8 @@ use Rattle.store_core.proofs.StandLemmas.{stands_made, stands_once}
 use Rattle.store_core.proofs.StoreLemmas.{every_image_of, store_told}
 use Rattle.store_core.specs.Told.{told_series}
 use Rattle.store_core.specs.Tiers.{floor_at}
-use Rattle.store_core.specs.View.{points_of, widths}
+use Rattle.store_core.specs.View.{points_of}
+use Rattle.tier_settings.specs.Limits.{widths}
 use Rattle.store_core.proofs.TierLemmas.{floor_is}
 use Rattle.store_core.proofs.law.any_database.Goals as goal
 

@@ -2,7 +2,7 @@ use Rattle.std.proofs.Common.{◌≡◌, ℕ, zero, suc, ◌-◌, List, ◌∷�
 use Rattle.std.specs.Option.{option_map}
 use Rattle.std.proofs.lemmas.Bool.{ltb-false}
 use Rattle.std.proofs.lemmas.Option.{slice_get-map, slice_get_past, slice_get_read}
-use Rattle.beat_tiers.specs.declared.tier.Tier.{Tier}
+use Rattle.tier_settings.specs.declared.tier.Tier.{Tier}
 use Rattle.beat_tiers.specs.Room.{RecordTierHeld, TiersHeld, records_held, tiers_held}
 use Rattle.beat_tiers.specs.State.{RecordTierState}
 use Rattle.beat_tiers.proofs.tiers.Tiers.tier.Goals as goal

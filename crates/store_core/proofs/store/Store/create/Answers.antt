@@ -36,9 +36,14 @@ returns-in_default-new_tiers-clause-any_moment g c h =
     let old = (g.H.Host.seen c.args.host.now).past in
     unmoved (EveryDisk (WasOrIsNew old c.args.settings.now)) old (g.H.Host.seen c.is_made.new.host).past (c.is_made.ensures.past h) (λ disk images. inl images)
 
+pub returns-in_default-copy-clause-any_moment : goal.returns-in_default-copy-clause-any_moment
+returns-in_default-copy-clause-any_moment g c h =
+    let old = (g.H.Host.seen c.args.host.now).past in
+    unmoved (EveryDisk (WasOrIsNew old c.args.settings.now)) old (g.H.Host.seen c.is_made.new.host).past (c.is_made.ensures.past h) (λ disk images. inl images)
+
 pub make-requires : goal.make-requires
 make-requires g c =
-    let size = ap length (c.as_slice.ensures ∙ c.in-Ok-write_settings.ensures) ∙ length-settings_body c.args.settings.now in omega (arith, size)
+    let size = ap length (c.as_slice.ensures ∙ c.in-Ok-write_settings.ensures) ∙ length-settings_body c.args.settings.now c.requires in omega (arith, size)
 
 pub returns-in_err-journal-clause-any_moment : goal.returns-in_err-journal-clause-any_moment
 returns-in_err-journal-clause-any_moment g c h =
@@ -69,11 +74,11 @@ returns-clause-created g c h = record {
       (c.as_slice.ensures ∙ c.in-Ok-write_settings.ensures) (c.in_ok-journal.ensures.made h);
   limits = c.requires;
   beats_are = record { forms = tt; rises = tt };
-  settings = refl;
+  settings = c.in-Ok-copy.ensures;
   waiting = c.new.ensures;
   count = refl;
   last = refl;
-  tiers = subst (HasTiers c.args.settings.now nothing_stored) (sym c.in-Ok-new_tiers.ensures) (tiers_begin c.args.settings.now c.requires.tiers);
+  tiers = subst (HasTiers c.args.settings.now nothing_stored) (sym c.in-Ok-new_tiers.ensures) (tiers_begin c.args.settings.now c.requires);
   before = ap (λ (tiers : TiersState). tiers.points.before) c.in-Ok-new_tiers.ensures;
   going = refl;
 }

@@ -56,7 +56,7 @@ new_tiers-requires g c =
     let known = history_found c.in_ok-journal.records c.in-Ok-Some.settings c.in-Ok-Some.waiting
     (subst AreBytes c.as_slice.ensures (c.in-Ok-Some.ensures.bytes (rw c.in-Ok-Some.field-0-is refl)))
     (sym (sym c.in-Ok-Some.field-0-is ∙ c.in-Ok-Some.ensures.value ∙ ap history_in c.as_slice.ensures)) in
-    known.limits.tiers
+    known.limits
 
 pub returns-in-Ok-None-clause-damaged : goal.returns-in-Ok-None-clause-damaged
 returns-in-Ok-None-clause-damaged g c part is h =

@@ -1,3 +1,5 @@
+use fixed_num::ListOf;
+
 /// The settings of a tier.
 #[derive(Clone, Copy, Debug, PartialEq, Eq)]
 pub struct Tier {
@@ -5,6 +7,9 @@ pub struct Tier {
     pub width: u32,
     /// How many items make a segment full, from 1 to 262,144.
     pub items: u32,
-    /// How many sealed segments are kept, from 1 to 1,024.
+    /// How many full segments are kept, from 1 to 1,024.
     pub extents: u32,
 }
+
+/// Tiers, that of the points first.
+pub type TierList = ListOf<Tier>;
