@@ -1,12 +1,13 @@
 -- The law of each thing that an entry has, made of the laws of its fields.
-use Rattle.std.proofs.Common.{◌≡◌, ℕ, zero, suc, ◌^◌, ◌<◌, Bool, true, false, refl, arith}
+use Rattle.std.proofs.Common.{◌≡◌, ℕ, zero, suc, ◌+◌, ◌^◌, ◌<◌, Bool, true, false, List, [], ◌∷◌, ◌++◌, Ok, Err, refl, sym, ap, subst, ◌∙◌, append_assoc, append-nil, arith}
 use Rattle.std.specs.Prelude.{nat_eq, nat_lt}
+use Rattle.std.specs.List.{AllByRecursion}
 use Rattle.std.proofs.lemmas.Bool.{eqb-true, ltb-true}
 use Rattle.field_codec.specs.declared.fault.FieldFault.TheVariants.{Range}
 use Rattle.field_codec.specs.Field.{IsField}
-use Rattle.field_codec.specs.Reading.{read_as, read_passing, read_u8}
-use Rattle.field_codec.specs.Spelling.{u8_bytes}
-use Rattle.field_codec.proofs.Combined.{as_field, passing_field}
+use Rattle.field_codec.specs.Reading.{ReadOf, read_as, read_passing, read_u8, read_u32}
+use Rattle.field_codec.specs.Spelling.{u8_bytes, u32_bytes, u64_bytes}
+use Rattle.field_codec.proofs.Combined.{done, done_is, field_from, same_values, as_field, passing_field, read_as-ok}
 use Rattle.field_codec.proofs.Fields.{u8_field, u32_field, u64_field, i32_field, i64_field, flag_field}
 use Rattle.field_codec.proofs.Lists.{◌⊗◌, made_of, list_field, short_text_field}
 use Rattle.tier_settings.specs.declared.settings.Settings.{Settings}
