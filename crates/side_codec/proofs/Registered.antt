@@ -1,7 +1,7 @@
 -- What the charts and dimensions are that may be those of a registry.
 use Rattle.std.proofs.Common.{◌≡◌, ◌≤◌, true, ◌&&◌, nat_le, List, [], length, arith}
 use Rattle.std.specs.List.{list_all}
-use Rattle.std.proofs.lemmas.Bool.{and_parts, leb-true}
+use Rattle.std.proofs.lemmas.Bool.{and_from, and_parts, le-leb, leb-true}
 use Rattle.std.proofs.lemmas.List.Sums.{AllPass-from_list_all}
 use Rattle.field_codec.specs.Lists.{IsShortListOf}
 use Rattle.history.specs.declared.numbered.NumberedBeat.{NumberedBeat}
@@ -68,3 +68,13 @@ short_charts charts dimensions is = (short-collected (beat_of charts dimensions)
 
 pub short_dimensions : (charts : List NumberedChart) (dimensions : List NumberedDimension) → are_registered charts dimensions ≡ true → IsShortListOf IsShortDimension dimensions
 short_dimensions charts dimensions is = (short-collected (beat_of charts dimensions) (within charts dimensions is)).dimensions
+
+-- Charts and dimensions may be those of a registry by the parts of that.
+pub registered : (charts : List NumberedChart) (dimensions : List NumberedDimension) → length charts ≤ 4096 → length dimensions ≤ 65536
+    → are_charts_numbered charts ≡ true → are_series_numbered dimensions ≡ true → list_all (is_of_chart (length charts)) dimensions ≡ true
+    → keep_chart_limits charts ≡ true → keep_dimension_limits dimensions ≡ true → are_registered charts dimensions ≡ true
+unfolding are_registered
+registered charts dimensions few_c few_d numbers series owners limits_c limits_d =
+    let few : are_few charts dimensions ≡ true =
+    and_from _ _ (le-leb (length charts) MOST_CHARTS few_c) (le-leb (length dimensions) MOST_DIMENSIONS few_d) in
+    and_from _ _ (and_from _ _ (and_from _ _ (and_from _ _ (and_from _ _ few numbers) series) owners) limits_c) limits_d

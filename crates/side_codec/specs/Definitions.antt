@@ -41,7 +41,8 @@ abbrev pub keep_dimension_limits : List NumberedDimension → Bool
 keep_dimension_limits dimensions =
     list_all (λ (dimension : NumberedDimension). dimension_keeps_limits dimension.def) dimensions
 
--- they may be those of a registry, but for two charts or two dimensions of one chart with one id
+-- They may be those of a registry. That no two charts have one id, that no two dimensions of one chart have one,
+-- and that no chart has too many, is not asked.
 unfoldable pub are_registered : List NumberedChart → List NumberedDimension → Bool
 are_registered charts dimensions =
     are_few charts dimensions

@@ -11,8 +11,8 @@
 //! What is written is the spelling, and what is read of bytes has them as its spelling: so a side
 //! has one spelling, two never share one, and what was written is read again. Bytes that are no
 //! spelling are refused. A list grows with the items that are read, so that a count takes no memory
-//! by itself. That no two charts have one id, and no two dimensions of one chart, is left to the
-//! registry that they are defined in.
+//! by itself. That no two charts have one id, that no two dimensions of one chart have one, and that
+//! no chart has too many, is left to the caller, who defines them in a registry.
 //!
 //! It stands on `entry_codec` for charts and dimensions, on `alarm_events` for alarms, on
 //! `field_codec` for the fields, on `algorithms` and `storage_number` for rows and points, and on

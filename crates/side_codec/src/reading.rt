@@ -63,8 +63,8 @@ fn take_whole(alloc: Global, bytes: &[u8]) -> Result<Side, SideFault>
 }
 
 /// The side whose spelling the bytes are. `BadBytes` exactly where they are no spelling, unless
-/// memory ran out before. Two charts, or two dimensions of one chart, may have one id: a registry
-/// that defines them refuses the second.
+/// memory ran out before. Two charts, or two dimensions of one chart, may have one id, and a chart
+/// any number of dimensions: a caller that defines them in a registry is to refuse that.
 pub fn read_side(alloc: Global, bytes: &[u8]) -> Result<Side, SideFault>
     ensures value { IfOk result (λ side. read_side bytes.now ≡ Some side) }
     ensures fits { IfOk result HasSpelling }
