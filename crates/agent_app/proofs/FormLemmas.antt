@@ -1,5 +1,5 @@
 -- What `clap` makes of the words of a command line.
-use Rattle.std.proofs.Common.{◌≡◌, ◌∙◌, ◌||◌, ℕ, Bool, true, false, refl, sym, ap, List, [], ◌∷◌, ◌++◌, length, Some, None, Result, IfOk, subst, append-nil, append_assoc, codes, true≢false}
+use Rattle.std.proofs.Common.{◌≡◌, ◌∙◌, ℕ, true, false, refl, sym, ap, List, [], ◌∷◌, ◌++◌, length, Some, None, Result, IfOk, subst, append-nil, append_assoc, codes}
 use Rattle.std.proofs.lemmas.Result.{IfOk-weaker}
 use Rattle.std.specs.Prelude.{fold, find}
 use Rattle.std.specs.List.{list_any}
@@ -16,10 +16,7 @@ use Rattle.clap.specs.declared.error.Error.{Error}
 use Rattle.clap.specs.declared.error.kind.ErrorKind.TheVariants as kind
 use Rattle.agent_app.specs.Command.{is_option}
 use Rattle.agent_app.specs.Forms.{forms, words_rule}
-
-pub or_false : (a b : Bool) → (a || b) ≡ false → (a ≡ false) × (b ≡ false)
-or_false true b e = absurd (true≢false e)
-or_false false b e = (refl, e)
+pub use Rattle.std.proofs.lemmas.Bool.{or_parts as or_false}
 
 or_else-nil : (k : Kinds) → or_else k [] ≡ k
 or_else-nil [] = refl

@@ -2,7 +2,6 @@
 use Rattle.std.proofs.Common.{◌≡◌, ℕ, ◌+◌, ◌-◌, ◌<◌, ◌≤◌, inl, inr, ◌⊎◌, List, [], ◌∷◌, ◌++◌, length, take, Option, Some, None, IfSome, Ok, Err, refl, sym, ap, subst, ◌∙◌, append_assoc, append-nil, length-append, arith}
 use Rattle.std.specs.List.{flat_map, AllByRecursion}
 use Rattle.std.specs.Option.{option_map_or}
-use Rattle.std.proofs.lemmas.List.Concat.{flat_map-cons}
 use Rattle.std.proofs.lemmas.List.Sums.{fold-append}
 use Rattle.std.proofs.Math.Seq.{take-append-add, take-nil}
 use Rattle.host_model.specs.declared.status.Status.{Status}
@@ -12,7 +11,7 @@ use Rattle.link_frames.specs.declared.frame.Frame.{Frame}
 use Rattle.link_frames.specs.Frames.{frame_bytes, HasSpelling}
 use Rattle.link_frames.specs.Stream.{HandsOut, HasNoFrame, IsBad, IsOpen, IsTooLong}
 use Rattle.link_frames.proofs.FramesLaw.{one_end, one_frame}
-use Rattle.link_frames.proofs.StreamLaw.{bad-stays, long-stays, none-bad, none-long, none-open}
+use Rattle.link_frames.proofs.StreamLaw.{bad-stays, long-stays, none-bad, none-long, none-open, all-spelt as all-of, regroup as one-before}
 use Rattle.agent_core.specs.declared.fault.AgentFault.TheVariants as fault
 use Rattle.link_session.specs.declared.fault.PeerFault.{PeerFault}
 use Rattle.link_session.specs.declared.fault.PeerFault.TheVariants.{WrongChild, BadFrame, FrameTooLong}
@@ -22,10 +21,6 @@ use Rattle.link_session.specs.Session.{Exchanges, IsBrokenBy, IsEndFor, LinkSeen
 use Rattle.agent_app.specs.Sessions.{session_status, EndsAsBytes, EndsBehind, EndsOver}
 
 -- ---- frames at the front of the same bytes
--- one frame in front of others
-one-before : (f : Frame) (fs : List Frame) (rest : List ℕ) → flat_map frame_bytes (f ∷ fs) ++ rest ≡ frame_bytes f ++ (flat_map frame_bytes fs ++ rest)
-one-before f fs rest = ap (λ (bytes : List ℕ). bytes ++ rest) (flat_map-cons frame_bytes f fs) ∙ append_assoc (frame_bytes f) (flat_map frame_bytes fs) rest
-
 -- the second list goes on from the first, by frames that stand behind that
 record GoesOnFrom (fs gs : List Frame) (rest end : List ℕ) : Type 0 where
   more : List Frame
@@ -54,9 +49,6 @@ either-on (f ∷ fs) (g ∷ gs) rest end all_f all_g same = by (either-on fs gs 
 none-on : (more : List Frame) (rest end : List ℕ) → HasNoFrame rest → AllByRecursion HasSpelling more → rest ≡ flat_map frame_bytes more ++ end → more ≡ []
 none-on [] rest end none all spelt = refl
 none-on (f ∷ more) rest end none all spelt = absurd (none f (flat_map frame_bytes more ++ end) all.0 (spelt ∙ one-before f more end))
-
-all-of : (bytes rest : List ℕ) (frames : List Frame) → HandsOut bytes [] frames rest → AllByRecursion HasSpelling frames
-all-of bytes rest frames cut = subst (AllByRecursion HasSpelling) (sym cut.handed) cut.frames
 
 spelt-of : (bytes rest : List ℕ) (frames : List Frame) → HandsOut bytes [] frames rest → bytes ≡ flat_map frame_bytes frames ++ rest
 spelt-of bytes rest frames cut = cut.spelt ∙ ap (λ (found : List Frame). flat_map frame_bytes found ++ rest) (sym cut.handed)

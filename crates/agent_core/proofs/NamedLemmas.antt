@@ -6,6 +6,7 @@ use Rattle.std.specs.Option.{option_and_then, option_map}
 use Rattle.std.specs.Str.{bytes_eq}
 use Rattle.std.proofs.lemmas.Bool.{cases_Bool, and_parts, cond-false, eq-eqb, ne_eqb}
 use Rattle.std.proofs.lemmas.Option.{none-some, same_Some, slice_get-map}
+use Rattle.replication.proofs.PointsLaws.{found as place-there}
 use Rattle.history.specs.declared.beat.OpenDim.{OpenDim}
 use Rattle.history.specs.declared.chart.ChartDef.{ChartDef}
 use Rattle.history.specs.History.{Word}
@@ -109,18 +110,6 @@ words-stay old new words grows all chart id =
     ]
 
 -- ---- by the names of a registry
--- what passes is at the place that is counted
-place-there : {X : Type 0} (p : X → Bool) (xs : List X) → list_any p xs ≡ true → (x : X) × ((slice_get xs (position_or_len p xs) ≡ Some x) × (p x ≡ true))
-place-there p [] any = absurd (true≢false (sym any))
-place-there {X} p (x ∷ xs) any = by (p x) refl (place-there p xs)
-  where
-    by : (b : Bool) → p x ≡ b → (list_any p xs ≡ true → (y : X) × ((slice_get xs (position_or_len p xs) ≡ Some y) × (p y ≡ true))) → (y : X) × ((slice_get (x ∷ xs) (position_or_len p (x ∷ xs)) ≡ Some y) × (p y ≡ true))
-    by true here rest = (x, (ap (λ (b : Bool). slice_get (x ∷ xs) (cond (not b) (1 + position_or_len p xs) 0)) here, here))
-    by false not_here rest =
-        let later = rest (sym (ap (λ (b : Bool). b || list_any p xs) not_here) ∙ any) in
-        let next : 1 + position_or_len p xs ≡ suc (position_or_len p xs) = omega arith in
-        (later.0, (ap (λ (b : Bool). slice_get (x ∷ xs) (cond (not b) (1 + position_or_len p xs) 0)) not_here ∙ ap (slice_get (x ∷ xs)) next ∙ later.1.0, later.1.1))
-
 abbrev pub sent : Word → SeriesWord
 sent word = record { series = word.series; word = word.word }
 

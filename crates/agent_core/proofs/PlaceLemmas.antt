@@ -5,6 +5,8 @@ use Rattle.std.specs.Option.{option_map, option_map_or, option_or}
 use Rattle.std.proofs.lemmas.List.{append-nil, take_more, reverse-append, get_or_past, length-append, length-map, length-replicate}
 use Rattle.std.proofs.lemmas.List.Folds.{find-append, list_any-append}
 use Rattle.std.proofs.lemmas.Option.{same_Some, none-some}
+use Rattle.beat_points.proofs.TakingLemmas.{rows_values-append}
+use Rattle.chart_registry.proofs.Applying.{some-find}
 use Rattle.history.specs.Put.{put, put_all}
 use Rattle.history.specs.Regular.{AreApart}
 use Rattle.chart_registry.proofs.ApartLemmas.{turned}
@@ -32,10 +34,6 @@ module _ {A B : Type 0} (is_at : ℕ → B → Bool) (value : B → A) (none : A
     after.1 ∙ first.1,
   )
 
-rows_values-append : (xs ys : List Row) → rows_values (xs ++ ys) ≡ rows_values xs ++ rows_values ys
-rows_values-append [] ys = refl
-rows_values-append (x ∷ xs) ys = ap (λ (rest : List Value). x.values ++ rest) (rows_values-append xs ys) ∙ sym (append_assoc x.values (rows_values xs) (rows_values ys))
-
 -- the values of rows, one row after another
 pub values-more : (rows : List Row) (i : ℕ) (row : Row) (old mid new : List (Option ℤ)) → i < length rows → get_or rows i row ≡ row
     → HasTaken is_of_series (λ (value : Value). Some value.value) None (reverse row.values) mid new
@@ -57,14 +55,6 @@ or-last false true = refl
 or-last false false = refl
 
 module _ {B : Type 0} (p : B → Bool) where
-  pub some-find : (xs : List B) → is_some (find p xs) ≡ list_any p xs
-  some-find [] = refl
-  some-find (x ∷ xs) = by (p x) (some-find xs)
-    where
-      by : (b : Bool) → is_some (find p xs) ≡ list_any p xs → is_some (cond b (Some x) (find p xs)) ≡ (b || list_any p xs)
-      by true rest = refl
-      by false rest = rest
-
   pub any-reverse : (xs : List B) → list_any p (reverse xs) ≡ list_any p xs
   any-reverse [] = refl
   any-reverse (x ∷ xs) =
@@ -72,7 +62,7 @@ module _ {B : Type 0} (p : B → Bool) where
 
   -- one value for whatever is found
   pub found-one : {A : Type 0} (value before : A) (xs : List B) → option_map_or (λ (x : B). value) (find p xs) before ≡ (if list_any p xs then value else before)
-  found-one {A} value before xs = by (find p xs) ∙ ap (λ (b : Bool). if b then value else before) (some-find xs)
+  found-one {A} value before xs = by (find p xs) ∙ ap (λ (b : Bool). if b then value else before) (some-find p xs)
     where
       by : (found : Option B) → option_map_or (λ (x : B). value) found before ≡ (if is_some found then value else before)
       by None = refl

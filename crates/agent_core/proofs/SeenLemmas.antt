@@ -24,8 +24,8 @@ use Rattle.history.specs.Put.{put_all}
 use Rattle.history.specs.Refusal.{has_row}
 use Rattle.history.specs.Registry.{Registry, chart_of, is_chart, is_of, same_chart, same_dimension, series_of}
 use Rattle.history.specs.Regular.{AreApart, IsRegular}
-use Rattle.chart_registry.proofs.ApartLemmas.{apart-charts, apart-registry, itself, left, same-parts}
-use Rattle.chart_registry.proofs.Applying.{same_chart-alike}
+use Rattle.chart_registry.proofs.ApartLemmas.{apart-charts, apart-registry, itself, left, same-parts, chart-left}
+use Rattle.chart_registry.proofs.Applying.{same_chart-alike, some-find}
 use Rattle.chart_registry.proofs.Finding.{nat_eq_same, nat_eq_other}
 use Rattle.chart_registry.proofs.Growing.{length-put_all, more_definitions, same_dimension-alike}
 use Rattle.chart_registry.proofs.Places.{first-from_position, list_any-position, position-first, position-nowhere}
@@ -39,7 +39,7 @@ use Rattle.tier_rollup.specs.declared.point.Point.{Point}
 use Rattle.agent_core.specs.Answers.{told_point}
 use Rattle.agent_core.specs.LastSeen.{charts_seen, is_point_at, is_row_at, is_word_of, last_point, last_raw, points_seen, raws_seen, seen_at, HasTaken}
 use Rattle.agent_core.proofs.UnseenLemmas.{HasOnlyDefined}
-use Rattle.agent_core.proofs.PlaceLemmas.{any-reverse, find-map, first-at, first-passes, found-one, get_or-room, grown-at, length-room, same-by_number, some-find}
+use Rattle.agent_core.proofs.PlaceLemmas.{any-reverse, find-map, first-at, first-passes, found-one, get_or-room, grown-at, length-room, same-by_number}
 
 abbrev with_beat : List Beat → ℕ → OpenBeat → Registry
 with_beat h moment beat = registry_of (collected moment beat ∷ h)
@@ -60,9 +60,6 @@ no-other-raw h lasts are dimension none =
 -- ---- charts
 chart-itself : (chart : ChartDef) → same_chart chart chart ≡ true
 chart-itself chart = bytes_eq_same chart.id chart.id refl
-
-chart-left : (x y : ChartDef) → same_chart x y ≡ true → same_chart x ≡ same_chart y
-chart-left x y e = λ i. is_chart (same_text x.id y.id e i)
 
 chart-right : (z x y : ChartDef) → same_chart x y ≡ true → same_chart z x ≡ same_chart z y
 chart-right z = same_chart-alike z.id

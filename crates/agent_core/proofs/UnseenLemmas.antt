@@ -5,6 +5,7 @@ use Rattle.std.specs.Option.{option_map_or, option_and_then}
 use Rattle.std.specs.Str.{bytes_eq}
 use Rattle.std.proofs.lemmas.List.Elements.{recursion_from_All}
 use Rattle.std.proofs.lemmas.Option.{same_Some, none-some, slice_get_past}
+use Rattle.list_lemmas.proofs.Every.{all-at}
 use Rattle.algorithms.specs.Words.{packed}
 use Rattle.history.specs.declared.beat.OpenBeat.{OpenBeat}
 use Rattle.history.specs.declared.beat.OpenDim.{OpenDim}
@@ -88,11 +89,6 @@ only-collected h moment beat only own regular = record {
 }
 
 -- ---- a beat that was copied
-at-all : {A : Type 0} (P : A → Type 0) (xs : List A) (n : ℕ) (x : A) → AllByRecursion P xs → slice_get xs n ≡ Some x → P x
-at-all P [] n x all at = absurd (none-some x at)
-at-all P (y ∷ ys) zero x all at = subst P (same_Some y x at) all.0
-at-all P (y ∷ ys) (suc n) x all at = at-all P ys n x all.1 at
-
 no-word : (registry : Registry) (chart : List ℕ) → HasOwners registry → list_any (is_chart chart) registry.charts ≡ false → (words : List Word) → list_any (is_word_of registry chart) words ≡ false
 no-word registry chart owners none [] = refl
 no-word registry chart owners none (word ∷ words) = λ i. by (slice_get registry.dimensions word.series) refl i || no-word registry chart owners none words i
@@ -102,7 +98,7 @@ no-word registry chart owners none (word ∷ words) = λ i. by (slice_get regist
     other dimension at true e =
         let here : list_any (is_chart chart) registry.charts ≡ true
         = ap (λ (id : List ℕ). list_any (is_chart id) registry.charts) (same_text chart dimension.chart e)
-        ∙ at-all (λ (dimension : OpenDim). HasChart registry dimension.chart) registry.dimensions word.series dimension owners at in
+        ∙ all-at (λ (dimension : OpenDim). HasChart registry dimension.chart) registry.dimensions word.series dimension owners at in
         absurd (true≢false (sym here ∙ none))
 
     by : (found : Option OpenDim) → slice_get registry.dimensions word.series ≡ found → option_map_or (is_of chart) found false ≡ false

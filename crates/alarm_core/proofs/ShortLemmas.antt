@@ -1,11 +1,12 @@
 -- What is kept of alarms is short enough for bytes, where the ids of charts and the names of alarms are.
-use Rattle.std.proofs.Common.{ℕ, zero, suc, ◌-◌, ◌<◌, ◌≤◌, Bool, true, false, cond, ◌&&◌, ◌||◌, leb, ltb, List, [], ◌∷◌, ◌++◌, length, drop, map, find, Option, Some, None, ℤ, pos, negsuc, arith}
+use Rattle.std.proofs.Common.{ℕ, zero, suc, ◌-◌, ◌<◌, ◌≤◌, Bool, true, false, cond, ◌&&◌, ◌||◌, leb, ltb, List, [], ◌∷◌, ◌++◌, length, map, find, Option, Some, None, ℤ, pos, negsuc, arith}
 use Rattle.std.specs.Prelude.{◌*◌, ◌^◌, ◌+ℤ◌, ◌-ℤ◌, ◌*ℤ◌, slice_get, unwrap_or, option_and_then}
 use Rattle.std.specs.Int.{is_negative}
 use Rattle.std.specs.List.{AllByRecursion, cons_option, filter_map, flat_map, range_with_len}
 use Rattle.std.specs.Option.{option_map, option_map_or}
 use Rattle.std.proofs.lemmas.Bool.{and_from, and_parts, le-leb, leb-true}
 use Rattle.std.proofs.lemmas.List.{length-drop, length-map, length-take}
+use Rattle.list_lemmas.proofs.Every.{all-drop, all-push}
 use Rattle.fixed_num.specs.declared.units.Record.{Record}
 use Rattle.fixed_num.specs.Rounding.{nearest}
 use Rattle.fixed_num.specs.Units.{one}
@@ -216,15 +217,6 @@ each_found P test (x ∷ xs) each = by_test (test x) (each_found P test xs each.
     by_test true others = each.0
     by_test false others = others
 
-each_left : {A : Type 0} (P : A → Type 0) (count : ℕ) (xs : List A) → AllByRecursion P xs → AllByRecursion P (drop count xs)
-each_left P zero xs each = each
-each_left P (suc count) [] each = tt
-each_left P (suc count) (x ∷ xs) each = each_left P count xs each.1
-
-each_and : {A : Type 0} (P : A → Type 0) (xs : List A) (x : A) → AllByRecursion P xs → P x → AllByRecursion P (xs ++ x ∷ [])
-each_and P [] x each is = (is, tt)
-each_and P (y ∷ xs) x each is = (each.0, each_and P xs x each.1 is)
-
 each_picked : {A B : Type 0} (P : A → Type 0) (Q : B → Type 0) (f : A → Option B) → ((x : A) → P x → AllSome Q (f x)) → (xs : List A) → AllByRecursion P xs
     → AllByRecursion Q (filter_map f xs)
 each_picked {A} {B} P Q f so [] each = tt
@@ -318,7 +310,7 @@ record IsShortLog (log : Shown) : Type 0 where
 
 noted_short : (log : Shown) (event : Event) → IsShortLog log → IsShortEvent event → IsShortLog (noted log event)
 noted_short log event short is = record {
-  each = each_left IsShortEvent (length all - most_shown) all (each_and IsShortEvent log.events next short.each next_short);
+  each = all-drop IsShortEvent (length all - most_shown) all (all-push IsShortEvent log.events next short.each next_short);
   few = omega (arith, length-drop (length all - most_shown) all);
 }
   where

@@ -8,6 +8,7 @@ use Rattle.std.specs.Str.{bytes_eq}
 use Rattle.std.proofs.lemmas.Bool.{and_from, and_parts, eqb-true, lt-ltb}
 use Rattle.std.proofs.lemmas.List.Concat.{flat_map-cons}
 use Rattle.std.proofs.lemmas.Option.{slice_get_within}
+use Rattle.list_lemmas.proofs.Every.{all-append as each_more, all-take as each_cut, all-weaker as each_so}
 use Rattle.health_config.specs.Entity.{Alarm}
 use Rattle.history.specs.Registry.{Registry}
 use Rattle.history.specs.declared.chart.ChartDef.{ChartDef}
@@ -33,22 +34,9 @@ abbrev pub Rise : List Pair → Type 0
 Rise [] = Unit {0}
 Rise (p ∷ ps) = AllByRecursion (After p) ps × Rise ps
 
-pub each_so : {A : Type 0} (P Q : A → Type 0) → ((p : A) → P p → Q p) → (ps : List A) → AllByRecursion P ps → AllByRecursion Q ps
-each_so P Q so [] is = tt
-each_so P Q so (p ∷ ps) is = (so p is.0, each_so P Q so ps is.1)
-
 pub each_both : {A : Type 0} (P Q R : A → Type 0) → ((p : A) → P p → Q p → R p) → (ps : List A) → AllByRecursion P ps → AllByRecursion Q ps → AllByRecursion R ps
 each_both P Q R so [] is too = tt
 each_both P Q R so (p ∷ ps) is too = (so p is.0 too.0, each_both P Q R so ps is.1 too.1)
-
-each_more : {A : Type 0} (P : A → Type 0) (ps qs : List A) → AllByRecursion P ps → AllByRecursion P qs → AllByRecursion P (ps ++ qs)
-each_more P [] qs is so = so
-each_more P (p ∷ ps) qs is so = (is.0, each_more P ps qs is.1 so)
-
-each_cut : {A : Type 0} (P : A → Type 0) (n : ℕ) (ps : List A) → AllByRecursion P ps → AllByRecursion P (take n ps)
-each_cut P zero ps is = tt
-each_cut P (suc n) [] is = tt
-each_cut P (suc n) (p ∷ ps) is = (is.0, each_cut P n ps is.1)
 
 rise_cut : (n : ℕ) (ps : List Pair) → Rise ps → Rise (take n ps)
 rise_cut zero ps is = tt

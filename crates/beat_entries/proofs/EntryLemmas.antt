@@ -25,9 +25,9 @@ use Rattle.chart_registry.proofs.RegistryLemmas.{or_false, chart_id-chart_of, ch
 use Rattle.chart_registry.proofs.RowsLemmas.{same_text, bytes_eq_same}
 use Rattle.chart_registry.specs.Defining.{chart_id}
 use Rattle.history.specs.Regular.{AreApart, same_row}
-use Rattle.chart_registry.proofs.ApartLemmas.{own-series, one_series, turned}
+use Rattle.chart_registry.proofs.ApartLemmas.{own-series, one_series, turned, chart-left}
 use Rattle.chart_registry.proofs.Finding.{found-all, found-passes}
-use Rattle.chart_registry.proofs.OpenLemmas.{chart-left, chart-same}
+use Rattle.chart_registry.proofs.OpenLemmas.{chart-same}
 use Rattle.beat_entries.specs.Defined.{IsDefinedIn}
 use Rattle.history.specs.Numbered.{numbered_charts, numbered_dimension, numbered_dimensions, numbered_value, numbered_values, numbered_rows, numbered_beat}
 use Rattle.beat_entries.specs.Gathered.{chart_at, dimension_at, value_at, row_at}

@@ -3,6 +3,7 @@
 use Rattle.std.proofs.Common.{◌≡◌, Bool, true, false, cond, ◌||◌, List, [], ◌∷◌, filter, Option, Some, None, refl, sym, ap, ◌∙◌, true≢false, if◌then◌else◌}
 use Rattle.std.specs.List.{find, list_any, AllByRecursion}
 use Rattle.std.specs.Option.{option_map_or}
+use Rattle.list_lemmas.proofs.Every.{all-filter}
 use Rattle.history.specs.Put.{put, put_all}
 use Rattle.chart_registry.proofs.ApartLemmas.{apart-put}
 use Rattle.chart_registry.proofs.Applying.{all-put}
@@ -13,14 +14,6 @@ use Rattle.beat_entries.proofs.Slots.{all-both, none-all}
 or-true : (b : Bool) → (b || true) ≡ true
 or-true true = refl
 or-true false = refl
-
-all-filter : {A : Type 0} (P : A → Type 0) (p : A → Bool) (xs : List A) → AllByRecursion P xs → AllByRecursion P (filter p xs)
-all-filter P p [] all = tt
-all-filter {A} P p (x ∷ xs) all = by (p x) (all-filter P p xs all.1)
-  where
-    by : (b : Bool) → AllByRecursion P (filter p xs) → AllByRecursion P (cond b (x ∷ filter p xs) (filter p xs))
-    by true rest = (all.0, rest)
-    by false rest = rest
 
 module _ {A : Type 0} (same : A → A → Bool) (itself : (x : A) → same x x ≡ true) (alike : (x y z : A) → same x y ≡ true → same x z ≡ same y z) where
   pub turned : (x y : A) → same x y ≡ same y x

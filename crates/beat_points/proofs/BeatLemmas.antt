@@ -5,6 +5,7 @@ use Rattle.std.specs.List.Sorted.{IsPermutation, IsNonDecreasingBy}
 use Rattle.std.specs.Option.{option_map_or}
 use Rattle.std.proofs.lemmas.List.Elements.{All-from_recursion, recursion_from_All}
 use Rattle.std.proofs.lemmas.List.Sorted.{All-permutation, sum_by-IsPermutation}
+use Rattle.list_lemmas.proofs.Every.{all-append}
 use Rattle.storage_number.specs.Word.{is_word as is_storage_number}
 use Rattle.algorithms.specs.declared.last.Last.{Last}
 use Rattle.algorithms.specs.Words.{packed}
@@ -27,7 +28,7 @@ use Rattle.beat_points.specs.Numbered.{chart_pairs, row_pairs, rows_pairs, words
 use Rattle.beat_points.specs.Points.{IsNext, ArePointsIn, AreRising, beat_points}
 use Rattle.beat_points.proofs.CountLemmas.{beat-count}
 use Rattle.beat_points.proofs.OnceLemmas.{is_series, rising, series-once}
-use Rattle.beat_points.proofs.StorageWords.{all-append, are-words}
+use Rattle.beat_points.proofs.StorageWords.{are-words}
 use Rattle.beat_points.proofs.OrderLemmas.{in_order, is_pair, is_word, rises-from}
 
 module _ (registry : Registry) (lasts : List (Option Last)) (moment : ℕ) where

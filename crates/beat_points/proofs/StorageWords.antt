@@ -1,8 +1,9 @@
 -- The words of a row are storage numbers.
-use Rattle.std.proofs.Common.{◌≡◌, ◌*ℤ◌, ℕ, zero, suc, Bool, true, false, List, [], ◌∷◌, ◌++◌, map, slice_get, Option, Some, None, IfSome, ℤ, pos, negsuc, arith, rules}
+use Rattle.std.proofs.Common.{◌≡◌, ◌*ℤ◌, ℕ, zero, suc, Bool, true, false, List, [], ◌∷◌, map, slice_get, Option, Some, None, IfSome, ℤ, pos, negsuc, arith, rules}
 use Rattle.std.proofs.Math.IntN.{neg_ℤ}
 use Rattle.std.specs.List.{filter_map, AllByRecursion}
 use Rattle.std.specs.Option.{option_map, option_map_or}
+use Rattle.list_lemmas.proofs.Every.{all-append}
 use Rattle.storage_number.specs.Word.{is_word}
 use Rattle.storage_number.proofs.Laws.{packed_is_word}
 use Rattle.algorithms.specs.declared.last.Last.{Last}
@@ -16,10 +17,6 @@ use Rattle.history.specs.Points.{difference, is_reset, ratio, rise, total, total
 use Rattle.history.specs.Registry.{Registry}
 use Rattle.beat_points.specs.declared.series_word.SeriesWord.{SeriesWord}
 use Rattle.beat_points.specs.Numbered.{cell_by, chart_pairs, row_pairs, rows_pairs, words_by}
-
-pub all-append : {A : Type 0} (P : A → Type 0) (xs ys : List A) → AllByRecursion P xs → AllByRecursion P ys → AllByRecursion P (xs ++ ys)
-all-append P [] ys all rest = rest
-all-append P (x ∷ xs) ys all rest = (all.0, all-append P xs ys all.1 rest)
 
 packed-word : (num den : ℤ) (anomalous reset : Bool) → is_word (packed (ratio num den) anomalous reset) ≡ true
 unfolding packed

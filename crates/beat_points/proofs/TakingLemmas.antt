@@ -15,6 +15,10 @@ use Rattle.beat_points.specs.Numbered.{rows_values}
 pub last_value-append : (series : ℕ) (xs ys : List Value) → last_value series (xs ++ ys) ≡ option_or (last_value series ys) (last_value series xs)
 last_value-append series xs ys = ap (find (is_of_series series)) (reverse-append xs ys) ∙ find-append (is_of_series series) (reverse ys) (reverse xs)
 
+pub rows_values-append : (xs ys : List Row) → rows_values (xs ++ ys) ≡ rows_values xs ++ rows_values ys
+rows_values-append [] ys = refl
+rows_values-append (x ∷ xs) ys = ap (λ (rest : List Value). x.values ++ rest) (rows_values-append xs ys) ∙ sym (append_assoc x.values (rows_values xs) (rows_values ys))
+
 module _ (moment : ℕ) where
   noted-or : (later earlier : Option Value) (before : Option Last) → noted moment later (noted moment earlier before) ≡ noted moment (option_or later earlier) before
   noted-or None earlier before = refl
@@ -53,10 +57,6 @@ module _ (moment : ℕ) where
       let more : take (k + 1) values ≡ take k values ++ value ∷ [] = take_more values k value within ∙ ap (λ (v : Value). take k values ++ v ∷ []) at in
       subst (λ (vs : List Value). Takes moment vs old (set new value.series (now value))) (sym more)
       (takes-then (take k values) (value ∷ []) old new (set new value.series (now value)) takes (takes-one value new room))
-
-  rows_values-append : (xs ys : List Row) → rows_values (xs ++ ys) ≡ rows_values xs ++ rows_values ys
-  rows_values-append [] ys = refl
-  rows_values-append (x ∷ xs) ys = ap (λ (rest : List Value). x.values ++ rest) (rows_values-append xs ys) ∙ sym (append_assoc x.values (rows_values xs) (rows_values ys))
 
   pub rows-more : (rows : List Row) (k : ℕ) (old mid new : List (Option Last)) (row : Row) → k < length rows → get_or rows k row ≡ row
       → Takes moment row.values mid new → Takes moment (rows_values (take k rows)) old mid → Takes moment (rows_values (take (k + 1) rows)) old new

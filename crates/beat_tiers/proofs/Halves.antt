@@ -24,15 +24,6 @@ pub all_right : {X : Type 0} (P : X → Type 0) (xs ys : List X) → AllByRecurs
 all_right P [] ys all = all
 all_right P (x ∷ xs) ys all = all_right P xs ys all.1
 
-pub all_both : {X : Type 0} (P : X → Type 0) (xs ys : List X) → AllByRecursion P xs → AllByRecursion P ys → AllByRecursion P (xs ++ ys)
-all_both P [] ys left right = right
-all_both P (x ∷ xs) ys left right = (left.0, all_both P xs ys left.1 right)
-
-pub all_drop : {X : Type 0} (P : X → Type 0) (i : ℕ) (xs : List X) → AllByRecursion P xs → AllByRecursion P (drop i xs)
-all_drop P zero xs all = all
-all_drop P (suc i) [] all = tt
-all_drop P (suc i) (x ∷ xs) all = all_drop P i xs all.1
-
 all_part : {X Y : Type 0} (P : Y → Type 0) (f : X → List Y) (xs : List X) (j : ℕ) (d : X) → j < length xs → AllByRecursion P (flat_map f xs) → AllByRecursion P (f (get_or xs j d))
 all_part P f [] j d lt all = absurd (omega arith)
 all_part P f (x ∷ xs) zero d lt all = all_left P (f x) (flat_map f xs) all

@@ -1,10 +1,11 @@
 -- The first record between two buckets, from what is kept.
-use Rattle.std.proofs.Common.{◌≡◌, ℕ, ◌+◌, ◌*◌, ◌/◌, ◌<◌, ◌≤◌, ◌==◌, ◌&&◌, ◌⊎◌, Bool, true, false, cond, max, nat_le, List, [], ◌∷◌, Option, Some, None, inl, inr, arith, refl, sym, ap, subst, ◌∙◌}
-use Rattle.std.specs.List.{AllByRecursion, find}
+use Rattle.std.proofs.Common.{◌≡◌, ℕ, ◌+◌, ◌*◌, ◌/◌, ◌<◌, ◌≤◌, ◌==◌, ◌&&◌, ◌⊎◌, true, false, cond, max, nat_le, List, [], ◌∷◌, Option, Some, None, inl, inr, arith, refl, sym, ap, subst, ◌∙◌}
+use Rattle.std.specs.List.{find}
 use Rattle.std.specs.Option.{option_map, option_map_or}
 use Rattle.std.proofs.Math.Nat.{mul-le-mul_right}
 use Rattle.std.proofs.lemmas.Bool.{and_parts, cases_Bool, cases_eq, cases_lt, cond-true, cond-false, eq-eqb, eqb-true, leb-true, lt-ltb, le-ltb, ne_eqb}
 use Rattle.std.proofs.lemmas.Bool.Decides.{nat_tests}
+use Rattle.list_lemmas.proofs.Searches.{found-all}
 use Rattle.fixed_num.specs.declared.units.Record.{Record}
 use Rattle.beat_tiers.specs.declared.item.Item.{Item}
 use Rattle.beat_tiers.specs.Searching.{is_next}
@@ -12,14 +13,6 @@ use Rattle.beat_tiers.specs.Segments.{items_of}
 use Rattle.beat_tiers.specs.State.{AreClosed, RecordTierState, closed_record, floor_in, is_item, open_record, record_in}
 use Rattle.beat_tiers.specs.Tiers.{AreOrdered, HaveNoRecord, IsFirstRecord}
 use Rattle.beat_tiers.proofs.Ordered.{ordered-tail, place-le}
-
-find_passes : {X : Type 0} (p : X → Bool) (xs : List X) (x : X) → find p xs ≡ Some x → p x ≡ true
-find_passes p [] x is = absurd cc
-find_passes {X} p (y ∷ xs) x is =
-    elim (cases_Bool (p y)) [
-      | inl passed ↦ let same : Some y ≡ Some x = sym (cond-true (p y) (Some y) (find p xs) passed) ∙ is in let one : y ≡ x = cc in subst (λ (z : X). p z ≡ true) one passed
-      | inr fails ↦ find_passes p xs x (sym (cond-false (p y) (Some y) (find p xs) fails) ∙ is)
-    ]
 
 module _ (series low to : ℕ) where
   record Passes (item : Item Record) : Type 0 where
@@ -87,14 +80,6 @@ module _ (series low to : ℕ) where
 
 -- ---- the record of a bucket, by where it lies
 
-each_of : {X : Type 0} (P : X → Type 0) (p : X → Bool) (xs : List X) (x : X) → AllByRecursion P xs → find p xs ≡ Some x → P x
-each_of P p [] x all is = absurd cc
-each_of {X} P p (y ∷ xs) x all is =
-    elim (cases_Bool (p y)) [
-      | inl passed ↦ let same : Some y ≡ Some x = sym (cond-true (p y) (Some y) (find p xs) passed) ∙ is in let one : y ≡ x = cc in subst P one all.0
-      | inr fails ↦ each_of P p xs x all.1 (sym (cond-false (p y) (Some y) (find p xs) fails) ∙ is)
-    ]
-
 module _ (place : ℕ) (one : RecordTierState) (last series : ℕ) (wide : 1 ≤ one.tier.width) where
   abbrev pub first_kept : ℕ
   first_kept = option_map_or (λ moment. moment / one.tier.width) one.segments.expired 0
@@ -141,7 +126,7 @@ module _ (place : ℕ) (one : RecordTierState) (last series : ℕ) (wide : 1 ≤
   closed_first from low to item low_is ordered closed found =
       let is : IsFound series low to (items_of one.segments) item = found_is series low to (items_of one.segments) item ordered (sym found) in
       let p = is.passes_is in
-      let early : item.place < last / one.tier.width = each_of (λ (item : Item Record). item.place < last / one.tier.width) (is_next series low to) (items_of one.segments) item closed (sym found) in
+      let early : item.place < last / one.tier.width = found-all (λ (item : Item Record). item.place < last / one.tier.width) (is_next series low to) (items_of one.segments) item closed (sym found) in
       record {
         low = let least = p.low_is in omega (arith, low_is, least);
         high = p.high_is;

@@ -89,7 +89,7 @@ apart-registry (health text ∷ h) = apart-registry h
 apart-registry (missing gap ∷ h) = apart-registry h
 
 -- a registry has each chart once
-chart-left : (x y : ChartDef) → same_chart x y ≡ true → same_chart x ≡ same_chart y
+pub chart-left : (x y : ChartDef) → same_chart x y ≡ true → same_chart x ≡ same_chart y
 chart-left x y e = λ i. is_chart (same_text x.id y.id e i)
 
 charts-put_all : (cs xs : List ChartDef) → AreApart same_chart cs → AreApart same_chart (put_all same_chart cs xs)

@@ -69,7 +69,7 @@ module _ {A : Type 0} (same : A → A → Bool) (P : A → Type 0) where
       by false rest = (h.0, rest)
 
 module _ {A : Type 0} (p : A → Bool) where
-  some-find : (xs : List A) → is_some (find p xs) ≡ list_any p xs
+  pub some-find : (xs : List A) → is_some (find p xs) ≡ list_any p xs
   some-find [] = refl
   some-find (x ∷ xs) = by (p x) (some-find xs)
     where

@@ -8,18 +8,15 @@ use Rattle.history.specs.declared.line.Line.{Line}
 use Rattle.history.specs.declared.line.Line.TheVariants as line
 use Rattle.history.specs.Looking.{charts, dimensions, last_chart, with_grid}
 use Rattle.history.specs.Put.{put}
-use Rattle.history.specs.Registry.{is_chart, same_chart, same_dimension}
+use Rattle.history.specs.Registry.{same_chart, same_dimension}
 use Rattle.history.specs.Regular.{AreApart}
-use Rattle.chart_registry.proofs.ApartLemmas.{apart-put, itself, left}
+use Rattle.chart_registry.proofs.ApartLemmas.{apart-put, chart-left, itself, left}
 use Rattle.chart_registry.proofs.Applying.{same_chart-alike}
 use Rattle.chart_registry.proofs.Growing.{same_dimension-alike}
-use Rattle.chart_registry.proofs.RowsLemmas.{same_text, bytes_eq_same}
+use Rattle.chart_registry.proofs.RowsLemmas.{bytes_eq_same}
 
 pub chart-same : (x : ChartDef) → same_chart x x ≡ true
 chart-same x = bytes_eq_same x.id x.id refl
-
-pub chart-left : (x y : ChartDef) → same_chart x y ≡ true → same_chart x ≡ same_chart y
-chart-left x y e = λ i old. is_chart (same_text x.id y.id e i) old
 
 pub charts-apart : (every : ℕ) (past : List Line) → AreApart same_chart (charts every past)
 charts-apart every [] = tt

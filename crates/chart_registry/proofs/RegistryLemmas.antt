@@ -3,7 +3,7 @@ use Rattle.std.proofs.Common.{◌≡◌, ℕ, zero, suc, ◌+◌, ◌<◌, ◌�
 use Rattle.std.specs.List.{list_any, count_by}
 use Rattle.std.specs.Option.{option_and_then, option_map, option_map_or}
 use Rattle.std.specs.Str.{bytes_eq}
-use Rattle.std.proofs.lemmas.Bool.{and_parts, leb-false, true≢false}
+use Rattle.std.proofs.lemmas.Bool.{and_parts, leb-false}
 use Rattle.std.proofs.lemmas.List.{length-map}
 use Rattle.std.proofs.lemmas.Option.{slice_get-map, slice_get_within, get_or_from_slice_get}
 use Rattle.std.proofs.lemmas.Slice.Eq.{bytes_eq-Decides}
@@ -25,6 +25,7 @@ use Rattle.chart_registry.specs.Rows.{Row, Mark, row_of, mark_of, row_at, ids, b
 use Rattle.chart_registry.proofs.Places.{IsFirst, count_by-all_false, count_by-map, first-from_position, passes-first, position-map, position-within, find-position, list_any-position, position-all_false, put-present, get_or-map_any, option_map_or-slice_get}
 use Rattle.chart_registry.proofs.ChartsLemmas.{ids-defs}
 use Rattle.chart_registry.proofs.RowsLemmas.{apart}
+pub use Rattle.std.proofs.lemmas.Bool.{or_parts as or_false}
 
 -- ---- the registry alone
 module _ (registry : Definitions) where
@@ -202,10 +203,6 @@ kept-within kept registry view is = record {
   dimensions = subst (λ (seen : Definitions). length seen.dimensions ≤ 65536) view is.dimensions;
   each = few-dimensions (values kept.charts) kept.dimensions.items registry view is.known is.sizes;
 }
-
-pub or_false : (x y : Bool) → (x || y) ≡ false → (x ≡ false) × (y ≡ false)
-or_false true y e = absurd (true≢false e)
-or_false false y e = (refl, e)
 
 -- where there is room for one more dimension, its chart has less than the most
 pub dimensions-few : (registry : Definitions) (chart : List ℕ) → dimensions_full registry nothing_open chart ≡ false → (count_by (is_of chart) registry.dimensions < 1024) × (length registry.dimensions < 65536)

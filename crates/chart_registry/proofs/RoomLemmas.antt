@@ -22,11 +22,11 @@ use Rattle.history.specs.Regular.{AreApart}
 use Rattle.chart_registry.specs.declared.fault.RegistryFault.{RegistryFault}
 use Rattle.chart_registry.specs.declared.fault.RegistryFault.TheVariants.{GridChanged, TooManyCharts, TooManyDimensions, Memory}
 use Rattle.chart_registry.specs.Defining.{changes_grids, other_grid, IsReasonOf}
-use Rattle.chart_registry.proofs.ApartLemmas.{apart-charts, same-parts, turned}
+use Rattle.chart_registry.proofs.ApartLemmas.{apart-charts, chart-left, same-parts, turned}
 use Rattle.chart_registry.proofs.Applying.{all-put, has_chart-any, same_chart-alike}
 use Rattle.chart_registry.proofs.Finding.{found-all, found-passes, nat_eq_same, one_if}
 use Rattle.chart_registry.proofs.Growing.{length-put_all as length-grown, more_definitions, same_dimension-alike}
-use Rattle.chart_registry.proofs.OpenLemmas.{chart-left, chart-same, charts-apart}
+use Rattle.chart_registry.proofs.OpenLemmas.{chart-same, charts-apart}
 use Rattle.chart_registry.proofs.ReasonLemmas.{count-put_all as count-grown, of-alike}
 use Rattle.chart_registry.proofs.RegistryLemmas.{or_false}
 use Rattle.chart_registry.proofs.RowsLemmas.{same_text}

@@ -5,6 +5,7 @@ use Rattle.std.specs.List.{cons_option, filter_map, list_any, onto_first, prefix
 use Rattle.std.specs.Option.{option_map, option_map_or, option_to_list}
 use Rattle.std.proofs.lemmas.Bool.{and_parts}
 use Rattle.std.proofs.lemmas.List.Elements.{recursion_from_All}
+use Rattle.list_lemmas.proofs.Every.{all-append}
 use Rattle.words.specs.Words.{is_blank}
 use Rattle.health_expr.specs.declared.value.Value.{Value}
 use Rattle.health_expr.specs.declared.value.Value.TheVariants as value
@@ -182,10 +183,6 @@ free-entity before group free =
     (λ text is. read-then Any AreFree (room before group.head.number) _ (read-any (room before group.head.number))
     (λ count any. read-then Any AreFree (draft_read true group.body) _ (read-any (draft_read true group.body))
     (λ draft any. free-ended group.head.number text group.template draft is)))
-
-all-append : {A : Type 0} (P : A → Type 0) (xs ys : List A) → AllByRecursion P xs → AllByRecursion P ys → AllByRecursion P (xs ++ ys)
-all-append P [] ys first second = second
-all-append P (x ∷ xs) ys first second = (first.0, all-append P xs ys first.1 second)
 
 free-entities : (before : ℕ) (groups : List Group) → AllByRecursion IsFreeGroup groups → IfRead AreFree (entities before groups)
 free-entities before [] all = tt

@@ -5,6 +5,7 @@ use Rattle.std.specs.Result.{result_err}
 use Rattle.std.proofs.Math.ListN.{drop_of_length-le}
 use Rattle.std.proofs.lemmas.Option.{get_or_from_slice_get, slice_get_within}
 use Rattle.std.proofs.lemmas.List.Concat.{flat_map-cons}
+use Rattle.line_stream.proofs.RunLemmas.{Takes-append as takes-both, Takes-none as takes-nothing}
 use Rattle.host_model.specs.Source.{Takes}
 use Rattle.field_codec.specs.Spelling.{u32_bytes, sized_bytes}
 use Rattle.field_codec.proofs.Lengths.{length-u32_bytes}
@@ -20,7 +21,6 @@ use Rattle.link_session.specs.declared.incoming.Incoming.{Incoming}
 use Rattle.link_session.specs.declared.fault.SessionFault.{SessionFault}
 use Rattle.link_session.specs.declared.fault.SessionFault.TheVariants.{LinkFault, Ended, InputLimit}
 use Rattle.link_session.specs.Incoming.{reading_fault, HasGiven, HasNoMore, IsEndOf, StandsBehind}
-use Rattle.link_session.proofs.LinkLemmas.{takes-both, takes-nothing}
 
 -- ---- at first
 pub fresh-given : (incoming : Incoming) → length incoming.frames ≤ incoming.given → incoming.budget ≡ input_limit → incoming.reader.rest ≡ [] → incoming.reader.refused ≡ None → (left : Option (List ℕ)) → HasGiven incoming left left []

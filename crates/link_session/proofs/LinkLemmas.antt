@@ -4,7 +4,6 @@ use Rattle.std.specs.List.{flat_map}
 use Rattle.std.proofs.Math.Seq.{take-append_seam, take-length}
 use Rattle.std.proofs.lemmas.Grind.{flat_map-append}
 use Rattle.host_model.specs.Link.{Sends, SendsFront}
-use Rattle.host_model.specs.Source.{Takes}
 use Rattle.link_frames.specs.declared.frame.Frame.{Frame}
 use Rattle.link_frames.specs.Frames.{frame_bytes}
 use Rattle.link_session.specs.Session.{SaysFront}
@@ -16,14 +15,6 @@ sends-nothing (Some bytes) = ap Some (sym (append-nil bytes))
 pub sends-both : (a b c : Option (List ℕ)) (x y : List ℕ) → Sends a x b → Sends b y c → Sends a (x ++ y) c
 sends-both None b c x y first second = second ∙ ap (option_map (λ (sent : List ℕ). sent ++ y)) first
 sends-both (Some sent) b c x y first second = second ∙ ap (option_map (λ (sent : List ℕ). sent ++ y)) first ∙ ap Some (append_assoc sent x y)
-
-pub takes-nothing : (left : Option (List ℕ)) → Takes left [] left
-takes-nothing None = refl
-takes-nothing (Some bytes) = refl
-
-pub takes-both : (a b c : Option (List ℕ)) (x y : List ℕ) → Takes a x b → Takes b y c → Takes a (x ++ y) c
-takes-both a b None x y first second = first ∙ ap (option_map (λ (left : List ℕ). x ++ left)) second
-takes-both a b (Some left) x y first second = first ∙ ap (option_map (λ (left : List ℕ). x ++ left)) second ∙ ap Some (sym (append_assoc x y left))
 
 -- nothing was to be said
 pub silent-front : (all : Bool) (sent : Option (List ℕ)) → SaysFront all [] sent sent

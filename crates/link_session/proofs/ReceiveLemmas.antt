@@ -1,5 +1,6 @@
 -- How a parent's session goes on, and ends.
 use Rattle.std.proofs.Common.{◌≡◌, ℕ, ◌≤◌, Bool, true, false, List, [], ◌∷◌, ◌++◌, length, drop, append-nil, Option, Some, None, IfSome, Result, Ok, Err, arith, IfErr, IsErrOf, refl, sym, ap, subst, ◌∙◌}
+use Rattle.link_frames.proofs.StreamLaw.{all-spelt}
 use Rattle.host_model.specs.Cause.{HasCause}
 use Rattle.std.specs.List.{flat_map, AllByRecursion}
 use Rattle.std.proofs.Math.Seq.{take-append_seam, take-length}
@@ -10,7 +11,6 @@ use Rattle.host_model.specs.Seen.{Seen}
 use Rattle.history.specs.History.{Beat}
 use Rattle.link_frames.specs.declared.frame.Frame.{Frame}
 use Rattle.link_frames.specs.Frames.{frame_bytes, HasSpelling}
-use Rattle.link_frames.specs.Stream.{HandsOut}
 use Rattle.tier_settings.specs.declared.settings.Settings.{Settings}
 use Rattle.store_core.specs.declared.fault.Why.{Why}
 use Rattle.agent_core.specs.declared.fault.AgentFault.TheVariants as agent_fault
@@ -141,9 +141,6 @@ module _ (honest : Type 0) (host : Seen) (agent : AgentState) where
 some-all : (broken : Option PeerFault) (n : ℕ) → IfSome broken (λ _. n ≤ n)
 some-all None n = tt
 some-all (Some fault) n = omega arith
-
-all-spelt : (bytes rest : List ℕ) (frames : List Frame) → HandsOut bytes [] frames rest → AllByRecursion HasSpelling frames
-all-spelt bytes rest frames cut = subst (AllByRecursion HasSpelling) (sym cut.handed) cut.frames
 
 receives-of : (result : Result Flow SessionFault) → IfErr result IsReceiving → IfErr (result_of result) IsReceiving
 receives-of (Ok flow) is = tt

@@ -1,5 +1,6 @@
 -- How a child's session goes on, and ends.
 use Rattle.std.proofs.Common.{◌≡◌, ℕ, List, [], ◌∷◌, ◌++◌, Option, None, Result, Ok, Err, IfErr, IsErrOf, refl, sym, ap, subst, ◌∙◌, arith}
+use Rattle.line_stream.proofs.RunLemmas.{Takes-none as takes-nothing}
 use Rattle.host_model.specs.Cause.{HasCause}
 use Rattle.host_model.specs.Link.{Sends}
 use Rattle.host_model.specs.Seen.{Seen}
@@ -27,7 +28,6 @@ use Rattle.link_session.specs.Session.{result_of, says_all, DoesSo, HearsNoMore,
 use Rattle.link_session.proofs.ChildLemmas.{id-is}
 use Rattle.link_session.proofs.ExchangeLemmas.{frame-ends, silence-ends, talks-first, talks-next}
 use Rattle.link_session.proofs.HearLemmas.{one-bytes, says-front}
-use Rattle.link_session.proofs.LinkLemmas.{takes-nothing}
 use Rattle.link_session.proofs.SendingLemmas.{only-as, only-joined, only-nothing}
 
 abbrev pub all_well : SessionResult

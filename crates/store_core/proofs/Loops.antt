@@ -3,6 +3,7 @@ use Rattle.std.proofs.Common.{◌≡◌, ℕ, ◌+◌, ◌<◌, List, [], ◌∷
 use Rattle.std.specs.List.{AllByRecursion}
 use Rattle.std.specs.Option.{option_map}
 use Rattle.std.proofs.lemmas.List.{take_more}
+use Rattle.list_lemmas.proofs.Every.{all-push}
 use Rattle.store_core.specs.declared.beat.Beat.{Beat}
 use Rattle.store_core.specs.Records.{beats_from, last_after, next_beat}
 
@@ -34,8 +35,4 @@ pub one_more : {X : Type 0} (P : X → Type 0) (xs : List X) (place : ℕ) (x : 
     → AllByRecursion P (take (place + 1) xs)
 one_more P xs place x within is all here =
     let split : take (place + 1) xs ≡ take place xs ++ x ∷ [] = take_more xs place x within ∙ ap (λ y. take place xs ++ y ∷ []) is in
-    rw split (put_behind P (take place xs) x all here)
-  where
-    put_behind : {X : Type 0} (P : X → Type 0) (xs : List X) (x : X) → AllByRecursion P xs → P x → AllByRecursion P (xs ++ x ∷ [])
-    put_behind P [] x all here = (here, tt)
-    put_behind P (first ∷ xs) x all here = (all.0, put_behind P xs x all.1 here)
+    rw split (all-push P (take place xs) x all here)

@@ -1,9 +1,10 @@
 use Rattle.std.proofs.Common.{ltb, leb, sym, ap, subst, ◌∙◌, rules}
 use Rattle.std.specs.List.{AllByRecursion, filter}
 use Rattle.std.proofs.lemmas.List.Sorted.{IsPartitionedBy-ltb, IsPartitionPoint-from_clause}
+use Rattle.list_lemmas.proofs.Every.{all-drop as all_drop}
 use Rattle.beat_tiers.specs.Searching.{HasItems, items_in, last_place}
 use Rattle.beat_tiers.specs.Tiers.{AreOrdered}
-use Rattle.beat_tiers.proofs.Halves.{all_drop, drop_ordered, drop_same, last_rises}
+use Rattle.beat_tiers.proofs.Halves.{drop_ordered, drop_same, last_rises}
 use Rattle.beat_tiers.proofs.searching.from_segment.Goals as goal
 
 pub returns-clause-ordered : goal.returns-clause-ordered
