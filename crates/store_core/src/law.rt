@@ -19,11 +19,11 @@ ghost use Rattle.store_core.specs.Tiers.{floor_at};
 ghost use Rattle.store_core.specs.View.{points_of};
 ghost use Rattle.tier_settings.specs.Limits.{widths};
 
-/// Laws of databases, for any disk and any store; the call does nothing. A disk holds one database at most,
-/// what a store has stored is what each crash leaves, and telling changes nothing of it. The bytes of a beat in
-/// form read as it, what bytes read as has them, and the records of a database read as it. The floors by which a
-/// view answers are those of the beats that were applied, and two tiers whose floors are at most where a window
-/// starts give it equal cells.
+/// Laws of databases, for any disk and any store; the call does nothing. A disk holds one database
+/// at most, what a store has stored is what each crash leaves, and telling changes nothing of it.
+/// The bytes of a beat in form read as it, what bytes read as has them, and the records of a
+/// database read as it. The floors by which a view answers are those of the beats that were
+/// applied, and two tiers whose floors are at most where a window starts give it equal cells.
 pub fn any_database()
     ensures once { (set other : ASettings) (stored others : AStored) (disk : AFile → List ℕ)
         → Stands set stored disk → Stands other others disk → (set ≡ other) × (stored ≡ others) }
@@ -33,7 +33,8 @@ pub fn any_database()
         → IsStoreOf past store set stored → EveryDisk (Stands set stored) past }
     ensures told { (sent : List ℕ) (past : List Event) (store : StoreState) (set : ASettings)
         (stored : AStored) (rest : List ABeat)
-        → IsStoreAt past store set stored rest → IsStoreAt (Told sent ∷ past) store set stored rest }
+        → IsStoreAt past store set stored rest
+        → IsStoreAt (Told sent ∷ past) store set stored rest }
     ensures beat_again { (beat : ABeat) → InForm beat → beat_in (beat_bytes beat) ≡ Some beat }
     ensures beat_form { (bytes : List ℕ) (beat : ABeat) → IsBytes bytes → beat_in bytes ≡ Some beat
         → InForm beat }
@@ -51,7 +52,8 @@ pub fn any_database()
         → IsStoreAt past store set stored rest
         → may_read widths request.after request.window one ≡ true
         → may_read widths request.after request.window other ≡ true
-        → floor_at set stored one ≤ start_of request i → floor_at set stored other ≤ start_of request i
+        → floor_at set stored one ≤ start_of request i
+        → floor_at set stored other ≤ start_of request i
         → cell_in_tier widths (floor_at set stored) one request.group
         (start_of request i) request.window
         (points_of stored series)

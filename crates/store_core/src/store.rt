@@ -35,8 +35,8 @@ use std::alloc::{AllocError, Global};
 use std::marker::Model;
 use tier_settings::Settings;
 
-/// A database that has been made or opened, with the host that it is on. Each call on it is handed that
-/// host, which since then only its calls, and `tell`, have touched.
+/// A database that has been made or opened, with the host that it is on. Each call on it is handed
+/// that host, which since then only its calls, and `tell`, have touched.
 #[derive(Debug, Drop)]
 pub struct Store {
     alloc: Global,
@@ -85,11 +85,12 @@ fn reserve_first(tiers: &mut Tiers, waiting: &Waiting) -> Result<(), AllocError>
 impl Store {
     ghost use Rattle.store_core.specs.Store.{raised, IsNew, IsPlaced, IsReady, IsReplayed, IsStoreAt, IsStoreOf, OpensAt, Replays, TakesFirst, tiers_after};
 
-    /// Makes a database with these settings, where there is none: whatever else the file held is gone.
+    /// Makes a database with these settings, where there is none: whatever else the file held is
+    /// gone.
     ///
-    /// `Exists` exactly where there is one, and then nothing has happened. At every moment a crash leaves
-    /// what it might have left before the call, no database, or the new one, which has stored nothing; at `Ok`
-    /// the last.
+    /// `Exists` exactly where there is one, and then nothing has happened. At every moment a crash
+    /// leaves what it might have left before the call, no database, or the new one, which has
+    /// stored nothing; at `Ok` the last.
     pub fn create<H: Host>(
         alloc: Global,
         host: &mut H,
@@ -97,18 +98,18 @@ impl Store {
     ) -> Result<Store, StoreFault>
         requires { InLimits settings.now }
         ensures created { IfOk result
-            (λ store. H.honest → IsStoreOf (H.seen host.new).past store settings.now
-            nothing_stored) }
+            (λ store. H.honest
+            → IsStoreOf (H.seen host.new).past store settings.now nothing_stored) }
         ensures ready { IfOk result (IsReady H.honest (H.seen host.new).past) }
         ensures new { IfOk result (IsNew settings.now) }
 
         ensures any_moment { H.honest → Throughout (EveryDisk
             (λ disk. IsDisk (H.seen host.old).past disk ⊎ StandsIfMade settings.now disk))
             (H.seen host.old).past (H.seen host.new).past }
-        ensures only_here { H.honest
-            → OnlyOwn (H.seen host.old).past (H.seen host.new).past }
+        ensures only_here { H.honest → OnlyOwn (H.seen host.old).past (H.seen host.new).past }
 
-        // Exactly where there is a database it is refused, or the disk failed, and nothing has happened.
+        // Exactly where there is a database it is refused, or the disk failed, and nothing has
+        // happened.
         ensures exists { IsErrOf result StoreFault.Exists → H.honest
             → is_made (reads_as (H.seen host.old).past) ≡ true }
         ensures none { OnOk result (H.honest → is_made (reads_as (H.seen host.old).past) ≡ false) }
@@ -150,11 +151,12 @@ impl Store {
         })
     }
 
-    /// Opens the database. The store stands at its base, and none of the beats since is applied yet. The disk
-    /// is only read and synced, and whatever a crash leaves from then on holds what was stored.
+    /// Opens the database. The store stands at its base, and none of the beats since is applied
+    /// yet. The disk is only read and synced, and whatever a crash leaves from then on holds what
+    /// was stored.
     ///
-    /// `NotADatabase` exactly where there is none, and `Damaged(4)` exactly where what is there holds no
-    /// settings and beats.
+    /// `NotADatabase` exactly where there is none, and `Damaged(4)` exactly where what is there
+    /// holds no settings and beats.
     pub fn open<H: Host>(alloc: Global, host: &mut H) -> Result<Store, StoreFault>
         ensures opened { IfOk result (λ store. H.honest → (set : ASettings) (stored : AStored)
             → Stands set stored (reads_as (H.seen host.old).past)
@@ -171,8 +173,7 @@ impl Store {
             (H.seen host.new).past }
         ensures same { H.honest → (file : AFile)
             → reads_as (H.seen host.new).past file ≡ reads_as (H.seen host.old).past file }
-        ensures only_here { H.honest
-            → OnlyOwn (H.seen host.old).past (H.seen host.new).past }
+        ensures only_here { H.honest → OnlyOwn (H.seen host.old).past (H.seen host.new).past }
 
         ensures none { IsErrOf result StoreFault.NotADatabase → H.honest
             → is_made (reads_as (H.seen host.old).past) ≡ false }
@@ -239,19 +240,20 @@ impl Store {
         self.last
     }
 
-    /// The floor of tier 0, 1 or 2 of the beats that were applied: the first moment of which it has what they gave
-    /// it, in seconds, or 0 where nothing has expired.
+    /// The floor of tier 0, 1 or 2 of the beats that were applied: the first moment of which it has
+    /// what they gave it, in seconds, or 0 where nothing has expired.
     pub fn floor(&self, tier: u8) -> u32
         requires { tier < 3 }
         ensures kept { result ≡ tier_floor self.now.tiers tier }
-        ensures applied { (past : List Event) (set : ASettings) (stored : AStored) (rest : List ABeat)
+        ensures applied { (past : List Event) (set : ASettings) (stored : AStored)
+            (rest : List ABeat)
             → IsStoreAt past self.now set stored rest → result ≡ floor_at set stored tier }
     {
         self.tiers.floor(tier)
     }
 
-    /// The beats with points that are kept of those that were applied, the earliest first, and how many came before
-    /// them. Store and host are as before, whatever the answer.
+    /// The beats with points that are kept of those that were applied, the earliest first, and how
+    /// many came before them. Store and host are as before, whatever the answer.
     pub fn kept<H: Host>(&mut self, _host: &mut H) -> Result<Kept, StoreFault>
         ensures kept { (past : List Event) (set : ASettings) (stored : AStored) (rest : List ABeat)
             → IsStoreAt past self.old set stored rest
@@ -318,14 +320,17 @@ impl Store {
 
     /// Counts a beat of this moment.
     fn apply(&mut self, moment: Option<u32>)
-        ensures { self.new
-            ≡ record self.old { count = raised self.old.count; last = last_after self.old.last moment } }
+        ensures { self.new ≡ record self.old {
+          count = raised self.old.count;
+          last = last_after self.old.last moment;
+        } }
     {
         self.count = self.count.saturating_add(1);
         self.last = last_after(self.last, moment);
     }
 
-    /// Gives the next beat that was there at the opening, and applies it: `None` where all are applied.
+    /// Gives the next beat that was there at the opening, and applies it: `None` where all are
+    /// applied.
     ///
     /// `Memory` comes before anything is applied. After it the database must be opened again.
     pub fn replay(&mut self) -> Result<Option<Beat>, StoreFault>
@@ -341,7 +346,8 @@ impl Store {
         ensures settings { self.new.settings ≡ self.old.settings }
         ensures journal { self.new.journal ≡ self.old.journal }
 
-        // After a refusal all but the fault is as before, and each call answers Reopen with its cause.
+        // After a refusal all but the fault is as before, and each call answers Reopen with its
+        // cause.
         ensures leaves { OnErr result (self.new ≡ record self.old { fault = self.new.fault }) }
         ensures fault { self.new.fault ≡ fault_after self.old.fault result }
         ensures reopens { Reopens self.old.fault result }
@@ -383,12 +389,12 @@ impl Store {
         }
     }
 
-    /// Adds a beat. At `Ok` it is stored, so that it is there after every later crash; at every moment a
-    /// crash leaves what was stored with the new beat or without it.
+    /// Adds a beat. At `Ok` it is stored, so that it is there after every later crash; at every
+    /// moment a crash leaves what was stored with the new beat or without it.
     ///
-    /// `MomentOrder` exactly where the moment is at most the last one, and then nothing has changed. After
-    /// `DiskFault` or `Memory` the database must be opened again. `Memory` comes before anything is written.
-    /// Past 2^60 bytes of the journal the answer is `Memory`.
+    /// `MomentOrder` exactly where the moment is at most the last one, and then nothing has
+    /// changed. After `DiskFault` or `Memory` the database must be opened again. `Memory` comes
+    /// before anything is written. Past 2^60 bytes of the journal the answer is `Memory`.
     pub fn commit<H: Host>(&mut self, host: &mut H, beat: &Beat) -> Result<(), StoreFault>
         requires ready { IsReady H.honest (H.seen host.old).past self.old }
         requires replayed { IsReplayed self.old }
@@ -403,7 +409,8 @@ impl Store {
             → IsStoreOf (H.seen host.old).past self.old set stored
             → IsStoreOf (H.seen host.new).past self.new set (stored_with stored beat.now)) }
 
-        // Nothing has changed where the moment is not above the last one, or an earlier call was refused.
+        // Nothing has changed where the moment is not above the last one, or an earlier call was
+        // refused.
         ensures order { IsErrOf result StoreFault.MomentOrder
             ↔ ((self.old.fault ≡ None)
             × IsSomeAnd beat.now.moment (λ moment. moment ≤ self.old.last)) }
@@ -411,7 +418,8 @@ impl Store {
             (λ fault. LeavesAll fault → (self.new ≡ self.old) × (host.new ≡ host.old)) }
         ensures same_host { IsErrOf result StoreFault.Memory → host.new ≡ host.old }
 
-        // After a refusal all but the fault is as before, and each call answers Reopen with its cause.
+        // After a refusal all but the fault is as before, and each call answers Reopen with its
+        // cause.
         ensures leaves { OnErr result (self.new ≡ record self.old { fault = self.new.fault }) }
         ensures fault { self.new.fault ≡ fault_after self.old.fault result }
         ensures reopens { Reopens self.old.fault result }
@@ -428,8 +436,7 @@ impl Store {
             ((self.new.count ≡ self.old.count) × (self.new.last ≡ self.old.last)) }
         ensures settings { self.new.settings ≡ self.old.settings }
 
-        ensures only_here { H.honest
-            → OnlyOwn (H.seen host.old).past (H.seen host.new).past }
+        ensures only_here { H.honest → OnlyOwn (H.seen host.old).past (H.seen host.new).past }
         ensures cause { HasCause (H.seen host.old).disk_faults (H.seen host.new).disk_faults
             (IsErrOf result StoreFault.DiskFault) }
         ensures output { (H.seen host.new).tell_faults ≡ (H.seen host.old).tell_faults }
@@ -474,8 +481,7 @@ impl Store {
           journal = self.new.journal;
         }) }
         ensures stays { OnErr result (self.new ≡ self.old) }
-        ensures only_here { H.honest
-            → OnlyOwn (H.seen host.old).past (H.seen host.new).past }
+        ensures only_here { H.honest → OnlyOwn (H.seen host.old).past (H.seen host.new).past }
         ensures faults { IfErr result IsStepFault }
         ensures untouched { IsErrOf result StoreFault.Memory → host.new ≡ host.old }
         ensures cause { HasCause (H.seen host.old).disk_faults (H.seen host.new).disk_faults

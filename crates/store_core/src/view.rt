@@ -18,8 +18,9 @@ use query_engine::{PointFault, PointList, Points, Request, Table};
 use std::alloc::Global;
 use tier_settings::widths;
 
-/// A store and its host: it answers by the points, records and floors of the beats that were applied. All is in
-/// memory, so that no call touches the host. Of a store whose commit or replay was refused it tells nothing.
+/// A store and its host: it answers by the points, records and floors of the beats that were
+/// applied. All is in memory, so that no call touches the host. Of a store whose commit or replay
+/// was refused it tells nothing.
 #[derive(Drop)]
 pub struct StoreView<'a, 'b, H> {
     pub store: &'a mut Store,
@@ -36,8 +37,8 @@ impl Store {
     }
 }
 
-/// The answer of a store to a request is that of the definition over the beats that were applied. Whatever it is,
-/// store and host are as before, and the disk does not fail.
+/// The answer of a store to a request is that of the definition over the beats that were applied.
+/// Whatever it is, store and host are as before, and the disk does not fail.
 pub fn answer_by<H: Host>(
     alloc: Global,
     store: &mut Store,
