@@ -8,8 +8,7 @@ ghost use Rattle.agent_core.specs.Rules.{IsOpenBeat};
 ghost use Rattle.tier_settings.specs.Limits.{InLimits};
 
 use agent_core::{
-    Agent, AgentFault, ConfigFault, EventList, Reply, Said, Settings, Why,
-    write_reply,
+    Agent, AgentFault, ConfigFault, EventList, Reply, Said, Settings, Why, write_reply,
 };
 use collect_block::Feed;
 use fixed_num::Text;

@@ -6,6 +6,7 @@ use history::{
 };
 use std::alloc::{AllocError, Global};
 use std::test::Fail;
+use tier_settings::{Settings, Tier};
 
 // The beat of moment 60: the chart test.one with a dimension a, and the value 42.
 const BEAT: &[u8; 122] =
@@ -107,6 +108,21 @@ fn reads_the_other_kinds(rt: HostRuntime) -> Result<(), Fail> {
     assert!(rt; is_read_and_written_again(rt.alloc(), b"\x03\x02\0\0\0\xff\x09")?);
     assert!(rt;
         is_read_and_written_again(rt.alloc(), b"\x04\x07\0\0\0\0\0\0\0\x3c\0\0\0\x78\0\0\0")?
+    );
+    Ok(())
+}
+
+#[test]
+fn settings_of_other_tiers_have_no_spelling(rt: HostRuntime) -> Result<(), Fail> {
+    let mut settings = Settings::new(rt.alloc(), 7, [(1, 2), (3, 4), (5, 6)])?;
+    settings.tiers.push(Tier {
+        width: 86_400,
+        items: 7,
+        extents: 8,
+    })?;
+    assert_eq!(rt;
+        write_entry(rt.alloc(), &Entry::Settings(settings)).err(),
+        Some(EntryFault::NotCanonical)
     );
     Ok(())
 }

@@ -166,9 +166,10 @@ fn is_short(entry: &Entry) -> bool
     }
 }
 
-/// Whether an entry has a spelling: its lists are in the order of their numbers, each number once, its
-/// words are storage numbers, no text is longer than 65,535 bytes, no list and no bytes are longer than a
-/// u32 counts, and the tiers of settings have the widths that those of a database have.
+/// Whether an entry has a spelling: its lists are in the order of their numbers, each number once,
+/// its words are storage numbers, no text is longer than 65,535 bytes, no list and no bytes are
+/// longer than a u32 counts, and the tiers of settings have the widths that those of a database
+/// have.
 pub fn has_spelling(entry: &Entry) -> bool
     ensures { IsTrue result ↔ HasSpelling entry.now }
 {
@@ -198,8 +199,8 @@ fn write_short_collected(alloc: Global, beat: &NumberedBeat) -> Result<ByteList,
     Ok(writer.into_bytes())
 }
 
-/// The one spelling of the entry of a numbered beat whose lists are in the order of their numbers, and
-/// which keeps to the limits of a registry. It has at most 33,579,025 bytes.
+/// The one spelling of the entry of a numbered beat whose lists are in the order of their numbers,
+/// and which keeps to the limits of a registry. It has at most 33,579,025 bytes.
 #[tactic(auto, unfolding(crate::specs::Entries::is_canonical))]
 pub fn write_collected(alloc: Global, beat: &NumberedBeat) -> Result<ByteList, AllocError>
     requires canonical { is_collected_canonical beat.now ≡ true }

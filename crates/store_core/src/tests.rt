@@ -1,33 +1,26 @@
+ghost use Rattle.std.specs.Prelude.{IfOk};
+ghost use Rattle.store_core.specs.Store.{IsReady, IsReplayed};
+ghost use Rattle.tier_settings.specs.Limits.{InLimits};
+
 use crate::{
-    Beat, BeatPoint, BeatPointList, ByteList, Settings, Store, StoreFault, TierSettings, Why,
-    is_in_limits,
+    Beat, BeatPoint, BeatPointList, ByteList, Settings, Store, StoreFault, Why, is_in_limits,
 };
 use host_model::{CallList, File, Host, Keep, MemoryHost};
-use std::alloc::Global;
+use std::alloc::{AllocError, Global};
 use std::test::Fail;
 
 mod random;
 mod view;
 
-const TIER: TierSettings = TierSettings {
-    items: 262_144,
-    extents: 1024,
-};
+/// The most items, and the most segments, that a tier may have.
+const MOST: (u32, u32) = (262_144, 1_024);
 
-const SETTINGS: Settings = Settings {
-    id: 7,
-    tier0: TIER,
-    tier1: TIER,
-    tier2: TIER,
-};
-
-/// The settings of a second try.
-const OTHERS: Settings = Settings {
-    id: 8,
-    tier0: TIER,
-    tier1: TIER,
-    tier2: TIER,
-};
+/// The settings with this id, and as much in each tier as may be.
+fn settings_with(alloc: Global, id: u64) -> Result<Settings, AllocError>
+    ensures { IfOk result InLimits }
+{
+    Settings::new(alloc, id, [MOST, MOST, MOST])
+}
 
 /// The word of 42.
 const WORD: u32 = 0x2940_1640;
@@ -69,16 +62,45 @@ fn is_the_beat(found: &Option<Beat>) -> bool {
     }
 }
 
+/// Makes a database with these items and segments of the tiers.
+fn create_with<H: Host>(
+    alloc: Global,
+    host: &mut H,
+    quotas: [(u32, u32); 3],
+) -> Result<Store, StoreFault>
+    ensures ready { IfOk result (IsReady H.honest (H.seen host.new).past) }
+    ensures replayed { IfOk result IsReplayed }
+{
+    let Ok(settings) = Settings::new(alloc, 7, quotas) else {
+        return Err(StoreFault::Memory);
+    };
+    if !is_in_limits(&settings) {
+        return Err(StoreFault::Damaged(0));
+    }
+    Store::create(alloc, host, &settings)
+}
+
+/// Makes a database with this id.
+fn create<H: Host>(alloc: Global, host: &mut H, id: u64) -> Result<Store, StoreFault>
+    ensures ready { IfOk result (IsReady H.honest (H.seen host.new).past) }
+    ensures replayed { IfOk result IsReplayed }
+{
+    let Ok(settings) = settings_with(alloc, id) else {
+        return Err(StoreFault::Memory);
+    };
+    Store::create(alloc, host, &settings)
+}
+
 /// Makes a database and stores a beat. It gives what the commit answered, and what it answers then.
 fn make(
     alloc: Global,
     host: &mut MemoryHost,
     beat: &Beat,
 ) -> Result<[Option<StoreFault>; 2], StoreFault> {
-    if !is_in_limits(&SETTINGS) || !beat.is_in_form() || !beat.fits_a_record() {
+    if !beat.is_in_form() || !beat.fits_a_record() {
         return Err(StoreFault::Damaged(0));
     }
-    let mut store = Store::create(alloc, host, &SETTINGS)?;
+    let mut store = create(alloc, host, 7)?;
     let first = store.commit(host, beat).err();
     let again = store.commit(host, beat).err();
     Ok([first, again])
@@ -92,11 +114,8 @@ fn replay(alloc: Global, host: &mut MemoryHost) -> Result<Option<Beat>, StoreFau
 
 /// Makes a database twice. It gives what each call answered.
 fn make_twice(alloc: Global, host: &mut MemoryHost) -> Result<[Option<StoreFault>; 2], StoreFault> {
-    if !is_in_limits(&SETTINGS) || !is_in_limits(&OTHERS) {
-        return Err(StoreFault::Damaged(0));
-    }
-    let first = Store::create(alloc, host, &SETTINGS).err();
-    let second = Store::create(alloc, host, &OTHERS).err();
+    let first = create(alloc, host, 7).err();
+    let second = create(alloc, host, 8).err();
     Ok([first, second])
 }
 
@@ -162,8 +181,7 @@ fn a_second_new_behind_one_whose_last_write_failed(rt: HostRuntime) -> Result<()
 #[test]
 fn a_new_database_has_68_bytes(rt: HostRuntime) -> Result<(), Fail> {
     let mut host = host_of(rt.alloc(), &[])?;
-    assert!(rt; is_in_limits(&SETTINGS));
-    let store = Store::create(rt.alloc(), &mut host, &SETTINGS)?;
+    let store = create(rt.alloc(), &mut host, 7)?;
     assert_eq!(rt; host.len(File::JournalA)?, 68);
     let mut bytes = [0; 68];
     host.read(File::JournalA, 0, &mut bytes)?;
@@ -182,7 +200,7 @@ fn a_new_database_has_68_bytes(rt: HostRuntime) -> Result<(), Fail> {
     assert_eq!(rt; store.settings().id, 7);
     assert_eq!(rt; [store.floor(0), store.floor(1), store.floor(2)], [0, 0, 0]);
     assert!(rt; store.is_replayed());
-    let again = Store::create(rt.alloc(), &mut host, &SETTINGS);
+    let again = create(rt.alloc(), &mut host, 7);
     assert!(rt; matches!(again, Err(StoreFault::Exists)));
     Ok(())
 }

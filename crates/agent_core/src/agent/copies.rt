@@ -6,7 +6,7 @@ ghost use Rattle.host_model.specs.Disks.{EveryDisk};
 ghost use Rattle.host_model.specs.Cause.{HasCause};
 ghost use Rattle.host_model.specs.Moments.{Throughout};
 ghost use Rattle.history.specs.History.{Beat as HistoryBeat, child as child_of};
-ghost use Rattle.entry_codec.specs.declared.entry.Settings.{Settings as ASettings};
+ghost use Rattle.tier_settings.specs.declared.settings.Settings.{Settings as ASettings};
 ghost use Rattle.store_core.specs.Own.{OnlyOwn};
 ghost use Rattle.store_core.specs.Store.{counted};
 ghost use Rattle.replication.specs.Verdict.{is_stored};

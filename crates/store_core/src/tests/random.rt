@@ -10,22 +10,8 @@ use std::alloc::AllocError;
 use std::process::Abort;
 use storage_number::unpack;
 
-/// Quotas of 1 to 3.
-const SMALL: Settings = Settings {
-    id: 7,
-    tier0: TierSettings {
-        items: 3,
-        extents: 2,
-    },
-    tier1: TierSettings {
-        items: 2,
-        extents: 1,
-    },
-    tier2: TierSettings {
-        items: 1,
-        extents: 1,
-    },
-};
+/// Items and segments of 1 to 3.
+const SMALL: [(u32, u32); 3] = [(3, 2), (2, 1), (1, 1)];
 
 /// The words that a point may have.
 const VALUES: [i32; 3] = [5, -7, 0];
@@ -155,19 +141,20 @@ fn plain_floor(
     beats: &[Plain],
     number: u8,
     width: u32,
-    tier: TierSettings,
+    quota: (u32, u32),
 ) -> Result<u32, AllocError> {
+    let (items, extents) = quota;
     let mut sealed = Vec::new(alloc);
     let mut since: u32 = 0;
     for (place, beat) in beats.iter().enumerate() {
         let (before, _) = beats.split_at(place);
         since = since.saturating_add(added(before, *beat, number, width));
-        if since >= tier.items {
+        if since >= items {
             sealed.push(beat.moment)?;
             since = 0;
         }
     }
-    let Some(moment) = sealed.iter().rev().copied().nth(tier.extents as usize) else {
+    let Some(moment) = sealed.iter().rev().copied().nth(extents as usize) else {
         return Ok(0);
     };
     if number == 0 {
@@ -299,12 +286,12 @@ fn check_tier(
     beats: &[Plain],
     number: u8,
     width: u32,
-    tier: TierSettings,
+    quota: (u32, u32),
 ) -> Result<(), Fail>
     requires low { 1 ≤ number }
     requires high { number < 3 }
 {
-    let floor = plain_floor(alloc, beats, number, width, tier)?;
+    let floor = plain_floor(alloc, beats, number, width, quota)?;
     assert_eq!(rt; store.floor(number), floor);
     for beat in beats {
         let bucket = beat.moment.checked_div(width).unwrap_or(0);
@@ -318,28 +305,16 @@ fn check_tier(
 /// Stores beats, and compares what is answered with what they say.
 fn run(rt: &impl Abort, alloc: Global, beats: &[Plain]) -> Result<(), Fail> {
     let mut host = host_of(alloc, &[])?;
-    if !is_in_limits(&SMALL) {
-        return Err(Fail::from("settings out of limits"));
-    }
-    let mut store = Store::create(alloc, &mut host, &SMALL)?;
+    let mut store = create_with(alloc, &mut host, SMALL)?;
     put_all(alloc, &mut store, &mut host, beats)?;
-    let floor = plain_floor(alloc, beats, 0, 1, SMALL.tier0)?;
+    let floor = plain_floor(alloc, beats, 0, 1, SMALL[0])?;
     assert_eq!(rt; store.floor(0), floor);
     check_kept(rt, &mut store, &mut host, beats, floor)?;
     let middle = store.last() / 2;
     check_above(rt, &mut store, &mut host, beats, middle)?;
     check_points(rt, alloc, &mut store, &mut host, beats)?;
-    check_tier(rt, alloc, &mut store, &mut host, beats, 1, 60, SMALL.tier1)?;
-    check_tier(
-        rt,
-        alloc,
-        &mut store,
-        &mut host,
-        beats,
-        2,
-        3_600,
-        SMALL.tier2,
-    )
+    check_tier(rt, alloc, &mut store, &mut host, beats, 1, 60, SMALL[1])?;
+    check_tier(rt, alloc, &mut store, &mut host, beats, 2, 3_600, SMALL[2])
 }
 
 #[test]

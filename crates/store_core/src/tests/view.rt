@@ -12,21 +12,7 @@ use std::process::Abort;
 use storage_number::pack;
 
 /// Few points in a segment, of which one is kept.
-const FEW: Settings = Settings {
-    id: 7,
-    tier0: TierSettings {
-        items: 4,
-        extents: 1,
-    },
-    tier1: TierSettings {
-        items: 100,
-        extents: 1,
-    },
-    tier2: TierSettings {
-        items: 100,
-        extents: 1,
-    },
-};
+const FEW: [(u32, u32); 3] = [(4, 1), (100, 1), (100, 1)];
 
 /// How many ten-millionths one has.
 pub(super) const ONE: Units = 10_000_000;
@@ -112,10 +98,7 @@ fn check_cell(rt: &impl Abort, table: &Table, cell: Option<Units>) {
 
 /// A database with few points, with 1 to 6 at 10 to 60.
 fn six_beats(alloc: Global, host: &mut MemoryHost) -> Result<Store, Fail> {
-    if !is_in_limits(&FEW) {
-        return Err(Fail::from("settings out of limits"));
-    }
-    let mut store = Store::create(alloc, host, &FEW)?;
+    let mut store = create_with(alloc, host, FEW)?;
     put(alloc, &mut store, host, 10, 1)?;
     put(alloc, &mut store, host, 20, 2)?;
     put(alloc, &mut store, host, 30, 3)?;
@@ -160,7 +143,7 @@ fn a_minute_and_a_half(rt: HostRuntime) -> Result<(), Fail> {
 fn what_expired_is_answered_by_its_record(rt: HostRuntime) -> Result<(), Fail> {
     let alloc = rt.alloc();
     let mut host = host_of(alloc, &[])?;
-    let mut store = Store::create(alloc, &mut host, &FEW)?;
+    let mut store = create_with(alloc, &mut host, FEW)?;
     put(alloc, &mut store, &mut host, 10, 1)?;
     put(alloc, &mut store, &mut host, 20, 2)?;
     put(alloc, &mut store, &mut host, 30, 3)?;
@@ -231,7 +214,7 @@ fn put_each<H: Host>(
 fn floors_and_kept_beats(rt: HostRuntime) -> Result<(), Fail> {
     let alloc = rt.alloc();
     let mut host = host_of(alloc, &[])?;
-    let mut store = Store::create(alloc, &mut host, &FEW)?;
+    let mut store = create_with(alloc, &mut host, FEW)?;
     put_each(alloc, &mut store, &mut host, &[1, 2, 3, 4, 5, 6, 7])?;
     assert_eq!(rt; store.floor(0), 0);
     put_each(alloc, &mut store, &mut host, &[8])?;
@@ -258,7 +241,7 @@ fn check_rows(rt: &impl Abort, table: &Table, plain: &Table) {
 fn a_store_answers_as_a_list(rt: HostRuntime) -> Result<(), Fail> {
     let alloc = rt.alloc();
     let mut host = host_of(alloc, &[])?;
-    let mut store = Store::create(alloc, &mut host, &SETTINGS)?;
+    let mut store = create(alloc, &mut host, 7)?;
     put(alloc, &mut store, &mut host, 59, 10)?;
     put(alloc, &mut store, &mut host, 60, 20)?;
     let points = PointList::from_vec(vec![in alloc;

@@ -2,7 +2,7 @@ use Rattle.std.proofs.Common.{List, true, false, refl, sym, inr, subst}
 use Rattle.std.proofs.lemmas.Result.{IfErr-at_err, IfOk-weaker, on_ok_weaker}
 use Rattle.host_model.specs.Disks.{reads_as, EveryDisk}
 use Rattle.host_model.specs.Seen.{Seen}
-use Rattle.entry_codec.specs.declared.entry.Settings.{Settings}
+use Rattle.tier_settings.specs.declared.settings.Settings.{Settings}
 use Rattle.history.specs.History.{Beat}
 use Rattle.agent_core.specs.Agent.{IsAgentOf}
 use Rattle.agent_core.proofs.NoteLemmas.{noted}
