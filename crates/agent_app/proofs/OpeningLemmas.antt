@@ -314,23 +314,23 @@ module _ {H : Type 0} (honest : Type 0) (seen : H → Seen) (host : Seen) (agent
     begins-at : honest → (set : Settings) (h0 : List Beat) → StandsForHistory set h0 (reads_as host.past) → (start : List Event) → told (seen middle).past ≡ told start
         → Throughout (EveryStop (Keeps set h0 h0 (told start))) start (seen middle).past → IsRunning (seen middle).past running every set h0 [] start
     begins-at h set h0 here start silent stops =
-    let kept = were_kept h0 here.stored here.are in
-    record {
-      read = [];
-      made = [];
-      has = read-start (run_rules every set h0);
-      at = record {
-        within = within-of h0 kept.beats kept.are;
-        accepted = tt;
-        agent = subst (λ (a : AgentState). IsAgentOf (seen middle).past a set h0) (sym agent-is) (opens.opened h set h0 here);
-        feed = feed-is;
-        counts = feed-counts running.agent.registry;
-        tells = silent ∙ sym (append-nil (told start));
-        closed = refl;
-        acked = acked-nothing (length h0);
-        stops = stops;
-      };
-    }
+        let kept = were_kept h0 here.stored here.are in
+        record {
+          read = [];
+          made = [];
+          has = read-start (run_rules every set h0);
+          at = record {
+            within = within-of h0 kept.beats kept.are;
+            accepted = tt;
+            agent = subst (λ (a : AgentState). IsAgentOf (seen middle).past a set h0) (sym agent-is) (opens.opened h set h0 here);
+            feed = feed-is;
+            counts = feed-counts running.agent.registry;
+            tells = silent ∙ sym (append-nil (told start));
+            closed = refl;
+            acked = acked-nothing (length h0);
+            stops = stops;
+          };
+        }
 
     begins-so : honest → (set : Settings) (h0 : List Beat) → EveryDisk (StandsForHistory set h0) host.past → IsRunning (seen middle).past running every set h0 [] host.past
     begins-so h set h0 stands =

@@ -65,6 +65,7 @@ module _ (honest : Type 0) (host : Seen) (first : honest → IsDisk host.past (r
     left = tt;
     any_moment = λ h. begins (λ disk is. is);
     same = λ h file. refl;
+    images = tt;
     stands = λ h set g here. inr refl;
     none = λ e h. absurd (no-none (fault-is fault.Memory fault.NotADatabase e));
     some = tt;
