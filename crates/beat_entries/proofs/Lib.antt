@@ -1,12 +1,17 @@
+pub mod AfterLemmas
 pub mod Ascending
+pub mod ComingLemmas
 pub mod CopiedLemmas
 pub mod DefinedLemmas
 pub mod DefiningLemmas
 pub mod EntryLemmas
 pub mod FollowLemmas
+pub mod FreshLemmas
 pub mod Gathering
 pub mod LimitLemmas
 pub mod NextLemmas
 pub mod PutLemmas
+pub mod RowsFound
 pub mod Slots
 pub mod Steps
+pub mod Within
