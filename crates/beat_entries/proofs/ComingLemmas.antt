@@ -1,7 +1,7 @@
 -- The numbers that charts and dimensions have once a registry takes a beat.
-use Rattle.std.proofs.Common.{◌≡◌, ℕ, zero, suc, ◌+◌, ◌==◌, Bool, true, false, cond, not, ◌&&◌, ◌||◌, List, [], ◌∷◌, ◌++◌, map, filter, length, position, Option, Some, None, is_some, refl, sym, ap, subst, ◌∙◌, arith, true≢false, append_assoc, if◌then◌else◌}
+use Rattle.std.proofs.Common.{◌≡◌, ℕ, zero, suc, ◌+◌, ◌==◌, Bool, true, false, cond, not, ◌&&◌, ◌||◌, List, [], ◌∷◌, ◌++◌, map, filter, length, position, Option, Some, None, IfSome, is_some, refl, sym, ap, subst, ◌∙◌, arith, true≢false, append_assoc, if◌then◌else◌}
 use Rattle.std.specs.List.{find, list_any, AllByRecursion}
-use Rattle.std.specs.Option.{option_map, option_map_or}
+use Rattle.std.specs.Option.{option_and_then, option_map, option_map_or}
 use Rattle.std.specs.Str.{bytes_eq}
 use Rattle.std.proofs.lemmas.Bool.{and_parts, eqb-true, not-false}
 use Rattle.std.proofs.lemmas.List.{append-nil, map-append}
@@ -10,14 +10,16 @@ use Rattle.history.specs.declared.beat.OpenDim.{OpenDim}
 use Rattle.history.specs.declared.chart.ChartDef.{ChartDef}
 use Rattle.history.specs.Put.{put, put_all}
 use Rattle.history.specs.Refusal.{chart_now, has_chart, has_dimension, is_new_chart, is_new_dimension}
-use Rattle.history.specs.Registry.{Registry, is_chart, is_dimension, same_chart, same_dimension, chart_of, series_of}
+use Rattle.history.specs.Registry.{Registry, is_chart, is_dimension, is_of, same_chart, same_dimension, chart_of, series_of}
 use Rattle.history.specs.Regular.{AreApart}
 use Rattle.chart_registry.proofs.Applying.{any-put, has_chart-any, same_chart-alike}
 use Rattle.chart_registry.proofs.Finding.{all-weaker, find-none, found-all, found-passes}
 use Rattle.chart_registry.proofs.Growing.{same_dimension-alike}
 use Rattle.chart_registry.proofs.Places.{IsFirst, IsNowhere, first-from_position, list_any-position, nowhere-from_position, position-append, position-first, position-map, position-nowhere}
+use Rattle.chart_registry.proofs.RegistryLemmas.{chart_id-chart_of, or_false}
 use Rattle.chart_registry.proofs.RowsLemmas.{same_text}
-use Rattle.beat_entries.specs.Fresh.{AreBothApart}
+use Rattle.chart_registry.specs.Defining.{chart_id}
+use Rattle.beat_entries.specs.Fresh.{IsKnownAs}
 use Rattle.beat_entries.specs.Rules.{changes_grid, changes_grid_of, with_beat}
 use Rattle.beat_entries.proofs.DefinedLemmas.{chart-alike, chart-itself, dimension-alike, dimension-itself}
 use Rattle.beat_entries.proofs.EntryLemmas.{any-find}
@@ -33,6 +35,18 @@ or-none false = refl
 pub or-yes : (b : Bool) → (b || true) ≡ true
 or-yes true = refl
 or-yes false = refl
+
+pub some-map : {A B : Type 0} (f : A → B) (found : Option A) → is_some (option_map f found) ≡ is_some found
+some-map f None = refl
+some-map f (Some a) = refl
+
+none-from : {A : Type 0} (found : Option A) → is_some found ≡ false → found ≡ None
+none-from None e = refl
+none-from (Some a) e = absurd (true≢false e)
+
+none-and : {A : Type 0} (p g : A → Bool) (xs : List A) → list_any p xs ≡ false → list_any (λ x. p x && g x) xs ≡ false
+none-and p g [] none = refl
+none-and p g (x ∷ xs) none = let parts = or_false (p x) (list_any p xs) none in λ i. (parts.0 i && g x) || none-and p g xs parts.1 i
 
 -- ---- places in a list behind another
 module _ {A : Type 0} (p : A → Bool) where
@@ -56,6 +70,16 @@ module _ {A : Type 0} (p : A → Bool) where
       by true e c f rest = λ i. cond (f i) (Some y) (rest i)
       by false e true f rest = absurd (true≢false (sym (passes y f) ∙ e))
       by false e false f rest = rest
+
+-- ---- the dimensions of a chart that the registry has, or has not
+pub known-is : (registry : Registry) (chart id : List ℕ) (known : Option ℕ) → IsKnownAs registry chart known
+    → option_and_then (λ (number : ℕ). series_of registry (chart_id registry number) id) known ≡ series_of registry chart id
+known-is registry chart id None is =
+    sym (none-from (series_of registry chart id) (list_any-position (is_dimension chart id) registry.dimensions
+    ∙ none-and (is_of chart) (λ (dimension : OpenDim). bytes_eq id dimension.def.id) registry.dimensions is.unowned))
+known-is registry chart id (Some number) is =
+    let same : chart_id registry number ≡ chart = subst (λ (o : Option ℕ). IfSome o (λ n. chart_id registry n ≡ chart)) (sym is.number) (chart_id-chart_of registry chart) in
+    ap (λ (text : List ℕ). series_of registry text id) same
 
 -- ---- a list that takes things that stand apart
 filter-like : {A : Type 0} (q r : A → Bool) (ys : List A) → AllByRecursion (λ y. q y ≡ r y) ys → filter q ys ≡ filter r ys
@@ -118,7 +142,7 @@ module _ {A : Type 0} (same : A → A → Bool) (itself : (x : A) → same x x �
           placed ∙ position-nowhere p (xs ++ filter (is_new xs) ys)
           (nowhere-both p xs (filter (is_new xs) ys) (nowhere-from_position p xs none) (nowhere-from_position p (filter (is_new xs) ys) e))
 
-module _ (registry : Registry) (beat : OpenBeat) (apart : AreBothApart registry beat) where
+module _ (registry : Registry) (beat : OpenBeat) where
   abbrev after : Registry
   after = with_beat registry beat
 
@@ -127,8 +151,8 @@ module _ (registry : Registry) (beat : OpenBeat) (apart : AreBothApart registry 
     abbrev fresh : List ChartDef
     fresh = filter (is_new_chart registry) beat.charts
 
-    pub chart-known : (n : ℕ) → chart_of registry id ≡ Some n → chart_of after id ≡ Some n
-    chart-known n e = placed-known same_chart chart-itself chart-alike (is_chart id) (same_chart-alike id) registry.charts beat.charts apart.charts n e
+    pub chart-known : AreApart same_chart beat.charts → (n : ℕ) → chart_of registry id ≡ Some n → chart_of after id ≡ Some n
+    chart-known apart n e = placed-known same_chart chart-itself chart-alike (is_chart id) (same_chart-alike id) registry.charts beat.charts apart n e
 
     pub chart-has : (n : ℕ) → chart_of registry id ≡ Some n → has_chart registry beat id ≡ true
     chart-has n e =
@@ -157,11 +181,11 @@ module _ (registry : Registry) (beat : OpenBeat) (apart : AreBothApart registry 
       unknown : list_any (is_chart id) registry.charts ≡ false
       unknown = sym (list_any-position (is_chart id) registry.charts) ∙ ap is_some none
 
-      pub chart-fresh : (n : ℕ) → position (is_chart id) fresh ≡ Some n → chart_of after id ≡ Some (length registry.charts + n)
-      chart-fresh n e = placed-fresh same_chart chart-itself chart-alike (is_chart id) (same_chart-alike id) registry.charts beat.charts apart.charts n none e
+      pub chart-fresh : AreApart same_chart beat.charts → (n : ℕ) → position (is_chart id) fresh ≡ Some n → chart_of after id ≡ Some (length registry.charts + n)
+      chart-fresh apart n e = placed-fresh same_chart chart-itself chart-alike (is_chart id) (same_chart-alike id) registry.charts beat.charts apart n none e
 
-      pub chart-nowhere : position (is_chart id) fresh ≡ None → chart_of after id ≡ None
-      chart-nowhere e = placed-nowhere same_chart chart-itself chart-alike (is_chart id) (same_chart-alike id) registry.charts beat.charts apart.charts none e
+      pub chart-nowhere : AreApart same_chart beat.charts → position (is_chart id) fresh ≡ None → chart_of after id ≡ None
+      chart-nowhere apart e = placed-nowhere same_chart chart-itself chart-alike (is_chart id) (same_chart-alike id) registry.charts beat.charts apart none e
 
       new-of : (def : ChartDef) → is_chart id def ≡ true → is_new_chart registry def ≡ true
       new-of def e = ap (λ (text : List ℕ). not (list_any (is_chart text) registry.charts)) (sym (same_text id def.id e)) ∙ ap not unknown
@@ -190,9 +214,9 @@ module _ (registry : Registry) (beat : OpenBeat) (apart : AreBothApart registry 
     abbrev fresh_dimensions : List OpenDim
     fresh_dimensions = filter (is_new_dimension registry) beat.dimensions
 
-    pub series-known : (n : ℕ) → series_of registry chart id ≡ Some n → series_of after chart id ≡ Some n
-    series-known n e =
-        placed-known same_dimension dimension-itself dimension-alike (is_dimension chart id) (same_dimension-alike chart id) registry.dimensions beat.dimensions apart.dimensions n e
+    pub series-known : AreApart same_dimension beat.dimensions → (n : ℕ) → series_of registry chart id ≡ Some n → series_of after chart id ≡ Some n
+    series-known apart n e =
+        placed-known same_dimension dimension-itself dimension-alike (is_dimension chart id) (same_dimension-alike chart id) registry.dimensions beat.dimensions apart n e
 
     pub series-has : (n : ℕ) → series_of registry chart id ≡ Some n → has_dimension registry beat chart id ≡ true
     series-has n e =
@@ -202,13 +226,13 @@ module _ (registry : Registry) (beat : OpenBeat) (apart : AreBothApart registry 
       unknown_dimension : list_any (is_dimension chart id) registry.dimensions ≡ false
       unknown_dimension = sym (list_any-position (is_dimension chart id) registry.dimensions) ∙ ap is_some none
 
-      pub series-fresh : (n : ℕ) → position (is_dimension chart id) fresh_dimensions ≡ Some n → series_of after chart id ≡ Some (length registry.dimensions + n)
-      series-fresh n e =
-          placed-fresh same_dimension dimension-itself dimension-alike (is_dimension chart id) (same_dimension-alike chart id) registry.dimensions beat.dimensions apart.dimensions n none e
+      pub series-fresh : AreApart same_dimension beat.dimensions → (n : ℕ) → position (is_dimension chart id) fresh_dimensions ≡ Some n → series_of after chart id ≡ Some (length registry.dimensions + n)
+      series-fresh apart n e =
+          placed-fresh same_dimension dimension-itself dimension-alike (is_dimension chart id) (same_dimension-alike chart id) registry.dimensions beat.dimensions apart n none e
 
-      pub series-nowhere : position (is_dimension chart id) fresh_dimensions ≡ None → series_of after chart id ≡ None
-      series-nowhere e =
-          placed-nowhere same_dimension dimension-itself dimension-alike (is_dimension chart id) (same_dimension-alike chart id) registry.dimensions beat.dimensions apart.dimensions none e
+      pub series-nowhere : AreApart same_dimension beat.dimensions → position (is_dimension chart id) fresh_dimensions ≡ None → series_of after chart id ≡ None
+      series-nowhere apart e =
+          placed-nowhere same_dimension dimension-itself dimension-alike (is_dimension chart id) (same_dimension-alike chart id) registry.dimensions beat.dimensions apart none e
 
       new-dimension : (dimension : OpenDim) → is_dimension chart id dimension ≡ true → is_new_dimension registry dimension ≡ true
       new-dimension dimension e =

@@ -11,7 +11,9 @@ pub mod Gathering
 pub mod LimitLemmas
 pub mod NextLemmas
 pub mod PutLemmas
+pub mod RowLemmas
 pub mod RowsFound
 pub mod Slots
 pub mod Steps
+pub mod TestLemmas
 pub mod Within

@@ -2,21 +2,13 @@ use Rattle.std.specs.Prelude.{◌≡◌, ℕ, false, filter, List, Option, IfNon
 use Rattle.std.specs.List.{list_any}
 use Rattle.history.specs.declared.beat.OpenBeat.{OpenBeat}
 use Rattle.history.specs.Refusal.{is_new_chart, is_new_dimension}
-use Rattle.history.specs.Registry.{Registry, chart_of, is_of, same_chart, same_dimension}
-use Rattle.history.specs.Regular.{AreApart}
+use Rattle.history.specs.Registry.{Registry, chart_of, is_of}
 use Rattle.beat_entries.specs.declared.fresh.Fresh.{Fresh}
 
 -- what the beat defines and the registry does not have
 pub record IsFreshOf (registry : Registry) (beat : OpenBeat) (fresh : Fresh) : Type 0 where
   pub charts : fresh.charts ≡ filter (is_new_chart registry) beat.charts
   pub dimensions : fresh.dimensions ≡ filter (is_new_dimension registry) beat.dimensions
-
--- the registry has each thing once, and the beat defines each thing once
-pub record AreBothApart (registry : Registry) (beat : OpenBeat) : Type 0 where
-  pub own_charts : AreApart same_chart registry.charts
-  pub own_dimensions : AreApart same_dimension registry.dimensions
-  pub charts : AreApart same_chart beat.charts
-  pub dimensions : AreApart same_dimension beat.dimensions
 
 -- the registry has the chart under this number, if it has it; one that it does not have has no dimensions there
 pub record IsKnownAs (registry : Registry) (chart : List ℕ) (known : Option ℕ) : Type 0 where

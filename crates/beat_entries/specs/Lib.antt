@@ -6,3 +6,4 @@ pub mod Fresh
 pub mod Gathered
 pub mod Next
 pub mod Rules
+pub mod Taking

@@ -5,8 +5,9 @@ ghost use Rattle.std.specs.List.{list_any};
 ghost use Rattle.std.specs.Option.{option_and_then, option_map, ForSome};
 ghost use Rattle.chart_registry.specs.Defining.{chart_id};
 ghost use Rattle.history.specs.Refusal.{chart_now, has_chart, has_dimension, is_new_dimension, is_new_of};
-ghost use Rattle.history.specs.Registry.{chart_of, is_chart, is_dimension, series_of};
-ghost use Rattle.beat_entries.specs.Fresh.{AreBothApart, IsFreshOf, IsKnownAs};
+ghost use Rattle.history.specs.Registry.{chart_of, is_chart, is_dimension, same_chart, same_dimension, series_of};
+ghost use Rattle.beat_entries.specs.Fresh.{IsFreshOf, IsKnownAs};
+ghost use Rattle.history.specs.Regular.{AreApart};
 ghost use Rattle.beat_entries.specs.Rules.{changes_grid, with_beat};
 
 use crate::fresh::Fresh;
@@ -22,7 +23,6 @@ pub(crate) struct Coming<'a> {
     /// What the beat defines anew, if there was memory. Without it the lists of the beat tell what it has, but give
     /// no numbers.
     fresh: Option<Fresh>,
-    ghost apart: { AreBothApart registry.now beat.now },
     ghost found: { ForSome fresh (IsFreshOf registry.now beat.now) },
 }
 
@@ -68,7 +68,8 @@ impl<'a> Coming<'a> {
     ghost use Rattle.beat_entries.specs.Coming.{CanNumber};
 
     pub(crate) fn new(alloc: Global, registry: &'a Registry, beat: &'a OpenBeat) -> Coming<'a>
-        requires { AreBothApart registry.now beat.now }
+        requires charts { AreApart same_chart beat.now.charts }
+        requires dimensions { AreApart same_dimension beat.now.dimensions }
         ensures registry { result.registry.now ≡ registry.now }
         ensures beat { result.beat.now ≡ beat.now }
     {

@@ -1,6 +1,6 @@
 //! What a history with a registry makes of a collected beat.
 
-ghost use Rattle.std.specs.Prelude.{◌≡◌, ◌≤◌, None, true, length, filter_map, IfOk, IfErr, OnOk, MatchResult};
+ghost use Rattle.std.specs.Prelude.{◌≡◌, None, true, is_some, filter_map, IfOk, IfErr, OnOk, MatchResult};
 ghost use Rattle.chart_registry.specs.declared.fault.RegistryFault.TheVariants as registry_fault;
 ghost use Rattle.entry_codec.specs.Entries.{is_collected_canonical, IsWithinLimits};
 ghost use Rattle.history.specs.Numbered.{numbered_beat, IsThere};
@@ -30,10 +30,7 @@ pub(crate) fn number(
     beat: &OpenBeat,
     found: Gathered<Row>,
 ) -> Result<NumberedBeat, AllocError>
-    requires few_charts { length (with_beat coming.now.registry.now coming.now.beat.now).charts
-        ≤ 4096 }
-    requires few { length (with_beat coming.now.registry.now coming.now.beat.now).dimensions
-        ≤ 65536 }
+    requires can { is_some coming.now.fresh ≡ true → CanNumber coming.now }
     requires defined { IsDefinedIn
         (with_beat coming.now.registry.now coming.now.beat.now) beat.now }
     requires apart { AreApart same_row beat.now.rows }
@@ -70,7 +67,7 @@ fn number_content(
         MatchResult result (λ _. reason ≡ None) (IsFaultOf reason) }
 {
     let coming = Coming::new(alloc, registry, beat);
-    let Some(found) = find_rows(alloc, &coming, moment, beat.rows.as_slice()) else {
+    let Some(found) = find_rows(alloc, &coming, moment, coming.beat.rows.as_slice()) else {
         return Err(BeatFault::Refused(BlockFault::NoChart));
     };
     if let Some(why) = content_refusal(&coming, moment, &found) {
