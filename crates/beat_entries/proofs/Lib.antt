@@ -15,5 +15,6 @@ pub mod RowLemmas
 pub mod RowsFound
 pub mod Slots
 pub mod Steps
+pub mod TakingLemmas
 pub mod TestLemmas
 pub mod Within

@@ -43,6 +43,8 @@ pub fn number_beat(
     ensures canonical { IfOk result (λ numbered. is_collected_canonical numbered ≡ true) }
     ensures there { IfOk result (IsThere registry.now) }
 {
+    // To have asked tells the prover how much the registry has at most.
+    let _ = (registry.charts(), registry.dimensions());
     let defined = nothing(alloc);
     let coming = Coming::new(alloc, registry, &defined);
     match find_rows(alloc, &coming, moment, beat.rows.as_slice()) {

@@ -52,11 +52,11 @@ pub(crate) fn number(
 }
 
 /// A beat by the numbers that it has once the registry takes its definitions, or why the registry does not take it.
-fn number_content(
+fn number_content<'a>(
     alloc: Global,
-    registry: &Registry,
+    registry: &'a Registry,
     moment: u32,
-    beat: &OpenBeat,
+    beat: &'a OpenBeat,
 ) -> Result<NumberedBeat, BeatFault>
     requires is_open { IsOpenBeat beat.now }
     requires charts { AreApart same_chart registry.now.charts }
@@ -67,7 +67,7 @@ fn number_content(
         MatchResult result (λ _. reason ≡ None) (IsFaultOf reason) }
 {
     let coming = Coming::new(alloc, registry, beat);
-    let Some(found) = find_rows(alloc, &coming, moment, coming.beat.rows.as_slice()) else {
+    let Some(found) = find_rows(alloc, &coming, moment, beat.rows.as_slice()) else {
         return Err(BeatFault::Refused(BlockFault::NoChart));
     };
     if let Some(why) = content_refusal(&coming, moment, &found) {
