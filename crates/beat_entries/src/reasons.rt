@@ -18,9 +18,7 @@ fn dimensions_lack_chart(coming: &Coming) -> bool
         (has_chart coming.now.registry.now coming.now.beat.now dimension.chart)) coming.now.beat.now.dimensions }
 {
     let dimensions = coming.beat.dimensions.as_slice();
-    dimensions
-        .iter()
-        .any(|dimension| coming.chart(dimension.chart.as_str()).is_none())
+    dimensions.iter().any(|dimension| coming.chart(dimension.chart.as_str()).is_none())
 }
 
 fn changes_grid_of(registry: &Registry, def: &ChartDef) -> bool
@@ -95,18 +93,12 @@ fn has_a_long_row(rows: &[OpenRow]) -> bool
 pub(crate) fn too_many_dimensions(coming: &Coming) -> bool
     ensures { result ≡ too_many_dimensions coming.now.registry.now coming.now.beat.now }
 {
-    fill_the_registry(coming)
-        || fill_a_chart(coming)
-        || has_a_long_row(coming.beat.rows.as_slice())
+    fill_the_registry(coming) || fill_a_chart(coming) || has_a_long_row(coming.beat.rows.as_slice())
 }
 
 /// Why what the beat defines and sets may not come to its registry, if it may not, by what its rows came to: each of
 /// them is of a chart that is there.
-pub(crate) fn content_refusal(
-    coming: &Coming,
-    moment: u32,
-    found: &FoundRows,
-) -> Option<BlockFault>
+pub(crate) fn content_refusal(coming: &Coming, moment: u32, found: &FoundRows) -> Option<BlockFault>
     requires charts { list_any (λ (row : ARow). not
         (has_chart coming.now.registry.now coming.now.beat.now row.chart)) coming.now.beat.now.rows
         ≡ false }

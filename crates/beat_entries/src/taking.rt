@@ -135,3 +135,6 @@ pub fn take_beat(
         Err(fault) => Err(untaken(fault)),
     }
 }
+
+#[cfg(test)]
+mod tests;

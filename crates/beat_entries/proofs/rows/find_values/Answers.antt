@@ -21,7 +21,7 @@ loop-value-preserved c =
       | else-lack w ↦ w.lack-is ∙ ap (λ (b : Bool). b || not there) (sym w.if-lack.false)
     ] in (
       lack ∙ (λ i. c.loop-value.invariant.0 i || not (c.take_value-there.ensures.found i))
-      ∙ any-more (λ (value : OpenValue). not (has_dimension registry beat c.args.chart.now value.id)) c.args.given.now index value c.loop-value-test.true (sym c.value-item.is),
+          ∙ any-more (λ (value : OpenValue). not (has_dimension registry beat c.args.chart.now value.id)) c.args.given.now index value c.loop-value-test.true (sym c.value-item.is),
       λ can whole. gathered-more (value_at (with_beat registry beat) c.args.chart.now) c.args.given.now index value c.loop-value.values.items.items c.take_value-there.new.values.items.items
-      c.loop-value-test.true (sym c.value-item.is) (c.take_value-there.ensures.items can whole) (c.loop-value.invariant.1 can (c.take_value-there.ensures.before whole)),
+          c.loop-value-test.true (sym c.value-item.is) (c.take_value-there.ensures.items can whole) (c.loop-value.invariant.1 can (c.take_value-there.ensures.before whole)),
     )

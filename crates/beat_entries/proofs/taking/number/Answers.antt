@@ -1,5 +1,4 @@
-use Rattle.std.proofs.Common.{◌≡◌, List, sym, ◌∙◌}
-use Rattle.history.specs.declared.row.Row.{Row}
+use Rattle.std.proofs.Common.{◌≡◌, sym, ◌∙◌}
 use Rattle.history.specs.Numbered.{numbered_rows}
 use Rattle.beat_entries.specs.Rules.{with_beat}
 use Rattle.beat_entries.proofs.taking.number.Goals as goal

@@ -1,5 +1,4 @@
-use Rattle.std.proofs.Common.{◌≡◌, Option, Some, None, sym, subst, ◌∙◌}
-use Rattle.history.specs.declared.fault.BlockFault.{BlockFault}
+use Rattle.std.proofs.Common.{◌≡◌, None, sym, subst, ◌∙◌}
 use Rattle.history.specs.Registry.{Registry}
 use Rattle.beat_entries.specs.Defined.{IsDefinedIn}
 use Rattle.beat_entries.specs.Rules.{content_refusal}

@@ -1,9 +1,9 @@
-use Rattle.std.proofs.Common.{◌≡◌, None, sym, ap, subst, ◌∙◌}
+use Rattle.std.proofs.Common.{◌≡◌, Option, None, sym, subst, ◌∙◌}
+use Rattle.std.proofs.lemmas.Result.{err_from_is_err_and}
 use Rattle.history.specs.declared.fault.BlockFault.{BlockFault}
 use Rattle.history.specs.Numbered.{IsThere}
 use Rattle.history.specs.Registry.{Registry, same_chart, same_dimension}
 use Rattle.history.specs.Regular.{AreApart, IsRegular}
-use Rattle.beat_entries.specs.declared.beat_fault.BeatFault.{BeatFault}
 use Rattle.beat_entries.specs.Rules.{beat_refusal}
 use Rattle.beat_entries.specs.Taking.{IsFaultOf}
 use Rattle.beat_entries.proofs.AfterLemmas.{charts-apart, dimensions-apart}
@@ -19,7 +19,13 @@ pub returns-then-moment-last-clause-judged : goal.returns-then-moment-last-claus
 returns-then-moment-last-clause-judged c = refused-order c.args.registry.now c.args.copies c.args.last c.args.moment c.args.beat.now c.if-copies.false c.if-moment-last.true
 
 pub returns-in_err-numbered-clause-judged : goal.returns-in_err-numbered-clause-judged
-returns-in_err-numbered-clause-judged c = ?
+returns-in_err-numbered-clause-judged c =
+    let p = err_from_is_err_and c.from_residual.result c.from_residual.ensures.1 in
+    let fault = c.in_err-numbered.field-0.0 in
+    let here : IsFaultOf (beat_refusal c.args.registry.now c.args.copies c.args.last c.args.moment c.args.beat.now) fault
+    = subst (λ (reason : Option BlockFault). IsFaultOf reason fault)
+    (sym (refused-content c.args.registry.now c.args.copies c.args.last c.args.moment c.args.beat.now c.if-copies.false c.if-moment-last.false)) c.in_err-numbered.ensures.judged in
+    rw (p.1, p.2) here
 
 pub untaken-requires : goal.untaken-requires
 untaken-requires c =

@@ -1,4 +1,4 @@
-use Rattle.std.proofs.Common.{◌≡◌, ℕ, ◌+◌, ◌<◌, List, filter, length, position, Some, None, is_some, sym, ap, ◌∙◌, arith}
+use Rattle.std.proofs.Common.{◌≡◌, ◌+◌, ◌<◌, filter, length, position, Some, None, is_some, sym, ap, ◌∙◌, arith}
 use Rattle.history.specs.Refusal.{is_new_dimension}
 use Rattle.history.specs.Registry.{is_dimension, series_of}
 use Rattle.chart_registry.proofs.RegistryLemmas.{series_of-within}

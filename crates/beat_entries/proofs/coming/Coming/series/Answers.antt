@@ -19,5 +19,5 @@ returns-in-Some-clause-series c can =
 pub returns-in-None-clause-found : goal.returns-in-None-clause-found
 returns-in-None-clause-found c =
     c.fresh_series.ensures.found
-    ∙ has-fresh_dimension c.args.self.now.registry.now c.args.self.now.beat.now c.args.chart.now c.args.id.now 
+    ∙ has-fresh_dimension c.args.self.now.registry.now c.args.self.now.beat.now c.args.chart.now c.args.id.now
     (sym (known-is c.args.self.now.registry.now c.args.chart.now c.args.id.now c.args.known c.requires) ∙ sym c.in-None.ensures)
