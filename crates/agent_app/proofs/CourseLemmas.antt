@@ -36,7 +36,7 @@ use Rattle.agent_app.proofs.ExtendsLemmas.{extends-whole}
 
 -- a history is no database that is not there
 made-held : (set : Settings) (h : List Beat) (disk : File → List ℕ) → StandsForHistory set h disk → is_made disk ≡ false → ⊥
-made-held set h disk here unmade = true≢false (sym (stands_made set here.beats disk here.stands) ∙ unmade)
+made-held set h disk here unmade = true≢false (sym (stands_made set here.stored disk here.stands) ∙ unmade)
 
 abbrev ended_with : Status → Option Status
 ended_with s = Some s
@@ -138,7 +138,7 @@ module _ (starts : List (Option Database)) (tried : List Settings) (runs : List 
   -- ---- there was no database
   module _ (unmade : is_made (reads_as host.past) ≡ false) where
     found : IsHostAsFound honest host host' × ((last : ℕ) → Gives input last [])
-    found = all.found h (λ notes. true≢false (sym (stands_made notes.settings notes.beats (reads_as host.past) notes.stands) ∙ unmade))
+    found = all.found h (λ notes. true≢false (sym (stands_made notes.settings notes.stored (reads_as host.past) notes.stands) ∙ unmade))
 
     not-opened : (t : Status) → Some s ≡ Some t → is_opened t ≡ false
     not-opened t is = by (all.unmade h unmade)

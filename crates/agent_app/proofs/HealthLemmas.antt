@@ -30,6 +30,7 @@ use Rattle.agent_core.specs.Faults.{HealthRefusedBy, IsHealthRefusal, LeavesAll}
 use Rattle.agent_core.specs.Health.{health_refusal}
 use Rattle.agent_core.specs.Kept.{StandsForHealth, StandsForHistory}
 use Rattle.agent_core.specs.Replies.{reply_text}
+use Rattle.agent_core.proofs.StoredLemmas.{were_kept}
 use Rattle.link_session.specs.Keeps.{Extends, no_more, one_more, IsAckedUpTo, Keeps}
 use Rattle.link_session.proofs.AckLemmas.{acked-nothing, acked-one, acked-since, decimal-free, text-front}
 use Rattle.link_session.proofs.StoreLemmas.{stands-all}
@@ -491,8 +492,9 @@ module _ (honest : Type 0) (agent : AgentState) (text : List ℕ) (host : Seen) 
 
       acked : IsAckedUpTo (length (longer h0)) (reply_text reply)
       acked =
+          let kept = were_kept (longer h0) after.holds.stored after.holds.are in
           subst (IsAckedUpTo (length (longer h0))) (sym told-is)
-          (acked-told (length (longer h0)) agent'.count set (health text) h0 after.holds.beats after.holds.are (omega (arith, after.count)) (omega (arith, after.count)))
+          (acked-told (length (longer h0)) agent'.count set (health text) h0 kept.beats kept.are (omega (arith, after.count)) (omega (arith, after.count)))
 
     pub told-storing : (honest → host'.past ≡ Told (reply_text reply) ∷ middle.past) → HasCause middle.tell_faults host'.tell_faults (Done ≡ TellFault) → StoresHealth honest agent text Done host host'
     told-storing done cause = record {

@@ -31,6 +31,7 @@ use Rattle.agent_app.specs.Convert.{LeavesFiles}
 use Rattle.agent_app.specs.Run.{ends_a_run, finds_none, history_with_text, is_opened, Finds, is_whole, IsAsFound, IsHostAsFound, LeavesOthers, run_every, run_output, run_reading, run_rules, run_status, HasRunCause, Resumes, Runs, RunsAll, Stores}
 use Rattle.agent_app.specs.Running.{opening_status, Counts, DiskRose, IsRunning, TellRose}
 use Rattle.agent_app.proofs.CauseLemmas.{both-counts, cause-as, stayed}
+use Rattle.agent_core.proofs.StoredLemmas.{were_kept}
 use Rattle.agent_core.proofs.Within.{within-of}
 use Rattle.agent_app.proofs.HasReadLemmas.{read-start}
 use Rattle.agent_app.proofs.RunLemmas.{EndsFor, Over, both-others, is-by-end, run-for, run-over, run-quiet, run_acts, stops-wider}
@@ -312,12 +313,14 @@ module _ {H : Type 0} (honest : Type 0) (seen : H → Seen) (host : Seen) (agent
     -- by whatever history the disk reads as, and since whatever moment
     begins-at : honest → (set : Settings) (h0 : List Beat) → StandsForHistory set h0 (reads_as host.past) → (start : List Event) → told (seen middle).past ≡ told start
         → Throughout (EveryStop (Keeps set h0 h0 (told start))) start (seen middle).past → IsRunning (seen middle).past running every set h0 [] start
-    begins-at h set h0 here start silent stops = record {
+    begins-at h set h0 here start silent stops =
+    let kept = were_kept h0 here.stored here.are in
+    record {
       read = [];
       made = [];
       has = read-start (run_rules every set h0);
       at = record {
-        within = within-of h0 here.beats here.are;
+        within = within-of h0 kept.beats kept.are;
         accepted = tt;
         agent = subst (λ (a : AgentState). IsAgentOf (seen middle).past a set h0) (sym agent-is) (opens.opened h set h0 here);
         feed = feed-is;

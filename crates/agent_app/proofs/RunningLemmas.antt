@@ -21,7 +21,8 @@ use Rattle.agent_core.specs.Rules.{history_with}
 use Rattle.link_session.specs.Keeps.{Extends, no_more, Keeps, IsAckedUpTo}
 use Rattle.link_session.proofs.AckLemmas.{acked-more, acked-since, acked-weaker, closed-more, text-front}
 use Rattle.link_session.proofs.ExtendsLemmas.{extends-length}
-use Rattle.link_session.proofs.StoreLemmas.{agent-told, keeps-more, stands-all}
+use Rattle.agent_core.proofs.KeptLemmas.{agent-told}
+use Rattle.link_session.proofs.StoreLemmas.{keeps-more, stands-all}
 use Rattle.agent_app.specs.declared.running.Running.{Running}
 use Rattle.agent_app.specs.Running.{RunsAt}
 use Rattle.agent_app.proofs.ExtendsLemmas.{extends-line, extends-start, with-line}

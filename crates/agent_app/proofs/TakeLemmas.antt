@@ -57,6 +57,7 @@ use Rattle.agent_app.proofs.AckLemmas.{stored-some}
 use Rattle.agent_app.proofs.CauseLemmas.{apart, both-counts, cause-as, counts-none, ended-as, ended-counts, ended_so, going-counts, is_outside, refusal-inside, same-counts, stayed, went_on}
 use Rattle.agent_core.proofs.ClosedLemmas.{text-line}
 use Rattle.agent_core.proofs.KeptLemmas.{copies-child}
+use Rattle.agent_core.proofs.StoredLemmas.{were_kept}
 use Rattle.agent_app.proofs.EventLemmas.{acked-told, closed-told}
 use Rattle.agent_app.proofs.ExtendsLemmas.{extends-start, extends-text, lines-after}
 use Rattle.agent_app.proofs.HasReadLemmas.{read-ended, read-long, read-next, read-over, read-refused, read-unfinished, says-all, says-long, says-over, says-refused}
@@ -460,15 +461,16 @@ module _ (honest : Type 0) (running : Running) (host : Seen) (number : ℕ) (byt
           let reply-is : reply ≡ record { count = of-moment.0; events = events_at set closed } = stored-count reply (record { count = of-moment.0; events = events_at set closed }) of-moment.1 in
           let told-is : reply ≡ record { count = agent.count; events = events_at set closed } =
           reply-is ∙ ap (λ (n : ℕ). record { count = n; events = events_at set closed }) (sym (ap (λ (r : Reply). r.count) reply-is) ∙ reply-count) in
-          let are : AreBeatsOf closed after.agent.holds.beats = subst (λ (g : List Beat). AreBeatsOf g after.agent.holds.beats) (sym same) after.agent.holds.are in
+          let kept = were_kept whole after.agent.holds.stored after.agent.holds.are in
+          let are : AreBeatsOf closed kept.beats = subst (λ (g : List Beat). AreBeatsOf g kept.beats) (sym same) kept.are in
           let beat-is = collected moment (beat every read) in
           let before-is = history_at every h0 read in
           record {
             is = ap reply_text told-is
                 ∙ ap (λ (n : ℕ). reply_text (record { count = n; events = events_at set closed })) (after.agent.count ∙ ap counted one-more) ∙ sym (ap (told_of every set h0 read) said-is);
             acked = subst (IsAckedUpTo (length whole)) (sym (ap reply_text told-is))
-                (acked-told (length whole) agent.count set beat-is before-is after.agent.holds.beats are (omega (arith, after.agent.count)) (omega (arith, after.agent.count)));
-            closed = ap (λ (r : Reply). rest (reply_text r)) told-is ∙ closed-told (length whole) agent.count set beat-is before-is after.agent.holds.beats are;
+                (acked-told (length whole) agent.count set beat-is before-is kept.beats are (omega (arith, after.agent.count)) (omega (arith, after.agent.count)));
+            closed = ap (λ (r : Reply). rest (reply_text r)) told-is ∙ closed-told (length whole) agent.count set beat-is before-is kept.beats are;
             some = stored-some reply;
           }
 
@@ -482,8 +484,9 @@ module _ (honest : Type 0) (running : Running) (host : Seen) (number : ℕ) (byt
       answer-told : honest → (every : ℕ) (set : Settings) (h0 : List Beat) (start : List Event) (read : List Line) (made : List ℕ) → RunsAt host.past running every set h0 start read made → IsToldOf every set h0 read said answer
       answer-told h every set h0 start read made at =
           let now = history_at every h0 read in
-          let beats = at.agent.holds.beats in
-          let are = at.agent.holds.are in
+          let kept = were_kept now at.agent.holds.stored at.agent.holds.are in
+          let beats = kept.beats in
+          let are = kept.are in
           let answered : Answers set now said (Table answer) =
           subst (λ (r : Result Said AgentFault). IfOk r (λ (s : Said). (set : Settings) (h : List Beat) → IsAgentOf host.past running.agent set h → Answers set h said s)) ok lined.answered set now at.agent in
           let is : answer ≡ reply_of set now asked = table-same answer (reply_of set now asked) (subst (λ (l : Line). Answers set now l (Table answer)) said-is answered) in

@@ -4,10 +4,10 @@ use Rattle.host_model.specs.declared.status.Status.{Status}
 use Rattle.host_model.specs.declared.status.Status.TheVariants.{Ok as Done, DiskFault, Exists, Memory}
 use Rattle.host_model.specs.Cause.{HasCause}
 use Rattle.host_model.specs.Disks.{EveryDisk, reads_as}
-use Rattle.host_model.specs.declared.file.File.TheVariants.{JournalA}
-use Rattle.host_model.specs.Moments.{Throughout, OnlyOn}
+use Rattle.host_model.specs.Moments.{Throughout}
 use Rattle.host_model.specs.Past.{IsDisk}
 use Rattle.entry_codec.specs.declared.entry.Settings.{Settings}
+use Rattle.store_core.specs.Own.{OnlyOwn}
 use Rattle.store_core.specs.Stands.{is_made}
 use Rattle.host_model.specs.Seen.{Seen}
 use Rattle.agent_core.specs.Kept.{StandsForHistory, StandsForNew}
@@ -31,5 +31,5 @@ pub record Makes (honest : Type 0) (set : Settings) (status : Status) (host host
   -- the disk counts a failure exactly where that is why it ended
   pub disk_cause : HasCause host.disk_faults host'.disk_faults (status ≡ DiskFault)
   -- nothing happens to a file but the journal, and nothing is told
-  pub only_here : honest → OnlyOn JournalA host.past host'.past
+  pub only_here : honest → OnlyOwn host.past host'.past
   pub tells : host'.tell_faults ≡ host.tell_faults

@@ -2,13 +2,12 @@
 use Rattle.std.specs.Prelude.{◌≡◌, ℕ, ◌+◌, ◌<◌, ◌≤◌, Bool, true, false, nat_lt, List, [], ◌∷◌, ◌++◌, length, take, ◌⊎◌, Option, IfSome, Result, Ok, Err}
 use Rattle.std.specs.Option.{option_map_or}
 use Rattle.host_model.specs.declared.file.File.{File}
-use Rattle.host_model.specs.declared.file.File.TheVariants.{JournalA}
 use Rattle.host_model.specs.declared.status.Status.{Status}
 use Rattle.host_model.specs.declared.status.Status.TheVariants.{Ok as Done, Refused, Limit, TellFault, DiskFault, ReadFault, InputLimit, NotADatabase, Damaged, Memory}
 use Rattle.host_model.specs.Cause.{HasCause, Rose}
 use Rattle.host_model.specs.Disks.{EveryDisk, reads_as}
 use Rattle.host_model.specs.Moments.{Throughout, EveryStop}
-use Rattle.host_model.specs.Past.{Event, of, told, IsDisk, IsOther}
+use Rattle.host_model.specs.Past.{Event, of, told, IsDisk}
 use Rattle.host_model.specs.Source.{Takes}
 use Rattle.history.specs.declared.fault.BlockFault.{BlockFault}
 use Rattle.history.specs.declared.fault.BlockFault.TheVariants.{Unfinished}
@@ -24,6 +23,7 @@ use Rattle.plugin_text.specs.Lines.{parts}
 use Rattle.point_lines.specs.declared.refusal.Refusal.{Refusal}
 use Rattle.point_lines.specs.declared.refusal.Refusal.TheVariants as refusal
 use Rattle.entry_codec.specs.declared.entry.Settings.{Settings}
+use Rattle.store_core.specs.Own.{IsForeign}
 use Rattle.store_core.specs.Stands.{is_made, IsDamaged}
 use Rattle.store_core.specs.Store.{counted}
 use Rattle.host_model.specs.Seen.{Seen}
@@ -207,9 +207,9 @@ pub record IsAsFound (honest : Type 0) (left left' : Option (List ℕ)) (source_
   pub source : (left' ≡ left) × (source_faults' ≡ source_faults)
   pub host_is : IsHostAsFound honest host host'
 
--- nothing happens to a file but the journal
+-- nothing happens to a file that is not the store's own
 abbrev pub LeavesOthers : (honest : Type 0) → (host host' : Seen) → Type 0
-LeavesOthers honest host host' = honest → (file : File) → IsOther file JournalA → of file host'.past ≡ of file host.past
+LeavesOthers honest host host' = honest → (file : File) → IsForeign file → of file host'.past ≡ of file host.past
 
 -- the statuses at which the database was opened for sure
 abbrev pub is_opened : Status → Bool

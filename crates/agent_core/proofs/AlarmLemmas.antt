@@ -15,13 +15,14 @@ use Rattle.tier_rollup.specs.declared.point.Point.{Point}
 use Rattle.beat_tiers.specs.State.{tier_floor}
 use Rattle.store_core.specs.declared.beat.Beat.{Beat as StoreBeat}
 use Rattle.store_core.specs.Store.{IsStoreAt, StoreState}
+use Rattle.store_core.specs.Stored.{Stored}
 use Rattle.store_core.specs.Tiers.{floor_at}
 use Rattle.store_core.specs.View.{points_of, Tells}
 use Rattle.store_core.proofs.TierLemmas.{floor_is}
 use Rattle.agent_core.specs.declared.alarming.Stepping.TheVariants as stepping
 use Rattle.agent_core.specs.Alarms.{alarm_beat, alarms_at, alarms_by, HaveFollowed, IsSteppingOf}
 use Rattle.agent_core.specs.Health.{alarms_in, alarms_of}
-use Rattle.agent_core.specs.Kept.{AreBeatsOf}
+use Rattle.agent_core.specs.Kept.{IsStoredOf}
 use Rattle.agent_core.specs.LastSeen.{latest_of, IsLatestOf}
 use Rattle.agent_core.proofs.AnswerLemmas.{floor-is, told-is}
 use Rattle.agent_core.proofs.LastSeenLemmas.{latest-is}
@@ -40,22 +41,22 @@ abbrev pub seen_by : ℕ → Registry → Latest → ℕ → (ℕ → List Point
 seen_by moment registry latest floor told = record { moment = moment; registry = registry; latest = latest; floor = floor; told = told }
 
 -- a store tells the points of its beats, by their floor
-pub told-by : (past : List PastEvent) (store : StoreState) (set : Settings) (beats rest : List StoreBeat) → IsStoreAt past store set beats rest → (moment : ℕ) (registry : Registry) (latest : Latest) (old : Held)
+pub told-by : (past : List PastEvent) (store : StoreState) (set : Settings) (stored : Stored) (rest : List StoreBeat) → IsStoreAt past store set stored rest → (moment : ℕ) (registry : Registry) (latest : Latest) (old : Held)
     → {T : Type 0} (part : Outcome → T) (new : T)
     → ((told : ℕ → List Point) → Tells store told → new ≡ part (stepped_by old (seen_by moment registry latest (tier_floor store.tiers 0) told)))
-    → new ≡ part (stepped_by old (seen_by moment registry latest (floor_at set beats 0) (points_of beats)))
-told-by past store set beats rest is_at moment registry latest old part new says =
-    says (points_of beats) (record { set = set; beats = beats; has = is_at.tiers; told_is = refl })
-    ∙ ap (λ (floor : ℕ). part (stepped_by old (seen_by moment registry latest floor (points_of beats)))) (floor_is set beats store.tiers is_at.tiers 0 (omega arith))
+    → new ≡ part (stepped_by old (seen_by moment registry latest (floor_at set stored 0) (points_of stored)))
+told-by past store set stored rest is_at moment registry latest old part new says =
+    says (points_of stored) (record { set = set; stored = stored; has = is_at.tiers; told_is = refl })
+    ∙ ap (λ (floor : ℕ). part (stepped_by old (seen_by moment registry latest floor (points_of stored)))) (floor_is set stored store.tiers is_at.tiers 0 (omega arith))
 
 -- ---- what a beat makes of the alarms
-beat-is : (set : Settings) (h : List Beat) (beat : Beat) (beats : List StoreBeat) (registry : Registry) (latest : Latest) → AreBeatsOf (beat ∷ h) beats → registry ≡ registry_of (beat ∷ h)
+beat-is : (set : Settings) (h : List Beat) (beat : Beat) (stored : Stored) (registry : Registry) (latest : Latest) → IsStoredOf (beat ∷ h) stored → registry ≡ registry_of (beat ∷ h)
     → IsLatestOf latest (beat ∷ h) → latest.before ≡ last h → (moment at : ℕ) → moment ≡ at
-    → seen_by moment registry latest (floor_at set beats 0) (points_of beats) ≡ alarm_beat set (last h) at (beat ∷ h)
-beat-is set h beat beats registry latest are registry_is latest_is before moment at same =
+    → seen_by moment registry latest (floor_at set stored 0) (points_of stored) ≡ alarm_beat set (last h) at (beat ∷ h)
+beat-is set h beat stored registry latest are registry_is latest_is before moment at same =
     let seen : latest ≡ latest_of (last h) (beat ∷ h) = latest-is latest (beat ∷ h) latest_is ∙ ap (λ (b : ℕ). latest_of b (beat ∷ h)) before in
-    let floor = floor-is set (beat ∷ h) beats are 0 in
-    let told = told-is set (beat ∷ h) beats are in
+    let floor = floor-is set (beat ∷ h) stored are 0 in
+    let told = told-is set (beat ∷ h) stored are in
     λ i. seen_by (same i) (registry_is i) (seen i) (floor i) (told i)
 
 outcome-of : (set : Settings) (h : List Beat) (beat : Beat) (old : Held) (now : AlarmBeat) (moment : ℕ) (defines : Bool) → old ≡ alarms_at set h → IsSteppingOf beat (stepping.Beat moment defines)
@@ -72,14 +73,14 @@ followed-by set h out new events is held told = record {
   events_are = told ∙ ap (λ (o : Outcome). o.events) is;
 }
 
-pub beat-followed : (set : Settings) (h : List Beat) (beat : Beat) (beats : List StoreBeat) (registry : Registry) (latest : Latest) → AreBeatsOf (beat ∷ h) beats → registry ≡ registry_of (beat ∷ h)
+pub beat-followed : (set : Settings) (h : List Beat) (beat : Beat) (stored : Stored) (registry : Registry) (latest : Latest) → IsStoredOf (beat ∷ h) stored → registry ≡ registry_of (beat ∷ h)
     → IsLatestOf latest (beat ∷ h) → latest.before ≡ last h → (old new : Held) (events : List Event) (moment : ℕ) (defines : Bool) → old ≡ alarms_at set h → IsSteppingOf beat (stepping.Beat moment defines)
-    → new ≡ (stepped_by old (seen_by moment registry latest (floor_at set beats 0) (points_of beats))).held
-    → events ≡ (stepped_by old (seen_by moment registry latest (floor_at set beats 0) (points_of beats))).events → HaveFollowed set (beat ∷ h) new events
-beat-followed set h beat beats registry latest are registry_is latest_is before old new events moment defines was does held told =
-    let now = seen_by moment registry latest (floor_at set beats 0) (points_of beats) in
+    → new ≡ (stepped_by old (seen_by moment registry latest (floor_at set stored 0) (points_of stored))).held
+    → events ≡ (stepped_by old (seen_by moment registry latest (floor_at set stored 0) (points_of stored))).events → HaveFollowed set (beat ∷ h) new events
+beat-followed set h beat stored registry latest are registry_is latest_is before old new events moment defines was does held told =
+    let now = seen_by moment registry latest (floor_at set stored 0) (points_of stored) in
     followed-by set (beat ∷ h) (stepped_by old now) new events
-    (outcome-of set h beat old now moment defines was does (beat-is set h beat beats registry latest are registry_is latest_is before moment)) held told
+    (outcome-of set h beat old now moment defines was does (beat-is set h beat stored registry latest are registry_is latest_is before moment)) held told
 
 config-of : (set : Settings) (h : List Beat) (beat : Beat) (old : Held) (registry : Registry) (moment : ℕ) (config : Config) → old ≡ alarms_at set h → IsSteppingOf beat (stepping.Configuration config)
     → registry ≡ registry_of (beat ∷ h) → moment ≡ last h → configured old (text_of config) (map alarm_of (entities_of config)) registry moment ≡ alarms_by set (beat ∷ h)

@@ -1,4 +1,4 @@
--- What a store keeps for a history gives the answers of the history.
+-- What is stored for a history gives the answers of the history.
 use Rattle.std.proofs.Common.{◌≡◌, ℕ, nat_eq, Bool, true, false, cond, List, [], ◌∷◌, map, reverse, Option, Some, None, Result, Ok, Err, refl, sym, ap, ◌∙◌}
 use Rattle.std.specs.List.{cons_option, find}
 use Rattle.std.specs.Option.{option_map, option_map_or, unwrap_or}
@@ -24,10 +24,11 @@ use Rattle.query_text.specs.Fault.{IsFaultFor}
 use Rattle.query_text.specs.Told.{fault_text, table_text}
 use Rattle.entry_codec.specs.declared.entry.Settings.{Settings}
 use Rattle.store_core.specs.declared.beat.Beat.{Beat as StoreBeat}
+use Rattle.store_core.specs.Stored.{Stored}
 use Rattle.store_core.specs.Tiers.{first_tier, floor_at, kept_of, seen, tier_with}
 use Rattle.store_core.specs.View.{points_of, widths}
 use Rattle.agent_core.specs.Answers.{floor_of_history, kept_of_history, points_of_history, reply_of, reply_to, tier_beat, tier_beats, told_point}
-use Rattle.agent_core.specs.Kept.{copied_point, point_of, AreBeatsOf, IsBeatOf}
+use Rattle.agent_core.specs.Kept.{copied_point, point_of, AreBeatsOf, IsBeatOf, IsStoredOf}
 
 -- ---- the points of a series
 find-map : {A B : Type 0} (f : A → B) (p : B → Bool) (xs : List A) → find p (map f xs) ≡ option_map f (find (λ x. p (f x)) xs)
@@ -83,31 +84,31 @@ unfolding points_of_history
 told-points h series = ap reverse (tier-points h series)
 
 -- tiers see of the beats that a store keeps for a history just what they see of the history
-pub seen-beats : (h : List Beat) (beats : List StoreBeat) → AreBeatsOf h beats → map seen beats ≡ tier_beats h
+seen-beats : (h : List Beat) (beats : List StoreBeat) → AreBeatsOf h beats → map seen beats ≡ tier_beats h
 seen-beats [] [] are = refl
 seen-beats [] (kept ∷ beats) are = absurd are
 seen-beats (beat ∷ h) [] are = absurd are
 seen-beats (beat ∷ h) (kept ∷ beats) are = λ i. seen-beat h beat kept are.0 i ∷ seen-beats h beats are.1 i
 
-module _ (set : Settings) (h : List Beat) (beats : List StoreBeat) (are : AreBeatsOf h beats) where
-  pub told-is : points_of beats ≡ points_of_history h
-  told-is = λ i series. (ap (λ (all : List TierBeat). reverse (series_points all series)) (seen-beats h beats are) ∙ told-points h series) i
+module _ (set : Settings) (h : List Beat) (stored : Stored) (are : IsStoredOf h stored) where
+  pub told-is : points_of stored ≡ points_of_history h
+  told-is = λ i series. (ap (λ (all : List TierBeat). reverse (series_points all series)) (seen-beats h stored.after are.after) ∙ told-points h series) i
 
-  pub floor-is : (tier : ℕ) → floor_at set beats tier ≡ floor_of_history set h tier
+  pub floor-is : (tier : ℕ) → floor_at set stored tier ≡ floor_of_history set h tier
   unfolding floor_of_history
-  floor-is tier = ap (λ (all : List TierBeat). floor_of tier (tier_with set tier) all) (seen-beats h beats are)
+  floor-is tier = ap (λ (all : List TierBeat). floor_of tier (tier_with set tier) all) (seen-beats h stored.after are.after)
 
   -- the answer of the store is that of the history
   pub table-is : (registry : Registry) (request : Request) → registry ≡ registry_of h
-      → table_text registry request (table_of widths (floor_at set beats) (points_of beats) request) ≡ reply_to set h (Ok request)
+      → table_text registry request (table_of widths (floor_at set stored) (points_of stored) request) ≡ reply_to set h (Ok request)
   unfolding reply_to
   table-is registry request same = λ i. table_text (same i) request (table_of widths (λ tier. floor-is tier i) (told-is i) request)
 
-  pub kept-is : kept_of set beats ≡ kept_of_history set h
+  pub kept-is : kept_of set stored ≡ kept_of_history set h
   unfolding kept_of_history
   kept-is =
       let kept : List TierBeat → Kept = λ all. record { before = beats_before (first_tier set) all; beats = map kept_beat_of (kept_beats (first_tier set) all) } in
-      ap kept (seen-beats h beats are)
+      ap kept (seen-beats h stored.after are.after)
 
 -- ---- the reply to what was read of a query
 -- the line of the refusal

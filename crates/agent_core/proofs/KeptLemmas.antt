@@ -1,7 +1,7 @@
--- What is kept of a beat, and what a stop leaves of a history.
+-- What is kept of a beat, and what a crash leaves of a history.
 use Rattle.std.proofs.Common.{◌≡◌, ℕ, ◌+◌, ◌⊎◌, inl, inr, List, [], ◌∷◌, length, map, Option, Some, None, is_some, refl, sym, ap, ◌∙◌, subst, arith}
 use Rattle.host_model.specs.declared.file.File.{File}
-use Rattle.host_model.specs.Past.{Event}
+use Rattle.host_model.specs.Past.{Event, Told}
 use Rattle.host_model.specs.Disks.{EveryDisk}
 use Rattle.host_model.specs.Moments.{Throughout}
 use Rattle.host_model.proofs.DiskLemmas.{disks_weaker}
@@ -24,7 +24,8 @@ use Rattle.store_core.specs.declared.beat.Beat.{Beat as StoreBeat}
 use Rattle.beat_tiers.specs.declared.item.BeatPoint.{BeatPoint}
 use Rattle.store_core.specs.Stands.{StandsAround}
 use Rattle.store_core.specs.Store.{counted, raised, IsStoreOf, StoreState}
-use Rattle.store_core.proofs.StoreLemmas.{every_image_of}
+use Rattle.store_core.specs.Stored.{stored_with}
+use Rattle.store_core.proofs.StoreLemmas.{every_image_of, store_told}
 use Rattle.alarm_core.specs.declared.latest.Latest.{Latest}
 use Rattle.agent_core.specs.Agent.{AgentState, Holds, IsAgentOf}
 use Rattle.alarm_events.specs.declared.event.Event.{Event as AlarmEvent}
@@ -38,6 +39,7 @@ use Rattle.agent_core.specs.Rules.{beat_refusal, IsOpenBeat}
 use Rattle.agent_core.specs.Health.{health_refusal}
 use Rattle.agent_core.proofs.HistoryLemmas.{before-of, child-of, copies-of, follows-passed}
 use Rattle.agent_core.proofs.LastSeenLemmas.{latest-health}
+use Rattle.agent_core.proofs.StoredLemmas.{stored_more, were_kept, WereKept}
 
 -- what is kept is put together of its parts
 pub kept-is : (registry : Registry) (lasts : List (Option Last)) (h : List Beat) (moment : ℕ) (beat : OpenBeat) (words : List SeriesWord) (points : List BeatPoint) (note : List ℕ) → IsNext registry lasts h moment beat
@@ -67,28 +69,29 @@ seen-taken registry latest latest' h moment beat numbered kept same seen beats l
 
 -- ---- the parts of an agent
 module _ (past : List Event) (store : StoreState) (registry : Registry) (lasts : List (Option Last)) (latest : Latest) (set : Settings) (h : List Beat) (holds : Holds past store registry lasts latest set h) where
-  -- whatever a stop leaves, the disk holds the history
+  -- whatever a crash leaves, the disk holds the history
   pub stays : EveryDisk (StandsForHistory set h) past
-  stays disk images = record { beats = holds.beats; are = holds.are; stands = every_image_of past store set holds.beats holds.store_of disk images }
+  stays disk images = record { stored = holds.stored; are = holds.are; stands = every_image_of past store set holds.stored holds.store_of disk images }
 
   -- the moments of the store are those of the agent
-  pub climbs : (beat : Beat) (kept : StoreBeat) → IsBeatOf h beat kept → (new : List Event) → Throughout (EveryDisk (StandsAround set holds.beats kept)) past new
+  pub climbs : (beat : Beat) (kept : StoreBeat) → IsBeatOf h beat kept → (new : List Event) → Throughout (EveryDisk (StandsAround set holds.stored kept)) past new
       → Throughout (EveryDisk (λ disk. StandsForHistory set h disk ⊎ StandsForHistory set (beat ∷ h) disk)) past new
   climbs beat kept of new moments = disks_weaker around moments
     where
-      around : (disk : File → List ℕ) → StandsAround set holds.beats kept disk → StandsForHistory set h disk ⊎ StandsForHistory set (beat ∷ h) disk
-      around disk (inl stands) = inl (record { beats = holds.beats; are = holds.are; stands = stands })
-      around disk (inr stands) = inr (record { beats = kept ∷ holds.beats; are = (of, holds.are); stands = stands })
+      around : (disk : File → List ℕ) → StandsAround set holds.stored kept disk → StandsForHistory set h disk ⊎ StandsForHistory set (beat ∷ h) disk
+      around disk (inl stands) = inl (record { stored = holds.stored; are = holds.are; stands = stands })
+      around disk (inr stands) = inr (record { stored = stored_with holds.stored kept; are = stored_more h holds.stored beat kept holds.are of; stands = stands })
 
   module _ (moment : ℕ) (beat : OpenBeat) (follows : Follows h moment beat) where
     pub is_next : IsNext (with_definitions registry beat.charts beat.dimensions) lasts h moment beat
     is_next =
+        let kept = were_kept h holds.stored holds.are in
         let same : with_definitions registry beat.charts beat.dimensions ≡ registry_of (collected moment beat ∷ h)
         = ap (λ (r : Registry). with_definitions r beat.charts beat.dimensions) holds.registry_is in
         record {
           registry_is = same;
           lasts_are = holds.last_rows_are;
-          before = before-of h holds.beats holds.are moment (follows-passed h moment beat follows).later;
+          before = before-of h kept.beats kept.are moment (follows-passed h moment beat follows).later;
         }
 
     pub next-after : (registry' : Registry) → registry' ≡ with_definitions registry beat.charts beat.dimensions → IsNext registry' lasts h moment beat
@@ -105,20 +108,20 @@ module _ (past : List Event) (store : StoreState) (registry : Registry) (lasts :
     spelt-after registry' applied spelt = subst (λ (r : Registry). HasSpelling (entry.Collected (numbered_beat r moment beat))) (applied ∙ is_next.registry_is) spelt
 
     module _ (kept : StoreBeat) (is_kept : kept ≡ kept_of h moment beat) (spelt : HasSpelling (entry.Collected (numbered_beat (registry_of (collected moment beat ∷ h)) moment beat))) where
-      pub kept-follows : AreBeatsOf (collected moment beat ∷ h) (kept ∷ holds.beats)
-      kept-follows = (record { follows = follows; is_kept = is_kept; spelt = spelt }, holds.are)
+      kept-follows : IsBeatOf h (collected moment beat) kept
+      kept-follows = record { follows = follows; is_kept = is_kept; spelt = spelt }
 
       -- at every moment of the store the history stands, or that with the beat
-      pub collected-climbs : (new : List Event) → Throughout (EveryDisk (StandsAround set holds.beats kept)) past new
+      pub collected-climbs : (new : List Event) → Throughout (EveryDisk (StandsAround set holds.stored kept)) past new
           → Throughout (EveryDisk (λ disk. StandsForHistory set h disk ⊎ StandsForHistory set (collected moment beat ∷ h) disk)) past new
-      collected-climbs new moments = climbs (collected moment beat) kept kept-follows.0 new moments
+      collected-climbs new moments = climbs (collected moment beat) kept kept-follows new moments
 
-      pub holds-more : (new : List Event) (store' : StoreState) (registry' : Registry) (lasts' : List (Option Last)) (latest' : Latest) → IsStoreOf new store' set (kept ∷ holds.beats)
+      pub holds-more : (new : List Event) (store' : StoreState) (registry' : Registry) (lasts' : List (Option Last)) (latest' : Latest) → IsStoreOf new store' set (stored_with holds.stored kept)
           → registry' ≡ with_definitions registry beat.charts beat.dimensions → AreLastOf lasts' (collected moment beat ∷ h) → IsLatestOf latest' (collected moment beat ∷ h)
           → Holds new store' registry' lasts' latest' set (collected moment beat ∷ h)
       holds-more new store' registry' lasts' latest' store_of registry_is last_rows_are latest_is = record {
-        beats = kept ∷ holds.beats;
-        are = kept-follows;
+        stored = stored_with holds.stored kept;
+        are = stored_more h holds.stored (collected moment beat) kept holds.are kept-follows;
         store_of = store_of;
         registry_is = registry_is ∙ is_next.registry_is;
         last_rows_are = last_rows_are;
@@ -127,17 +130,17 @@ module _ (past : List Event) (store : StoreState) (registry : Registry) (lasts :
 
   -- ---- a configuration
   module _ (text : List ℕ) (accepted : health_refusal text ≡ None) (kept : StoreBeat) (is_kept : kept ≡ record { moment = None; points = []; note = entry_bytes (entry.Health text) }) (spelt : HasSpelling (entry.Health text)) where
-    health-follows : AreBeatsOf (health text ∷ h) (kept ∷ holds.beats)
-    health-follows = (record { accepted = accepted; is_kept = is_kept; spelt = spelt }, holds.are)
+    health-follows : IsBeatOf h (health text) kept
+    health-follows = record { accepted = accepted; is_kept = is_kept; spelt = spelt }
 
-    pub health-climbs : (new : List Event) → Throughout (EveryDisk (StandsAround set holds.beats kept)) past new
+    pub health-climbs : (new : List Event) → Throughout (EveryDisk (StandsAround set holds.stored kept)) past new
         → Throughout (EveryDisk (λ disk. StandsForHistory set h disk ⊎ StandsForHistory set (health text ∷ h) disk)) past new
-    health-climbs new moments = climbs (health text) kept health-follows.0 new moments
+    health-climbs new moments = climbs (health text) kept health-follows new moments
 
-    pub holds-health : (new : List Event) (store' : StoreState) → IsStoreOf new store' set (kept ∷ holds.beats) → Holds new store' registry lasts latest set (health text ∷ h)
+    pub holds-health : (new : List Event) (store' : StoreState) → IsStoreOf new store' set (stored_with holds.stored kept) → Holds new store' registry lasts latest set (health text ∷ h)
     holds-health new store' store_of = record {
-      beats = kept ∷ holds.beats;
-      are = health-follows;
+      stored = stored_with holds.stored kept;
+      are = stored_more h holds.stored (health text) kept holds.are health-follows;
       store_of = store_of;
       registry_is = holds.registry_is;
       last_rows_are = record { rows = holds.last_rows_are.rows; within = holds.last_rows_are.within };
@@ -148,7 +151,7 @@ module _ (past : List Event) (store : StoreState) (registry : Registry) (lasts :
 pub holds-before : (past : List Event) (store : StoreState) (registry : Registry) (lasts : List (Option Last)) (latest : Latest) (set : Settings) (h : List Beat) (before : ℕ) → Holds past store registry lasts latest set h
     → Holds past store registry lasts (record latest { before = before }) set h
 holds-before past store registry lasts latest set h before holds = record {
-  beats = holds.beats;
+  stored = holds.stored;
   are = holds.are;
   store_of = holds.store_of;
   registry_is = holds.registry_is;
@@ -160,13 +163,39 @@ holds-before past store registry lasts latest set h before holds = record {
 counted-more : (n : ℕ) → raised (counted n) ≡ counted (n + 1)
 counted-more n = omega arith
 
+-- a store has kept beats for its history
+pub agent-kept : (past : List Event) (agent : AgentState) (set : Settings) (h : List Beat) → IsAgentOf past agent set h → WereKept h
+agent-kept past agent set h is_of = were_kept h is_of.holds.stored is_of.holds.are
+
+-- telling changes nothing of it
+pub agent-told : (sent : List ℕ) (past : List Event) (agent : AgentState) (set : Settings) (h : List Beat) → IsAgentOf past agent set h → IsAgentOf (Told sent ∷ past) agent set h
+agent-told sent past agent set h is_of = record {
+  holds = record {
+    stored = is_of.holds.stored;
+    are = is_of.holds.are;
+    store_of = store_told sent past agent.store set is_of.holds.stored [] is_of.holds.store_of;
+    registry_is = is_of.holds.registry_is;
+    last_rows_are = is_of.holds.last_rows_are;
+    latest_is = is_of.holds.latest_is;
+  };
+  last_is = is_of.last_is;
+  count = is_of.count;
+  role = is_of.role;
+  alarms = is_of.alarms;
+  going = is_of.going;
+}
+
 -- an agent has copied just where its history has a child
 pub copies-child : (past : List Event) (agent : AgentState) (set : Settings) (h : List Beat) → IsAgentOf past agent set h → copies agent.role ≡ is_some (child h)
-copies-child past agent set h is_of = ap copies is_of.role ∙ sym (copies-of h is_of.holds.beats is_of.holds.are)
+copies-child past agent set h is_of =
+    let kept = agent-kept past agent set h is_of in
+    ap copies is_of.role ∙ sym (copies-of h kept.beats kept.are)
 
 -- and it copies that child
 pub child-is : (past : List Event) (agent : AgentState) (set : Settings) (h : List Beat) → IsAgentOf past agent set h → child_in agent.role ≡ child h
-child-is past agent set h is_of = ap child_in is_of.role ∙ child-of h is_of.holds.beats is_of.holds.are
+child-is past agent set h is_of =
+    let kept = agent-kept past agent set h is_of in
+    ap child_in is_of.role ∙ child-of h kept.beats kept.are
 
 module _ (past : List Event) (agent : AgentState) (set : Settings) (h : List Beat) (is_of : IsAgentOf past agent set h) where
   abbrev refusal : ℕ → OpenBeat → Option BlockFault

@@ -35,6 +35,7 @@ pub mod SentBeats
 pub mod SentNames
 pub mod Sound
 pub mod StepLemmas
+pub mod StoredLemmas
 pub mod StoringLemmas
 pub mod TakenLemmas
 pub mod UnseenLemmas

@@ -15,6 +15,7 @@ use Rattle.store_core.specs.declared.fault.StoreFault.{StoreFault}
 use Rattle.store_core.specs.declared.fault.StoreFault.TheVariants as store_fault
 use Rattle.store_core.specs.Stands.{StandsIfMade}
 use Rattle.store_core.specs.Store.{IsNew, IsReady, IsStoreOf, StoreState}
+use Rattle.store_core.specs.Stored.{nothing_stored}
 use Rattle.alarm_core.specs.declared.latest.Latest.{Latest}
 use Rattle.alarm_core.specs.declared.alarms.Alarms.{Alarms}
 use Rattle.alarm_core.specs.UpTo.{IsUpTo}
@@ -29,8 +30,9 @@ use Rattle.agent_core.specs.Kept.{StandsForNew}
 use Rattle.agent_core.specs.LastSeen.{IsLatestOf}
 use Rattle.agent_core.specs.Rules.{HasLimits}
 use Rattle.agent_core.proofs.LimitLemmas.{none-limits}
+use Rattle.agent_core.proofs.StoredLemmas.{stored_none}
 
--- a stop left this disk before, or it holds no database, or the one with these settings and without beats
+-- a crash left this disk before, or it holds no database, or the one with these settings and without beats
 abbrev pub WasOrIsNew : List Event → Settings → (File → List ℕ) → Type 0
 WasOrIsNew old set disk = IsDisk old disk ⊎ StandsForNew set disk
 
@@ -41,16 +43,16 @@ new_climbs set old new moments = disks_weaker by moments
     by : (disk : File → List ℕ) → IsDisk old disk ⊎ StandsIfMade set disk → WasOrIsNew old set disk
     by disk (inl was) = inl was
     by disk (inr (inl none)) = inr (inl none)
-    by disk (inr (inr stands)) = inr (inr (record { beats = []; are = tt; stands = stands }))
+    by disk (inr (inr stands)) = inr (inr (record { stored = nothing_stored; are = stored_none; stands = stands }))
 
 abbrev pub new_agent : StoreState → Registry → List (Option Last) → Latest → Alarms → AgentState
 new_agent store registry lasts latest alarms = record { store = store; registry = registry; last_rows = lasts; latest = latest; alarms = alarms; last = 0; count = 0; role = Undecided; fault = None }
 
 module _ (store : StoreState) (registry : Registry) (lasts : List (Option Last)) (latest : Latest) (alarms : Alarms) (set : Settings) (is_empty : registry ≡ empty) where
-  pub new_is_of : (past : List Event) → IsStoreOf past store set [] → AreLastOf lasts [] → IsLatestOf latest [] → held alarms ≡ nothing → IsAgentOf past (new_agent store registry lasts latest alarms) set []
+  pub new_is_of : (past : List Event) → IsStoreOf past store set nothing_stored → AreLastOf lasts [] → IsLatestOf latest [] → held alarms ≡ nothing → IsAgentOf past (new_agent store registry lasts latest alarms) set []
   unfolding alarms_by
   new_is_of past store_of last_rows latest_is none = record {
-    holds = record { beats = []; are = tt; store_of = store_of; registry_is = is_empty; last_rows_are = last_rows; latest_is = latest_is };
+    holds = record { stored = nothing_stored; are = stored_none; store_of = store_of; registry_is = is_empty; last_rows_are = last_rows; latest_is = latest_is };
     last_is = refl;
     count = refl;
     role = refl;

@@ -1,4 +1,4 @@
--- What the notes of kept beats leave as they are replayed, of whatever beats they are.
+-- What the notes of kept beats leave as they are replayed, of whatever history they are.
 use Rattle.std.proofs.Common.{◌≡◌, ℕ, Bool, true, false, ◌&&◌, List, [], ◌∷◌, Option, Some, None, Ok, refl, sym, ap, ◌∙◌, true≢false, if◌then◌else◌}
 use Rattle.std.specs.Option.{option_map_or}
 use Rattle.host_model.specs.declared.file.File.{File}
@@ -8,12 +8,12 @@ use Rattle.entry_codec.specs.declared.entry.Settings.{Settings}
 use Rattle.entry_codec.specs.Entries.{read_entry}
 use Rattle.beat_entries.proofs.Steps.{number-yes}
 use Rattle.store_core.specs.declared.beat.Beat.{Beat as StoreBeat}
-use Rattle.store_core.specs.Records.{with_all}
 use Rattle.store_core.specs.Stands.{Stands}
 use Rattle.store_core.specs.Store.{IsReplayed, IsStoreAt, OpensAt, Replays, StoreState}
+use Rattle.store_core.specs.Stored.{base_of, nothing_stored, stored_with, stored_with_all, Stored}
 use Rattle.store_core.proofs.StandLemmas.{stands_once}
 use Rattle.agent_core.specs.declared.left.Left.{Left}
-use Rattle.agent_core.specs.Notes.{beats_go_on, entry_at, entry_goes_on, entry_in, left_by, left_of, moment_of, names_series, same_moment, takes_note, with_entry, with_note, HasNotes}
+use Rattle.agent_core.specs.Notes.{beats_go_on, entry_at, entry_goes_on, entry_in, left_by, left_of, left_of_history, moment_of, names_series, notes_go_on, same_moment, takes_note, with_entry, with_note, HasNotes}
 use Rattle.agent_core.specs.Replay.{HasTaken}
 
 -- ---- the entry of a note
@@ -52,78 +52,78 @@ module _ (left : Left) (kept : StoreBeat) (found : Entry) (has : entry_in kept �
       ap (λ (b : Bool). b && names_series (with_note left kept).registry kept.points) (goes-as true goes)
       ∙ ap (λ (l : Left). names_series l.registry kept.points) (sym (note-left left' made)) ∙ e
 
--- ---- the beats of a store
+-- ---- what is stored
 
 -- where a note does not go on, those that come later do not mend it
-never : (beats rest : List StoreBeat) → beats_go_on beats ≡ false → beats_go_on (with_all beats rest) ≡ false
+never : (stored : Stored) (rest : List StoreBeat) → notes_go_on stored ≡ false → notes_go_on (stored_with_all stored rest) ≡ false
 unfolding beats_go_on
-never beats [] e = e
-never beats (next ∷ rest) e = never (next ∷ beats) rest (ap (λ (b : Bool). b && takes_note (left_of beats) next) e)
+never stored [] e = e
+never stored (next ∷ rest) e = never (stored_with stored next) rest (ap (λ (b : Bool). b && takes_note (left_by stored) next) e)
 
-pub go-on-more : (left : Left) (beats : List StoreBeat) (kept : StoreBeat) (goes : Bool) → beats_go_on beats ≡ true → left ≡ left_of beats → takes_note left kept ≡ goes → beats_go_on (kept ∷ beats) ≡ goes
+pub go-on-more : (left : Left) (stored : Stored) (kept : StoreBeat) (goes : Bool) → notes_go_on stored ≡ true → left ≡ left_by stored → takes_note left kept ≡ goes → notes_go_on (stored_with stored kept) ≡ goes
 unfolding beats_go_on
-go-on-more left beats kept goes before is e =
-    ap (λ (b : Bool). b && takes_note (left_of beats) kept) before ∙ ap (λ (l : Left). takes_note l kept) (sym is) ∙ e
+go-on-more left stored kept goes before is e =
+    ap (λ (b : Bool). b && takes_note (left_by stored) kept) before ∙ ap (λ (l : Left). takes_note l kept) (sym is) ∙ e
 
-pub left-more : (left left' : Left) (beats : List StoreBeat) (kept : StoreBeat) → left ≡ left_of beats → left' ≡ with_note left kept → left' ≡ left_of (kept ∷ beats)
+pub left-more : (left left' : Left) (stored : Stored) (kept : StoreBeat) → left ≡ left_by stored → left' ≡ with_note left kept → left' ≡ left_by (stored_with stored kept)
 unfolding left_of
-left-more left left' beats kept is e = e ∙ ap (λ (l : Left). with_note l kept) is
+left-more left left' stored kept is e = e ∙ ap (λ (l : Left). with_note l kept) is
 
-pub left-none : left_of [] ≡ left_by []
+pub left-none : left_by nothing_stored ≡ left_of_history []
 unfolding left_of
 left-none = refl
 
-pub go-on-none : beats_go_on [] ≡ true
+pub go-on-none : notes_go_on nothing_stored ≡ true
 unfolding beats_go_on
 go-on-none = refl
 
 -- ---- a store that replays
 
-pub taken-begins : (past : List Event) (store : StoreState) (left : Left) (set : Settings) (beats : List StoreBeat) → OpensAt past store set beats → left ≡ left_by [] → HasTaken past store left set beats
-taken-begins past store left set beats opens is_empty = record {
-  applied = opens.applied;
+pub taken-begins : (past : List Event) (store : StoreState) (left : Left) (set : Settings) (stored : Stored) → OpensAt past store set stored → left ≡ left_of_history [] → HasTaken past store left set stored
+taken-begins past store left set stored opens is_empty = record {
+  applied = base_of stored;
   rest = opens.rest;
   whole = opens.whole;
   is_at = opens.is_at;
-  go_on = ap beats_go_on opens.from_start ∙ go-on-none;
-  left_is = is_empty ∙ sym (ap left_of opens.from_start ∙ left-none);
+  go_on = go-on-none;
+  left_is = is_empty ∙ sym left-none;
 }
 
-module _ (past : List Event) (store store' : StoreState) (left : Left) (set : Settings) (beats : List StoreBeat) where
+module _ (past : List Event) (store store' : StoreState) (left : Left) (set : Settings) (stored : Stored) where
   module _ (kept : StoreBeat) where
-    step-more : (left' : Left) (applied rest : List StoreBeat) → with_all applied rest ≡ beats → Replays past store' set applied rest (Some kept) → beats_go_on applied ≡ true → left ≡ left_of applied
-        → left' ≡ with_note left kept → takes_note left kept ≡ true → HasTaken past store' left' set beats
+    step-more : (left' : Left) (applied : Stored) (rest : List StoreBeat) → stored_with_all applied rest ≡ stored → Replays past store' set applied rest (Some kept) → notes_go_on applied ≡ true → left ≡ left_by applied
+        → left' ≡ with_note left kept → takes_note left kept ≡ true → HasTaken past store' left' set stored
     step-more left' applied [] whole replays go_on is made takes = absurd replays
     step-more left' applied (first ∷ rest) whole replays go_on is made takes = record {
-      applied = kept ∷ applied;
+      applied = stored_with applied kept;
       rest = rest;
-      whole = ap (λ (next : StoreBeat). with_all (next ∷ applied) rest) replays.0 ∙ whole;
+      whole = ap (λ (next : StoreBeat). stored_with_all (stored_with applied next) rest) replays.0 ∙ whole;
       is_at = replays.1;
       go_on = go-on-more left applied kept true go_on is takes;
       left_is = left-more left left' applied kept is made;
     }
 
-    step-broken : (applied rest : List StoreBeat) → with_all applied rest ≡ beats → Replays past store' set applied rest (Some kept) → beats_go_on applied ≡ true → left ≡ left_of applied → takes_note left kept ≡ false
-        → beats_go_on beats ≡ false
+    step-broken : (applied : Stored) (rest : List StoreBeat) → stored_with_all applied rest ≡ stored → Replays past store' set applied rest (Some kept) → notes_go_on applied ≡ true → left ≡ left_by applied → takes_note left kept ≡ false
+        → notes_go_on stored ≡ false
     step-broken applied [] whole replays go_on is stops = absurd replays
     step-broken applied (first ∷ rest) whole replays go_on is stops =
-        ap beats_go_on (sym (ap (λ (next : StoreBeat). with_all (next ∷ applied) rest) replays.0 ∙ whole)) ∙ never (kept ∷ applied) rest (go-on-more left applied kept false go_on is stops)
+        ap notes_go_on (sym (ap (λ (next : StoreBeat). stored_with_all (stored_with applied next) rest) replays.0 ∙ whole)) ∙ never (stored_with applied kept) rest (go-on-more left applied kept false go_on is stops)
 
-    pub taken-more : (left' : Left) → HasTaken past store left set beats
-        → ((applied rest : List StoreBeat) → IsStoreAt past store set applied rest → Replays past store' set applied rest (Some kept))
-        → left' ≡ with_note left kept → takes_note left kept ≡ true → HasTaken past store' left' set beats
+    pub taken-more : (left' : Left) → HasTaken past store left set stored
+        → ((applied : Stored) (rest : List StoreBeat) → IsStoreAt past store set applied rest → Replays past store' set applied rest (Some kept))
+        → left' ≡ with_note left kept → takes_note left kept ≡ true → HasTaken past store' left' set stored
     taken-more left' was replays made takes = step-more left' was.applied was.rest was.whole (replays was.applied was.rest was.is_at) was.go_on was.left_is made takes
 
-    pub taken-broken : HasTaken past store left set beats
-        → ((applied rest : List StoreBeat) → IsStoreAt past store set applied rest → Replays past store' set applied rest (Some kept))
-        → takes_note left kept ≡ false → beats_go_on beats ≡ false
+    pub taken-broken : HasTaken past store left set stored
+        → ((applied : Stored) (rest : List StoreBeat) → IsStoreAt past store set applied rest → Replays past store' set applied rest (Some kept))
+        → takes_note left kept ≡ false → notes_go_on stored ≡ false
     taken-broken was replays stops = step-broken was.applied was.rest was.whole (replays was.applied was.rest was.is_at) was.go_on was.left_is stops
 
-  none-left : (applied rest : List StoreBeat) → Replays past store' set applied rest None → IsStoreAt past store' set applied rest
+  none-left : (applied : Stored) (rest : List StoreBeat) → Replays past store' set applied rest None → IsStoreAt past store' set applied rest
   none-left applied [] replays = replays
   none-left applied (first ∷ rest) replays = absurd replays
 
-  pub taken-same : HasTaken past store left set beats → ((applied rest : List StoreBeat) → IsStoreAt past store set applied rest → Replays past store' set applied rest None) → HasTaken past store' left set beats
+  pub taken-same : HasTaken past store left set stored → ((applied : Stored) (rest : List StoreBeat) → IsStoreAt past store set applied rest → Replays past store' set applied rest None) → HasTaken past store' left set stored
   taken-same was replays = record {
     applied = was.applied;
     rest = was.rest;
@@ -134,31 +134,31 @@ module _ (past : List Event) (store store' : StoreState) (left : Left) (set : Se
   }
 
 -- at the end all notes have gone on
-pub taken-all : (past : List Event) (store : StoreState) (left : Left) (set : Settings) (beats : List StoreBeat) → HasTaken past store left set beats → IsReplayed store → beats_go_on beats ≡ true
-taken-all past store left set beats was done =
+pub taken-all : (past : List Event) (store : StoreState) (left : Left) (set : Settings) (stored : Stored) → HasTaken past store left set stored → IsReplayed store → notes_go_on stored ≡ true
+taken-all past store left set stored was done =
     let none : was.rest ≡ [] = sym was.is_at.waiting ∙ done in
-    ap beats_go_on (sym was.whole ∙ ap (with_all was.applied) none) ∙ was.go_on
+    ap notes_go_on (sym was.whole ∙ ap (stored_with_all was.applied) none) ∙ was.go_on
 
 -- and this is what they leave
-pub taken-left : (past : List Event) (store : StoreState) (left : Left) (set : Settings) (beats : List StoreBeat) → HasTaken past store left set beats → IsReplayed store → left ≡ left_of beats
-taken-left past store left set beats was done =
+pub taken-left : (past : List Event) (store : StoreState) (left : Left) (set : Settings) (stored : Stored) → HasTaken past store left set stored → IsReplayed store → left ≡ left_by stored
+taken-left past store left set stored was done =
     let none : was.rest ≡ [] = sym was.is_at.waiting ∙ done in
-    was.left_is ∙ ap left_of (sym (ap (with_all was.applied) none) ∙ was.whole)
+    was.left_is ∙ ap left_by (sym (ap (stored_with_all was.applied) none) ∙ was.whole)
 
--- what is known of a store's beats is known of a disk that it was opened on
-pub noted : (goes : Bool) (disk : File → List ℕ) (past : List Event) (store : StoreState) → ((set : Settings) (beats : List StoreBeat) → Stands set beats disk → OpensAt past store set beats)
-    → (set : Settings) × (beats : List StoreBeat) × Stands set beats disk
-    → ((past : List Event) (set : Settings) (beats : List StoreBeat) → OpensAt past store set beats → beats_go_on beats ≡ goes) → HasNotes goes disk
+-- what is known of what a store has stored is known of a disk that it was opened on
+pub noted : (goes : Bool) (disk : File → List ℕ) (past : List Event) (store : StoreState) → ((set : Settings) (stored : Stored) → Stands set stored disk → OpensAt past store set stored)
+    → (set : Settings) × (stored : Stored) × Stands set stored disk
+    → ((past : List Event) (set : Settings) (stored : Stored) → OpensAt past store set stored → notes_go_on stored ≡ goes) → HasNotes goes disk
 noted goes disk past store opens found all = record {
   settings = found.0;
-  beats = found.1;
+  stored = found.1;
   stands = found.2;
   notes = all past found.0 found.1 (opens found.0 found.1 found.2);
 }
 
 -- ---- a disk
--- a disk holds one list of beats at most
+-- a disk holds one database at most
 pub notes-once : (disk : File → List ℕ) → HasNotes true disk → HasNotes false disk → ⊥
 notes-once disk go stop =
-    let same = stands_once go.settings stop.settings go.beats stop.beats disk go.stands stop.stands in
-    true≢false (sym go.notes ∙ ap beats_go_on same.beats_same ∙ stop.notes)
+    let same = stands_once go.settings stop.settings go.stored stop.stored disk go.stands stop.stands in
+    true≢false (sym go.notes ∙ ap notes_go_on same.stored_same ∙ stop.notes)

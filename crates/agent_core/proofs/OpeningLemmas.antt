@@ -1,64 +1,67 @@
 -- An agent that replays the beats of its store: where it begins, each step, and where it ends.
-use Rattle.std.proofs.Common.{◌≡◌, ℕ, suc, List, [], ◌∷◌, length, Option, Some, None, refl, sym, ap, ◌∙◌, subst}
+use Rattle.std.proofs.Common.{◌≡◌, ℕ, List, [], ◌∷◌, Option, Some, None, refl, sym, ap, ◌∙◌, subst}
 use Rattle.host_model.specs.declared.file.File.{File}
 use Rattle.host_model.specs.Past.{Event}
+use Rattle.host_model.specs.Disks.{EveryDisk}
 use Rattle.algorithms.specs.declared.last.Last.{Last}
-use Rattle.history.specs.History.{Beat, collected, copied, health, missing, last}
+use Rattle.history.specs.History.{Beat, last}
 use Rattle.beat_points.specs.LastRows.{AreLastOf}
 use Rattle.alarm_core.specs.declared.latest.Latest.{Latest}
 use Rattle.alarm_core.specs.Course.{held, nothing, Held}
 use Rattle.entry_codec.specs.declared.entry.Settings.{Settings}
 use Rattle.store_core.specs.declared.beat.Beat.{Beat as StoreBeat}
-use Rattle.store_core.specs.Records.{last_after, last_moment, with_all}
 use Rattle.store_core.specs.Stands.{Stands}
 use Rattle.store_core.specs.Store.{counted, IsReplayed, IsStoreAt, IsStoreOf, OpensAt, Replays, StoreState}
+use Rattle.store_core.specs.Stored.{base_of, stored_with, stored_with_all, Stored}
 use Rattle.agent_core.specs.declared.left.Left.{Left}
 use Rattle.agent_core.specs.Agent.{AgentState, IsAgentOf}
 use Rattle.agent_core.specs.Alarms.{alarms_at}
-use Rattle.agent_core.specs.Kept.{onto, AreBeatsOf, IsBeatOf, StandsForHistory}
+use Rattle.agent_core.specs.Kept.{onto, AreBeatsOf, IsBeatOf, IsStoredOf, StandsForHistory}
 use Rattle.agent_core.specs.LastSeen.{IsLatestOf}
-use Rattle.agent_core.specs.Notes.{left_by}
+use Rattle.agent_core.specs.Notes.{left_of_history}
 use Rattle.agent_core.specs.Replay.{AreNextOf, ArePartsOf, IsOpenedFor, IsReplaying}
 use Rattle.agent_core.proofs.AlarmLemmas.{none-yet}
+use Rattle.agent_core.proofs.StoredLemmas.{answers, none_stored, stored_less, stored_more, were_kept}
 
 -- ---- the beginning
 
--- a history, cut where the beats of its store are
-record IsCut (h : List Beat) (beats rest : List StoreBeat) : Type 0 where
+-- a history, cut where its store is
+record IsCut (h : List Beat) (stored : Stored) (rest : List StoreBeat) : Type 0 where
   front : List Beat
   more : List Beat
   whole : onto front more ≡ h
-  are : AreBeatsOf front beats
+  are : IsStoredOf front stored
   next : AreNextOf front more rest
 
 -- the cut one beat earlier
-earlier : (h : List Beat) (kept : StoreBeat) (beats rest : List StoreBeat) (front more : List Beat) → onto front more ≡ h → AreBeatsOf front (kept ∷ beats) → AreNextOf front more rest
-    → IsCut h beats (kept ∷ rest)
-earlier h kept beats rest [] more whole are next = absurd are
-earlier h kept beats rest (beat ∷ front) more whole are next =
-    record { front = front; more = beat ∷ more; whole = whole; are = are.1; next = (are.0, next) }
+earlier : (h : List Beat) (kept : StoreBeat) (stored : Stored) (rest : List StoreBeat) (front more : List Beat) → onto front more ≡ h → IsStoredOf front (stored_with stored kept) → AreNextOf front more rest
+    → IsCut h stored (kept ∷ rest)
+earlier h kept stored rest front more whole are next =
+    let less = stored_less front stored kept are in
+    record {
+      front = less.before;
+      more = less.beat ∷ more;
+      whole = ap (λ (g : List Beat). onto g more) less.whole ∙ whole;
+      are = less.are;
+      next = (less.of, subst (λ (g : List Beat). AreNextOf g more rest) (sym less.whole) next);
+    }
 
-cut : (h : List Beat) (beats rest : List StoreBeat) → AreBeatsOf h (with_all beats rest) → IsCut h beats rest
-cut h beats [] are = record { front = h; more = []; whole = refl; are = are; next = tt }
-cut h beats (kept ∷ rest) are =
-    let later = cut h (kept ∷ beats) rest are in
-    earlier h kept beats rest later.front later.more later.whole later.are later.next
-
--- no beats are those of no history
-none-front : (front : List Beat) → AreBeatsOf front [] → front ≡ []
-none-front [] are = refl
-none-front (beat ∷ front) are = absurd are
+cut : (h : List Beat) (stored : Stored) (rest : List StoreBeat) → IsStoredOf h (stored_with_all stored rest) → IsCut h stored rest
+cut h stored [] are = record { front = h; more = []; whole = refl; are = are; next = tt }
+cut h stored (kept ∷ rest) are =
+    let later = cut h (stored_with stored kept) rest are in
+    earlier h kept stored rest later.front later.more later.whole later.are later.next
 
 pub replaying-begins : (past : List Event) (store : StoreState) (left : Left) (lasts : List (Option Last)) (latest : Latest) (held : Held) (set : Settings) (h : List Beat) → IsOpenedFor past store set h
-    → left ≡ left_by [] → AreLastOf lasts [] → IsLatestOf latest [] → held ≡ nothing → IsReplaying past store left lasts latest held set h
+    → left ≡ left_of_history [] → AreLastOf lasts [] → IsLatestOf latest [] → held ≡ nothing → IsReplaying past store left lasts latest held set h
 replaying-begins past store left lasts latest held set h opened is_empty none unseen no_alarms =
     let opens = opened.opens in
-    let found = cut h opens.applied opens.rest (subst (AreBeatsOf h) (sym opens.whole) opened.are) in
-    let start : found.front ≡ [] = none-front found.front (subst (AreBeatsOf found.front) opens.from_start found.are) in
+    let found = cut h (base_of opened.stored) opens.rest (subst (IsStoredOf h) (sym opens.whole) opened.are) in
+    let start : found.front ≡ [] = none_stored found.front found.are in
     record {
       front = found.front;
       more = found.more;
-      beats = opens.applied;
+      stored = base_of opened.stored;
       rest = opens.rest;
       whole = found.whole;
       are = found.are;
@@ -68,47 +71,24 @@ replaying-begins past store left lasts latest held set h opened is_empty none un
       held_is = no_alarms ∙ none-yet set ∙ ap (alarms_at set) (sym start);
     }
 
--- ---- what a history answers
-
-pub record Answers (h : List Beat) (beats : List StoreBeat) : Type 0 where
-  pub last_is : last_moment beats ≡ last h
-  pub count : length beats ≡ length h
-
-pub answers : (h : List Beat) (beats : List StoreBeat) → AreBeatsOf h beats → Answers h beats
-answers [] [] are = record { last_is = refl; count = refl }
-answers [] (kept ∷ beats) are = absurd are
-answers (beat ∷ h) [] are = absurd are
-answers (beat ∷ h) (kept ∷ beats) are =
-    let before = answers h beats are.1 in
-    record { last_is = now beat are.0 before.last_is; count = ap suc before.count }
-  where
-    at : (moment : Option ℕ) → kept.moment ≡ moment → last_moment (kept ∷ beats) ≡ last_after (last_moment beats) moment
-    at moment e = ap (last_after (last_moment beats)) e
-
-    now : (beat : Beat) → IsBeatOf h beat kept → last_moment beats ≡ last h → last_moment (kept ∷ beats) ≡ last (beat ∷ h)
-    now (collected moment beat) of before = at (Some moment) (ap (λ (k : StoreBeat). k.moment) of.is_kept)
-    now (copied copy) of before = at (Some copy.moment) (ap (λ (k : StoreBeat). k.moment) of.is_kept)
-    now (health text) of before = at None (ap (λ (k : StoreBeat). k.moment) of.is_kept) ∙ before
-    now (missing gap) of before = at (Some gap.to) (ap (λ (k : StoreBeat). k.moment) of.is_kept)
-
 -- ---- a step
 
 -- the beat that was replayed, and what is left
-pub record IsNextBeat (past : List Event) (store : StoreState) (set : Settings) (h : List Beat) (front : List Beat) (beats : List StoreBeat) (kept : StoreBeat) : Type 0 where
+pub record IsNextBeat (past : List Event) (store : StoreState) (set : Settings) (h : List Beat) (front : List Beat) (stored : Stored) (kept : StoreBeat) : Type 0 where
   pub beat : Beat
   pub more : List Beat
   pub rest : List StoreBeat
   pub of : IsBeatOf front beat kept
   pub whole : onto (beat ∷ front) more ≡ h
   pub next : AreNextOf (beat ∷ front) more rest
-  pub is_at : IsStoreAt past store set (kept ∷ beats) rest
+  pub is_at : IsStoreAt past store set (stored_with stored kept) rest
 
 module _ (past : List Event) (store : StoreState) (set : Settings) (h : List Beat) where
-  step-of : (front more : List Beat) (beats rest : List StoreBeat) (kept : StoreBeat) → onto front more ≡ h → AreNextOf front more rest → Replays past store set beats rest (Some kept)
-      → IsNextBeat past store set h front beats kept
-  step-of front more beats [] kept whole next replays = absurd replays
-  step-of front [] beats (first ∷ rest) kept whole next replays = absurd next
-  step-of front (beat ∷ more) beats (first ∷ rest) kept whole next replays = record {
+  step-of : (front more : List Beat) (stored : Stored) (rest : List StoreBeat) (kept : StoreBeat) → onto front more ≡ h → AreNextOf front more rest → Replays past store set stored rest (Some kept)
+      → IsNextBeat past store set h front stored kept
+  step-of front more stored [] kept whole next replays = absurd replays
+  step-of front [] stored (first ∷ rest) kept whole next replays = absurd next
+  step-of front (beat ∷ more) stored (first ∷ rest) kept whole next replays = record {
     beat = beat;
     more = more;
     rest = rest;
@@ -118,62 +98,63 @@ module _ (past : List Event) (store : StoreState) (set : Settings) (h : List Bea
     is_at = replays.1;
   }
 
-  none-of : (beats rest : List StoreBeat) → Replays past store set beats rest None → IsStoreAt past store set beats rest
-  none-of beats [] replays = replays
-  none-of beats (first ∷ rest) replays = absurd replays
+  none-of : (stored : Stored) (rest : List StoreBeat) → Replays past store set stored rest None → IsStoreAt past store set stored rest
+  none-of stored [] replays = replays
+  none-of stored (first ∷ rest) replays = absurd replays
 
 -- the next beat of a history that is replayed
 pub next-of : (past : List Event) (store store' : StoreState) (left : Left) (lasts : List (Option Last)) (latest : Latest) (held : Held) (set : Settings) (h : List Beat) (kept : StoreBeat)
-    → (was : IsReplaying past store left lasts latest held set h) → Replays past store' set was.beats was.rest (Some kept) → IsNextBeat past store' set h was.front was.beats kept
+    → (was : IsReplaying past store left lasts latest held set h) → Replays past store' set was.stored was.rest (Some kept) → IsNextBeat past store' set h was.front was.stored kept
 next-of past store store' left lasts latest held set h kept was replays =
-    step-of past store' set h was.front was.more was.beats was.rest kept was.whole was.next replays
+    step-of past store' set h was.front was.more was.stored was.rest kept was.whole was.next replays
 
 pub replaying-more : (past : List Event) (store store' : StoreState) (left left' : Left) (lasts lasts' : List (Option Last)) (latest latest' : Latest) (held held' : Held) (set : Settings) (h : List Beat) (kept : StoreBeat)
     → IsReplaying past store left lasts latest held set h
-    → ((beats rest : List StoreBeat) → IsStoreAt past store set beats rest → Replays past store' set beats rest (Some kept))
+    → ((stored : Stored) (rest : List StoreBeat) → IsStoreAt past store set stored rest → Replays past store' set stored rest (Some kept))
     → ((g : List Beat) (beats : List StoreBeat) (beat : Beat) → AreBeatsOf g beats → IsBeatOf g beat kept → ArePartsOf left lasts latest g → ArePartsOf left' lasts' latest' (beat ∷ g))
-    → ((g : List Beat) (beats rest : List StoreBeat) (beat : Beat) → AreBeatsOf (beat ∷ g) (kept ∷ beats) → IsStoreAt past store' set (kept ∷ beats) rest → ArePartsOf left' lasts' latest' (beat ∷ g)
+    → ((g : List Beat) (stored : Stored) (rest : List StoreBeat) (beat : Beat) → IsBeatOf g beat kept → IsStoredOf (beat ∷ g) (stored_with stored kept) → IsStoreAt past store' set (stored_with stored kept) rest → ArePartsOf left' lasts' latest' (beat ∷ g)
     → store.last ≡ last g → held ≡ alarms_at set g → held' ≡ alarms_at set (beat ∷ g))
     → IsReplaying past store' left' lasts' latest' held' set h
 replaying-more past store store' left left' lasts lasts' latest latest' held held' set h kept was replays taken followed =
-    let step = next-of past store store' left lasts latest held set h kept was (replays was.beats was.rest was.is_at) in
-    let parts : ArePartsOf left' lasts' latest' (step.beat ∷ was.front) = taken was.front was.beats step.beat was.are step.of was.parts in
-    let before : store.last ≡ last was.front = was.is_at.last ∙ (answers was.front was.beats was.are).last_is in
+    let step = next-of past store store' left lasts latest held set h kept was (replays was.stored was.rest was.is_at) in
+    let parts : ArePartsOf left' lasts' latest' (step.beat ∷ was.front) = (let all = were_kept was.front was.stored was.are in taken was.front all.beats step.beat all.are step.of was.parts) in
+    let before : store.last ≡ last was.front = was.is_at.last ∙ (answers was.front was.stored was.are).last_is in
     record {
       front = step.beat ∷ was.front;
       more = step.more;
-      beats = kept ∷ was.beats;
+      stored = stored_with was.stored kept;
       rest = step.rest;
       whole = step.whole;
-      are = (step.of, was.are);
+      are = stored_more was.front was.stored step.beat kept was.are step.of;
       next = step.next;
       is_at = step.is_at;
       parts = parts;
-      held_is = followed was.front was.beats step.rest step.beat (step.of, was.are) step.is_at parts before was.held_is;
+      held_is = followed was.front was.stored step.rest step.beat step.of (stored_more was.front was.stored step.beat kept was.are step.of) step.is_at parts before was.held_is;
     }
 
 -- the step is not refused for what is kept
 pub replaying-stands : {P : Type 0} (past : List Event) (store store' : StoreState) (left : Left) (lasts : List (Option Last)) (latest : Latest) (held : Held) (set : Settings) (h : List Beat) (kept : StoreBeat)
     → IsReplaying past store left lasts latest held set h
-    → ((beats rest : List StoreBeat) → IsStoreAt past store set beats rest → Replays past store' set beats rest (Some kept))
+    → ((stored : Stored) (rest : List StoreBeat) → IsStoreAt past store set stored rest → Replays past store' set stored rest (Some kept))
     → ((g : List Beat) (beats : List StoreBeat) (beat : Beat) → AreBeatsOf g beats → IsBeatOf g beat kept → ArePartsOf left lasts latest g → P) → P
 replaying-stands past store store' left lasts latest held set h kept was replays stands =
-    let step = next-of past store store' left lasts latest held set h kept was (replays was.beats was.rest was.is_at) in
-    stands was.front was.beats step.beat was.are step.of was.parts
+    let step = next-of past store store' left lasts latest held set h kept was (replays was.stored was.rest was.is_at) in
+    let all = were_kept was.front was.stored was.are in
+    stands was.front all.beats step.beat all.are step.of was.parts
 
 pub replaying-same : (past : List Event) (store store' : StoreState) (left : Left) (lasts : List (Option Last)) (latest : Latest) (held : Held) (set : Settings) (h : List Beat)
     → IsReplaying past store left lasts latest held set h
-    → ((beats rest : List StoreBeat) → IsStoreAt past store set beats rest → Replays past store' set beats rest None)
+    → ((stored : Stored) (rest : List StoreBeat) → IsStoreAt past store set stored rest → Replays past store' set stored rest None)
     → IsReplaying past store' left lasts latest held set h
 replaying-same past store store' left lasts latest held set h was replays = record {
   front = was.front;
   more = was.more;
-  beats = was.beats;
+  stored = was.stored;
   rest = was.rest;
   whole = was.whole;
   are = was.are;
   next = was.next;
-  is_at = none-of past store' set h was.beats was.rest (replays was.beats was.rest was.is_at);
+  is_at = none-of past store' set h was.stored was.rest (replays was.stored was.rest was.is_at);
   parts = was.parts;
   held_is = was.held_is;
 }
@@ -189,13 +170,13 @@ pub replayed-is_of : (past : List Event) (agent : AgentState) (left : Left) (set
     → IsAgentOf past agent set h
 replayed-is_of past agent left set h was done registry last_is count role going =
     let none : was.rest ≡ [] = sym was.is_at.waiting ∙ done in
-    let store_of : IsStoreOf past agent.store set was.beats = subst (λ (rest : List StoreBeat). IsStoreAt past agent.store set was.beats rest) none was.is_at in
+    let store_of : IsStoreOf past agent.store set was.stored = subst (λ (rest : List StoreBeat). IsStoreAt past agent.store set was.stored rest) none was.is_at in
     let end : was.more ≡ [] = no-more was.front was.more (subst (AreNextOf was.front was.more) none was.next) in
     let all : was.front ≡ h = sym (ap (onto was.front) end) ∙ was.whole in
-    let said = answers was.front was.beats was.are in
+    let said = answers was.front was.stored was.are in
     subst (IsAgentOf past agent set) all (record {
       holds = record {
-        beats = was.beats;
+        stored = was.stored;
         are = was.are;
         store_of = store_of;
         registry_is = registry ∙ ap (λ (l : Left). l.registry) was.parts.left_is;
@@ -212,6 +193,12 @@ replayed-is_of past agent left set h was done registry last_is count role going 
 -- ---- an agent that was opened
 
 -- the store of a disk that stands for a history
-pub opened-for : (disk : File → List ℕ) (past : List Event) (store : StoreState) → ((set : Settings) (beats : List StoreBeat) → Stands set beats disk → OpensAt past store set beats)
+pub opened-for : (disk : File → List ℕ) (past : List Event) (store : StoreState) → ((set : Settings) (stored : Stored) → Stands set stored disk → OpensAt past store set stored)
     → (set : Settings) (h : List Beat) → StandsForHistory set h disk → IsOpenedFor past store set h
-opened-for disk past store opens set h stands = record { beats = stands.beats; are = stands.are; opens = opens set stands.beats stands.stands }
+opened-for disk past store opens set h stands = record { stored = stands.stored; are = stands.are; opens = opens set stands.stored stands.stands }
+
+-- whatever a crash leaves holds that history
+pub opened-images : (disk : File → List ℕ) (past : List Event) → ((set : Settings) (stored : Stored) → Stands set stored disk → EveryDisk (Stands set stored) past)
+    → (set : Settings) (h : List Beat) → StandsForHistory set h disk → EveryDisk (StandsForHistory set h) past
+opened-images disk past opens set h stands other images =
+    record { stored = stands.stored; are = stands.are; stands = opens set stands.stored stands.stands other images }

@@ -22,13 +22,14 @@ use Rattle.beat_entries.proofs.DefinedLemmas.{chart-alike, chart-itself, dimensi
 use Rattle.beat_entries.proofs.FollowLemmas.{beat-goes-on, last-is}
 use Rattle.beat_entries.proofs.PutLemmas.{apart-put_all}
 use Rattle.store_core.specs.declared.beat.Beat.{Beat as StoreBeat}
+use Rattle.store_core.specs.Stored.{stored_with, Stored}
 use Rattle.beat_tiers.specs.declared.item.BeatPoint.{BeatPoint}
 use Rattle.agent_core.specs.declared.fault.AgentFault.{AgentFault}
 use Rattle.agent_core.specs.declared.fault.AgentFault.TheVariants.{Damaged, Memory}
 use Rattle.agent_core.specs.declared.left.Left.{Left}
 use Rattle.agent_core.specs.declared.left.Role.TheVariants.{Collects, Copies}
-use Rattle.agent_core.specs.Kept.{copied_entry, copied_point, gap_entry, AreBeatsOf, IsBeatOf}
-use Rattle.agent_core.specs.Notes.{beats_go_on, entry_goes_on, entry_in, left_by, left_of, moment_of, names_series, takes_note, with_entry, with_note}
+use Rattle.agent_core.specs.Kept.{copied_entry, copied_point, gap_entry, AreBeatsOf, IsBeatOf, IsStoredOf}
+use Rattle.agent_core.specs.Notes.{entry_goes_on, entry_in, left_by, left_of_history, moment_of, names_series, notes_go_on, takes_note, with_entry, with_note}
 use Rattle.agent_core.specs.declared.alarming.Stepping.{Stepping}
 use Rattle.agent_core.specs.declared.alarming.Stepping.TheVariants as stepping
 use Rattle.agent_core.specs.Alarms.{IsSteppingOf}
@@ -64,7 +65,7 @@ note-is g (missing gap) kept of =
 
 -- ---- the entry goes on
 module _ (g : List Beat) (beats : List StoreBeat) (are : AreBeatsOf g beats) where
-  pub entry-goes : (beat : Beat) (kept : StoreBeat) → IsBeatOf g beat kept → entry_goes_on (left_by g) (entry_for g beat) ≡ true
+  pub entry-goes : (beat : Beat) (kept : StoreBeat) → IsBeatOf g beat kept → entry_goes_on (left_of_history g) (entry_for g beat) ≡ true
   entry-goes (collected moment beat) kept of =
       let may = not-false (may_collect (role_of g)) (sym (copies-of g beats are) ∙ follows-alone g moment beat of.follows) in
       let goes = beat-goes-on g moment beat (follows-owned g moment beat of.follows) (follows-may g moment beat of.follows (within-of g beats are)) (follows-regular g moment beat of.follows) in
@@ -74,7 +75,7 @@ module _ (g : List Beat) (beats : List StoreBeat) (are : AreBeatsOf g beats) whe
   entry-goes (missing gap) kept of = of.role
 
   -- it leaves what the beat leaves
-  left-after : (beat : Beat) (kept : StoreBeat) → IsBeatOf g beat kept → left_by (beat ∷ g) ≡ with_entry (left_by g) (entry_for g beat)
+  left-after : (beat : Beat) (kept : StoreBeat) → IsBeatOf g beat kept → left_of_history (beat ∷ g) ≡ with_entry (left_of_history g) (entry_for g beat)
   left-after (collected moment beat) kept of =
       let same = last-is g moment beat (follows-owned g moment beat of.follows) in
       λ i. record { registry = same i; role = Collects }
@@ -94,27 +95,37 @@ module _ (g : List Beat) (beats : List StoreBeat) (are : AreBeatsOf g beats) whe
   points-there (missing gap) kept of = ap (λ (k : StoreBeat). names_series (registry_of g) k.points) of.is_kept
 
   module _ (beat : Beat) (kept : StoreBeat) (of : IsBeatOf g beat kept) where
-    pub beat-takes : (left : Left) → left ≡ left_by g → takes_note left kept ≡ true
+    pub beat-takes : (left : Left) → left ≡ left_of_history g → takes_note left kept ≡ true
     beat-takes left is =
         ap (λ (l : Left). takes_note l kept) is
-        ∙ note-takes (left_by g) kept (entry_for g beat) (note-is g beat kept of) true (left_by (beat ∷ g)) (entry-goes beat kept of) (left-after beat kept of) (points-there beat kept of)
+        ∙ note-takes (left_of_history g) kept (entry_for g beat) (note-is g beat kept of) true (left_of_history (beat ∷ g)) (entry-goes beat kept of) (left-after beat kept of) (points-there beat kept of)
 
-    pub beat-leaves : (left left' : Left) → left ≡ left_by g → left' ≡ with_note left kept → left' ≡ left_by (beat ∷ g)
+    pub beat-leaves : (left left' : Left) → left ≡ left_of_history g → left' ≡ with_note left kept → left' ≡ left_of_history (beat ∷ g)
     beat-leaves left left' is made =
         made ∙ ap (λ (l : Left). with_note l kept) is
-        ∙ sym (note-left (left_by g) kept (entry_for g beat) (note-is g beat kept of) (left_by (beat ∷ g)) (left-after beat kept of))
+        ∙ sym (note-left (left_of_history g) kept (entry_for g beat) (note-is g beat kept of) (left_of_history (beat ∷ g)) (left-after beat kept of))
 
--- the beats of a history go on, and leave what it leaves
-pub history-goes : (h : List Beat) (beats : List StoreBeat) → AreBeatsOf h beats → (left_of beats ≡ left_by h) × (beats_go_on beats ≡ true)
-history-goes [] [] are = (left-none, go-on-none)
-history-goes [] (kept ∷ beats) are = absurd are
-history-goes (beat ∷ h) [] are = absurd are
-history-goes (beat ∷ h) (kept ∷ beats) are =
-    let before = history-goes h beats are.1 in
-    let now : with_note (left_by h) kept ≡ left_of (kept ∷ beats) = left-more (left_by h) (with_note (left_by h) kept) beats kept (sym before.0) refl in (
-      sym now ∙ beat-leaves h beats are.1 beat kept are.0 (left_by h) (with_note (left_by h) kept) refl refl,
-      go-on-more (left_by h) beats kept true before.1 (sym before.0) (beat-takes h beats are.1 beat kept are.0 (left_by h) refl),
-    )
+-- what is stored for a history goes on, and leaves what it leaves
+record Leaves (h : List Beat) (stored : Stored) : Type 0 where
+  left : left_by stored ≡ left_of_history h
+  go_on : notes_go_on stored ≡ true
+
+history-leaves : (h : List Beat) (beats : List StoreBeat) → AreBeatsOf h beats → Leaves h (record { after = beats })
+history-leaves [] [] are = record { left = left-none; go_on = go-on-none }
+history-leaves [] (kept ∷ beats) are = absurd are
+history-leaves (beat ∷ h) [] are = absurd are
+history-leaves (beat ∷ h) (kept ∷ beats) are =
+    let before = history-leaves h beats are.1 in
+    let stored : Stored = record { after = beats } in
+    let now : with_note (left_of_history h) kept ≡ left_by (stored_with stored kept)
+    = left-more (left_of_history h) (with_note (left_of_history h) kept) stored kept (sym before.left) refl in
+    record {
+      left = sym now ∙ beat-leaves h beats are.1 beat kept are.0 (left_of_history h) (with_note (left_of_history h) kept) refl refl;
+      go_on = go-on-more (left_of_history h) stored kept true before.go_on (sym before.left) (beat-takes h beats are.1 beat kept are.0 (left_of_history h) refl);
+    }
+
+pub history-goes : (h : List Beat) (stored : Stored) → IsStoredOf h stored → notes_go_on stored ≡ true
+history-goes h stored are = (history-leaves h stored.after are.after).go_on
 
 -- ---- the last rows
 
@@ -155,7 +166,7 @@ pub parts-after : (g : List Beat) (beats : List StoreBeat) (beat : Beat) (kept :
     → AreBeatsOf g beats → IsBeatOf g beat kept → ArePartsOf left lasts latest g → entry_in kept ≡ Some found → left' ≡ with_note left kept
     → HasRows left'.registry lasts lasts' found → HasSeen left'.registry latest latest' found kept.points → ArePartsOf left' lasts' latest' (beat ∷ g)
 parts-after g beats beat kept left left' lasts lasts' latest latest' found are of parts has made rows seen =
-    let is : left' ≡ left_by (beat ∷ g) = beat-leaves g beats are beat kept of left left' parts.left_is made in
+    let is : left' ≡ left_of_history (beat ∷ g) = beat-leaves g beats are beat kept of left left' parts.left_is made in
     let same : found ≡ entry_for g beat = same_Some found (entry_for g beat) (sym has ∙ note-is g beat kept of) in
     let now : HasRows (registry_of (beat ∷ g)) lasts lasts' (entry_for g beat)
     = subst (λ (l : Left). HasRows l.registry lasts lasts' (entry_for g beat)) is (subst (λ (e : Entry). HasRows left'.registry lasts lasts' e) same rows) in

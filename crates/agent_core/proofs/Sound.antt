@@ -110,7 +110,7 @@ module _ (host : Seen) (agent : AgentState) (host' : Seen) (agent' : AgentState)
         spent = did.spends is_of.going ∙ leaves;
         count = did.count ∙ is_of.count;
         last_is = did.last ∙ is_of.last_is;
-        id = did.id ∙ ap (λ (s : Settings). s.id) (settings_of host.past agent.store set is_of.holds.beats [] is_of.holds.store_of);
+        id = did.id ∙ ap (λ (s : Settings). s.id) (settings_of host.past agent.store set is_of.holds.stored [] is_of.holds.store_of);
         images = images;
       })
 

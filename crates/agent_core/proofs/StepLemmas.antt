@@ -3,8 +3,7 @@ use Rattle.std.proofs.Common.{◌≡◌, ◌≢◌, ◌⊎◌, ℕ, inl, inr, Bo
 use Rattle.std.specs.Option.{option_map_or}
 use Rattle.std.proofs.lemmas.Option.{none-some}
 use Rattle.host_model.specs.Disks.{EveryDisk}
-use Rattle.host_model.specs.declared.file.File.TheVariants.{JournalA}
-use Rattle.host_model.specs.Moments.{begins, OnlyOn, Throughout}
+use Rattle.host_model.specs.Moments.{begins, Throughout}
 use Rattle.history.specs.declared.beat.OpenBeat.{OpenBeat}
 use Rattle.history.specs.declared.fault.BlockFault.{BlockFault}
 use Rattle.history.specs.declared.fault.BlockFault.TheVariants as block
@@ -22,6 +21,7 @@ use Rattle.collect_block.specs.Feed as block_feed
 use Rattle.entry_codec.specs.declared.entry.Settings.{Settings}
 use Rattle.store_core.specs.declared.fault.Why.{Why}
 use Rattle.store_core.specs.declared.fault.Why.TheVariants as why
+use Rattle.store_core.specs.Own.{OnlyOwn}
 use Rattle.agent_core.specs.declared.fault.AgentFault.{AgentFault}
 use Rattle.agent_core.specs.declared.fault.AgentFault.TheVariants.{Refused, DiskFault, Reopen, Memory}
 use Rattle.agent_core.specs.declared.reply.Reply.{Reply}
@@ -129,8 +129,8 @@ module _ (honest : Type 0) (host host' : Seen) (agent agent' : AgentState) (text
   asked-moments result quiet true_host set h is_of =
       subst (Throughout (EveryDisk (StandsForOneOf set h None h)) host.past) (sym (quiet true_host)) (begins (nothing_done host.past agent set h is_of None h))
 
-  asked-here : (honest → host'.past ≡ host.past) → honest → OnlyOn JournalA host.past host'.past
-  asked-here quiet true_host = subst (OnlyOn JournalA host.past) (sym (quiet true_host)) (record { others = λ other far. refl; output = refl })
+  asked-here : (honest → host'.past ≡ host.past) → honest → OnlyOwn host.past host'.past
+  asked-here quiet true_host = subst (OnlyOwn host.past) (sym (quiet true_host)) (record { others = λ other far. refl; output = refl })
 
   pub query-answered : (reply : List ℕ) → Queries honest host agent text (replied reply) host' agent' → Takes honest host agent (step.Query text) (saying (Table reply)) host' agent'
   query-answered reply did = record {
@@ -281,7 +281,7 @@ module _ (honest : Type 0) (host host' : Seen) (agent agent' : AgentState) (feed
   more : (h : List Beat) (every : ℕ) (past : List Line) → IsFeedOf feed every past → step_history h step ≡ history_with h every past line
   more h every past is_feed = ap (step_history h) (gives every past is_feed) ∙ sym (history-is h every past line)
 
-  -- what a stop leaves of a history, by the reason against the line
+  -- what a crash leaves of a history, by the reason against the line
   abbrev Left : Settings → List Beat → ℕ → List Line → Option BlockFault → Seen → Type 0
   Left set h every past r host' = Throughout (EveryDisk (StandsForOneOf set h r (history_with h every past line))) host.past host'.past
 

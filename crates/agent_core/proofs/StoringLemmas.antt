@@ -27,6 +27,7 @@ use Rattle.replication.specs.declared.message.Data.{Data}
 use Rattle.store_core.specs.declared.beat.Beat.{Beat as StoreBeat}
 use Rattle.store_core.specs.Beats.{beat_bytes, InForm}
 use Rattle.store_core.specs.Store.{IsStoreOf, StoreState}
+use Rattle.store_core.specs.Stored.{stored_with}
 use Rattle.store_core.proofs.BeatLaw.{beat_size}
 use Rattle.agent_core.specs.Agent.{Holds}
 use Rattle.agent_core.specs.Copying.{gap_beat}
@@ -34,7 +35,7 @@ use Rattle.agent_core.specs.Kept.{copied_entry, copied_point, gap_entry, IsCopyO
 use Rattle.agent_core.specs.Replay.{HasRoom, HasSeenCopy}
 use Rattle.agent_core.specs.Roles.{may_copy, role_of}
 use Rattle.agent_core.specs.Storing.{gap_beats, sent_entry, sent_kept, IsSentAs}
-use Rattle.agent_core.proofs.OpeningLemmas.{answers}
+use Rattle.agent_core.proofs.StoredLemmas.{answers, stored_more, were_kept}
 
 -- ---- a gap
 gap-length : (gap : Gap) → length (entry_bytes (gap_entry gap)) ≡ 17
@@ -63,16 +64,16 @@ gap-spelt gap child from to = record { short = record { child = child; from = fr
 module _ (past : List Event) (store : StoreState) (registry : Registry) (lasts : List (Option Last)) (latest : Latest) (set : Settings) (h : List Beat) (holds : Holds past store registry lasts latest set h) where
   -- the last moment of the store is that of the history
   pub store-last : store.last ≡ last h
-  store-last = holds.store_of.last ∙ (answers h holds.beats holds.are).last_is
+  store-last = holds.store_of.last ∙ (answers h holds.stored holds.are).last_is
 
   module _ (gap : Gap) (kept : StoreBeat) (is_kept : kept ≡ record { moment = Some gap.to; points = []; note = entry_bytes (gap_entry gap) }) (spelt : HasSpelling (gap_entry gap)) where
     pub gap-of : may_copy (role_of h) ≡ true → store.last < gap.to → IsGapOf h gap kept
     gap-of role later = record { role = role; later = omega (arith, store-last, later); is_kept = is_kept; spelt = spelt }
 
-    pub holds-gap : IsGapOf h gap kept → (new : List Event) (store' : StoreState) → IsStoreOf new store' set (kept ∷ holds.beats) → Holds new store' registry lasts latest set (missing gap ∷ h)
+    pub holds-gap : IsGapOf h gap kept → (new : List Event) (store' : StoreState) → IsStoreOf new store' set (stored_with holds.stored kept) → Holds new store' registry lasts latest set (missing gap ∷ h)
     holds-gap of new store' store_of = record {
-      beats = kept ∷ holds.beats;
-      are = (of, holds.are);
+      stored = stored_with holds.stored kept;
+      are = stored_more h holds.stored (missing gap) kept holds.are of;
       store_of = store_of;
       registry_is = holds.registry_is;
       last_rows_are = record { rows = holds.last_rows_are.rows; within = holds.last_rows_are.within };
@@ -81,18 +82,19 @@ module _ (past : List Event) (store : StoreState) (registry : Registry) (lasts :
 
   -- ---- a copied beat
   pub holds-copy : (registry' : Registry) (copy : Copy) (kept : StoreBeat) (moment : ℕ) → IsCopyOf h copy kept → registry' ≡ registry_of (copied copy ∷ h) → kept.moment ≡ Some moment → (new : List Event) (store' : StoreState)
-      → IsStoreOf new store' set (kept ∷ holds.beats) → (lasts' : List (Option Last)) → HasRoom registry' lasts lasts' → (latest' : Latest) → HasSeenCopy registry' latest latest' moment kept.points
+      → IsStoreOf new store' set (stored_with holds.stored kept) → (lasts' : List (Option Last)) → HasRoom registry' lasts lasts' → (latest' : Latest) → HasSeenCopy registry' latest latest' moment kept.points
       → Holds new store' registry' lasts' latest' set (copied copy ∷ h)
   holds-copy registry' copy kept moment of is at new store' store_of lasts' room latest' seen =
+      let all = were_kept h holds.stored holds.are in
       let moment_is : moment ≡ copy.moment = same_Some moment copy.moment (sym at ∙ ap (λ (k : StoreBeat). k.moment) of.is_kept) in
       let points : kept.points ≡ map (copied_point registry') copy.words = ap (λ (k : StoreBeat). k.points) of.is_kept ∙ ap (λ (r : Registry). map (copied_point r) copy.words) (sym is) in
       record {
-        beats = kept ∷ holds.beats;
-        are = (of, holds.are);
+        stored = stored_with holds.stored kept;
+        are = stored_more h holds.stored (copied copy) kept holds.are of;
         store_of = store_of;
         registry_is = is;
         last_rows_are = room h copy holds.last_rows_are is;
-        latest_is = seen h holds.beats lasts copy holds.are holds.last_rows_are holds.latest_is is moment_is points;
+        latest_is = seen h all.beats lasts copy all.are holds.last_rows_are holds.latest_is is moment_is points;
       }
 
 module _ (registry : Registry) (message : Data) (defines : NumberedBeat) (beat : SentBeat) (g : List Beat) (copy : Copy) (sent : IsSentAs registry message defines beat g copy) where

@@ -12,14 +12,14 @@ use Rattle.alarm_core.specs.declared.alarms.Alarms.{Alarms}
 use Rattle.alarm_core.specs.Course.{held}
 use Rattle.alarm_core.specs.UpTo.{IsUpTo}
 use Rattle.entry_codec.specs.declared.entry.Settings.{Settings}
-use Rattle.store_core.specs.declared.beat.Beat.{Beat as StoreBeat}
 use Rattle.store_core.specs.declared.fault.Why.{Why}
 use Rattle.store_core.specs.Store.{counted, IsReady, IsReplayed, IsStoreOf, StoreState}
+use Rattle.store_core.specs.Stored.{Stored}
 use Rattle.agent_core.specs.Alarms.{alarms_at}
 use Rattle.agent_core.specs.declared.left.Role.{Role}
-use Rattle.agent_core.specs.Kept.{AreBeatsOf, StandsForFront}
+use Rattle.agent_core.specs.Kept.{IsStoredOf, StandsForFront}
 use Rattle.agent_core.specs.LastSeen.{IsLatestOf}
-use Rattle.agent_core.specs.Notes.{left_of}
+use Rattle.agent_core.specs.Notes.{left_by}
 use Rattle.agent_core.specs.Roles.{role_of}
 use Rattle.agent_core.specs.Rules.{HasLimits}
 
@@ -48,9 +48,9 @@ id_of agent = agent.store.settings.id
 
 -- these parts of an agent are of this history
 pub record Holds (past : List Event) (store : StoreState) (registry : Registry) (last_rows : List (Option Last)) (latest : Latest) (set : Settings) (h : List Beat) : Type 0 where
-  pub beats : List StoreBeat
-  pub are : AreBeatsOf h beats
-  pub store_of : IsStoreOf past store set beats
+  pub stored : Stored
+  pub are : IsStoredOf h stored
+  pub store_of : IsStoreOf past store set stored
   pub registry_is : registry ≡ registry_of h
   pub last_rows_are : AreLastOf last_rows h
   pub latest_is : IsLatestOf latest h
@@ -94,10 +94,10 @@ pub record IsSpentAfter (past : List Event) (agent : AgentState) (set : Settings
 abbrev pub IsSoundBy : List Event → AgentState → Settings → List Beat → List Beat → Type 0
 IsSoundBy past agent set h tried = IsAgentOf past agent set h ⊎ IsSpentAfter past agent set h tried
 
--- the agent was opened with these kept beats, of whatever history they are: it has what their notes leave
-pub record HasLeft (beats : List StoreBeat) (agent : AgentState) : Type 0 where
-  pub registry : agent.registry ≡ (left_of beats).registry
-  pub role : agent.role ≡ (left_of beats).role
+-- the agent was opened with what is stored, of whatever history it is: it has what the notes leave
+pub record HasLeft (stored : Stored) (agent : AgentState) : Type 0 where
+  pub registry : agent.registry ≡ (left_by stored).registry
+  pub role : agent.role ≡ (left_by stored).role
 
 -- an agent that was just made
 pub record IsNewAgent (set : Settings) (agent : AgentState) : Type 0 where

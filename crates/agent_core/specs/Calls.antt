@@ -1,12 +1,11 @@
 -- What each call of an agent promises.
 use Rattle.std.specs.Prelude.{◌≡◌, ◌⊎◌, ℕ, ◌+◌, false, true, List, [], ◌∷◌, length, Option, None, IfSome, Result, IfOk, IfErr, IsErrOf, OnOk, OnErr, if◌then◌else◌}
 use Rattle.host_model.specs.declared.file.File.{File}
-use Rattle.host_model.specs.declared.file.File.TheVariants.{JournalA}
 use Rattle.host_model.specs.Past.{Event, IsDisk}
 use Rattle.host_model.specs.Disks.{EveryDisk, reads_as}
 use Rattle.host_model.specs.Cause.{HasCause}
 use Rattle.host_model.specs.Seen.{Seen}
-use Rattle.host_model.specs.Moments.{Throughout, OnlyOn}
+use Rattle.host_model.specs.Moments.{Throughout}
 use Rattle.history.specs.declared.beat.OpenBeat.{OpenBeat}
 use Rattle.history.specs.declared.line.Line.{Line}
 use Rattle.history.specs.declared.line.Line.TheVariants.{Moment, Query}
@@ -23,9 +22,10 @@ use Rattle.link_frames.specs.Frames.{HasSpelling}
 use Rattle.alarm_events.specs.declared.log.Log.{Log}
 use Rattle.entry_codec.specs.declared.entry.Settings.{Settings}
 use Rattle.beat_tiers.specs.declared.kept.Kept.{Kept}
-use Rattle.store_core.specs.declared.beat.Beat.{Beat as StoreBeat}
+use Rattle.store_core.specs.Own.{OnlyOwn}
 use Rattle.store_core.specs.Stands.{is_made, IsDamaged, Stands}
 use Rattle.store_core.specs.Store.{counted, raised}
+use Rattle.store_core.specs.Stored.{Stored}
 use Rattle.agent_core.specs.declared.fault.AgentFault.{AgentFault}
 use Rattle.agent_core.specs.declared.fault.AgentFault.TheVariants.{DiskFault, NotADatabase, Damaged, Exists, Memory}
 use Rattle.agent_core.specs.declared.left.Role.TheVariants.{Copies}
@@ -47,7 +47,7 @@ use Rattle.agent_core.specs.Said.{Answers, IsSaid, TellsEvents}
 
 -- `beat` with this result left the host and the agent so
 pub record Beats (honest : Type 0) (host : Seen) (agent : AgentState) (beat : OpenBeat) (moment : ℕ) (result : Result Reply AgentFault) (host' : Seen) (agent' : AgentState) : Type 0 where
-  -- at every moment a stop leaves the history, or, where nothing refuses the beat, the history with it
+  -- at every moment a crash leaves the history, or, where nothing refuses the beat, the history with it
   pub any_moment : honest → (set : Settings) (h : List Beat) → IsAgentOf host.past agent set h
       → Throughout (EveryDisk (StandsForOneOf set h (beat_refusal agent.registry (copies agent.role) agent.last moment beat) (collected moment beat ∷ h))) host.past host'.past
   -- at Ok the agent is of the history with the beat
@@ -71,13 +71,13 @@ pub record Beats (honest : Type 0) (host : Seen) (agent : AgentState) (beat : Op
   pub ready : AgentIsReady honest host'.past agent'
   -- the disk fails exactly where the host counted a failure
   pub cause : HasCause host.disk_faults host'.disk_faults (IsErrOf result DiskFault)
-  -- nothing happens to a file but the journal, and nothing is told
-  pub only_here : honest → OnlyOn JournalA host.past host'.past
+  -- nothing happens to a file that is not the store's own, and nothing is told
+  pub only_here : honest → OnlyOwn host.past host'.past
   pub tells : host'.tell_faults ≡ host.tell_faults
 
 -- `set_health` with this result left the host and the agent so
 pub record SetsHealth (honest : Type 0) (host : Seen) (agent : AgentState) (text : List ℕ) (result : Result Reply AgentFault) (host' : Seen) (agent' : AgentState) : Type 0 where
-  -- at every moment a stop leaves the history, or, where nothing refuses the text, the history with it
+  -- at every moment a crash leaves the history, or, where nothing refuses the text, the history with it
   pub any_moment : honest → (set : Settings) (h : List Beat) → IsAgentOf host.past agent set h → Throughout (EveryDisk (StandsForHealth set h text)) host.past host'.past
   -- at Ok the agent is of the history with the configuration
   pub done : OnOk result (honest → (set : Settings) (h : List Beat) → IsAgentOf host.past agent set h → IsAgentOf host'.past agent' set (health text ∷ h))
@@ -102,8 +102,8 @@ pub record SetsHealth (honest : Type 0) (host : Seen) (agent : AgentState) (text
   pub ready : AgentIsReady honest host'.past agent'
   -- the disk fails exactly where the host counted a failure
   pub cause : HasCause host.disk_faults host'.disk_faults (IsErrOf result DiskFault)
-  -- nothing happens to a file but the journal, and nothing is told
-  pub only_here : honest → OnlyOn JournalA host.past host'.past
+  -- nothing happens to a file that is not the store's own, and nothing is told
+  pub only_here : honest → OnlyOwn host.past host'.past
   pub tells : host'.tell_faults ≡ host.tell_faults
 
 -- `log` of an agent with this result
@@ -116,7 +116,7 @@ pub record Logs (agent : AgentState) (result : Result Log AgentFault) : Type 0 w
 
 -- `create` with this result left the host so
 pub record Creates (honest : Type 0) (host : Seen) (set : Settings) (result : Result AgentState AgentFault) (host' : Seen) : Type 0 where
-  -- at every moment a stop leaves what it might have left before the call, no database, or the one without beats
+  -- at every moment a crash leaves what it might have left before the call, no database, or the one without beats
   pub any_moment : honest → Throughout (EveryDisk (λ disk. IsDisk host.past disk ⊎ StandsForNew set disk)) host.past host'.past
   -- at Ok the agent is of the history without beats
   pub created : IfOk result (λ agent. honest → IsAgentOf host'.past agent set [])
@@ -130,8 +130,8 @@ pub record Creates (honest : Type 0) (host : Seen) (set : Settings) (result : Re
   pub faults : IfErr result IsCreating
   -- the disk fails exactly where the host counted a failure
   pub cause : HasCause host.disk_faults host'.disk_faults (IsErrOf result DiskFault)
-  -- nothing happens to a file but the journal, and nothing is told
-  pub only_here : honest → OnlyOn JournalA host.past host'.past
+  -- nothing happens to a file that is not the store's own, and nothing is told
+  pub only_here : honest → OnlyOwn host.past host'.past
   pub tells : host'.tell_faults ≡ host.tell_faults
 
 -- `open` with this result left the host so
@@ -141,10 +141,12 @@ pub record Opens (honest : Type 0) (host : Seen) (result : Result AgentState Age
   pub ready : IfOk result (AgentIsReady honest host'.past)
   pub going : IfOk result (λ agent. agent.fault ≡ None)
   -- whatever history that is: its registry is what the notes leave, and it copies where they do
-  pub left : IfOk result (λ agent. honest → (set : Settings) (beats : List StoreBeat) → Stands set beats (reads_as host.past) → HasLeft beats agent)
-  -- what a stop leaves at any moment is what it may have left before, and all files read as before
+  pub left : IfOk result (λ agent. honest → (set : Settings) (stored : Stored) → Stands set stored (reads_as host.past) → HasLeft stored agent)
+  -- what a crash leaves at any moment is what it may have left before, and all files read as before
   pub any_moment : honest → Throughout (EveryDisk (IsDisk host.past)) host.past host'.past
   pub same : honest → (file : File) → reads_as host'.past file ≡ reads_as host.past file
+  -- at Ok a crash leaves the history from then on
+  pub images : OnOk result (honest → (set : Settings) (h : List Beat) → StandsForHistory set h (reads_as host.past) → EveryDisk (StandsForHistory set h) host'.past)
   -- a disk that stands for a history is opened, unless the disk fails or there is no memory
   pub stands : honest → (set : Settings) (h : List Beat) → StandsForHistory set h (reads_as host.past) → IfErr result (λ fault. (fault ≡ DiskFault) ⊎ (fault ≡ Memory))
   pub none : IsErrOf result NotADatabase → honest → is_made (reads_as host.past) ≡ false
@@ -158,8 +160,8 @@ pub record Opens (honest : Type 0) (host : Seen) (result : Result AgentState Age
   pub faults : IfErr result IsOpening
   -- the disk fails exactly where the host counted a failure
   pub cause : HasCause host.disk_faults host'.disk_faults (IsErrOf result DiskFault)
-  -- nothing happens to a file but the journal, and nothing is told
-  pub only_here : honest → OnlyOn JournalA host.past host'.past
+  -- nothing happens to a file that is not the store's own, and nothing is told
+  pub only_here : honest → OnlyOwn host.past host'.past
   pub tells : host'.tell_faults ≡ host.tell_faults
 
 -- the line is a MOMENT or a QUERY, for which the host is asked
@@ -181,7 +183,7 @@ pub record FeedTakes (agent : AgentState) (feed : Feed) (line : Line) (feed' : F
 
 -- `line` with this result left the host, the agent and the feed so
 pub record Lines (honest : Type 0) (host : Seen) (agent : AgentState) (feed : Feed) (line : Line) (result : Result Said AgentFault) (host' : Seen) (agent' : AgentState) (feed' : Feed) : Type 0 where
-  -- at every moment a stop leaves the history, or, where nothing refuses the line, the history with its beat
+  -- at every moment a crash leaves the history, or, where nothing refuses the line, the history with its beat
   pub any_moment : honest → (set : Settings) (h : List Beat) (every : ℕ) (past : List Line) → IsAgentOf host.past agent set h → IsFeedOf feed every past
       → Throughout (EveryDisk (StandsForOneOf set h (line_refusal agent.registry (copies agent.role) agent.last every past line) (history_with h every past line))) host.past host'.past
   -- at Ok the agent is of the history with the line's beat, if it closes one
@@ -224,13 +226,13 @@ pub record Lines (honest : Type 0) (host : Seen) (agent : AgentState) (feed : Fe
   pub ready : AgentIsReady honest host'.past agent'
   -- the disk fails exactly where the host counted a failure
   pub cause : HasCause host.disk_faults host'.disk_faults (IsErrOf result DiskFault)
-  -- nothing happens to a file but the journal, and nothing is told
-  pub only_here : honest → OnlyOn JournalA host.past host'.past
+  -- nothing happens to a file that is not the store's own, and nothing is told
+  pub only_here : honest → OnlyOwn host.past host'.past
   pub tells : host'.tell_faults ≡ host.tell_faults
 
 -- a call that reads, with this result, left the host and the agent so
 pub record Reads {T : Type 0} (honest : Type 0) (host : Seen) (agent : AgentState) (result : Result T AgentFault) (host' : Seen) (agent' : AgentState) : Type 0 where
-  -- nothing happens to the disk, and nothing is told: whatever a stop leaves, it may have left before
+  -- nothing happens to the disk, and nothing is told: whatever a crash leaves, it may have left before
   pub quiet : honest → host'.past ≡ host.past
   -- at Ok the agent is of the history that it was of
   pub done : OnOk result (honest → (set : Settings) (h : List Beat) → IsAgentOf host.past agent set h → IsAgentOf host'.past agent' set h)
@@ -302,8 +304,8 @@ pub record TakesData (honest : Type 0) (host : Seen) (agent : AgentState) (messa
   pub ready : AgentIsReady honest host'.past agent'
   -- the disk fails exactly where the host counted a failure
   pub cause : HasCause host.disk_faults host'.disk_faults (IsErrOf result DiskFault)
-  -- nothing happens to a file but the journal, and nothing is told
-  pub only_here : honest → OnlyOn JournalA host.past host'.past
+  -- nothing happens to a file that is not the store's own, and nothing is told
+  pub only_here : honest → OnlyOwn host.past host'.past
   pub tells : host'.tell_faults ≡ host.tell_faults
 
 -- `data` with this result left the host and the agent so

@@ -20,6 +20,7 @@ use Rattle.history.specs.Numbered.{numbered_beat}
 use Rattle.store_core.specs.declared.beat.Beat.{Beat as StoreBeat}
 use Rattle.beat_tiers.specs.declared.item.BeatPoint.{BeatPoint}
 use Rattle.store_core.specs.Stands.{is_made, Stands}
+use Rattle.store_core.specs.Stored.{Stored}
 use Rattle.agent_core.specs.Health.{health_refusal}
 use Rattle.agent_core.specs.Roles.{may_copy, role_of}
 use Rattle.agent_core.specs.Rules.{beat_refusal, IsOpenBeat}
@@ -117,11 +118,15 @@ AreBeatsOf [] [] = Unit {0}
 AreBeatsOf (beat ∷ h) (kept ∷ beats) = IsBeatOf h beat kept × AreBeatsOf h beats
 AreBeatsOf h beats = ⊥
 
+-- a store has stored this for this history
+pub record IsStoredOf (h : List Beat) (stored : Stored) : Type 0 where
+  pub after : AreBeatsOf h stored.after
+
 -- the disk holds the database with these settings and this history
 pub record StandsForHistory (set : Settings) (h : List Beat) (disk : File → List ℕ) : Type 0 where
-  pub beats : List StoreBeat
-  pub are : AreBeatsOf h beats
-  pub stands : Stands set beats disk
+  pub stored : Stored
+  pub are : IsStoredOf h stored
+  pub stands : Stands set stored disk
 
 -- a history with these beats, the oldest first, on top of it
 abbrev pub onto : List Beat → List Beat → List Beat

@@ -9,6 +9,7 @@ pub mod Faults
 pub mod Fed
 pub mod Health
 pub mod Index
+pub mod Keeping
 pub mod Kept
 pub mod LastSeen
 pub mod Notes

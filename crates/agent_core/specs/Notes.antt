@@ -16,6 +16,7 @@ use Rattle.beat_entries.specs.Next.{goes_on, is_number, with_numbered}
 use Rattle.store_core.specs.declared.beat.Beat.{Beat as StoreBeat}
 use Rattle.beat_tiers.specs.declared.item.BeatPoint.{BeatPoint}
 use Rattle.store_core.specs.Stands.{Stands}
+use Rattle.store_core.specs.Stored.{Stored}
 use Rattle.agent_core.specs.declared.left.Left.{Left}
 use Rattle.agent_core.specs.declared.left.Role.TheVariants.{Undecided, Collects, Copies}
 use Rattle.agent_core.specs.Health.{health_refusal}
@@ -79,22 +80,30 @@ takes_note left kept = option_map_or (entry_goes_on left) (entry_in kept) false 
 -- ---- the beats of a store
 
 -- what a history leaves
-abbrev pub left_by : List Beat → Left
-left_by h = record { registry = registry_of h; role = role_of h }
+abbrev pub left_of_history : List Beat → Left
+left_of_history h = record { registry = registry_of h; role = role_of h }
 
 -- what the entries of kept beats leave
 unfoldable pub left_of : List StoreBeat → Left
 left_of [] = record { registry = empty; role = Undecided }
 left_of (kept ∷ beats) = with_note (left_of beats) kept
 
+-- what the entries of all that is stored leave
+abbrev pub left_by : Stored → Left
+left_by stored = left_of stored.after
+
 -- the beats go on: each has an entry that goes on from what those before it leave, and points of series that are there
 unfoldable pub beats_go_on : List StoreBeat → Bool
 beats_go_on [] = true
 beats_go_on (kept ∷ beats) = beats_go_on beats && takes_note (left_of beats) kept
 
--- the disk holds a database of settings and beats, and whether these go on
+-- the same of all that is stored
+abbrev pub notes_go_on : Stored → Bool
+notes_go_on stored = beats_go_on stored.after
+
+-- the disk holds a database of settings and of what is stored, and whether the notes of this go on
 pub record HasNotes (goes : Bool) (disk : File → List ℕ) : Type 0 where
   pub settings : Settings
-  pub beats : List StoreBeat
-  pub stands : Stands settings beats disk
-  pub notes : beats_go_on beats ≡ goes
+  pub stored : Stored
+  pub stands : Stands settings stored disk
+  pub notes : notes_go_on stored ≡ goes

@@ -17,16 +17,16 @@ use Rattle.entry_codec.specs.declared.entry.Entry.TheVariants as entry
 use Rattle.entry_codec.specs.declared.entry.Settings.{Settings}
 use Rattle.beat_tiers.specs.declared.item.BeatPoint.{BeatPoint}
 use Rattle.store_core.specs.declared.beat.Beat.{Beat as StoreBeat}
-use Rattle.store_core.specs.Records.{with_all}
 use Rattle.store_core.specs.Store.{IsReplayed, IsStoreAt, OpensAt, StoreState}
+use Rattle.store_core.specs.Stored.{stored_with_all, Stored}
 use Rattle.agent_core.specs.declared.left.Left.{Left}
 use Rattle.agent_core.specs.Agent.{AgentState}
 use Rattle.agent_core.specs.declared.alarming.Stepping.{Stepping}
 use Rattle.agent_core.specs.declared.alarming.Stepping.TheVariants as stepping
 use Rattle.agent_core.specs.Alarms.{alarms_at, IsReadOf}
-use Rattle.agent_core.specs.Kept.{copied_point, onto, stored_points, AreBeatsOf, IsBeatOf}
+use Rattle.agent_core.specs.Kept.{copied_point, onto, stored_points, AreBeatsOf, IsBeatOf, IsStoredOf}
 use Rattle.agent_core.specs.LastSeen.{IsLatestOf}
-use Rattle.agent_core.specs.Notes.{beats_go_on, left_by, left_of}
+use Rattle.agent_core.specs.Notes.{left_by, left_of_history, notes_go_on}
 use Rattle.agent_core.specs.Rules.{HasLimits}
 
 -- ---- the parts that an entry leaves
@@ -99,7 +99,7 @@ AreNextOf g more rest = ⊥
 
 -- what is left, the last rows and what was last seen are those of a history
 pub record ArePartsOf (left : Left) (lasts : List (Option Last)) (latest : Latest) (g : List Beat) : Type 0 where
-  pub left_is : left ≡ left_by g
+  pub left_is : left ≡ left_of_history g
   pub last_rows_are : AreLastOf lasts g
   pub latest_is : IsLatestOf latest g
 
@@ -107,29 +107,29 @@ pub record ArePartsOf (left : Left) (lasts : List (Option Last)) (latest : Lates
 pub record IsReplaying (past : List Event) (store : StoreState) (left : Left) (lasts : List (Option Last)) (latest : Latest) (held : Held) (set : Settings) (h : List Beat) : Type 0 where
   pub front : List Beat
   pub more : List Beat
-  pub beats : List StoreBeat
+  pub stored : Stored
   pub rest : List StoreBeat
   pub whole : onto front more ≡ h
-  pub are : AreBeatsOf front beats
+  pub are : IsStoredOf front stored
   pub next : AreNextOf front more rest
-  pub is_at : IsStoreAt past store set beats rest
+  pub is_at : IsStoreAt past store set stored rest
   pub parts : ArePartsOf left lasts latest front
   pub held_is : held ≡ alarms_at set front
 
--- the store has replayed a front of these beats, which go on, and this is what they leave
-pub record HasTaken (past : List Event) (store : StoreState) (left : Left) (set : Settings) (beats : List StoreBeat) : Type 0 where
-  pub applied : List StoreBeat
+-- the store has replayed a front of what is stored, whose notes go on, and this is what they leave
+pub record HasTaken (past : List Event) (store : StoreState) (left : Left) (set : Settings) (stored : Stored) : Type 0 where
+  pub applied : Stored
   pub rest : List StoreBeat
-  pub whole : with_all applied rest ≡ beats
+  pub whole : stored_with_all applied rest ≡ stored
   pub is_at : IsStoreAt past store set applied rest
-  pub go_on : beats_go_on applied ≡ true
-  pub left_is : left ≡ left_of applied
+  pub go_on : notes_go_on applied ≡ true
+  pub left_is : left ≡ left_by applied
 
--- the store was opened, with the beats that it keeps for this history
+-- the store was opened, with what it has stored for this history
 pub record IsOpenedFor (past : List Event) (store : StoreState) (set : Settings) (h : List Beat) : Type 0 where
-  pub beats : List StoreBeat
-  pub are : AreBeatsOf h beats
-  pub opens : OpensAt past store set beats
+  pub stored : Stored
+  pub are : IsStoredOf h stored
+  pub opens : OpensAt past store set stored
 
 -- the agent has replayed all of this store, of whatever beats that is
 pub record HasReplayed (store : StoreState) (agent : AgentState) : Type 0 where

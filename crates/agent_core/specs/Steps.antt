@@ -1,9 +1,8 @@
 -- What an agent does with what a line led to, and what it promises of it.
 use Rattle.std.specs.Prelude.{◌≡◌, ℕ, Bool, List, ◌∷◌, Option, None, Result, IfOk, IfErr, IsErrOf, OnOk, OnErr}
-use Rattle.host_model.specs.declared.file.File.TheVariants.{JournalA}
 use Rattle.host_model.specs.Disks.{EveryDisk}
 use Rattle.host_model.specs.Cause.{HasCause}
-use Rattle.host_model.specs.Moments.{Throughout, OnlyOn}
+use Rattle.host_model.specs.Moments.{Throughout}
 use Rattle.history.specs.declared.fault.BlockFault.{BlockFault}
 use Rattle.history.specs.History.{Beat, collected}
 use Rattle.history.specs.Registry.{Registry}
@@ -11,6 +10,7 @@ use Rattle.collect_block.specs.declared.step.Step.{Step}
 use Rattle.collect_block.specs.declared.step.Step.TheVariants as step
 use Rattle.alarm_events.specs.declared.event.Event.{Event}
 use Rattle.entry_codec.specs.declared.entry.Settings.{Settings}
+use Rattle.store_core.specs.Own.{OnlyOwn}
 use Rattle.store_core.specs.Store.{raised}
 use Rattle.agent_core.specs.declared.fault.AgentFault.{AgentFault}
 use Rattle.agent_core.specs.declared.fault.AgentFault.TheVariants.{DiskFault}
@@ -78,7 +78,7 @@ TellsStep set h step said = Unit {0}
 
 -- an agent that was going took a step, which with this result left it and the host so
 pub record Takes (honest : Type 0) (host : Seen) (agent : AgentState) (step : Step) (result : Result Said AgentFault) (host' : Seen) (agent' : AgentState) : Type 0 where
-  -- at every moment a stop leaves the history, or, where nothing refuses the beat, the history with it
+  -- at every moment a crash leaves the history, or, where nothing refuses the beat, the history with it
   pub any_moment : honest → (set : Settings) (h : List Beat) → IsAgentOf host.past agent set h
       → Throughout (EveryDisk (StandsForOneOf set h (step_refusal agent.registry (copies agent.role) agent.last step) (step_history h step))) host.past host'.past
   -- at Ok the agent is of the history with the beat, if there is one
@@ -105,6 +105,6 @@ pub record Takes (honest : Type 0) (host : Seen) (agent : AgentState) (step : St
   pub id : id_of agent' ≡ id_of agent
   pub ready : AgentIsReady honest host'.past agent'
   pub cause : HasCause host.disk_faults host'.disk_faults (IsErrOf result DiskFault)
-  -- nothing happens to a file but the journal, and nothing is told
-  pub only_here : honest → OnlyOn JournalA host.past host'.past
+  -- nothing happens to a file that is not the store's own, and nothing is told
+  pub only_here : honest → OnlyOwn host.past host'.past
   pub tells : host'.tell_faults ≡ host.tell_faults

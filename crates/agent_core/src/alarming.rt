@@ -12,10 +12,11 @@ ghost use Rattle.tier_rollup.specs.declared.point.Point.{Point as APoint};
 ghost use Rattle.entry_codec.specs.declared.entry.Settings.{Settings as ASettings};
 ghost use Rattle.store_core.specs.declared.beat.Beat.{Beat as StoreBeat};
 ghost use Rattle.store_core.specs.Store.{IsStoreAt};
+ghost use Rattle.store_core.specs.Stored.{Stored as AStored};
 ghost use Rattle.store_core.specs.Tiers.{floor_at};
 ghost use Rattle.store_core.specs.View.{points_of};
 ghost use Rattle.agent_core.specs.Alarms.{alarms_at, DefinesNothing, HaveFollowed, IsSteppingOf};
-ghost use Rattle.agent_core.specs.Kept.{AreBeatsOf};
+ghost use Rattle.agent_core.specs.Kept.{IsStoredOf};
 ghost use Rattle.agent_core.specs.LastSeen.{IsLatestOf};
 
 use crate::fault::AgentFault;
@@ -93,24 +94,24 @@ fn step<H: Host>(
     requires going { store.old.fault ≡ None }
     requires same { defines ≡ false → IsUpTo alarms.old registry.now }
     ensures held { OnOk result
-        ((past : List AnEvent) (set : ASettings) (beats rest : List StoreBeat)
-        → IsStoreAt past store.old set beats rest → held alarms.new
+        ((past : List AnEvent) (set : ASettings) (stored : AStored) (rest : List StoreBeat)
+        → IsStoreAt past store.old set stored rest → held alarms.new
         ≡ (stepped_by (held alarms.old) (record {
           moment = moment;
           registry = registry.now;
           latest = latest.now;
-          floor = floor_at set beats 0;
-          told = points_of beats;
+          floor = floor_at set stored 0;
+          told = points_of stored;
         })).held) }
     ensures events { IfOk result
-        (λ events. (past : List AnEvent) (set : ASettings) (beats rest : List StoreBeat)
-        → IsStoreAt past store.old set beats rest → events
+        (λ events. (past : List AnEvent) (set : ASettings) (stored : AStored)
+        (rest : List StoreBeat) → IsStoreAt past store.old set stored rest → events
         ≡ (stepped_by (held alarms.old) (record {
           moment = moment;
           registry = registry.now;
           latest = latest.now;
-          floor = floor_at set beats 0;
-          told = points_of beats;
+          floor = floor_at set stored 0;
+          told = points_of stored;
         })).events) }
     ensures up_to { OnOk result (IsUpTo alarms.new registry.now) }
     ensures store { store.new ≡ store.old }
@@ -164,8 +165,9 @@ pub(crate) fn follow<H: Host>(
     requires same { DefinesNothing stepping → IsUpTo alarms.old registry.now }
     ensures followed { IfOk result
         (λ events. (past : List AnEvent) (set : ASettings) (h : List HistoryBeat)
-        (beat : HistoryBeat) (beats rest : List StoreBeat) → AreBeatsOf (beat ∷ h) beats
-        → IsStoreAt past store.old set beats rest → registry.now ≡ registry_of (beat ∷ h)
+        (beat : HistoryBeat) (stored : AStored) (rest : List StoreBeat)
+        → IsStoredOf (beat ∷ h) stored → IsStoreAt past store.old set stored rest
+        → registry.now ≡ registry_of (beat ∷ h)
         → IsLatestOf latest.now (beat ∷ h) → latest.now.before ≡ last h
         → held alarms.old ≡ alarms_at set h → IsSteppingOf beat stepping
         → HaveFollowed set (beat ∷ h) (held alarms.new) events) }

@@ -6,12 +6,12 @@ ghost use Rattle.history.specs.History.{Beat as HistoryBeat, registry_of};
 ghost use Rattle.query_engine.specs.Windows.{table_of};
 ghost use Rattle.query_text.specs.Told.{fault_text};
 ghost use Rattle.entry_codec.specs.declared.entry.Settings.{Settings as ASettings};
-ghost use Rattle.store_core.specs.declared.beat.Beat.{Beat as StoreBeat};
 ghost use Rattle.store_core.specs.Store.{IsStoreOf};
+ghost use Rattle.store_core.specs.Stored.{Stored as AStored};
 ghost use Rattle.store_core.specs.Tiers.{floor_at, kept_of};
 ghost use Rattle.store_core.specs.View.{points_of, widths};
 ghost use Rattle.agent_core.specs.Answers.{reply_of, reply_to};
-ghost use Rattle.agent_core.specs.Kept.{AreBeatsOf};
+ghost use Rattle.agent_core.specs.Kept.{IsStoredOf};
 
 use crate::fault::{AgentFault, store_fault};
 use chart_registry::Registry;
@@ -31,9 +31,9 @@ fn table_of<H: Host>(
 ) -> Result<Table, AgentFault>
     requires { store.old.fault ≡ None }
     ensures answered { IfOk result
-        (λ table. (past : List Event) (set : ASettings) (beats : List StoreBeat)
-        → IsStoreOf past store.old set beats
-        → table ≡ table_of widths (floor_at set beats) (points_of beats) request.now) }
+        (λ table. (past : List Event) (set : ASettings) (stored : AStored)
+        → IsStoreOf past store.old set stored
+        → table ≡ table_of widths (floor_at set stored) (points_of stored) request.now) }
     ensures store { store.new ≡ store.old }
     ensures host { H.seen host.new ≡ H.seen host.old }
     ensures memory { IfErr result (λ fault. fault ≡ AgentFault.Memory) }
@@ -57,7 +57,7 @@ fn reply_to<H: Host>(
     requires within { All (λ series. series < length registry.now.dimensions) request.now.series }
     ensures answered { IfOk result
         (λ reply. (past : List Event) (set : ASettings) (h : List HistoryBeat)
-        (beats : List StoreBeat) → AreBeatsOf h beats → IsStoreOf past store.old set beats
+        (stored : AStored) → IsStoredOf h stored → IsStoreOf past store.old set stored
         → registry.now ≡ registry_of h → reply ≡ reply_to set h (Ok request.now)) }
     ensures store { store.new ≡ store.old }
     ensures host { H.seen host.new ≡ H.seen host.old }
@@ -94,7 +94,7 @@ pub(crate) fn reply<H: Host>(
     requires { store.old.fault ≡ None }
     ensures answered { IfOk result
         (λ reply. (past : List Event) (set : ASettings) (h : List HistoryBeat)
-        (beats : List StoreBeat) → AreBeatsOf h beats → IsStoreOf past store.old set beats
+        (stored : AStored) → IsStoredOf h stored → IsStoreOf past store.old set stored
         → registry.now ≡ registry_of h → reply ≡ reply_of set h text.now) }
     ensures store { store.new ≡ store.old }
     ensures host { H.seen host.new ≡ H.seen host.old }
@@ -110,8 +110,8 @@ pub(crate) fn reply<H: Host>(
 pub(crate) fn kept<H: Host>(store: &mut Store, host: &mut H) -> Result<Kept, AgentFault>
     requires { store.old.fault ≡ None }
     ensures answered { IfOk result
-        (λ kept. (past : List Event) (set : ASettings) (beats : List StoreBeat)
-        → IsStoreOf past store.old set beats → kept ≡ kept_of set beats) }
+        (λ kept. (past : List Event) (set : ASettings) (stored : AStored)
+        → IsStoreOf past store.old set stored → kept ≡ kept_of set stored) }
     ensures store { store.new ≡ store.old }
     ensures host { H.seen host.new ≡ H.seen host.old }
     ensures memory { IfErr result (λ fault. fault ≡ AgentFault.Memory) }

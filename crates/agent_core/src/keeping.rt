@@ -1,12 +1,10 @@
 //! What a store keeps of a beat, and how it is added to a history.
 
-ghost use Rattle.std.specs.Prelude.{◌≡◌, ◌↔◌, ◌<◌, ◌≤◌, ◌^◌, [], ◌∷◌, ◌⊎◌, ℕ, List, Option, Some, None, true, false, length, All, IfOk, IfErr, IfSome, OnOk, IsErrOf};
+ghost use Rattle.std.specs.Prelude.{◌≡◌, ◌↔◌, ◌<◌, ◌≤◌, ◌^◌, [], ◌∷◌, ◌⊎◌, ℕ, List, Option, Some, None, true, false, length, All, IfOk, IfErr, IfSome, OnOk};
 ghost use Rattle.algorithms.specs.declared.last.Last.{Last as ALast};
 ghost use Rattle.alarm_core.specs.declared.latest.Latest.{Latest as ALatest};
-ghost use Rattle.host_model.specs.declared.file.File.TheVariants.{JournalA};
 ghost use Rattle.host_model.specs.Disks.{EveryDisk};
-ghost use Rattle.host_model.specs.Cause.{HasCause};
-ghost use Rattle.host_model.specs.Moments.{Throughout, OnlyOn};
+ghost use Rattle.host_model.specs.Moments.{Throughout};
 ghost use Rattle.history.specs.declared.beat.OpenBeat.{OpenBeat as AnOpenBeat};
 ghost use Rattle.history.specs.History.{Beat as HistoryBeat, collected, health};
 ghost use Rattle.history.specs.Registry.{Registry as ARegistry, same_chart, same_dimension, with_definitions};
@@ -17,13 +15,13 @@ ghost use Rattle.history.specs.Numbered.{numbered_beat, IsThere};
 ghost use Rattle.entry_codec.specs.declared.entry.Entry.TheVariants as entry;
 ghost use Rattle.entry_codec.specs.declared.entry.Settings.{Settings as ASettings};
 ghost use Rattle.entry_codec.specs.Entries.{entry_bytes, is_collected_canonical, HasSpelling, IsWithinLimits};
-ghost use Rattle.store_core.specs.declared.beat.Beat.{Beat as StoreBeat};
 ghost use Rattle.store_core.specs.Beats.{beat_bytes, InForm};
 ghost use Rattle.store_core.specs.Records.{last_after};
 ghost use Rattle.store_core.specs.Stands.{StandsAround};
 ghost use Rattle.store_core.specs.Store.{IsReady, IsReplayed, IsStoreOf};
+ghost use Rattle.store_core.specs.Stored.{Stored as AStored, stored_with};
 ghost use Rattle.agent_core.specs.Agent.{Holds};
-ghost use Rattle.agent_core.specs.Faults.{IsSpending};
+ghost use Rattle.agent_core.specs.Keeping.{KeepsStore};
 ghost use Rattle.agent_core.specs.Kept.{kept_of, Follows, StandsForHistory};
 ghost use Rattle.agent_core.specs.Health.{health_refusal};
 ghost use Rattle.agent_core.specs.Notes.{names_series};
@@ -186,24 +184,17 @@ pub(crate) fn commit<H: Host>(
     requires later { IfSome kept.now.moment (λ moment. store.old.last < moment) }
     requires form { InForm kept.now }
     requires size { length (beat_bytes kept.now) ≤ 2 ^ 26 }
-    ensures any_moment { H.honest → (set : ASettings) (beats : List StoreBeat)
-        → IsStoreOf (H.seen host.old).past store.old set beats
-        → Throughout (EveryDisk (StandsAround set beats kept.now)) (H.seen host.old).past
+    ensures any_moment { H.honest → (set : ASettings) (stored : AStored)
+        → IsStoreOf (H.seen host.old).past store.old set stored
+        → Throughout (EveryDisk (StandsAround set stored kept.now)) (H.seen host.old).past
         (H.seen host.new).past }
     ensures stored { OnOk result
-        (H.honest → (set : ASettings) (beats : List StoreBeat)
-        → IsStoreOf (H.seen host.old).past store.old set beats
-        → IsStoreOf (H.seen host.new).past store.new set (kept.now ∷ beats)) }
-    ensures ready { IsReady H.honest (H.seen host.new).past store.new }
-    ensures replayed { IsReplayed store.new }
-    ensures going { OnOk result (store.new.fault ≡ None) }
+        (H.honest → (set : ASettings) (stored : AStored)
+        → IsStoreOf (H.seen host.old).past store.old set stored
+        → IsStoreOf (H.seen host.new).past store.new set (stored_with stored kept.now)) }
+    ensures keeps { KeepsStore H.honest (H.seen host.old) store.old result (H.seen host.new)
+        store.new }
     ensures last { OnOk result (store.new.last ≡ last_after store.old.last kept.now.moment) }
-    ensures settings { store.new.settings ≡ store.old.settings }
-    ensures faults { IfErr result IsSpending }
-    ensures only_here { H.honest → OnlyOn JournalA (H.seen host.old).past (H.seen host.new).past }
-    ensures cause { HasCause (H.seen host.old).disk_faults (H.seen host.new).disk_faults
-        (IsErrOf result AgentFault.DiskFault) }
-    ensures tells { (H.seen host.new).tell_faults ≡ (H.seen host.old).tell_faults }
 {
     match store.commit(host, kept) {
         Ok(()) => Ok(()),
@@ -248,7 +239,7 @@ fn health_beat(alloc: Global, text: &[u8]) -> Result<Beat, AllocError>
     }
 }
 
-/// Adds a configuration, whose text nothing refuses, to a store that is still of use. At every moment a stop
+/// Adds a configuration, whose text nothing refuses, to a store that is still of use. At every moment a crash
 /// leaves the history with the configuration or without it.
 pub(crate) fn add_health<H: Host>(
     alloc: Global,
@@ -273,16 +264,9 @@ pub(crate) fn add_health<H: Host>(
         → Holds (H.seen host.old).past store.old registry lasts latest set h
         → Holds (H.seen host.new).past store.new registry lasts latest set
         (health text.now ∷ h)) }
-    ensures ready { IsReady H.honest (H.seen host.new).past store.new }
-    ensures replayed { IsReplayed store.new }
-    ensures going { OnOk result (store.new.fault ≡ None) }
+    ensures keeps { KeepsStore H.honest (H.seen host.old) store.old result (H.seen host.new)
+        store.new }
     ensures last { OnOk result (store.new.last ≡ store.old.last) }
-    ensures settings { store.new.settings ≡ store.old.settings }
-    ensures faults { IfErr result IsSpending }
-    ensures only_here { H.honest → OnlyOn JournalA (H.seen host.old).past (H.seen host.new).past }
-    ensures cause { HasCause (H.seen host.old).disk_faults (H.seen host.new).disk_faults
-        (IsErrOf result AgentFault.DiskFault) }
-    ensures tells { (H.seen host.new).tell_faults ≡ (H.seen host.old).tell_faults }
 {
     match health_beat(alloc, text) {
         Ok(kept) => commit(store, host, &kept),
@@ -337,7 +321,7 @@ pub(crate) fn defines_some(beat: &OpenBeat) -> bool
     !beat.charts.is_empty() || !beat.dimensions.is_empty()
 }
 
-/// Adds a beat that may follow the history to the parts of an agent. At every moment a stop leaves the
+/// Adds a beat that may follow the history to the parts of an agent. At every moment a crash leaves the
 /// history with the beat or without it. After an `Err` the parts are of no more use.
 pub(crate) fn add<H: Host>(
     alloc: Global,
@@ -374,9 +358,8 @@ pub(crate) fn add<H: Host>(
         → Follows h moment beat.now
         → Holds (H.seen host.new).past store.new registry.new last_rows.new latest.new set
         (collected moment beat.now ∷ h)) }
-    ensures ready { IsReady H.honest (H.seen host.new).past store.new }
-    ensures replayed { IsReplayed store.new }
-    ensures going { OnOk result (store.new.fault ≡ None) }
+    ensures keeps { KeepsStore H.honest (H.seen host.old) store.old result (H.seen host.new)
+        store.new }
     ensures last { OnOk result (store.new.last ≡ moment) }
     ensures charts { OnOk result (AreApart same_chart registry.new.charts) }
     ensures dimensions { OnOk result (AreApart same_dimension registry.new.dimensions) }
@@ -384,12 +367,6 @@ pub(crate) fn add<H: Host>(
     ensures same { OnOk result ((beat.now.charts ≡ []) × (beat.now.dimensions ≡ [])
         → registry.new ≡ registry.old) }
     ensures before { OnOk result (latest.new.before ≡ store.old.last) }
-    ensures settings { store.new.settings ≡ store.old.settings }
-    ensures faults { IfErr result IsSpending }
-    ensures only_here { H.honest → OnlyOn JournalA (H.seen host.old).past (H.seen host.new).past }
-    ensures cause { HasCause (H.seen host.old).disk_faults (H.seen host.new).disk_faults
-        (IsErrOf result AgentFault.DiskFault) }
-    ensures tells { (H.seen host.new).tell_faults ≡ (H.seen host.old).tell_faults }
 {
     let Ok(kept) = keep(alloc, registry, last_rows, beat, moment) else {
         return Err(AgentFault::Memory);

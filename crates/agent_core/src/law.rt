@@ -135,7 +135,7 @@ pub fn any_log()
 
 /// The laws of copies, of any history whose beats a store keeps. What is seen of it rises and ends with it, and
 /// so do its gaps. A copy of a child stays a copy with the first of the beats that it makes of a `Data`, however
-/// many of them a stop leaves, where the `Data` is true of the child and begins where the copy ends; with what it
+/// many of them a crash leaves, where the `Data` is true of the child and begins where the copy ends; with what it
 /// adds of a `Data` it does so wherever that begins, and does not get ahead of the child. A history without beats
 /// is a copy. What a history answers to an `Ask` is true of what is seen of it, and it answers nothing only where
 /// nothing is seen above the moment from which it would answer. As a child goes on, a `Data` that was true of it

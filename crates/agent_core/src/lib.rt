@@ -2,10 +2,10 @@
 //! beats that were stored.
 //!
 //! `beat` refuses a beat exactly where its history does, for the first reason, and then nothing has changed.
-//! Else it stores the beat, unless the disk or memory fails. Over an honest host a stop leaves at every moment
+//! Else it stores the beat, unless the disk or memory fails. Over an honest host a crash leaves at every moment
 //! the history, or the history with the beat, and a beat that was answered with `Ok` is never lost again. `line`
 //! takes a line of a text and stores the beat that it closes. `create` makes the agent of a history without
-//! beats: over an honest host a stop leaves at every moment no database, or that of this history. `open` gives
+//! beats: over an honest host a crash leaves at every moment no database, or that of this history. `open` gives
 //! the agent of just the history that an honest host's disk stands for. `query` gives the reply to a question:
 //! the table, or the line of a refusal, that the definitions give over all beats of the history, whatever has
 //! expired below the floors. `line` answers a QUERY so. After a failure of
@@ -17,7 +17,7 @@
 //! A history collects, or copies one child, and never both. `ask` asks a child for what lies above the last moment,
 //! `data` answers such an ask by the beats of this history, and `take` stores what a message adds: the gap before
 //! its beats where some are gone, and a copied beat for each of them. An agent that copies refuses every beat of a
-//! collector, and one that collects every copy. A message is stored beat by beat, so a stop in the midst leaves the
+//! collector, and one that collects every copy. A message is stored beat by beat, so a crash in the midst leaves the
 //! history with the first of what the message adds.
 //!
 //! It stands on the store of `store_core`, which keeps of each beat its moment, its points by `beat_points`

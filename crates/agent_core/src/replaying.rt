@@ -2,22 +2,23 @@
 
 ghost use Rattle.std.specs.Prelude.{◌≡◌, ◌⊎◌, ◌<◌, ℕ, List, true, false, length, IfOk, IfErr, IsErrOf, OnOk};
 ghost use Rattle.host_model.specs.declared.file.File.{File as AFile};
-ghost use Rattle.host_model.specs.declared.file.File.TheVariants.{JournalA};
 ghost use Rattle.host_model.specs.Past.{Event, IsDisk};
 ghost use Rattle.host_model.specs.Disks.{EveryDisk, reads_as};
 ghost use Rattle.host_model.specs.Cause.{HasCause};
-ghost use Rattle.host_model.specs.Moments.{Throughout, OnlyOn};
+ghost use Rattle.host_model.specs.Moments.{Throughout};
 ghost use Rattle.history.specs.History.{Beat as HistoryBeat};
 ghost use Rattle.history.specs.Registry.{same_chart, same_dimension};
 ghost use Rattle.history.specs.Regular.{AreApart};
 ghost use Rattle.entry_codec.specs.declared.entry.Settings.{Settings as ASettings};
 ghost use Rattle.store_core.specs.declared.beat.Beat.{Beat as StoreBeat};
+ghost use Rattle.store_core.specs.Own.{OnlyOwn};
 ghost use Rattle.store_core.specs.Stands.{is_made, IsDamaged, Stands};
 ghost use Rattle.store_core.specs.Store.{IsReady, IsReplayed, IsStoreAt, OpensAt, Replays, TakesFirst};
+ghost use Rattle.store_core.specs.Stored.{Stored as AStored};
 ghost use Rattle.alarm_core.specs.Course.{held};
 ghost use Rattle.alarm_core.specs.UpTo.{IsUpTo};
 ghost use Rattle.agent_core.specs.Faults.{IsOpening};
-ghost use Rattle.agent_core.specs.Notes.{beats_go_on};
+ghost use Rattle.agent_core.specs.Notes.{notes_go_on};
 ghost use Rattle.agent_core.specs.Replay.{HasTaken, IsReplaying};
 ghost use Rattle.agent_core.specs.Rules.{HasLimits};
 
@@ -33,9 +34,9 @@ use store_core::{Beat, Store};
 
 /// Opens the store of an agent, none of whose beats is replayed yet.
 pub(crate) fn open_store<H: Host>(alloc: Global, host: &mut H) -> Result<Store, AgentFault>
-    ensures opened { IfOk result (λ store. H.honest → (set : ASettings) (beats : List StoreBeat)
-        → Stands set beats (reads_as (H.seen host.old).past)
-        → OpensAt (H.seen host.new).past store set beats) }
+    ensures opened { IfOk result (λ store. H.honest → (set : ASettings) (stored : AStored)
+        → Stands set stored (reads_as (H.seen host.old).past)
+        → OpensAt (H.seen host.new).past store set stored) }
     ensures ready { IfOk result (IsReady H.honest (H.seen host.new).past) }
     ensures going { IfOk result (λ store. store.fault ≡ None) }
     ensures any_moment { H.honest
@@ -43,8 +44,11 @@ pub(crate) fn open_store<H: Host>(alloc: Global, host: &mut H) -> Result<Store, 
         (H.seen host.new).past }
     ensures same { H.honest → (file : AFile)
         → reads_as (H.seen host.new).past file ≡ reads_as (H.seen host.old).past file }
-    ensures stands { H.honest → (set : ASettings) (beats : List StoreBeat)
-        → Stands set beats (reads_as (H.seen host.old).past)
+    ensures images { OnOk result (H.honest → (set : ASettings) (stored : AStored)
+        → Stands set stored (reads_as (H.seen host.old).past)
+        → EveryDisk (Stands set stored) (H.seen host.new).past) }
+    ensures stands { H.honest → (set : ASettings) (stored : AStored)
+        → Stands set stored (reads_as (H.seen host.old).past)
         → IfErr result (λ fault. (fault ≡ AgentFault.DiskFault) ⊎ (fault ≡ AgentFault.Memory)) }
     ensures none { IsErrOf result AgentFault.NotADatabase → H.honest
         → is_made (reads_as (H.seen host.old).past) ≡ false }
@@ -54,15 +58,15 @@ pub(crate) fn open_store<H: Host>(alloc: Global, host: &mut H) -> Result<Store, 
     ensures made { (part : ℕ) → IsErrOf result (AgentFault.Damaged part) → H.honest
         → is_made (reads_as (H.seen host.old).past) ≡ true }
     ensures found { OnOk result
-        (H.honest → (set : ASettings) × (beats : List StoreBeat)
-        × Stands set beats (reads_as (H.seen host.old).past)) }
+        (H.honest → (set : ASettings) × (stored : AStored)
+        × Stands set stored (reads_as (H.seen host.old).past)) }
 
     // No note is read yet.
     ensures notes { IsErrOf result (AgentFault.Damaged 5) → ⊥ }
     ensures faults { IfErr result IsOpening }
     ensures cause { HasCause (H.seen host.old).disk_faults (H.seen host.new).disk_faults
         (IsErrOf result AgentFault.DiskFault) }
-    ensures only_here { H.honest → OnlyOn JournalA (H.seen host.old).past (H.seen host.new).past }
+    ensures only_here { H.honest → OnlyOwn (H.seen host.old).past (H.seen host.new).past }
     ensures tells { (H.seen host.new).tell_faults ≡ (H.seen host.old).tell_faults }
 {
     match Store::open(alloc, host) {
@@ -74,9 +78,9 @@ pub(crate) fn open_store<H: Host>(alloc: Global, host: &mut H) -> Result<Store, 
 /// Gives the next beat that a store has to replay.
 fn next_beat(store: &mut Store) -> Result<Option<Beat>, AgentFault>
     requires going { store.old.fault ≡ None }
-    ensures next { (past : List Event) (set : ASettings) (beats rest : List StoreBeat)
-        → IsStoreAt past store.old set beats rest
-        → IfOk result (Replays past store.new set beats rest) }
+    ensures next { (past : List Event) (set : ASettings) (stored : AStored) (rest : List StoreBeat)
+        → IsStoreAt past store.old set stored rest
+        → IfOk result (Replays past store.new set stored rest) }
 
     // The same, of a store that is of no beats.
     ensures takes { IfOk result (λ next. TakesFirst store.old.waiting next store.new.waiting) }
@@ -120,13 +124,13 @@ fn replay_next<H: Host>(
 
     // Whatever beats the store keeps: they go on so far, and where one does not, it is damaged.
     ensures notes { OnOk result
-        ((past : List Event) (set : ASettings) (beats : List StoreBeat)
-        → HasTaken past store.old left.old set beats
-        → HasTaken past store.new left.new set beats) }
+        ((past : List Event) (set : ASettings) (stored : AStored)
+        → HasTaken past store.old left.old set stored
+        → HasTaken past store.new left.new set stored) }
     ensures broken { IfErr result
         (λ fault. fault ≡ AgentFault.Damaged 5
-        → (past : List Event) (set : ASettings) (beats : List StoreBeat)
-        → HasTaken past store.old left.old set beats → beats_go_on beats ≡ false) }
+        → (past : List Event) (set : ASettings) (stored : AStored)
+        → HasTaken past store.old left.old set stored → notes_go_on stored ≡ false) }
 
     // The beats that wait become fewer, until there are none.
     ensures smaller { IfOk result
@@ -183,13 +187,13 @@ pub(crate) fn replay_all<H: Host>(
 
     // Whatever beats the store keeps: they go on so far, and where one does not, it is damaged.
     ensures notes { OnOk result
-        ((past : List Event) (set : ASettings) (beats : List StoreBeat)
-        → HasTaken past store.old left.old set beats
-        → HasTaken past store.new left.new set beats) }
+        ((past : List Event) (set : ASettings) (stored : AStored)
+        → HasTaken past store.old left.old set stored
+        → HasTaken past store.new left.new set stored) }
     ensures broken { IfErr result
         (λ fault. fault ≡ AgentFault.Damaged 5
-        → (past : List Event) (set : ASettings) (beats : List StoreBeat)
-        → HasTaken past store.old left.old set beats → beats_go_on beats ≡ false) }
+        → (past : List Event) (set : ASettings) (stored : AStored)
+        → HasTaken past store.old left.old set stored → notes_go_on stored ≡ false) }
 
     // What holds of any store.
     ensures done { OnOk result (IsReplayed store.new) }

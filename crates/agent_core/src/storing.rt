@@ -1,14 +1,12 @@
 //! How the gap and the beats of a child's message are added to a history.
 
-ghost use Rattle.std.specs.Prelude.{◌≡◌, ◌<◌, ◌≤◌, ◌^◌, ◌++◌, ◌∷◌, ◌⊎◌, [], ℕ, List, Option, Some, None, true, false, length, IfOk, IfErr, IsErrOf, OnOk};
+ghost use Rattle.std.specs.Prelude.{◌≡◌, ◌<◌, ◌≤◌, ◌^◌, ◌++◌, ◌∷◌, ◌⊎◌, [], ℕ, List, Option, Some, None, true, false, length, IfOk, IfErr, OnOk};
 ghost use Rattle.algorithms.specs.declared.last.Last.{Last as ALast};
 ghost use Rattle.alarm_core.specs.declared.latest.Latest.{Latest as ALatest};
 ghost use Rattle.alarm_core.specs.Course.{held};
 ghost use Rattle.alarm_core.specs.UpTo.{IsUpTo};
-ghost use Rattle.host_model.specs.declared.file.File.TheVariants.{JournalA};
 ghost use Rattle.host_model.specs.Disks.{EveryDisk};
-ghost use Rattle.host_model.specs.Cause.{HasCause};
-ghost use Rattle.host_model.specs.Moments.{Throughout, OnlyOn};
+ghost use Rattle.host_model.specs.Moments.{Throughout};
 ghost use Rattle.history.specs.History.{Beat as HistoryBeat, copied, missing, registry_of, Copy};
 ghost use Rattle.history.specs.Numbered.{numbered_charts, numbered_dimensions};
 ghost use Rattle.history.specs.Registry.{Registry as ARegistry, same_chart, same_dimension, with_definitions};
@@ -24,7 +22,7 @@ ghost use Rattle.store_core.specs.Store.{IsReady, IsReplayed};
 ghost use Rattle.agent_core.specs.Agent.{Holds};
 ghost use Rattle.agent_core.specs.Alarms.{events_at};
 ghost use Rattle.agent_core.specs.Copying.{beats_of, definitions_in, events_onto, names_refusal};
-ghost use Rattle.agent_core.specs.Faults.{IsSpending};
+ghost use Rattle.agent_core.specs.Keeping.{KeepsStore};
 ghost use Rattle.agent_core.specs.Kept.{onto, IsCopyOf, StandsForFront, StandsForHistory};
 ghost use Rattle.agent_core.specs.Notes.{names_series};
 ghost use Rattle.agent_core.specs.Replay.{HasSeenCopy};
@@ -76,16 +74,9 @@ pub(crate) fn add_gap<H: Host>(
         → may_copy (role_of h) ≡ true
         → Holds (H.seen host.new).past store.new registry lasts latest set
         (missing (record { child = child; from = from; to = to }) ∷ h)) }
-    ensures ready { IsReady H.honest (H.seen host.new).past store.new }
-    ensures replayed { IsReplayed store.new }
-    ensures going { OnOk result (store.new.fault ≡ None) }
+    ensures keeps { KeepsStore H.honest (H.seen host.old) store.old result (H.seen host.new)
+        store.new }
     ensures last { OnOk result (store.new.last ≡ to) }
-    ensures settings { store.new.settings ≡ store.old.settings }
-    ensures faults { IfErr result IsSpending }
-    ensures only_here { H.honest → OnlyOn JournalA (H.seen host.old).past (H.seen host.new).past }
-    ensures cause { HasCause (H.seen host.old).disk_faults (H.seen host.new).disk_faults
-        (IsErrOf result AgentFault.DiskFault) }
-    ensures tells { (H.seen host.new).tell_faults ≡ (H.seen host.old).tell_faults }
 {
     match kept_gap(alloc, child, from, to) {
         Ok(kept) => commit(store, host, &kept),
@@ -156,17 +147,10 @@ fn store_copy<H: Host>(
         → IsCopyOf g copy kept.now → registry.now ≡ registry_of (copied copy ∷ g)
         → Holds (H.seen host.new).past store.new registry.now last_rows.new latest.new set
         (copied copy ∷ g)) }
-    ensures ready { IsReady H.honest (H.seen host.new).past store.new }
-    ensures replayed { IsReplayed store.new }
-    ensures going { OnOk result (store.new.fault ≡ None) }
+    ensures keeps { KeepsStore H.honest (H.seen host.old) store.old result (H.seen host.new)
+        store.new }
     ensures last { OnOk result (store.new.last ≡ moment) }
     ensures before { OnOk result (latest.new.before ≡ store.old.last) }
-    ensures settings { store.new.settings ≡ store.old.settings }
-    ensures faults { IfErr result IsSpending }
-    ensures only_here { H.honest → OnlyOn JournalA (H.seen host.old).past (H.seen host.new).past }
-    ensures cause { HasCause (H.seen host.old).disk_faults (H.seen host.new).disk_faults
-        (IsErrOf result AgentFault.DiskFault) }
-    ensures tells { (H.seen host.new).tell_faults ≡ (H.seen host.old).tell_faults }
 {
     let before = store.last();
     commit(store, host, kept)?;
@@ -219,16 +203,9 @@ fn add_copy<H: Host>(
         → ArePartsAt (H.seen host.new).past store.new registry.now last_rows.new latest.new
         (held alarms.new) set (copied copy ∷ g) × (events ≡ events_at set (copied copy ∷ g))) }
     ensures up_to { OnOk result (IsUpTo alarms.new registry.now) }
-    ensures ready { IsReady H.honest (H.seen host.new).past store.new }
-    ensures replayed { IsReplayed store.new }
-    ensures going { OnOk result (store.new.fault ≡ None) }
+    ensures keeps { KeepsStore H.honest (H.seen host.old) store.old result (H.seen host.new)
+        store.new }
     ensures last { OnOk result (store.new.last ≡ beat.now.moment) }
-    ensures settings { store.new.settings ≡ store.old.settings }
-    ensures faults { IfErr result IsSpending }
-    ensures only_here { H.honest → OnlyOn JournalA (H.seen host.old).past (H.seen host.new).past }
-    ensures cause { HasCause (H.seen host.old).disk_faults (H.seen host.new).disk_faults
-        (IsErrOf result AgentFault.DiskFault) }
-    ensures tells { (H.seen host.new).tell_faults ≡ (H.seen host.old).tell_faults }
 {
     let moment = beat.moment;
     let Ok(kept) = kept_copy(alloc, registry, message, defines, beat) else {
@@ -306,17 +283,10 @@ fn add_later<H: Host>(
         → ArePartsAt (H.seen host.new).past store.new registry.now last_rows.new latest.new
         (held alarms.new) set (onto g more) × (events ≡ events_onto set g more)) }
     ensures up_to { OnOk result (IsUpTo alarms.new registry.now) }
-    ensures ready { IsReady H.honest (H.seen host.new).past store.new }
-    ensures replayed { IsReplayed store.new }
-    ensures going { OnOk result (store.new.fault ≡ None) }
+    ensures keeps { KeepsStore H.honest (H.seen host.old) store.old result (H.seen host.new)
+        store.new }
     ensures last { OnOk result
         (store.new.last ≡ latest_of beat_moment store.old.last beats.now) }
-    ensures settings { store.new.settings ≡ store.old.settings }
-    ensures faults { IfErr result IsSpending }
-    ensures only_here { H.honest → OnlyOn JournalA (H.seen host.old).past (H.seen host.new).past }
-    ensures cause { HasCause (H.seen host.old).disk_faults (H.seen host.new).disk_faults
-        (IsErrOf result AgentFault.DiskFault) }
-    ensures tells { (H.seen host.new).tell_faults ≡ (H.seen host.old).tell_faults }
 {
     let defines = nothing_defined(alloc);
     let mut events = EventList::new(alloc);
@@ -375,17 +345,10 @@ fn add_beats<H: Host>(
         → ArePartsAt (H.seen host.new).past store.new registry.now last_rows.new latest.new
         (held alarms.new) set (onto g more) × (events ≡ events_onto set g more)) }
     ensures up_to { OnOk result (0 < length beats.now → IsUpTo alarms.new registry.now) }
-    ensures ready { IsReady H.honest (H.seen host.new).past store.new }
-    ensures replayed { IsReplayed store.new }
-    ensures going { OnOk result (store.new.fault ≡ None) }
+    ensures keeps { KeepsStore H.honest (H.seen host.old) store.old result (H.seen host.new)
+        store.new }
     ensures last { OnOk result
         (store.new.last ≡ latest_of beat_moment store.old.last beats.now) }
-    ensures settings { store.new.settings ≡ store.old.settings }
-    ensures faults { IfErr result IsSpending }
-    ensures only_here { H.honest → OnlyOn JournalA (H.seen host.old).past (H.seen host.new).past }
-    ensures cause { HasCause (H.seen host.old).disk_faults (H.seen host.new).disk_faults
-        (IsErrOf result AgentFault.DiskFault) }
-    ensures tells { (H.seen host.new).tell_faults ≡ (H.seen host.old).tell_faults }
 {
     let Some((first, rest)) = beats.split_first() else {
         return Ok(EventList::new(alloc));
@@ -425,16 +388,9 @@ fn add_gap_before<H: Host>(
         → may_copy (role_of h) ≡ true
         → Holds (H.seen host.new).past store.new registry lasts latest set
         (onto h (gap_beats message.now))) }
-    ensures ready { IsReady H.honest (H.seen host.new).past store.new }
-    ensures replayed { IsReplayed store.new }
-    ensures going { OnOk result (store.new.fault ≡ None) }
+    ensures keeps { KeepsStore H.honest (H.seen host.old) store.old result (H.seen host.new)
+        store.new }
     ensures last { OnOk result (store.new.last ≡ message.now.from) }
-    ensures settings { store.new.settings ≡ store.old.settings }
-    ensures faults { IfErr result IsSpending }
-    ensures only_here { H.honest → OnlyOn JournalA (H.seen host.old).past (H.seen host.new).past }
-    ensures cause { HasCause (H.seen host.old).disk_faults (H.seen host.new).disk_faults
-        (IsErrOf result AgentFault.DiskFault) }
-    ensures tells { (H.seen host.new).tell_faults ≡ (H.seen host.old).tell_faults }
 {
     if message.prev < message.from {
         add_gap(
@@ -525,19 +481,12 @@ pub(crate) fn add_message<H: Host>(
         → ArePartsAt (H.seen host.new).past store.new registry.new last_rows.new latest.new
         (held alarms.new) set (onto h more) × (events ≡ events_onto set h more)) }
     ensures up_to { OnOk result (IsUpTo alarms.new registry.new) }
-    ensures ready { IsReady H.honest (H.seen host.new).past store.new }
-    ensures replayed { IsReplayed store.new }
-    ensures going { OnOk result (store.new.fault ≡ None) }
+    ensures keeps { KeepsStore H.honest (H.seen host.old) store.old result (H.seen host.new)
+        store.new }
     ensures last { OnOk result (store.new.last ≡ message.now.upto) }
     ensures charts { OnOk result (AreApart same_chart registry.new.charts) }
     ensures dimensions { OnOk result (AreApart same_dimension registry.new.dimensions) }
     ensures limits { OnOk result (HasLimits registry.new) }
-    ensures settings { store.new.settings ≡ store.old.settings }
-    ensures faults { IfErr result IsSpending }
-    ensures only_here { H.honest → OnlyOn JournalA (H.seen host.old).past (H.seen host.new).past }
-    ensures cause { HasCause (H.seen host.old).disk_faults (H.seen host.new).disk_faults
-        (IsErrOf result AgentFault.DiskFault) }
-    ensures tells { (H.seen host.new).tell_faults ≡ (H.seen host.old).tell_faults }
 {
     let Ok(defs) = definitions_in(alloc, &message.names) else {
         return Err(AgentFault::Memory);

@@ -23,6 +23,7 @@ use Rattle.agent_core.specs.Copying.{added_to, copy_refusal, verdict_of}
 use Rattle.agent_core.specs.Kept.{onto, AreBeatsOf, StandsForHistory}
 use Rattle.agent_core.specs.Roles.{role_of}
 use Rattle.agent_core.proofs.CopyLemmas.{added-copy, gaps-end}
+use Rattle.agent_core.proofs.StoredLemmas.{were_kept}
 use Rattle.link_session.specs.declared.fault.PeerFault.TheVariants.{BadFrame, WrongChild}
 use Rattle.link_session.specs.declared.fault.SessionFault.TheVariants.{PeerRefused}
 use Rattle.link_session.specs.Exchange.{both, ends, exchange, leaves, refuses, then_does, Course, SessionResult}
@@ -199,4 +200,5 @@ module _ (set : Settings) (floors : List ℕ) (child : List SeenBeat) (rises : R
   stops-copy h0 frames old new spelt truth copy stops =
       weakened (λ past held disk images.
       let kept = held disk (told past) images (full_text past (told past) refl) in
-      (kept.stored, kept.stands, frames-copy frames (parent_begins h0) kept.stored kept.stands.beats kept.stands.are spelt truth copy kept.since kept.within)) stops
+      let all = were_kept kept.stored kept.stands.stored kept.stands.are in
+      (kept.stored, kept.stands, frames-copy frames (parent_begins h0) kept.stored all.beats all.are spelt truth copy kept.since kept.within)) stops

@@ -2,7 +2,6 @@
 use Rattle.std.proofs.Common.{◌≡◌, inl, inr, ℕ, Bool, false, List, [], ◌∷◌, ◌++◌, length, take, Option, Some, None, Result, Ok, Err, IfErr, IsErrOf, refl, sym, ap, subst, ◌∙◌, true≢false, arith}
 use Rattle.std.proofs.Math.Seq.{take-length}
 use Rattle.host_model.specs.declared.file.File.{File}
-use Rattle.host_model.specs.declared.file.File.TheVariants.{JournalA}
 use Rattle.host_model.specs.Cause.{HasCause}
 use Rattle.host_model.specs.Disks.{EveryDisk}
 use Rattle.host_model.specs.Moments.{EveryStop, Throughout}
@@ -33,7 +32,8 @@ use Rattle.agent_core.specs.Faults.{fault_after, LeavesAll, RefusedBy, ReopensWi
 use Rattle.agent_core.specs.Kept.{onto, StandsForFront}
 use Rattle.agent_core.specs.Replies.{event_lines, reply_text, stored_line}
 use Rattle.agent_core.specs.Roles.{role_of}
-use Rattle.agent_core.proofs.KeptLemmas.{child-is}
+use Rattle.agent_core.proofs.KeptLemmas.{agent-kept, child-is}
+use Rattle.agent_core.proofs.StoredLemmas.{WereKept}
 use Rattle.link_session.specs.declared.fault.SessionFault.{SessionFault}
 use Rattle.link_session.specs.declared.fault.SessionFault.TheVariants.{LinkFault, Agent, PeerRefused, Ended, InputLimit, TellFault, Memory}
 use Rattle.link_session.specs.declared.flow.Flow.{Flow}
@@ -96,7 +96,7 @@ failing fault = Err fault
 abbrev failed : AgentFault → Result Flow SessionFault
 failed fault = Err (Agent fault)
 
-pub ready-after : (honest : Type 0) (old new : List Event) (agent : AgentState) → (honest → of JournalA new ≡ of JournalA old) → AgentIsReady honest old agent → AgentIsReady honest new agent
+pub ready-after : (honest : Type 0) (old new : List Event) (agent : AgentState) → (honest → (file : File) → of file new ≡ of file old) → AgentIsReady honest old agent → AgentIsReady honest new agent
 ready-after honest old new agent same ready going =
     let fits = ready going in
     record {
@@ -268,7 +268,7 @@ module _ (honest : Type 0) (host : Seen) (agent : AgentState) (message : Data) (
       fault = takes.fault ∙ ap (λ (f : Option Why). fault_after {T = Verdict × Reply} f (Ok (verdict.Stored, reply))) takes.reopens ∙ sym takes.reopens ∙ sym (spent-none agent.fault result have-apart);
       reopens = λ cause is. absurd (have-apart (subst (λ (r : Result Flow SessionFault). IsAgents r) (sym is) tt));
       id = takes.id;
-      ready = ready-after honest middle.past new.past agent' (λ hon. have-leaves hon JournalA) takes.ready;
+      ready = ready-after honest middle.past new.past agent' have-leaves takes.ready;
     }
 
     module _ (hon : honest) (set : Settings) (h0 h : List Beat) (start : List Event) (made : List ℕ) (at : StoresAt host.past agent set h0 h start made) where
@@ -296,11 +296,14 @@ module _ (honest : Type 0) (host : Seen) (agent : AgentState) (message : Data) (
           ∙ ap (λ (es : List AlarmEvent). stored_line (counted (length (onto h more))) ++ event_lines es)
           (takes.events hon set h at.agent_of ∙ ap (events_onto set h) (adds-is host.past agent set h at.agent_of message))
 
+      kept : WereKept (onto h more)
+      kept = agent-kept middle.past agent' set (onto h more) at-middle.agent_of
+
       acked : IsAckedUpTo (length (onto h more)) course.told
-      acked = acked-told (length (onto h more)) (counted (length (onto h more))) set h more at-middle.agent_of.holds.beats at-middle.agent_of.holds.are (omega arith) (omega arith)
+      acked = acked-told (length (onto h more)) (counted (length (onto h more))) set h more kept.beats kept.are (omega arith) (omega arith)
 
       whole : rest course.told ≡ []
-      whole = closed-told (length (onto h more)) (counted (length (onto h more))) set h more at-middle.agent_of.holds.beats at-middle.agent_of.holds.are
+      whole = closed-told (length (onto h more)) (counted (length (onto h more))) set h more kept.beats kept.are
 
       abbrev Has : Result Flow SessionFault → List Event → Option (List ℕ) → Type 0
       Has r past sent' = CopiesSo set h0 h start made course (Some id) r agent' past a sent'

@@ -11,9 +11,9 @@ use Rattle.host_model.proofs.MomentLemmas.{at_end, joined, weakened}
 use Rattle.history.specs.History.{Beat}
 use Rattle.plugin_text.specs.Lines.{rest}
 use Rattle.entry_codec.specs.declared.entry.Settings.{Settings}
-use Rattle.store_core.proofs.StoreLemmas.{every_image_of, store_told}
 use Rattle.agent_core.specs.Agent.{AgentState, IsAgentOf}
 use Rattle.agent_core.specs.Kept.{onto, StandsForFront, StandsForHistory}
+use Rattle.agent_core.proofs.KeptLemmas.{agent-told, stays}
 use Rattle.link_session.specs.Keeps.{no_more, Extends, IsAckedUpTo, Keeps}
 use Rattle.link_session.specs.Receiving.{HasStored, StoresAt, TellsFront}
 use Rattle.link_session.proofs.AckLemmas.{acked-more, acked-since, acked-weaker, closed-more, text-front}
@@ -21,25 +21,7 @@ use Rattle.link_session.proofs.ExtendsLemmas.{extends-front, extends-further, ex
 
 -- ---- an agent
 pub stands-all : (past : List Event) (agent : AgentState) (set : Settings) (h : List Beat) → IsAgentOf past agent set h → EveryDisk (StandsForHistory set h) past
-stands-all past agent set h is_of disk images =
-    record { beats = is_of.holds.beats; are = is_of.holds.are; stands = every_image_of past agent.store set is_of.holds.beats is_of.holds.store_of disk images }
-
-pub agent-told : (sent : List ℕ) (past : List Event) (agent : AgentState) (set : Settings) (h : List Beat) → IsAgentOf past agent set h → IsAgentOf (Told sent ∷ past) agent set h
-agent-told sent past agent set h is_of = record {
-  holds = record {
-    beats = is_of.holds.beats;
-    are = is_of.holds.are;
-    store_of = store_told sent past agent.store set is_of.holds.beats [] is_of.holds.store_of;
-    registry_is = is_of.holds.registry_is;
-    last_rows_are = is_of.holds.last_rows_are;
-    latest_is = is_of.holds.latest_is;
-  };
-  last_is = is_of.last_is;
-  count = is_of.count;
-  role = is_of.role;
-  alarms = is_of.alarms;
-  going = is_of.going;
-}
+stands-all past agent set h is_of = stays past agent.store agent.registry agent.last_rows agent.latest set h is_of.holds
 
 -- ---- what a crash leaves
 pub keeps-more : (set : Settings) (h0 h whole : List Beat) (before : List ℕ) → Extends h whole → (start new : List Event) → Throughout (EveryStop (Keeps set h0 h before)) start new → Throughout (EveryStop (Keeps set h0 whole before)) start new

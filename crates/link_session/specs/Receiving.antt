@@ -2,12 +2,11 @@
 use Rattle.std.specs.Prelude.{◌≡◌, ◌⊎◌, ℕ, Bool, true, false, List, [], ◌∷◌, ◌++◌, length, Option, Some, Result, Ok, Err, IfSome, IfErr, IsErrOf, take, ◌≤◌}
 use Rattle.std.specs.List.{flat_map, AllByRecursion}
 use Rattle.host_model.specs.declared.file.File.{File}
-use Rattle.host_model.specs.declared.file.File.TheVariants.{JournalA}
 use Rattle.host_model.specs.Cause.{HasCause}
 use Rattle.host_model.specs.Disks.{EveryDisk}
 use Rattle.host_model.specs.Link.{SendsFront}
 use Rattle.host_model.specs.Moments.{EveryStop, Throughout}
-use Rattle.host_model.specs.Past.{of, told, Event, IsOther, MayAdd, Told}
+use Rattle.host_model.specs.Past.{of, told, Event, MayAdd, Told}
 use Rattle.host_model.specs.Seen.{Seen}
 use Rattle.history.specs.History.{Beat}
 use Rattle.plugin_text.specs.Lines.{rest}
@@ -17,6 +16,7 @@ use Rattle.link_frames.specs.declared.frame.Frame.TheVariants as frame
 use Rattle.link_frames.specs.Frames.{bad_frame, done, frame_bytes}
 use Rattle.entry_codec.specs.declared.entry.Settings.{Settings}
 use Rattle.store_core.specs.declared.fault.Why.{Why}
+use Rattle.store_core.specs.Own.{IsForeign}
 use Rattle.agent_core.specs.declared.fault.AgentFault.{AgentFault}
 use Rattle.agent_core.specs.declared.fault.AgentFault.TheVariants as agent_fault
 use Rattle.agent_core.specs.Agent.{id_of, AgentIsReady, AgentState, IsAgentOf}
@@ -81,8 +81,8 @@ IsReceiving fault = Unit {0}
 
 -- whatever history it is of, calls with this result left the agent and its host so
 pub record StoresOnly {T : Type 0} (honest : Type 0) (host : Seen) (agent : AgentState) (result : Result T SessionFault) (host' : Seen) (agent' : AgentState) : Type 0 where
-  -- nothing happens to a file but the journal
-  pub only_here : honest → (file : File) → IsOther file JournalA → of file host'.past ≡ of file host.past
+  -- nothing happens to a file that is not the store's own
+  pub only_here : honest → (file : File) → IsForeign file → of file host'.past ≡ of file host.past
   -- the disk and the output fail exactly where the host counted a failure
   pub disk : HasCause host.disk_faults host'.disk_faults (IsErrOf result (Agent agent_fault.DiskFault))
   pub tells : HasCause host.tell_faults host'.tell_faults (IsErrOf result TellFault)

@@ -1,4 +1,4 @@
--- What a stop may leave of the file while a database is made: what it might have left before, and then no database,
+-- What a crash may leave of the file while a database is made: what it might have left before, and then no database,
 -- until the first record is there.
 use Rattle.std.proofs.Common.{◌≡◌, ℕ, ◌+◌, ◌-◌, ◌<◌, ◌≤◌, ◌⊎◌, ⊎_elim, inl, inr, true, false, eqb, ltb, List, ◌∷◌, ◌++◌, length, take, drop, get_or, Result, sym, ap, subst, ◌∙◌, arith, length-append}
 use Rattle.std.specs.Result.{OnOk, OnErr}
@@ -64,11 +64,11 @@ cut_not_begun past now reads long_reads none bytes image =
     (mixed_front bytes (contents past) 16 long (omega arith) ∙ eqb-true (get_or bytes 16 0) 1 both.1) in
     false≢true (sym (none other (mixed_image past now bytes reads long_reads long image)) ∙ there))
 
--- a stop left these bytes before, or they begin no database
+-- a crash left these bytes before, or they begin no database
 abbrev pub WasOrUnbegun : List Event → List ℕ → Type 0
 WasOrUnbegun old bytes = IsImage (of JournalA old) bytes ⊎ (is_begun bytes ≡ false)
 
--- at each moment of a sync a stop leaves what it might have left before
+-- at each moment of a sync a crash leaves what it might have left before
 pub sync_moments : {T E : Type 0} (honest : Type 0) (result : Result T E) (old new : List Event) → honest
     → OnOk result (honest → new ≡ On JournalA Synced ∷ old) → OnErr result (honest → new ≡ old)
     → IsImage (of JournalA old) (contents (of JournalA old)) → Throughout (EveryImage JournalA (WasOrUnbegun old)) old new

@@ -5,6 +5,7 @@ pub mod FileLemmas
 pub mod FirstRecordLaw
 pub mod Loops
 pub mod OpenLemmas
+pub mod OwnLemmas
 pub mod RecordLaw
 pub mod StandLemmas
 pub mod StoreLemmas

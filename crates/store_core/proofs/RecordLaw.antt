@@ -36,7 +36,7 @@ oldest_first (beat ∷ beats) =
       whole = with_all-more [] before.rest beat ∙ ap (λ (all : List Beat). beat ∷ all) before.whole;
     }
 
--- a front of beats that may follow one another
+-- a prefix of beats that may follow one another
 pub front_are : (beats rest : List Beat) → AreBeats (with_all beats rest) → AreBeats beats
 front_are beats [] are = are
 front_are beats (next ∷ rest) are =

@@ -13,7 +13,8 @@ use Rattle.store_core.specs.Beats.{beat_bytes}
 use Rattle.store_core.specs.FirstRecord.{settings_body}
 use Rattle.store_core.specs.Records.{records}
 use Rattle.store_core.specs.Stands.{is_begun, is_made, Stands}
-use Rattle.store_core.proofs.RecordLaw.{history_once, SameHistory}
+use Rattle.store_core.specs.Stored.{Stored}
+use Rattle.store_core.proofs.RecordLaw.{history_once}
 
 -- the byte behind the header
 byte_behind : (generation byte : ℕ) (rest : List ℕ) → get_or (header generation ++ byte ∷ rest) 16 0 ≡ byte
@@ -72,14 +73,27 @@ begins_with set (beat ∷ beats) =
     }
 
 -- a disk that holds a database has one
-pub stands_made : (set : Settings) (beats : List Beat) (disk : File → List ℕ) → Stands set beats disk → is_made disk ≡ true
-stands_made set beats disk stands =
-    let head = begins_with set beats in
+pub stands_made : (set : Settings) (stored : Stored) (disk : File → List ℕ) → Stands set stored disk → is_made disk ≡ true
+unfolding is_made
+stands_made set stored disk stands =
+    let head = begins_with set stored.after in
     stands_begun (disk JournalA) head.first head.more (subst (StandsFor 0 (disk JournalA)) head.whole stands.journal)
 
+-- the same was stored with the same settings
+pub record SameStored (set other : Settings) (stored others : Stored) : Type 0 where
+  pub settings : set ≡ other
+  pub stored_same : stored ≡ others
+
 -- a disk holds one database at most
-pub stands_once : (set other : Settings) (beats others : List Beat) (disk : File → List ℕ) → Stands set beats disk → Stands other others disk
-    → SameHistory set other beats others
-stands_once set other beats others disk stands again =
-    history_once set other beats others stands.limits stands.beats_are again.limits again.beats_are
-    (records_once 0 (disk JournalA) (records set beats) (records other others) stands.journal again.journal)
+pub stands_once : (set other : Settings) (stored others : Stored) (disk : File → List ℕ) → Stands set stored disk → Stands other others disk
+    → SameStored set other stored others
+stands_once set other stored others disk stands again =
+    let same =
+    history_once set other stored.after others.after stands.limits stands.beats_are again.limits again.beats_are
+    (records_once 0 (disk JournalA) (records set stored.after) (records other others.after) stands.journal again.journal) in
+    record { settings = same.settings; stored_same = ap (λ (beats : List Beat). record stored { after = beats }) same.beats_same }
+
+-- there is a database where its file begins one
+pub made_begun : (disk : File → List ℕ) → is_made disk ≡ is_begun (disk JournalA)
+unfolding is_made
+made_begun disk = refl

@@ -19,6 +19,7 @@ use Rattle.store_core.specs.declared.beat.Beat.{Beat}
 use Rattle.store_core.specs.Beats.{IsMoment, is_point, is_timed, series_of}
 use Rattle.store_core.specs.FirstRecord.{are_tiers, is_tier}
 use Rattle.store_core.specs.Records.{is_later, last_after, last_moment, AreBeats}
+use Rattle.store_core.specs.Stored.{Stored, nothing_stored, stored_with}
 use Rattle.store_core.specs.Tiers.{first_tier, floor_at, other_tiers, seen, tier_of, tier_with, HasTiers}
 
 -- ---- settings
@@ -39,7 +40,7 @@ pub are_others : (set : Settings) → are_tiers set ≡ true → AllByRecursion 
 are_others set are =
     (tier_in 60 set.tier1 (omega arith) (and_parts _ _ (and_parts _ _ are).0).1, (tier_in 3600 set.tier2 (omega arith) (and_parts _ _ are).1, tt))
 
-pub tiers_begin : (set : Settings) → are_tiers set ≡ true → HasTiers set [] (no_beats (first_tier set) (other_tiers set))
+pub tiers_begin : (set : Settings) → are_tiers set ≡ true → HasTiers set nothing_stored (no_beats (first_tier set) (other_tiers set))
 tiers_begin set are = tiers_none (first_tier set) (other_tiers set) (is_first set are) (are_others set are)
 
 -- ---- a beat more
@@ -95,10 +96,10 @@ follows beats beat are =
       points = are_above 0 beat.points lists.0 lists.1 (λ point rest is. omega arith);
     }
 
-pub tiers_more : (set : Settings) (beats : List Beat) (beat : Beat) (tiers : TiersState) → HasTiers set beats tiers → AreBeats (beat ∷ beats)
-    → HasTiers set (beat ∷ beats) (after_beat beat.moment beat.points tiers)
-tiers_more set beats beat tiers has are =
-    tiers_with (first_tier set ∷ other_tiers set) (map seen beats) beat.moment beat.points tiers has (follows beats beat are)
+pub tiers_more : (set : Settings) (stored : Stored) (beat : Beat) (tiers : TiersState) → HasTiers set stored tiers → AreBeats (stored_with stored beat).after
+    → HasTiers set (stored_with stored beat) (after_beat beat.moment beat.points tiers)
+tiers_more set stored beat tiers has are =
+    tiers_with (first_tier set ∷ other_tiers set) (map seen stored.after) beat.moment beat.points tiers has (follows stored.after beat are)
 
 -- ---- floors
 
@@ -142,7 +143,7 @@ same_floor : (number : ℕ) (tier other : Tier) (beats : List TierBeat) (expired
 same_floor number tier other beats expired is same =
     ap (λ (o : Option ℕ). option_map_or (floor_after number tier) o 0) is ∙ ap (λ (t : Tier). floor_of number t beats) same
 
-module _ (set : Settings) (beats : List Beat) (tiers : TiersState) (has : HasTiers set beats tiers) where
+module _ (set : Settings) (stored : Stored) (tiers : TiersState) (has : HasTiers set stored tiers) where
   heads : {A : Type 0} (x y : A) (xs ys : List A) → x ∷ xs ≡ y ∷ ys → x ≡ y
   heads x y xs ys e = cc
 
@@ -155,13 +156,13 @@ module _ (set : Settings) (beats : List Beat) (tiers : TiersState) (has : HasTie
   others_are : map (λ (one : RecordTierState). one.tier) tiers.records ≡ other_tiers set
   others_are = sym (tails (first_tier set) tiers.first (other_tiers set) (map (λ (one : RecordTierState). one.tier) tiers.records) has.set_is)
 
-  first_floor : tier_floor tiers 0 ≡ floor_at set beats 0
+  first_floor : tier_floor tiers 0 ≡ floor_at set stored 0
   first_floor =
-      let floor : floor_in 0 tiers.first tiers.points.expired ≡ floor_of 0 (first_tier set) (map seen beats) =
-      same_floor 0 tiers.first (first_tier set) (map seen beats) tiers.points.expired has.points.expired first_is in
+      let floor : floor_in 0 tiers.first tiers.points.expired ≡ floor_of 0 (first_tier set) (map seen stored.after) =
+      same_floor 0 tiers.first (first_tier set) (map seen stored.after) tiers.points.expired has.points.expired first_is in
       let some : 1 ≤ (first_tier set).extents = subst (λ (tier : Tier). 1 ≤ tier.extents) first_is has.settings.extents in
-      let low = first_low (first_tier set) (map seen beats) some has.beats_are in
-      ap (λ (n : ℕ). min n (2 ^ 32 - 1)) floor ∙ min_low (floor_of 0 (first_tier set) (map seen beats)) low
+      let low = first_low (first_tier set) (map seen stored.after) some has.beats_are in
+      ap (λ (n : ℕ). min n (2 ^ 32 - 1)) floor ∙ min_low (floor_of 0 (first_tier set) (map seen stored.after)) low
     where
       min_low : (n : ℕ) → n < 2 ^ 32 → min n (2 ^ 32 - 1) ≡ n
       min_low n low = omega (arith, low)
@@ -201,14 +202,14 @@ module _ (set : Settings) (beats : List Beat) (tiers : TiersState) (has : HasTie
   pub tier_there : (number : ℕ) → (number ≡ 0 → ⊥) → number < 3 → TierAt number
   tier_there number some few = tier_in_records tiers.records refl others_are number some few
 
-  record_floor : (number : ℕ) (at : TierAt number) → tier_floor tiers number ≡ floor_at set beats number
+  record_floor : (number : ℕ) (at : TierAt number) → tier_floor tiers number ≡ floor_at set stored number
   record_floor number at =
-      let here = tier_at (map seen beats) 1 at.place tiers.records at.one has.records at.there in
+      let here = tier_at (map seen stored.after) 1 at.place tiers.records at.one has.records at.there in
       ap (tier_floor tiers) at.number_is
       ∙ by (at.place + 1) at.place refl (slice_get tiers.records at.place) refl
       ∙ ap (λ (found : Option RecordTierState). option_map_or (λ (one : RecordTierState). floor_in (at.place + 1) one.tier one.segments.expired) found 0) at.there
-      ∙ same_floor (at.place + 1) at.one.tier (tier_with set number) (map seen beats) at.one.segments.expired here.segments.expired at.tier_is
-      ∙ ap (λ (n : ℕ). floor_of n (tier_with set number) (map seen beats)) (sym at.number_is)
+      ∙ same_floor (at.place + 1) at.one.tier (tier_with set number) (map seen stored.after) at.one.segments.expired here.segments.expired at.tier_is
+      ∙ ap (λ (n : ℕ). floor_of n (tier_with set number) (map seen stored.after)) (sym at.number_is)
     where
       by : (n place : ℕ) → n ≡ place + 1 → (found : Option RecordTierState) → slice_get tiers.records place ≡ found
           → tier_floor tiers n ≡ option_map_or (λ (one : RecordTierState). floor_in (place + 1) one.tier one.segments.expired) found 0
@@ -219,18 +220,18 @@ module _ (set : Settings) (beats : List Beat) (tiers : TiersState) (has : HasTie
           ∙ ap (λ (found : Option RecordTierState). option_map_or (λ (one : RecordTierState). floor_in (place + 1) one.tier one.segments.expired) found 0) e
 
   -- the floor of each tier that is there
-  pub floor_is : (number : ℕ) → number < 3 → tier_floor tiers number ≡ floor_at set beats number
+  pub floor_is : (number : ℕ) → number < 3 → tier_floor tiers number ≡ floor_at set stored number
   floor_is number few = elim (cases_eq number 0) [
-    | inl none ↦ ap (tier_floor tiers) none ∙ first_floor ∙ ap (floor_at set beats) (sym none)
+    | inl none ↦ ap (tier_floor tiers) none ∙ first_floor ∙ ap (floor_at set stored) (sym none)
     | inr some ↦ record_floor number (tier_there number some few)
   ]
 
 -- how many beats with points have expired, with a beat more
-pub before_more : (set : Settings) (beats : List Beat) (beat : Beat) (tiers : TiersState) → HasTiers set beats tiers → AreBeats (beat ∷ beats)
-    → tiers.points.before ≡ beats_before (first_tier set) (map seen beats)
-    → (after_beat beat.moment beat.points tiers).points.before ≡ beats_before (first_tier set) (map seen (beat ∷ beats))
-before_more set beats beat tiers has are is =
-    let first = first_is set beats tiers has in
-    before_with (first_tier set ∷ other_tiers set) (map seen beats) beat.moment beat.points tiers has (follows beats beat are) (tiers_more set beats beat tiers has are)
-    (is ∙ ap (λ (tier : Tier). beats_before tier (map seen beats)) (sym first))
-    ∙ ap (λ (tier : Tier). beats_before tier (map seen (beat ∷ beats))) first
+pub before_more : (set : Settings) (stored : Stored) (beat : Beat) (tiers : TiersState) → HasTiers set stored tiers → AreBeats (stored_with stored beat).after
+    → tiers.points.before ≡ beats_before (first_tier set) (map seen stored.after)
+    → (after_beat beat.moment beat.points tiers).points.before ≡ beats_before (first_tier set) (map seen (stored_with stored beat).after)
+before_more set stored beat tiers has are is =
+    let first = first_is set stored tiers has in
+    before_with (first_tier set ∷ other_tiers set) (map seen stored.after) beat.moment beat.points tiers has (follows stored.after beat are) (tiers_more set stored beat tiers has are)
+    (is ∙ ap (λ (tier : Tier). beats_before tier (map seen stored.after)) (sym first))
+    ∙ ap (λ (tier : Tier). beats_before tier (map seen (stored_with stored beat).after)) first

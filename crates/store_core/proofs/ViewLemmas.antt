@@ -18,8 +18,8 @@ use Rattle.beat_tiers.proofs.StateLaws.{points_are, points_ordered, records_are,
 use Rattle.query_engine.specs.Points.{IsFirstRecord, points_between, record_at, value_of, values}
 use Rattle.query_engine.proofs.SeriesLemmas.{reversed_record}
 use Rattle.entry_codec.specs.declared.entry.Settings.{Settings}
-use Rattle.store_core.specs.declared.beat.Beat.{Beat}
 use Rattle.store_core.specs.Store.{StoreState}
+use Rattle.store_core.specs.Stored.{Stored}
 use Rattle.store_core.specs.Tiers.{HasTiers, first_tier, other_tiers, seen, tier_with}
 use Rattle.store_core.specs.View.{Tells, points_of, widths}
 use Rattle.store_core.proofs.TierLemmas.{TierAt, first_is, floor_is, tier_there}
@@ -41,15 +41,15 @@ values_reverse (point ∷ points) =
 same_record : (width bucket : ℕ) (points : List Point) → bucket_record width bucket (values points) ≡ bucket_record width bucket (values (reverse points))
 same_record width bucket points = sym (ap (bucket_record width bucket) (values_reverse points) ∙ reversed_record width bucket points)
 
--- ---- of the tiers of some beats
+-- ---- of the tiers of what is stored
 
-module _ (set : Settings) (beats : List Beat) (tiers : TiersState) (has : HasTiers set beats tiers) where
-  points_told : (series from to : ℕ) → points_in tiers series from to ≡ points_between (tier_floor tiers 0) from to (points_of beats series)
+module _ (set : Settings) (stored : Stored) (tiers : TiersState) (has : HasTiers set stored tiers) where
+  points_told : (series from to : ℕ) → points_in tiers series from to ≡ points_between (tier_floor tiers 0) from to (points_of stored series)
   points_told series from to =
-      let floor : floor_of 0 tiers.first (map seen beats) ≡ tier_floor tiers 0 =
-      ap (λ (tier : Tier). floor_of 0 tier (map seen beats)) (first_is set beats tiers has) ∙ sym (floor_is set beats tiers has 0 (omega arith)) in
-      points_are (first_tier set ∷ other_tiers set) (map seen beats) tiers has series from to
-      ∙ ap (λ (n : ℕ). filter (is_between n from to) (points_of beats series)) floor
+      let floor : floor_of 0 tiers.first (map seen stored.after) ≡ tier_floor tiers 0 =
+      ap (λ (tier : Tier). floor_of 0 tier (map seen stored.after)) (first_is set stored tiers has) ∙ sym (floor_is set stored tiers has 0 (omega arith)) in
+      points_are (first_tier set ∷ other_tiers set) (map seen stored.after) tiers has series from to
+      ∙ ap (λ (n : ℕ). filter (is_between n from to) (points_of stored series)) floor
 
   width_is : (number : ℕ) → (number ≡ 0 → ⊥) → number < 3 → (tier_with set number).width ≡ slice_index widths number
   width_is zero some few = absurd (some refl)
@@ -57,19 +57,19 @@ module _ (set : Settings) (beats : List Beat) (tiers : TiersState) (has : HasTie
   width_is (suc (suc zero)) some few = refl
   width_is (suc (suc (suc number))) some few = absurd (omega (arith, few))
 
-  record_told : (number : ℕ) → (number ≡ 0 → ⊥) → number < 3 → (at : TierAt set beats tiers has number) (series bucket : ℕ)
-      → record_in (at.place + 1) at.one tiers.last series bucket ≡ record_at (slice_index widths number) (tier_floor tiers number) bucket (points_of beats series)
+  record_told : (number : ℕ) → (number ≡ 0 → ⊥) → number < 3 → (at : TierAt set stored tiers has number) (series bucket : ℕ)
+      → record_in (at.place + 1) at.one tiers.last series bucket ≡ record_at (slice_index widths number) (tier_floor tiers number) bucket (points_of stored series)
   record_told number some few at series bucket =
-      let floor : floor_of (at.place + 1) at.one.tier (map seen beats) ≡ tier_floor tiers number =
-      ap (λ (n : ℕ). floor_of n at.one.tier (map seen beats)) (sym at.number_is)
-      ∙ ap (λ (tier : Tier). floor_of number tier (map seen beats)) at.tier_is
-      ∙ sym (floor_is set beats tiers has number few) in
+      let floor : floor_of (at.place + 1) at.one.tier (map seen stored.after) ≡ tier_floor tiers number =
+      ap (λ (n : ℕ). floor_of n at.one.tier (map seen stored.after)) (sym at.number_is)
+      ∙ ap (λ (tier : Tier). floor_of number tier (map seen stored.after)) at.tier_is
+      ∙ sym (floor_is set stored tiers has number few) in
       let width : at.one.tier.width ≡ slice_index widths number = ap (λ (tier : Tier). tier.width) at.tier_is ∙ width_is number some few in
-      records_are (first_tier set ∷ other_tiers set) (map seen beats) tiers has at.place at.one at.there series bucket
-      ∙ ap (λ (n : ℕ). record_above n at.one.tier.width bucket (map seen beats) series) floor
-      ∙ ap (λ (n : ℕ). record_above (tier_floor tiers number) n bucket (map seen beats) series) width
+      records_are (first_tier set ∷ other_tiers set) (map seen stored.after) tiers has at.place at.one at.there series bucket
+      ∙ ap (λ (n : ℕ). record_above n at.one.tier.width bucket (map seen stored.after) series) floor
+      ∙ ap (λ (n : ℕ). record_above (tier_floor tiers number) n bucket (map seen stored.after) series) width
       ∙ ap (λ (found : Option Record). cond (nat_lt (bucket * slice_index widths number) (tier_floor tiers number)) None found)
-      (same_record (slice_index widths number) bucket (series_points (map seen beats) series))
+      (same_record (slice_index widths number) bucket (series_points (map seen stored.after) series))
 
 first_told : (record_of : ℕ → Option Record) (width floor from to : ℕ) (points : List Point) → ((bucket : ℕ) → record_of bucket ≡ record_at width floor bucket points)
     → (found : Option (ℕ × Record)) → kept.IsFirstRecord record_of from to found → IsFirstRecord width floor from to points found
@@ -84,35 +84,35 @@ first_told record_of width floor from to points same (Some found) is = record {
 -- ---- of a store
 
 module _ (store : StoreState) (told : ℕ → List Point) (tells : Tells store told) (tiers : TiersState) (same : tiers ≡ store.tiers) where
-  has : HasTiers tells.set tells.beats tiers
-  has = subst (HasTiers tells.set tells.beats) (sym same) tells.has
+  has : HasTiers tells.set tells.stored tiers
+  has = subst (HasTiers tells.set tells.stored) (sym same) tells.has
 
-  series_is : (series : ℕ) → points_of tells.beats series ≡ told series
+  series_is : (series : ℕ) → points_of tells.stored series ≡ told series
   series_is series = ap (λ (all : ℕ → List Point). all series) (sym tells.told_is)
 
   pub points_found : (series from to : ℕ) (found : List Point) → (AreOrdered (items_of tiers.points) → found ≡ points_in tiers series from to)
       → found ≡ points_between (tier_floor store.tiers 0) from to (told series)
   points_found series from to found is =
-      is (points_ordered (first_tier tells.set ∷ other_tiers tells.set) (map seen tells.beats) tiers has)
-      ∙ points_told tells.set tells.beats tiers has series from to
-      ∙ ap (λ (t : TiersState). points_between (tier_floor t 0) from to (points_of tells.beats series)) same
+      is (points_ordered (first_tier tells.set ∷ other_tiers tells.set) (map seen tells.stored.after) tiers has)
+      ∙ points_told tells.set tells.stored tiers has series from to
+      ∙ ap (λ (t : TiersState). points_between (tier_floor t 0) from to (points_of tells.stored series)) same
       ∙ ap (points_between (tier_floor store.tiers 0) from to) (series_is series)
 
   module _ (number : ℕ) (some : number ≡ 0 → ⊥) (few : number < 3) (series : ℕ) where
-    at : TierAt tells.set tells.beats tiers has number
-    at = tier_there tells.set tells.beats tiers has number some few
+    at : TierAt tells.set tells.stored tiers has number
+    at = tier_there tells.set tells.stored tiers has number some few
 
     each_told : (bucket : ℕ) → record_in (at.place + 1) at.one tiers.last series bucket ≡ record_at (slice_index widths number) (tier_floor store.tiers number) bucket (told series)
     each_told bucket =
-        record_told tells.set tells.beats tiers has number some few at series bucket
-        ∙ ap (λ (t : TiersState). record_at (slice_index widths number) (tier_floor t number) bucket (points_of tells.beats series)) same
+        record_told tells.set tells.stored tiers has number some few at series bucket
+        ∙ ap (λ (t : TiersState). record_at (slice_index widths number) (tier_floor t number) bucket (points_of tells.stored series)) same
         ∙ ap (record_at (slice_index widths number) (tier_floor store.tiers number) bucket) (series_is series)
 
     ordered : AreOrdered (items_of at.one.segments)
-    ordered = records_ordered (first_tier tells.set ∷ other_tiers tells.set) (map seen tells.beats) tiers has at.place at.one at.there
+    ordered = records_ordered (first_tier tells.set ∷ other_tiers tells.set) (map seen tells.stored.after) tiers has at.place at.one at.there
 
     closed : AreClosed tiers.last at.one
-    closed = records_closed (first_tier tells.set ∷ other_tiers tells.set) (map seen tells.beats) tiers has at.place at.one at.there
+    closed = records_closed (first_tier tells.set ∷ other_tiers tells.set) (map seen tells.stored.after) tiers has at.place at.one at.there
 
     pub record_found : (bucket : ℕ) (found : Option Record)
         → ((place : ℕ) (one : RecordTierState) → slice_get tiers.records place ≡ Some one → number ≡ place + 1 → AreOrdered (items_of one.segments) → found ≡ record_in (place + 1) one tiers.last series bucket)

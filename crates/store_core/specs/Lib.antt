@@ -1,9 +1,11 @@
 pub mod Beats
 pub mod Faults
 pub mod FirstRecord
+pub mod Own
 pub mod Records
 pub mod Stands
 pub mod Store
+pub mod Stored
 pub mod Tiers
 pub mod Told
 pub mod View

@@ -9,7 +9,8 @@ use Rattle.entry_codec.specs.declared.entry.Settings.{Settings}
 use Rattle.store_core.specs.declared.beat.Beat.{Beat}
 use Rattle.store_core.specs.declared.fault.Why.{Why}
 use Rattle.store_core.specs.FirstRecord.{InLimits}
-use Rattle.store_core.specs.Records.{last_moment, records, with_all, AreBeats}
+use Rattle.store_core.specs.Records.{last_moment, records, AreBeats}
+use Rattle.store_core.specs.Stored.{Stored, base_of, stored_with, stored_with_all}
 use Rattle.store_core.specs.Tiers.{first_tier, other_tiers, seen, HasTiers}
 
 pub record StoreState : Type 0 where
@@ -43,46 +44,43 @@ pub record IsPlaced (journal : JournalState) : Type 0 where
   pub file : journal.file ≡ JournalA
   pub generation : journal.generation ≡ 0
 
--- the store is that of these settings and beats, has applied these beats, and the others, the oldest
+-- the store is that of these settings, has applied what is stored here, and these beats, the oldest
 -- first, are still to be applied
-pub record IsStoreAt (past : List Event) (store : StoreState) (set : Settings) (beats rest : List Beat) : Type 0 where
+pub record IsStoreAt (past : List Event) (store : StoreState) (set : Settings) (stored : Stored) (rest : List Beat) : Type 0 where
   pub place : IsPlaced store.journal
-  pub journal : IsOpen (of JournalA past) store.journal (records set (with_all beats rest))
+  pub journal : IsOpen (of JournalA past) store.journal (records set (stored_with_all stored rest).after)
   pub limits : InLimits set
-  pub beats_are : AreBeats (with_all beats rest)
+  pub beats_are : AreBeats (stored_with_all stored rest).after
   pub settings : store.settings ≡ set
   pub waiting : store.waiting ≡ rest
-  pub count : store.count ≡ counted (length beats)
-  pub last : store.last ≡ last_moment beats
-  pub tiers : HasTiers set beats store.tiers
+  pub count : store.count ≡ counted (length stored.after)
+  pub last : store.last ≡ last_moment stored.after
+  pub tiers : HasTiers set stored store.tiers
   -- how many beats with points have expired
-  pub before : store.tiers.points.before ≡ beats_before (first_tier set) (map seen beats)
+  pub before : store.tiers.points.before ≡ beats_before (first_tier set) (map seen stored.after)
   pub going : store.fault ≡ None
 
--- the store is that of these settings and beats, and all are applied
-abbrev pub IsStoreOf : List Event → StoreState → Settings → List Beat → Type 0
-IsStoreOf past store set beats = IsStoreAt past store set beats []
+-- the store is that of these settings, and has applied all that is stored
+abbrev pub IsStoreOf : List Event → StoreState → Settings → Stored → Type 0
+IsStoreOf past store set stored = IsStoreAt past store set stored []
 
 -- what a call of a store requires of its host: it holds after `open` of every image
 pub record IsReady (honest : Type 0) (past : List Event) (store : StoreState) : Type 0 where
   pub place : IsPlaced store.journal
   pub journal : store.fault ≡ None → honest → (bodies : List (List ℕ)) × IsOpen (of JournalA past) store.journal bodies
 
--- the store stands at some front of these beats, the rest of which is still to be applied; it is the
--- empty one
-pub record OpensAt (past : List Event) (store : StoreState) (set : Settings) (beats : List Beat) : Type 0 where
-  pub applied : List Beat
+-- the store stands at the base, and the beats since, the oldest first, are still to be applied
+pub record OpensAt (past : List Event) (store : StoreState) (set : Settings) (stored : Stored) : Type 0 where
   pub rest : List Beat
-  pub whole : with_all applied rest ≡ beats
-  pub from_start : applied ≡ []
-  pub is_at : IsStoreAt past store set applied rest
+  pub whole : stored_with_all (base_of stored) rest ≡ stored
+  pub is_at : IsStoreAt past store set (base_of stored) rest
 
 -- a replay gave the next beat and applied it, or there is none
-abbrev pub Replays : List Event → StoreState → Settings → List Beat → List Beat → Option Beat → Type 0
-Replays past store set beats [] None = IsStoreAt past store set beats []
-Replays past store set beats [] (Some beat) = ⊥
-Replays past store set beats (next ∷ rest) None = ⊥
-Replays past store set beats (next ∷ rest) (Some beat) = (beat ≡ next) × IsStoreAt past store set (beat ∷ beats) rest
+abbrev pub Replays : List Event → StoreState → Settings → Stored → List Beat → Option Beat → Type 0
+Replays past store set stored [] None = IsStoreAt past store set stored []
+Replays past store set stored [] (Some beat) = ⊥
+Replays past store set stored (next ∷ rest) None = ⊥
+Replays past store set stored (next ∷ rest) (Some beat) = (beat ≡ next) × IsStoreAt past store set (stored_with stored beat) rest
 
 -- the first of the beats that wait was taken, if there was one
 abbrev pub TakesFirst : List Beat → Option Beat → List Beat → Type 0

@@ -64,4 +64,4 @@ series_rise series (beat ∷ beats) are = by beat.moment beat.points are.0.later
 -- the points of each series that a store tells
 pub told_series : (store : StoreState) (told : ℕ → List Point) → Tells store told → (series : ℕ) → IsTrue (are_series (told series))
 told_series store told tells series =
-    subst (λ (all : ℕ → List Point). IsTrue (are_series (all series))) (sym tells.told_is) (series_rise series (map seen tells.beats) tells.has.beats_are).rise
+    subst (λ (all : ℕ → List Point). IsTrue (are_series (all series))) (sym tells.told_is) (series_rise series (map seen tells.stored.after) tells.has.beats_are).rise

@@ -1,4 +1,4 @@
--- What a view of a store answers by. A list of beats has the newest first, a list of points the earliest.
+-- What a view of a store answers by. A list of points has the earliest first.
 use Rattle.std.specs.Prelude.{◌≡◌, ℕ, List, map, reverse}
 use Rattle.std.specs.Borrow.{GName}
 use Rattle.host_model.specs.Seen.{Seen}
@@ -7,8 +7,8 @@ use Rattle.beat_tiers.specs.Beats.{series_points}
 use Rattle.beat_tiers.specs.State.{tier_floor}
 use Rattle.query_engine.specs.Points.{Tiers}
 use Rattle.entry_codec.specs.declared.entry.Settings.{Settings}
-use Rattle.store_core.specs.declared.beat.Beat.{Beat}
 use Rattle.store_core.specs.Store.{StoreState}
+use Rattle.store_core.specs.Stored.{Stored}
 use Rattle.store_core.specs.Tiers.{HasTiers, seen}
 pub use Rattle.store_core.specs.Tiers.{widths}
 
@@ -16,16 +16,16 @@ pub use Rattle.store_core.specs.Tiers.{widths}
 abbrev pub view_tiers : StoreState → Tiers
 view_tiers store = record { widths = widths; floor = tier_floor store.tiers }
 
--- the points that beats gave to a series
-abbrev pub points_of : List Beat → ℕ → List Point
-points_of beats series = reverse (series_points (map seen beats) series)
+-- the points that what is stored gave to a series
+abbrev pub points_of : Stored → ℕ → List Point
+points_of stored series = reverse (series_points (map seen stored.after) series)
 
--- the tiers of the store are those of some beats, and these are their points
+-- the tiers of the store are those of something stored, and these are its points
 pub record Tells (store : StoreState) (told : ℕ → List Point) : Type 0 where
   pub set : Settings
-  pub beats : List Beat
-  pub has : HasTiers set beats store.tiers
-  pub told_is : told ≡ points_of beats
+  pub stored : Stored
+  pub has : HasTiers set stored store.tiers
+  pub told_is : told ≡ points_of stored
 
 -- a store and its host, and which they are
 pub record ViewHeld : Type 0 where

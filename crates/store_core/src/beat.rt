@@ -17,17 +17,17 @@ pub struct Beat {
 }
 
 impl Beat {
-    /// Whether a database may keep the beat: a moment is not 0, the points are in the order of their
-    /// series, each series once and below 65,536, a step is 1 to 86,400, a word is a storage number,
-    /// and a beat without a moment has no points.
+    /// Whether a database may keep the beat: a moment is not 0, the points are in the order of
+    /// their series, each series once and below 65,536, a step is 1 to 86,400, a word is a storage
+    /// number, and a beat without a moment has no points.
     pub fn is_in_form(&self) -> bool
         ensures { IsTrue result ↔ InForm self.now }
     {
         form::is_short(self) && form::has_form(self)
     }
 
-    /// Whether the record of a journal can hold the beat: it has at most 2^26 bytes, 12 for each point, the
-    /// bytes of the note, and 12 more.
+    /// Whether the record of a journal can hold the beat: it has at most 2^26 bytes, 12 for each
+    /// point, the bytes of the note, and 12 more.
     #[tactic(auto, using(crate::proofs::BeatLaw::beat_size))]
     pub fn fits_a_record(&self) -> bool
         ensures { IsTrue result ↔ (length (beat_bytes self.now) ≤ 2 ^ 26) }

@@ -24,6 +24,7 @@ const EMPTY: u64 = 17;
 const MOST: u64 = 1 << 60;
 
 /// Whether there is a database on the disk.
+#[tactic(auto, unfolding(crate::specs::Stands::is_made))]
 pub(crate) fn is_made<H: Host>(host: &mut H) -> Result<bool, Failed>
     ensures value { IfOk result
         (λ made. H.honest → made ≡ is_made (reads_as (H.seen host.old).past)) }
@@ -79,8 +80,8 @@ fn shorten<H: Host>(host: &mut H) -> Result<(), Failed>
     host.sync(File::JournalA)
 }
 
-/// Makes an empty journal, where the file reads as no database. A stop leaves what it might have left
-/// before the call, or no database: what the file reads as is made to hold before it is cut.
+/// Makes an empty journal, where the file reads as no database. A crash leaves what it might have
+/// left before the call, or no database: what the file reads as is made to hold before it is cut.
 pub(crate) fn start<H: Host>(host: &mut H) -> Result<Journal, StoreFault>
     ensures any_moment { H.honest
         → is_begun (contents (of File.JournalA (H.seen host.old).past)) ≡ false
@@ -111,8 +112,8 @@ pub(crate) fn start<H: Host>(host: &mut H) -> Result<Journal, StoreFault>
     Ok(Journal::empty(File::JournalA, 0))
 }
 
-/// Adds a record to the journal, where it has at most 2^60 bytes. At every moment a stop leaves the
-/// journal with the record or without it.
+/// Adds a record to the journal, where it has at most 2^60 bytes. At every moment a crash leaves
+/// the journal with the record or without it.
 pub(crate) fn append<H: Host>(
     journal: &mut Journal,
     host: &mut H,
@@ -150,8 +151,8 @@ pub(crate) fn append<H: Host>(
     Ok(())
 }
 
-/// Makes a journal with one record, where the file reads as no database. At every moment a stop leaves what
-/// it might have left before the call, no database, or the journal with the record.
+/// Makes a journal with one record, where the file reads as no database. At every moment a crash
+/// leaves what it might have left before the call, no database, or the journal with the record.
 pub(crate) fn make<H: Host>(host: &mut H, body: &[u8]) -> Result<Journal, StoreFault>
     requires { length body.now ≤ 2 ^ 26 }
     ensures any_moment { H.honest

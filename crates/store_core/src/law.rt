@@ -14,24 +14,26 @@ ghost use Rattle.store_core.specs.Records.{history_in, records, with_all, AreBea
 ghost use Rattle.store_core.specs.FirstRecord.{InLimits};
 ghost use Rattle.store_core.specs.Stands.{is_made, Stands};
 ghost use Rattle.store_core.specs.Store.{IsStoreAt, IsStoreOf, StoreState};
+ghost use Rattle.store_core.specs.Stored.{Stored as AStored};
 ghost use Rattle.store_core.specs.Tiers.{floor_at};
 ghost use Rattle.store_core.specs.View.{points_of, widths};
 
-/// Laws of databases, for any disk and any store; the call does nothing. A disk holds one database at most,
-/// what a store is of is what each stop leaves, and telling changes nothing of it. The bytes of a beat in
-/// form read as it, what bytes read as has them, and the records of a database read as it. The floors by which a
-/// view answers are those of the beats that were applied, and two tiers whose floors are at most where a window
-/// starts give it equal cells.
+/// Laws of databases, for any disk and any store; the call does nothing. A disk holds one database
+/// at most, what a store has stored is what each crash leaves, and telling changes nothing of it.
+/// The bytes of a beat in form read as it, what bytes read as has them, and the records of a
+/// database read as it. The floors by which a view answers are those of the beats that were
+/// applied, and two tiers whose floors are at most where a window starts give it equal cells.
 pub fn any_database()
-    ensures once { (set other : ASettings) (beats others : List ABeat) (disk : AFile → List ℕ)
-        → Stands set beats disk → Stands other others disk → (set ≡ other) × (beats ≡ others) }
-    ensures made { (set : ASettings) (beats : List ABeat) (disk : AFile → List ℕ)
-        → Stands set beats disk → is_made disk ≡ true }
-    ensures images { (past : List Event) (store : StoreState) (set : ASettings) (beats : List ABeat)
-        → IsStoreOf past store set beats → EveryDisk (Stands set beats) past }
+    ensures once { (set other : ASettings) (stored others : AStored) (disk : AFile → List ℕ)
+        → Stands set stored disk → Stands other others disk → (set ≡ other) × (stored ≡ others) }
+    ensures made { (set : ASettings) (stored : AStored) (disk : AFile → List ℕ)
+        → Stands set stored disk → is_made disk ≡ true }
+    ensures images { (past : List Event) (store : StoreState) (set : ASettings) (stored : AStored)
+        → IsStoreOf past store set stored → EveryDisk (Stands set stored) past }
     ensures told { (sent : List ℕ) (past : List Event) (store : StoreState) (set : ASettings)
-        (beats rest : List ABeat)
-        → IsStoreAt past store set beats rest → IsStoreAt (Told sent ∷ past) store set beats rest }
+        (stored : AStored) (rest : List ABeat)
+        → IsStoreAt past store set stored rest
+        → IsStoreAt (Told sent ∷ past) store set stored rest }
     ensures beat_again { (beat : ABeat) → InForm beat → beat_in (beat_bytes beat) ≡ Some beat }
     ensures beat_form { (bytes : List ℕ) (beat : ABeat) → IsBytes bytes → beat_in bytes ≡ Some beat
         → InForm beat }
@@ -41,19 +43,20 @@ pub fn any_database()
         → AreBeats (with_all [] rest)
         → history_in (records set (with_all [] rest)) ≡ Some (set, rest) }
     ensures floors { (past : List Event) (store : StoreState) (set : ASettings)
-        (beats rest : List ABeat) (tier : ℕ)
-        → IsStoreAt past store set beats rest → tier < 3
-        → tier_floor store.tiers tier ≡ floor_at set beats tier }
+        (stored : AStored) (rest : List ABeat) (tier : ℕ)
+        → IsStoreAt past store set stored rest → tier < 3
+        → tier_floor store.tiers tier ≡ floor_at set stored tier }
     ensures two_tiers { (past : List Event) (store : StoreState) (set : ASettings)
-        (beats rest : List ABeat) (request : ARequest) (i series one other : ℕ)
-        → IsStoreAt past store set beats rest
+        (stored : AStored) (rest : List ABeat) (request : ARequest) (i series one other : ℕ)
+        → IsStoreAt past store set stored rest
         → may_read widths request.after request.window one ≡ true
         → may_read widths request.after request.window other ≡ true
-        → floor_at set beats one ≤ start_of request i → floor_at set beats other ≤ start_of request i
-        → cell_in_tier widths (floor_at set beats) one request.group
+        → floor_at set stored one ≤ start_of request i
+        → floor_at set stored other ≤ start_of request i
+        → cell_in_tier widths (floor_at set stored) one request.group
         (start_of request i) request.window
-        (points_of beats series)
-        ≡ cell_in_tier widths (floor_at set beats) other request.group
+        (points_of stored series)
+        ≡ cell_in_tier widths (floor_at set stored) other request.group
         (start_of request i) request.window
-        (points_of beats series) }
+        (points_of stored series) }
 {}

@@ -4,12 +4,14 @@
 //! journal in one file: its first record has the settings, and each later one a beat, whose moments
 //! rise. A disk holds one database at most, and which one is a function of the records.
 //!
-//! At every moment of `commit` a stop leaves the beats that were there, with the new one or without
-//! it, and a beat whose commit answered `Ok` is never lost again. At every moment of `create` a
-//! stop leaves what it might have left before the call, no database, or the one without beats.
-//! `open` gives just what is on the disk, or says that there is no database or that it is damaged;
-//! `replay` then gives the beats one by one. Once the disk has failed or memory was refused, each
-//! call on the store answers so, with the first cause.
+//! What a database has stored is `Stored`: a base, which is the database without beats, and the
+//! beats since. At every moment of `commit` a crash leaves what was stored, with the new beat or
+//! without it, and a beat whose commit answered `Ok` is never lost again. At every moment of
+//! `create` a crash leaves what it might have left before the call, no database, or the one that
+//! has stored nothing. `open` gives just what is on the disk, or says that there is no database or
+//! that it is damaged; the store then stands at the base, and `replay` gives the beats since one by
+//! one. No call touches a file that is not the store's own. Once the disk has failed or memory was
+//! refused, each call on the store answers so, with the first cause.
 //!
 //! A store keeps in memory what the tiers of its settings keep of its beats: points, records of
 //! minutes and of hours, and their floors. Until a commit or a replay has failed `floor`, `kept`
@@ -24,10 +26,10 @@
 //! is written, and after a refusal the store is as it was, but for the cause.
 //!
 //! It stands on `journal_core` for the records, on `beat_tiers` for the tiers, on `query_engine`
-//! for the trait of a view, on `host_model` for what a stop may leave, and on `entry_codec` for the
-//! entry of the settings. Over a host that tells nothing of its past each call is still safe and
-//! returns. While it is opened its records, and then the beats that wait for their replay, are in
-//! memory.
+//! for the trait of a view, on `host_model` for what a crash may leave, and on `entry_codec` for
+//! the entry of the settings. Over a host that tells nothing of its past each call is still safe
+//! and returns. While it is opened its records, and then the beats that wait for their replay, are
+//! in memory.
 #![tactic(auto)]
 
 mod beat;

@@ -28,8 +28,8 @@ fn are_tiers(settings: &Settings) -> bool
     is_tier(&settings.tier0) && is_tier(&settings.tier1) && is_tier(&settings.tier2)
 }
 
-/// Whether a database may have these settings: in each tier 1 to 262,144 items make a segment full, and
-/// 1 to 1,024 segments are kept.
+/// Whether a database may have these settings: in each tier 1 to 262,144 items make a segment full,
+/// and 1 to 1,024 segments are kept.
 pub fn is_in_limits(settings: &Settings) -> bool
     ensures { IsTrue result ↔ InLimits settings.now }
 {

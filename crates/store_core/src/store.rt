@@ -4,7 +4,7 @@ ghost use Rattle.host_model.specs.Images.{IsImage};
 ghost use Rattle.host_model.specs.Past.{Event, of, IsDisk};
 ghost use Rattle.host_model.specs.Disks.{EveryDisk, reads_as};
 ghost use Rattle.host_model.specs.Cause.{HasCause};
-ghost use Rattle.host_model.specs.Moments.{Throughout, EveryImage, OnlyOn};
+ghost use Rattle.host_model.specs.Moments.{Throughout, EveryImage};
 ghost use Rattle.beat_tiers.specs.Above.{is_above, RiseAbove};
 ghost use Rattle.beat_tiers.specs.Room.{tiers_held, HasRoomFor};
 ghost use Rattle.beat_tiers.specs.Kept.{kept_in};
@@ -14,7 +14,9 @@ ghost use Rattle.store_core.specs.declared.beat.Beat.{Beat as ABeat};
 ghost use Rattle.store_core.specs.Beats.{beat_bytes, InForm};
 ghost use Rattle.store_core.specs.Faults.{fault_after, IsCommitFault, IsCreateFault, IsOpenFault, IsReplayFault, IsStepFault, LeavesAll, Reopens};
 ghost use Rattle.store_core.specs.FirstRecord.{InLimits};
+ghost use Rattle.store_core.specs.Own.{OnlyOwn};
 ghost use Rattle.store_core.specs.Records.{is_later, last_after};
+ghost use Rattle.store_core.specs.Stored.{Stored as AStored, nothing_stored, stored_with};
 ghost use Rattle.store_core.specs.Tiers.{first_tier, floor_at, kept_of, other_tiers};
 ghost use Rattle.store_core.specs.Stands.{is_made, IsDamaged, Stands, StandsAround, StandsIfMade};
 
@@ -32,8 +34,8 @@ use journal_core::{Journal, JournalFault};
 use std::alloc::{AllocError, Global};
 use std::marker::Model;
 
-/// A database that has been made or opened, with the host that it is on. Each call on it is handed that
-/// host, which since then only its calls, and `tell`, have touched.
+/// A database that has been made or opened, with the host that it is on. Each call on it is handed
+/// that host, which since then only its calls, and `tell`, have touched.
 #[derive(Debug, Drop)]
 pub struct Store {
     alloc: Global,
@@ -82,10 +84,12 @@ fn reserve_first(tiers: &mut Tiers, waiting: &Waiting) -> Result<(), AllocError>
 impl Store {
     ghost use Rattle.store_core.specs.Store.{raised, IsNew, IsPlaced, IsReady, IsReplayed, IsStoreAt, IsStoreOf, OpensAt, Replays, TakesFirst, tiers_after};
 
-    /// Makes a database with these settings, where there is none: whatever else the file held is gone.
+    /// Makes a database with these settings, where there is none: whatever else the file held is
+    /// gone.
     ///
-    /// `Exists` exactly where there is one, and then nothing has happened. At every moment a stop leaves what
-    /// it might have left before the call, no database, or the new one without beats; at `Ok` the last.
+    /// `Exists` exactly where there is one, and then nothing has happened. At every moment a crash
+    /// leaves what it might have left before the call, no database, or the new one, which has
+    /// stored nothing; at `Ok` the last.
     pub fn create<H: Host>(
         alloc: Global,
         host: &mut H,
@@ -93,17 +97,18 @@ impl Store {
     ) -> Result<Store, StoreFault>
         requires { InLimits settings.now }
         ensures created { IfOk result
-            (λ store. H.honest → IsStoreOf (H.seen host.new).past store settings.now []) }
+            (λ store. H.honest
+            → IsStoreOf (H.seen host.new).past store settings.now nothing_stored) }
         ensures ready { IfOk result (IsReady H.honest (H.seen host.new).past) }
         ensures new { IfOk result (IsNew settings.now) }
 
         ensures any_moment { H.honest → Throughout (EveryDisk
             (λ disk. IsDisk (H.seen host.old).past disk ⊎ StandsIfMade settings.now disk))
             (H.seen host.old).past (H.seen host.new).past }
-        ensures only_here { H.honest
-            → OnlyOn File.JournalA (H.seen host.old).past (H.seen host.new).past }
+        ensures only_here { H.honest → OnlyOwn (H.seen host.old).past (H.seen host.new).past }
 
-        // Exactly where there is a database it is refused, or the disk failed, and nothing has happened.
+        // Exactly where there is a database it is refused, or the disk failed, and nothing has
+        // happened.
         ensures exists { IsErrOf result StoreFault.Exists → H.honest
             → is_made (reads_as (H.seen host.old).past) ≡ true }
         ensures none { OnOk result (H.honest → is_made (reads_as (H.seen host.old).past) ≡ false) }
@@ -142,14 +147,16 @@ impl Store {
         })
     }
 
-    /// Opens the database, none of whose beats is applied yet. The disk is only read and synced.
+    /// Opens the database. The store stands at its base, and none of the beats since is applied
+    /// yet. The disk is only read and synced, and whatever a crash leaves from then on holds what
+    /// was stored.
     ///
-    /// `NotADatabase` exactly where there is none, and `Damaged(4)` exactly where what is there holds no
-    /// settings and beats.
+    /// `NotADatabase` exactly where there is none, and `Damaged(4)` exactly where what is there
+    /// holds no settings and beats.
     pub fn open<H: Host>(alloc: Global, host: &mut H) -> Result<Store, StoreFault>
-        ensures opened { IfOk result (λ store. H.honest → (set : ASettings) (beats : List ABeat)
-            → Stands set beats (reads_as (H.seen host.old).past)
-            → OpensAt (H.seen host.new).past store set beats) }
+        ensures opened { IfOk result (λ store. H.honest → (set : ASettings) (stored : AStored)
+            → Stands set stored (reads_as (H.seen host.old).past)
+            → OpensAt (H.seen host.new).past store set stored) }
         ensures ready { IfOk result (IsReady H.honest (H.seen host.new).past) }
         ensures going { IfOk result (λ store. store.fault ≡ None) }
         ensures new { IfOk result (λ store. (store.count ≡ 0) × (store.last ≡ 0)) }
@@ -162,15 +169,17 @@ impl Store {
             (H.seen host.new).past }
         ensures same { H.honest → (file : AFile)
             → reads_as (H.seen host.new).past file ≡ reads_as (H.seen host.old).past file }
-        ensures only_here { H.honest
-            → OnlyOn File.JournalA (H.seen host.old).past (H.seen host.new).past }
+        ensures only_here { H.honest → OnlyOwn (H.seen host.old).past (H.seen host.new).past }
 
         ensures none { IsErrOf result StoreFault.NotADatabase → H.honest
             → is_made (reads_as (H.seen host.old).past) ≡ false }
         ensures some { OnOk result (H.honest → is_made (reads_as (H.seen host.old).past) ≡ true) }
         ensures stands { IfOk result
-            (λ store. H.honest → (set : ASettings) × (beats : List ABeat)
-            × Stands set beats (reads_as (H.seen host.old).past)) }
+            (λ store. H.honest → (set : ASettings) × (stored : AStored)
+            × Stands set stored (reads_as (H.seen host.old).past)) }
+        ensures images { OnOk result (H.honest → (set : ASettings) (stored : AStored)
+            → Stands set stored (reads_as (H.seen host.old).past)
+            → EveryDisk (Stands set stored) (H.seen host.new).past) }
         ensures damaged { (part : ℕ) → IsErrOf result (StoreFault.Damaged part) → H.honest
             → IsDamaged (reads_as (H.seen host.old).past) }
         ensures faults { IfErr result IsOpenFault }
@@ -227,23 +236,24 @@ impl Store {
         self.last
     }
 
-    /// The floor of tier 0, 1 or 2 of the beats that were applied: the first moment of which it has what they gave
-    /// it, in seconds, or 0 where nothing has expired.
+    /// The floor of tier 0, 1 or 2 of the beats that were applied: the first moment of which it has
+    /// what they gave it, in seconds, or 0 where nothing has expired.
     pub fn floor(&self, tier: u8) -> u32
         requires { tier < 3 }
         ensures kept { result ≡ tier_floor self.now.tiers tier }
-        ensures applied { (past : List Event) (set : ASettings) (beats rest : List ABeat)
-            → IsStoreAt past self.now set beats rest → result ≡ floor_at set beats tier }
+        ensures applied { (past : List Event) (set : ASettings) (stored : AStored)
+            (rest : List ABeat)
+            → IsStoreAt past self.now set stored rest → result ≡ floor_at set stored tier }
     {
         self.tiers.floor(tier)
     }
 
-    /// The beats with points that are kept of those that were applied, the earliest first, and how many came before
-    /// them. Store and host are as before, whatever the answer.
+    /// The beats with points that are kept of those that were applied, the earliest first, and how
+    /// many came before them. Store and host are as before, whatever the answer.
     pub fn kept<H: Host>(&mut self, _host: &mut H) -> Result<Kept, StoreFault>
-        ensures kept { (past : List Event) (set : ASettings) (beats rest : List ABeat)
-            → IsStoreAt past self.old set beats rest
-            → IfOk result (λ kept. kept ≡ kept_of set beats) }
+        ensures kept { (past : List Event) (set : ASettings) (stored : AStored) (rest : List ABeat)
+            → IsStoreAt past self.old set stored rest
+            → IfOk result (λ kept. kept ≡ kept_of set stored) }
         ensures tiers { IfOk result (λ kept. kept ≡ kept_in self.old.tiers.points) }
         ensures reopens { Reopens self.old.fault result }
         ensures faults { IfErr result IsReplayFault }
@@ -268,12 +278,12 @@ impl Store {
         from: u32,
         most: usize,
     ) -> Result<KeptBeatList, StoreFault>
-        ensures kept { (past : List Event) (set : ASettings) (beats rest : List ABeat)
-            → IsStoreAt past self.old set beats rest
+        ensures kept { (past : List Event) (set : ASettings) (stored : AStored) (rest : List ABeat)
+            → IsStoreAt past self.old set stored rest
             → IfOk result (λ found.
-            found ≡ take most (filter (is_above from) (kept_of set beats).beats)) }
+            found ≡ take most (filter (is_above from) (kept_of set stored).beats)) }
 
-        // The same, of a store that is of no beats.
+        // The same, of a store of which it is not known what it has stored.
         ensures rises { IfOk result (RiseAbove from) }
         ensures few { IfOk result (λ found. length found ≤ most) }
         ensures reopens { Reopens self.old.fault result }
@@ -306,22 +316,25 @@ impl Store {
 
     /// Counts a beat of this moment.
     fn apply(&mut self, moment: Option<u32>)
-        ensures { self.new
-            ≡ record self.old { count = raised self.old.count; last = last_after self.old.last moment } }
+        ensures { self.new ≡ record self.old {
+          count = raised self.old.count;
+          last = last_after self.old.last moment;
+        } }
     {
         self.count = self.count.saturating_add(1);
         self.last = last_after(self.last, moment);
     }
 
-    /// Gives the next beat that was there at the opening, and applies it: `None` where all are applied.
+    /// Gives the next beat that was there at the opening, and applies it: `None` where all are
+    /// applied.
     ///
     /// `Memory` comes before anything is applied. After it the database must be opened again.
     pub fn replay(&mut self) -> Result<Option<Beat>, StoreFault>
-        ensures next { (past : List Event) (set : ASettings) (beats rest : List ABeat)
-            → IsStoreAt past self.old set beats rest
-            → IfOk result (Replays past self.new set beats rest) }
+        ensures next { (past : List Event) (set : ASettings) (stored : AStored) (rest : List ABeat)
+            → IsStoreAt past self.old set stored rest
+            → IfOk result (Replays past self.new set stored rest) }
 
-        // The same, of a store that is of no beats.
+        // The same, of a store of which it is not known what it has stored.
         ensures takes { IfOk result (λ next. TakesFirst self.old.waiting next self.new.waiting) }
         ensures tiers { IfOk result (λ next. self.new.tiers ≡ tiers_after next self.old.tiers) }
         ensures stays { OnErr result
@@ -329,7 +342,8 @@ impl Store {
         ensures settings { self.new.settings ≡ self.old.settings }
         ensures journal { self.new.journal ≡ self.old.journal }
 
-        // After a refusal all but the fault is as before, and each call answers Reopen with its cause.
+        // After a refusal all but the fault is as before, and each call answers Reopen with its
+        // cause.
         ensures leaves { OnErr result (self.new ≡ record self.old { fault = self.new.fault }) }
         ensures fault { self.new.fault ≡ fault_after self.old.fault result }
         ensures reopens { Reopens self.old.fault result }
@@ -349,9 +363,9 @@ impl Store {
     }
 
     fn apply_next(&mut self) -> Result<Option<Beat>, AllocError>
-        ensures next { (past : List Event) (set : ASettings) (beats rest : List ABeat)
-            → IsStoreAt past self.old set beats rest
-            → IfOk result (Replays past self.new set beats rest) }
+        ensures next { (past : List Event) (set : ASettings) (stored : AStored) (rest : List ABeat)
+            → IsStoreAt past self.old set stored rest
+            → IfOk result (Replays past self.new set stored rest) }
         ensures takes { IfOk result
             (λ next. TakesFirst self.old.waiting next self.new.waiting) }
         ensures tiers { IfOk result (λ next. self.new.tiers ≡ tiers_after next self.old.tiers) }
@@ -371,27 +385,28 @@ impl Store {
         }
     }
 
-    /// Adds a beat. At `Ok` it is stored, so that it is there after every later stop; at every moment a
-    /// stop leaves the beats with the new one or without it.
+    /// Adds a beat. At `Ok` it is stored, so that it is there after every later crash; at every
+    /// moment a crash leaves what was stored with the new beat or without it.
     ///
-    /// `MomentOrder` exactly where the moment is at most the last one, and then nothing has changed. After
-    /// `DiskFault` or `Memory` the database must be opened again. `Memory` comes before anything is written.
-    /// Past 2^60 bytes of the journal the answer is `Memory`.
+    /// `MomentOrder` exactly where the moment is at most the last one, and then nothing has
+    /// changed. After `DiskFault` or `Memory` the database must be opened again. `Memory` comes
+    /// before anything is written. Past 2^60 bytes of the journal the answer is `Memory`.
     pub fn commit<H: Host>(&mut self, host: &mut H, beat: &Beat) -> Result<(), StoreFault>
         requires ready { IsReady H.honest (H.seen host.old).past self.old }
         requires replayed { IsReplayed self.old }
         requires form { InForm beat.now }
         requires size { length (beat_bytes beat.now) ≤ 2 ^ 26 }
-        ensures any_moment { H.honest → (set : ASettings) (beats : List ABeat)
-            → IsStoreOf (H.seen host.old).past self.old set beats
-            → Throughout (EveryDisk (StandsAround set beats beat.now)) (H.seen host.old).past
+        ensures any_moment { H.honest → (set : ASettings) (stored : AStored)
+            → IsStoreOf (H.seen host.old).past self.old set stored
+            → Throughout (EveryDisk (StandsAround set stored beat.now)) (H.seen host.old).past
             (H.seen host.new).past }
         ensures stored { OnOk result
-            (H.honest → (set : ASettings) (beats : List ABeat)
-            → IsStoreOf (H.seen host.old).past self.old set beats
-            → IsStoreOf (H.seen host.new).past self.new set (beat.now ∷ beats)) }
+            (H.honest → (set : ASettings) (stored : AStored)
+            → IsStoreOf (H.seen host.old).past self.old set stored
+            → IsStoreOf (H.seen host.new).past self.new set (stored_with stored beat.now)) }
 
-        // Nothing has changed where the moment is not above the last one, or an earlier call was refused.
+        // Nothing has changed where the moment is not above the last one, or an earlier call was
+        // refused.
         ensures order { IsErrOf result StoreFault.MomentOrder
             ↔ ((self.old.fault ≡ None)
             × IsSomeAnd beat.now.moment (λ moment. moment ≤ self.old.last)) }
@@ -399,7 +414,8 @@ impl Store {
             (λ fault. LeavesAll fault → (self.new ≡ self.old) × (host.new ≡ host.old)) }
         ensures same_host { IsErrOf result StoreFault.Memory → host.new ≡ host.old }
 
-        // After a refusal all but the fault is as before, and each call answers Reopen with its cause.
+        // After a refusal all but the fault is as before, and each call answers Reopen with its
+        // cause.
         ensures leaves { OnErr result (self.new ≡ record self.old { fault = self.new.fault }) }
         ensures fault { self.new.fault ≡ fault_after self.old.fault result }
         ensures reopens { Reopens self.old.fault result }
@@ -416,8 +432,7 @@ impl Store {
             ((self.new.count ≡ self.old.count) × (self.new.last ≡ self.old.last)) }
         ensures settings { self.new.settings ≡ self.old.settings }
 
-        ensures only_here { H.honest
-            → OnlyOn File.JournalA (H.seen host.old).past (H.seen host.new).past }
+        ensures only_here { H.honest → OnlyOwn (H.seen host.old).past (H.seen host.new).past }
         ensures cause { HasCause (H.seen host.old).disk_faults (H.seen host.new).disk_faults
             (IsErrOf result StoreFault.DiskFault) }
         ensures output { (H.seen host.new).tell_faults ≡ (H.seen host.old).tell_faults }
@@ -445,14 +460,14 @@ impl Store {
         requires form { InForm beat.now }
         requires size { length (beat_bytes beat.now) ≤ 2 ^ 26 }
         requires later { is_later self.old.last beat.now.moment ≡ true }
-        ensures any_moment { H.honest → (set : ASettings) (beats : List ABeat)
-            → IsStoreOf (H.seen host.old).past self.old set beats
-            → Throughout (EveryDisk (StandsAround set beats beat.now)) (H.seen host.old).past
+        ensures any_moment { H.honest → (set : ASettings) (stored : AStored)
+            → IsStoreOf (H.seen host.old).past self.old set stored
+            → Throughout (EveryDisk (StandsAround set stored beat.now)) (H.seen host.old).past
             (H.seen host.new).past }
         ensures stored { OnOk result
-            (H.honest → (set : ASettings) (beats : List ABeat)
-            → IsStoreOf (H.seen host.old).past self.old set beats
-            → IsStoreOf (H.seen host.new).past self.new set (beat.now ∷ beats)) }
+            (H.honest → (set : ASettings) (stored : AStored)
+            → IsStoreOf (H.seen host.old).past self.old set stored
+            → IsStoreOf (H.seen host.new).past self.new set (stored_with stored beat.now)) }
         ensures ready { OnOk result (IsReady H.honest (H.seen host.new).past self.new) }
         ensures place { IsPlaced self.new.journal }
         ensures applied { OnOk result (self.new ≡ record self.old {
@@ -462,8 +477,7 @@ impl Store {
           journal = self.new.journal;
         }) }
         ensures stays { OnErr result (self.new ≡ self.old) }
-        ensures only_here { H.honest
-            → OnlyOn File.JournalA (H.seen host.old).past (H.seen host.new).past }
+        ensures only_here { H.honest → OnlyOwn (H.seen host.old).past (H.seen host.new).past }
         ensures faults { IfErr result IsStepFault }
         ensures untouched { IsErrOf result StoreFault.Memory → host.new ≡ host.old }
         ensures cause { HasCause (H.seen host.old).disk_faults (H.seen host.new).disk_faults

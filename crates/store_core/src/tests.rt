@@ -112,8 +112,9 @@ fn found(alloc: Global, host: &mut MemoryHost) -> Result<Option<u64>, StoreFault
     }
 }
 
-/// Makes a database behind one whose last write failed, and stops. This call fails too: the calls of the second
-/// begin with 13, and it syncs the file with call 15. It gives what was answered, and the id that is there then.
+/// Makes a database behind one whose last write failed, and stops. This call fails too: the calls
+/// of the second begin with 13, and it syncs the file with call 15. It gives what was answered, and
+/// the id that is there then.
 fn made_again(
     alloc: Global,
     call: u64,
@@ -125,8 +126,8 @@ fn made_again(
     Ok((answers, found(alloc, &mut host)?))
 }
 
-/// Whether a stop leaves no database or a whole one, whatever it keeps: up to the sync the one of the first call,
-/// and then that of the second.
+/// Whether a crash leaves no database or a whole one, whatever it keeps: up to the sync the one of
+/// the first call, and then that of the second.
 fn are_whole(alloc: Global, call: u64) -> Result<bool, Fail> {
     let id = if call <= 15 { 7 } else { 8 };
     let failed = Some(StoreFault::DiskFault);

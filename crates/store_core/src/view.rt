@@ -6,6 +6,7 @@ ghost use Rattle.query_engine.specs.Windows.{table_of};
 ghost use Rattle.entry_codec.specs.declared.entry.Settings.{Settings as ASettings};
 ghost use Rattle.store_core.specs.declared.beat.Beat.{Beat as ABeat};
 ghost use Rattle.store_core.specs.Store.{IsStoreAt};
+ghost use Rattle.store_core.specs.Stored.{Stored as AStored};
 ghost use Rattle.store_core.specs.Tiers.{floor_at};
 ghost use Rattle.store_core.specs.View.{points_of, widths};
 
@@ -16,8 +17,9 @@ use host_model::Host;
 use query_engine::{PointFault, PointList, Points, Request, Table};
 use std::alloc::Global;
 
-/// A store and its host: it answers by the points, records and floors of the beats that were applied. All is in
-/// memory, so that no call touches the host. Of a store whose commit or replay was refused it tells nothing.
+/// A store and its host: it answers by the points, records and floors of the beats that were
+/// applied. All is in memory, so that no call touches the host. Of a store whose commit or replay
+/// was refused it tells nothing.
 #[derive(Drop)]
 pub struct StoreView<'a, 'b, H> {
     pub store: &'a mut Store,
@@ -34,8 +36,8 @@ impl Store {
     }
 }
 
-/// The answer of a store to a request is that of the definition over the beats that were applied. Whatever it is,
-/// store and host are as before, and the disk does not fail.
+/// The answer of a store to a request is that of the definition over the beats that were applied.
+/// Whatever it is, store and host are as before, and the disk does not fail.
 pub fn answer_by<H: Host>(
     alloc: Global,
     store: &mut Store,
@@ -44,8 +46,8 @@ pub fn answer_by<H: Host>(
 ) -> Result<Table, PointFault>
     requires going { store.old.fault ≡ None }
     ensures answered { IfOk result (λ table. (past : List Event) (set : ASettings)
-        (beats rest : List ABeat) → IsStoreAt past store.old set beats rest
-        → table ≡ table_of widths (floor_at set beats) (points_of beats) request.now) }
+        (stored : AStored) (rest : List ABeat) → IsStoreAt past store.old set stored rest
+        → table ≡ table_of widths (floor_at set stored) (points_of stored) request.now) }
     ensures same_store { store.new ≡ store.old }
     ensures same_host { H.seen host.new ≡ H.seen host.old }
     ensures no_disk { IsErrOf result PointFault.Disk → ⊥ }

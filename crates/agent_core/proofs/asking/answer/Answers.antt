@@ -10,21 +10,21 @@ use Rattle.agent_core.proofs.SentBeats.{rise-lower}
 use Rattle.agent_core.proofs.asking.answer.Goals as goal
 
 pub returns-then-ask-child-clause-answered : goal.returns-then-ask-child-clause-answered
-returns-then-ask-child-clause-answered g c past set h beats are store_of same =
-    not-asked past c.args.store.now set h beats are store_of c.args.ask.now (λ e. c.if-ask-child.true (e ∙ sym (ap (λ (set : Settings). set.id) c.settings.ensures)))
+returns-then-ask-child-clause-answered g c past set h stored are store_of same =
+    not-asked past c.args.store.now set h stored are store_of c.args.ask.now (λ e. c.if-ask-child.true (e ∙ sym (ap (λ (set : Settings). set.id) c.settings.ensures)))
 
 pub returns-in-Ok-answer_by-clause-answered : goal.returns-in-Ok-answer_by-clause-answered
-returns-in-Ok-answer_by-clause-answered g c past set h beats are store_of same =
+returns-in-Ok-answer_by-clause-answered g c past set h stored are store_of same =
     let store = c.args.store.now in
     let registry = c.args.registry.now in
     let ask = c.args.ask.now in
     let floor = c.floor-floor.result in
     let kept = c.in-Ok.kept in
-    let floor_is = c.floor-floor.ensures.applied past set beats [] store_of in
-    let kept_is : kept ≡ take 64 (filter (is_above (from_of floor ask.last)) (kept_of set beats).beats) =
-    subst (λ (from : ℕ). kept ≡ take 64 (filter (is_above from) (kept_of set beats).beats)) c.from_of.ensures (c.in-Ok.ensures.kept past set beats [] store_of) in
-    let sendable = found-sendable past store set h beats are store_of ask registry same floor floor_is kept kept_is in
-    answer-is past store set h beats are store_of ask registry same floor floor_is kept kept_is c.in-Ok-answer_by.answer
+    let floor_is = c.floor-floor.ensures.applied past set stored [] store_of in
+    let kept_is : kept ≡ take 64 (filter (is_above (from_of floor ask.last)) (kept_of set stored).beats) =
+    subst (λ (from : ℕ). kept ≡ take 64 (filter (is_above from) (kept_of set stored).beats)) c.from_of.ensures (c.in-Ok.ensures.kept past set stored [] store_of) in
+    let sendable = found-sendable past store set h stored are store_of ask registry same floor floor_is kept kept_is in
+    answer-is past store set h stored are store_of ask registry same floor floor_is kept kept_is c.in-Ok-answer_by.answer
     (c.in-Ok-answer_by.ensures.answered sendable ∙ ap (λ (id : ℕ). data_of id floor (names_of registry) (map sent_beat kept) ask) (ap (λ (set : Settings). set.id) c.settings.ensures))
 
 pub answer_by-requires-clause-rises : goal.answer_by-requires-clause-rises

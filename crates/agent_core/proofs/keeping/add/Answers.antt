@@ -7,6 +7,7 @@ use Rattle.agent_core.specs.Rules.{HasLimits}
 use Rattle.agent_core.proofs.DefinedLemmas.{charts-apart, dimensions-apart}
 use Rattle.agent_core.proofs.KeptLemmas.{collected-climbs, holds-more, kept-after, next-after, rows-taken, seen-taken, spelt-after, stays}
 use Rattle.agent_core.proofs.Outcomes.{always, on_ok}
+use Rattle.agent_core.proofs.StoredLemmas.{were_kept}
 use Rattle.agent_core.proofs.keeping.add.Goals as goal
 
 pub returns-in_default-clause-any_moment : goal.returns-in_default-clause-any_moment
@@ -24,7 +25,7 @@ returns-in_err-commit-clause-any_moment g c true_host set h holds follows =
     let kept = c.in-Ok.kept.beat in
     let is_kept = kept-after past store registry lasts latest set h holds c.args.moment beat follows kept c.keep.new.registry c.in-Ok.ensures.applied c.in-Ok.ensures.kept in
     let spelt = spelt-after past store registry lasts latest set h holds c.args.moment beat follows c.keep.new.registry c.in-Ok.ensures.applied c.in-Ok.ensures.spelt in
-    collected-climbs past store registry lasts latest set h holds c.args.moment beat follows kept is_kept spelt (g.H.Host.seen c.commit.new.host).past (c.commit.ensures.any_moment true_host set holds.beats holds.store_of)
+    collected-climbs past store registry lasts latest set h holds c.args.moment beat follows kept is_kept spelt (g.H.Host.seen c.commit.new.host).past (c.commit.ensures.any_moment true_host set holds.stored holds.store_of)
 
 pub returns-in_err-take_rows-clause-any_moment : goal.returns-in_err-take_rows-clause-any_moment
 returns-in_err-take_rows-clause-any_moment g c true_host set h holds follows =
@@ -37,7 +38,7 @@ returns-in_err-take_rows-clause-any_moment g c true_host set h holds follows =
     let kept = c.in-Ok.kept.beat in
     let is_kept = kept-after past store registry lasts latest set h holds c.args.moment beat follows kept c.keep.new.registry c.in-Ok.ensures.applied c.in-Ok.ensures.kept in
     let spelt = spelt-after past store registry lasts latest set h holds c.args.moment beat follows c.keep.new.registry c.in-Ok.ensures.applied c.in-Ok.ensures.spelt in
-    collected-climbs past store registry lasts latest set h holds c.args.moment beat follows kept is_kept spelt (g.H.Host.seen c.commit.new.host).past (c.commit.ensures.any_moment true_host set holds.beats holds.store_of)
+    collected-climbs past store registry lasts latest set h holds c.args.moment beat follows kept is_kept spelt (g.H.Host.seen c.commit.new.host).past (c.commit.ensures.any_moment true_host set holds.stored holds.store_of)
 
 pub returns-clause-any_moment : goal.returns-clause-any_moment
 returns-clause-any_moment g c true_host set h holds follows =
@@ -50,7 +51,7 @@ returns-clause-any_moment g c true_host set h holds follows =
     let kept = c.in-Ok.kept.beat in
     let is_kept = kept-after past store registry lasts latest set h holds c.args.moment beat follows kept c.keep.new.registry c.in-Ok.ensures.applied c.in-Ok.ensures.kept in
     let spelt = spelt-after past store registry lasts latest set h holds c.args.moment beat follows c.keep.new.registry c.in-Ok.ensures.applied c.in-Ok.ensures.spelt in
-    collected-climbs past store registry lasts latest set h holds c.args.moment beat follows kept is_kept spelt (g.H.Host.seen c.commit.new.host).past (c.commit.ensures.any_moment true_host set holds.beats holds.store_of)
+    collected-climbs past store registry lasts latest set h holds c.args.moment beat follows kept is_kept spelt (g.H.Host.seen c.commit.new.host).past (c.commit.ensures.any_moment true_host set holds.stored holds.store_of)
 
 pub returns-clause-done : goal.returns-clause-done
 returns-clause-done g c =
@@ -66,11 +67,12 @@ returns-clause-done g c =
     let is_kept = kept-after past store registry lasts latest set h holds c.args.moment beat follows kept c.keep.new.registry applied c.in-Ok.ensures.kept in
     let spelt = spelt-after past store registry lasts latest set h holds c.args.moment beat follows c.keep.new.registry applied c.in-Ok.ensures.spelt in
     holds-more past store registry lasts latest set h holds c.args.moment beat follows kept is_kept spelt (g.H.Host.seen c.commit.new.host).past c.commit.new.store c.keep.new.registry c.take_rows.new.last_rows c.see_beat.new.latest
-    (c.in_ok-commit.ensures.stored true_host set holds.beats holds.store_of) applied
+    (c.in_ok-commit.ensures.stored true_host set holds.stored holds.store_of) applied
     (let next = next-after past store registry lasts latest set h holds c.args.moment beat follows c.keep.new.registry applied in
     rows-taken c.keep.new.registry lasts c.take_rows.new.last_rows h c.args.moment beat c.in-Ok.kept.numbered c.in-Ok.ensures.numbered c.in_ok-take_rows.ensures.taken next c.in-Ok.ensures.regular)
     (let next = next-after past store registry lasts latest set h holds c.args.moment beat follows c.keep.new.registry applied in
-    seen-taken c.keep.new.registry latest c.see_beat.new.latest h c.args.moment beat c.in-Ok.kept.numbered kept c.in-Ok.ensures.numbered seen holds.beats lasts holds.are holds.last_rows_are holds.latest_is
+    let all = were_kept h holds.stored holds.are in
+    seen-taken c.keep.new.registry latest c.see_beat.new.latest h c.args.moment beat c.in-Ok.kept.numbered kept c.in-Ok.ensures.numbered seen all.beats lasts all.are holds.last_rows_are holds.latest_is
     next.registry_is c.in-Ok.ensures.regular is_kept))
 
 pub returns-clause-last : goal.returns-clause-last

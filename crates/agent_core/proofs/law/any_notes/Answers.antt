@@ -7,15 +7,15 @@ pub returns-clause-once : goal.returns-clause-once
 returns-clause-once c = notes-once
 
 pub returns-clause-records : goal.returns-clause-records
-returns-clause-records c goes disk notes damaged = damaged.no_beats notes.settings notes.beats notes.stands
+returns-clause-records c goes disk notes damaged = damaged.no_beats notes.settings notes.stored notes.stands
 
 pub returns-clause-made : goal.returns-clause-made
-returns-clause-made c goes disk notes = stands_made notes.settings notes.beats disk notes.stands
+returns-clause-made c goes disk notes = stands_made notes.settings notes.stored disk notes.stands
 
 pub returns-clause-history : goal.returns-clause-history
 returns-clause-history c set h disk stands = record {
   settings = set;
-  beats = stands.beats;
+  stored = stands.stored;
   stands = stands.stands;
-  notes = (history-goes h stands.beats stands.are).1;
+  notes = history-goes h stands.stored stands.are;
 }

@@ -6,11 +6,11 @@ use Rattle.agent_core.proofs.OpenFaults.{disk-or-memory, no-notes, same-fault}
 use Rattle.agent_core.proofs.replaying.open_store.Goals as goal
 
 pub returns-in-Err-clause-stands : goal.returns-in-Err-clause-stands
-returns-in-Err-clause-stands g c true_host set beats stands =
+returns-in-Err-clause-stands g c true_host set stored stands =
     let disk = reads_as (g.H.Host.seen c.args.host.now).past in
     disk-or-memory c.in-Err.fault c.store_fault.result c.store_fault.ensures c.in-Err.ensures.faults
-    (λ e. true≢false (sym (stands_made set beats disk stands) ∙ c.in-Err.ensures.none (ap Err e) true_host))
-    (λ e. (c.in-Err.ensures.damaged 4 (ap Err e) true_host).no_beats set beats stands)
+    (λ e. true≢false (sym (stands_made set stored disk stands) ∙ c.in-Err.ensures.none (ap Err e) true_host))
+    (λ e. (c.in-Err.ensures.damaged 4 (ap Err e) true_host).no_beats set stored stands)
 
 pub returns-in-Ok-clause-found : goal.returns-in-Ok-clause-found
 returns-in-Ok-clause-found g c = c.in-Ok.ensures.stands

@@ -9,4 +9,4 @@ returns-in_err-replay_next-clause-stands g c =
 pub returns-in_err-replay_next-clause-broken : goal.returns-in_err-replay_next-clause-broken
 returns-in_err-replay_next-clause-broken g c =
     let error = err_from_is_err_and c.from_residual.result c.from_residual.ensures.1 in
-    rw (error.1, error.2) (λ damaged past set beats was. c.in_err-replay_next.ensures.broken damaged past set beats (c.loop.invariant.notes past set beats was))
+    rw (error.1, error.2) (λ damaged past set stored was. c.in_err-replay_next.ensures.broken damaged past set stored (c.loop.invariant.notes past set stored was))

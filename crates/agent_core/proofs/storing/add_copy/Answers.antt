@@ -35,7 +35,7 @@ returns-clause-done g c =
     let of = copy-of registry c.args.message.now c.args.defines.now c.args.beat.now h copy sent c.in-Ok.kept c.in-Ok.ensures.kept c.in-Ok.ensures.spelt in
     let holds = c.in_ok-store_copy.ensures.done true_host before set h copy was.holds of sent.registry_is in
     let last = c.in_ok-store_copy.ensures.before ∙ store-last past c.args.store.now before c.args.last_rows.now c.args.latest.now set h was.holds in
-    let told = followed now set h (copied copy) holds.beats [] holds.are holds.store_of holds.registry_is holds.latest_is last was.held_is (sym sent.moment) in (
+    let told = followed now set h (copied copy) holds.stored [] holds.are holds.store_of holds.registry_is holds.latest_is last was.held_is (sym sent.moment) in (
       record {
         holds = subst (λ (s : Seen). Holds s.past c.follow.new.store registry c.store_copy.new.last_rows c.store_copy.new.latest set (copied copy ∷ h)) (sym c.follow.ensures.host)
             (subst (λ (s : StoreState). Holds now s registry c.store_copy.new.last_rows c.store_copy.new.latest set (copied copy ∷ h)) (sym c.follow.ensures.store) holds);

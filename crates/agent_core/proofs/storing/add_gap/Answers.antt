@@ -15,7 +15,7 @@ returns-in-Ok-clause-any_moment g c true_host registry lasts latest set h holds 
     let past = (g.H.Host.seen c.args.host.now).past in
     let gap : Gap = record { child = c.args.child; from = c.args.from; to = c.args.to } in
     let of = gap-of past c.args.store.now registry lasts latest set h holds gap c.in-Ok.kept c.in-Ok.ensures.kept c.in-Ok.ensures.spelt role c.requires.later in
-    climbs past c.args.store.now registry lasts latest set h holds (missing gap) c.in-Ok.kept of (g.H.Host.seen c.commit.new.host).past (c.commit.ensures.any_moment true_host set holds.beats holds.store_of)
+    climbs past c.args.store.now registry lasts latest set h holds (missing gap) c.in-Ok.kept of (g.H.Host.seen c.commit.new.host).past (c.commit.ensures.any_moment true_host set holds.stored holds.store_of)
 
 pub returns-in-Ok-clause-done : goal.returns-in-Ok-clause-done
 returns-in-Ok-clause-done g c =
@@ -24,4 +24,4 @@ returns-in-Ok-clause-done g c =
     let gap : Gap = record { child = c.args.child; from = c.args.from; to = c.args.to } in
     let of = gap-of past c.args.store.now registry lasts latest set h holds gap c.in-Ok.kept c.in-Ok.ensures.kept c.in-Ok.ensures.spelt role c.requires.later in
     holds-gap past c.args.store.now registry lasts latest set h holds gap c.in-Ok.kept c.in-Ok.ensures.kept c.in-Ok.ensures.spelt of (g.H.Host.seen c.commit.new.host).past c.commit.new.store
-    (stored true_host set holds.beats holds.store_of))
+    (stored true_host set holds.stored holds.store_of))

@@ -92,13 +92,13 @@ loop-beat-preserved g c =
           (held c.loop-beat.alarms) c.loop-beat.events stored (copied (later_copy registry message beat)) here
           (c.add_copy.ensures.any_moment true_host registry set (onto h (take n more)) (later_copy registry message beat) stored.parts.holds sent)
           c.add_copy.new.store c.add_copy.new.last_rows c.add_copy.new.latest (held c.add_copy.new.alarms) c.in_ok-more.more c.add_events.new.events did.0 did.1 c.in_ok-add_events.ensures.added);
-      ready = c.add_copy.ensures.ready;
-      replayed = c.add_copy.ensures.replayed;
-      going = c.in_ok-more.ensures.going;
+      ready = c.add_copy.ensures.keeps.ready;
+      replayed = c.add_copy.ensures.keeps.replayed;
+      going = c.in_ok-more.ensures.keeps.going;
       up_to = c.in_ok-more.ensures.up_to;
       last = c.in_ok-more.ensures.last ∙ latest-next c.args.store.now.last beats n beat at ∙ ap (λ (k : ℕ). latest_of beat_moment c.args.store.now.last (take k beats)) next;
-      settings = c.add_copy.ensures.settings ∙ c.loop-beat.invariant.settings;
+      settings = c.add_copy.ensures.keeps.settings ∙ c.loop-beat.invariant.settings;
       only_here = search rules;
       faults = search rules;
-      tells = c.add_copy.ensures.tells ∙ c.loop-beat.invariant.tells;
+      tells = c.add_copy.ensures.keeps.tells ∙ c.loop-beat.invariant.tells;
     }

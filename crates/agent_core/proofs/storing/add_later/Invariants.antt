@@ -1,12 +1,11 @@
 use Rattle.std.proofs.Common.{◌≡◌, List, None, take}
-use Rattle.host_model.specs.declared.file.File.TheVariants.{JournalA}
-use Rattle.host_model.specs.Moments.{OnlyOn}
 use Rattle.history.specs.History.{Beat}
 use Rattle.alarm_core.specs.Course.{held}
 use Rattle.alarm_core.specs.UpTo.{IsUpTo}
 use Rattle.entry_codec.specs.declared.entry.Settings.{Settings}
 use Rattle.replication.specs.Copies.{latest as latest_of}
 use Rattle.replication.specs.Names.{beat_moment}
+use Rattle.store_core.specs.Own.{OnlyOwn}
 use Rattle.store_core.specs.Store.{IsReady, IsReplayed}
 use Rattle.agent_core.specs.Storing.{later_copies, ArePartsAt, MayTakeAll}
 use Rattle.agent_core.proofs.FrontLemmas.{HaveStored}
@@ -23,7 +22,7 @@ invariant-loop-beat g l = record {
   up_to : IsUpTo l.alarms l.registry;
   last : l.store.last ≡ latest_of beat_moment l.initial.store.last (take l.beat-index l.beats);
   settings : l.store.settings ≡ l.initial.store.settings;
-  only_here : g.H.Host.honest → OnlyOn JournalA (g.H.Host.seen l.initial.host).past (g.H.Host.seen l.host).past;
+  only_here : g.H.Host.honest → OnlyOwn (g.H.Host.seen l.initial.host).past (g.H.Host.seen l.host).past;
   faults : (g.H.Host.seen l.host).disk_faults ≡ (g.H.Host.seen l.initial.host).disk_faults;
   tells : (g.H.Host.seen l.host).tell_faults ≡ (g.H.Host.seen l.initial.host).tell_faults;
 }

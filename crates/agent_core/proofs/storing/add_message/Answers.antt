@@ -14,6 +14,7 @@ use Rattle.agent_core.specs.Rules.{lacks_chart, IsOpenBeat}
 use Rattle.agent_core.specs.Storing.{gap_beats, sent_copies, with_names, ArePartsAt, MayTakeAll}
 use Rattle.agent_core.proofs.FrontLemmas.{gap-quiet, message-before, message-behind, message-events, message-onto, message-takes}
 use Rattle.agent_core.proofs.KeptLemmas.{stays}
+use Rattle.agent_core.proofs.StoredLemmas.{were_kept}
 use Rattle.agent_core.proofs.StoringLemmas.{store-last}
 use Rattle.agent_core.proofs.TakenLemmas.{defined-has, defined-open}
 use Rattle.agent_core.proofs.Within.{within-of}
@@ -60,7 +61,7 @@ returns-clause-any_moment g c true_host set h parts role =
     let same : sent_copies c.define.new.registry message beats ≡ sent_copies (with_names registry message) message message.beats = λ i. sent_copies (is i) message (c.as_slice-beats.ensures i) in
     let prev = c.requires.at ∙ store-last past c.args.store.now registry lasts latest set h parts.holds in
     let all = subst (MayTakeAll (onto h (gap_beats message))) (sym same)
-    (message-takes set h registry message c.requires.form (within-of h parts.holds.beats parts.holds.are) parts.holds.registry_is role c.requires.free prev) in
+    (message-takes set h registry message c.requires.form (let all = were_kept h parts.holds.stored parts.holds.are in within-of h all.beats all.are) parts.holds.registry_is role c.requires.free prev) in
     let now : ArePartsAt middle c.add_gap_before.new.store registry lasts latest (held c.args.alarms.now) set (onto h (gap_beats message)) = record {
       holds = c.in_ok-add_gap_before.ensures.done true_host registry lasts latest set h parts.holds role;
       held_is = parts.held_is ∙ (gap-quiet set h message).alarms;
@@ -85,7 +86,7 @@ returns-clause-done g c =
     let same : sent_copies c.define.new.registry message beats ≡ sent_copies (with_names registry message) message message.beats = λ i. sent_copies (is i) message (c.as_slice-beats.ensures i) in
     let prev = c.requires.at ∙ store-last past c.args.store.now registry lasts latest set h parts.holds in
     let all = subst (MayTakeAll (onto h (gap_beats message))) (sym same)
-    (message-takes set h registry message c.requires.form (within-of h parts.holds.beats parts.holds.are) parts.holds.registry_is role c.requires.free prev) in
+    (message-takes set h registry message c.requires.form (let all = were_kept h parts.holds.stored parts.holds.are in within-of h all.beats all.are) parts.holds.registry_is role c.requires.free prev) in
     let now : ArePartsAt middle c.add_gap_before.new.store registry lasts latest (held c.args.alarms.now) set (onto h (gap_beats message)) = record {
       holds = c.in_ok-add_gap_before.ensures.done true_host registry lasts latest set h parts.holds role;
       held_is = parts.held_is ∙ (gap-quiet set h message).alarms;

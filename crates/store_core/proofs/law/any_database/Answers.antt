@@ -13,8 +13,8 @@ use Rattle.store_core.proofs.law.any_database.Goals as goal
 
 pub returns : goal.returns
 returns c = record {
-  once = λ set other beats others disk stands again.
-      let same = stands_once set other beats others disk stands again in (same.settings, same.beats_same);
+  once = λ set other stored others disk stands again.
+      let same = stands_once set other stored others disk stands again in (same.settings, same.stored_same);
   made = stands_made;
   images = every_image_of;
   told = store_told;
@@ -22,9 +22,9 @@ returns c = record {
   beat_form = λ bytes beat fits is. (beat_found bytes beat fits is).0;
   beat_spelt = λ bytes beat fits is. (beat_found bytes beat fits is).1;
   records_again = λ set rest limits are. history_again set (with_all [] rest) rest refl limits are;
-  floors = λ past store set beats rest tier is_at few. floor_is set beats store.tiers is_at.tiers tier few;
-  two_tiers = λ past store set beats rest request i series one other is_at may_one may_other low high.
-      same_cell widths (floor_at set beats) request i one other (points_of beats series)
-      (told_series store (points_of beats) (record { set = set; beats = beats; has = is_at.tiers; told_is = refl }) series)
+  floors = λ past store set stored rest tier is_at few. floor_is set stored store.tiers is_at.tiers tier few;
+  two_tiers = λ past store set stored rest request i series one other is_at may_one may_other low high.
+      same_cell widths (floor_at set stored) request i one other (points_of stored series)
+      (told_series store (points_of stored) (record { set = set; stored = stored; has = is_at.tiers; told_is = refl }) series)
       may_one may_other low high;
 }

@@ -8,7 +8,7 @@ pub returns-in-Ok-clause-answered : goal.returns-in-Ok-clause-answered
 returns-in-Ok-clause-answered g c set h is_of =
     let past = (g.H.Host.seen c.args.host.now).past in
     let holds = subst (λ (a : AgentState). Holds past a.store a.registry a.last_rows a.latest set h) (sym c.self.view_is) is_of.holds in
-    c.in-Ok.ensures.answered past set holds.beats holds.store_of ∙ kept-is set h holds.beats holds.are
+    c.in-Ok.ensures.answered past set holds.stored holds.store_of ∙ kept-is set h holds.stored holds.are
 
 pub returns-in-Err-clause-unchanged : goal.returns-in-Err-clause-unchanged
 returns-in-Err-clause-unchanged g c leaves = absurd (short-changes c.in-Err.fault c.in-Err.ensures.memory leaves)

@@ -1,11 +1,15 @@
-use Rattle.std.proofs.Common.{true, false, refl, sym, inr, subst}
+use Rattle.std.proofs.Common.{List, true, false, refl, sym, inr, subst}
 use Rattle.std.proofs.lemmas.Result.{IfErr-at_err, IfOk-weaker, on_ok_weaker}
-use Rattle.host_model.specs.Disks.{reads_as}
+use Rattle.host_model.specs.Disks.{reads_as, EveryDisk}
 use Rattle.host_model.specs.Seen.{Seen}
+use Rattle.entry_codec.specs.declared.entry.Settings.{Settings}
+use Rattle.history.specs.History.{Beat}
 use Rattle.agent_core.specs.Agent.{IsAgentOf}
 use Rattle.agent_core.proofs.NoteLemmas.{noted}
+use Rattle.agent_core.specs.Kept.{StandsForHistory}
 use Rattle.agent_core.proofs.OpenFaults.{err-weaker}
-use Rattle.agent_core.proofs.OpeningLemmas.{opened-for}
+use Rattle.agent_core.proofs.OpeningLemmas.{opened-for, opened-images}
+use Rattle.agent_core.proofs.Outcomes.{always}
 use Rattle.agent_core.proofs.agent.Agent.load.Goals as goal
 
 pub returns-in-Ok-clause-opened : goal.returns-in-Ok-clause-opened
@@ -39,4 +43,12 @@ returns-in-Ok-clause-damaged_notes g c is true_host =
 pub returns-in-Ok-clause-left : goal.returns-in-Ok-clause-left
 returns-in-Ok-clause-left g c =
     let past = (g.H.Host.seen c.open_store.new.host).past in
-    IfOk-weaker c.replayed.result _ _ (λ agent left true_host set beats stands. left past set beats (c.in-Ok.ensures.opened true_host set beats stands)) c.replayed.ensures.left
+    IfOk-weaker c.replayed.result _ _ (λ agent left true_host set stored stands. left past set stored (c.in-Ok.ensures.opened true_host set stored stands)) c.replayed.ensures.left
+
+pub returns-in-Ok-clause-images : goal.returns-in-Ok-clause-images
+returns-in-Ok-clause-images g c =
+    let disk = reads_as (g.H.Host.seen c.args.host.now).past in
+    let past = (g.H.Host.seen c.open_store.new.host).past in
+    let new = (g.H.Host.seen c.replayed.new.host).past in
+    always (g.H.Host.honest → (set : Settings) (h : List Beat) → StandsForHistory set h disk → EveryDisk (StandsForHistory set h) new) c.replayed.result (λ true_host set h stands.
+    subst (λ (s : Seen). EveryDisk (StandsForHistory set h) s.past) (sym c.replayed.ensures.host) (opened-images disk past (c.in-Ok.ensures.images true_host) set h stands))

@@ -10,4 +10,4 @@ returns-in-Ok-clause-followed g c past set h beat holds before was does =
     let parts = subst (λ (a : AgentState). Holds past a.store a.registry a.last_rows a.latest set (beat ∷ h)) (sym c.self.view_is) holds in
     let at = subst (λ (a : AgentState). a.latest.before ≡ last h) (sym c.self.view_is) before in
     let stood = subst (λ (a : AgentState). held a.alarms ≡ alarms_at set h) (sym c.self.view_is) was in
-    c.in-Ok.ensures.followed past set h beat parts.beats [] parts.are parts.store_of parts.registry_is parts.latest_is at stood does
+    c.in-Ok.ensures.followed past set h beat parts.stored [] parts.are parts.store_of parts.registry_is parts.latest_is at stood does

@@ -7,7 +7,7 @@ use Rattle.store_core.proofs.StoreLemmas.{replayed_with, replays_next}
 use Rattle.store_core.proofs.store.Store.apply_next.Goals as goal
 
 pub returns-in-Some-clause-next : goal.returns-in-Some-clause-next
-returns-in-Some-clause-next c past set beats rest is_at =
+returns-in-Some-clause-next c past set stored rest is_at =
     let store = c.args.self.now in
     let next = c.in-Some.beat in
     let others = c.take_first.new.self in
@@ -20,4 +20,4 @@ returns-in-Some-clause-next c past set beats rest is_at =
     c.apply.ensures
     ∙ ap (λ (s : StoreState). replayed_with s others (tiers_held c.take.new.self) next) c.self.view_is
     ∙ ap (λ (tiers : TiersState). replayed_with store others tiers next) taken in
-    replays_next past store c.apply.new.self set beats rest others next is_at (ap (λ (s : StoreState). s.waiting) (sym c.self.view_is) ∙ c.in-Some.ensures) whole
+    replays_next past store c.apply.new.self set stored rest others next is_at (ap (λ (s : StoreState). s.waiting) (sym c.self.view_is) ∙ c.in-Some.ensures) whole

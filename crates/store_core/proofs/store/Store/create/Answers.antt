@@ -3,14 +3,16 @@ use Rattle.host_model.specs.declared.file.File.TheVariants.{JournalA}
 use Rattle.host_model.specs.Images.{contents}
 use Rattle.host_model.specs.Past.{Event, of}
 use Rattle.host_model.specs.Moments.{Throughout}
-use Rattle.host_model.specs.Disks.{EveryDisk}
+use Rattle.host_model.specs.Disks.{EveryDisk, reads_as}
 use Rattle.host_model.proofs.CallLemmas.{unmoved}
 use Rattle.journal_core.specs.Journal.{IsOpen}
 use Rattle.beat_tiers.specs.State.{TiersState}
 use Rattle.store_core.specs.Stands.{is_begun}
+use Rattle.store_core.specs.Stored.{nothing_stored}
 use Rattle.store_core.specs.Tiers.{HasTiers}
 use Rattle.store_core.proofs.TierLemmas.{tiers_begin}
 use Rattle.store_core.proofs.FirstRecordLaw.{length-settings_body}
+use Rattle.store_core.proofs.StandLemmas.{made_begun}
 use Rattle.store_core.proofs.StoreLemmas.{made_moments, WasOrIsNew}
 use Rattle.store_core.proofs.store.Store.create.Goals as goal
 
@@ -40,21 +42,23 @@ make-requires g c =
 
 pub returns-in_err-journal-clause-any_moment : goal.returns-in_err-journal-clause-any_moment
 returns-in_err-journal-clause-any_moment g c h =
+    let old = (g.H.Host.seen c.args.host.now).past in
     let middle = (g.H.Host.seen c.is_made.new.host).past in
     let new = (g.H.Host.seen c.make.new.host).past in
     let set = c.args.settings.now in
     let unbegun : is_begun (contents (of JournalA middle)) ≡ false =
-    subst (λ (past : List Event). is_begun (contents (of JournalA past)) ≡ false) (sym (c.is_made.ensures.past h)) (sym (c.in-Ok.ensures.value h) ∙ c.if-made.false) in
+    subst (λ (past : List Event). is_begun (contents (of JournalA past)) ≡ false) (sym (c.is_made.ensures.past h)) (sym (made_begun (reads_as old)) ∙ sym (c.in-Ok.ensures.value h) ∙ c.if-made.false) in
     subst (λ (past : List Event). Throughout (EveryDisk (WasOrIsNew past set)) past new) (c.is_made.ensures.past h)
     (made_moments middle new set c.as_slice.result.now (c.as_slice.ensures ∙ c.in-Ok-write_settings.ensures) c.requires (c.make.ensures.only_here h) (c.make.ensures.any_moment h unbegun))
 
 pub returns-clause-any_moment : goal.returns-clause-any_moment
 returns-clause-any_moment g c h =
+    let old = (g.H.Host.seen c.args.host.now).past in
     let middle = (g.H.Host.seen c.is_made.new.host).past in
     let new = (g.H.Host.seen c.make.new.host).past in
     let set = c.args.settings.now in
     let unbegun : is_begun (contents (of JournalA middle)) ≡ false =
-    subst (λ (past : List Event). is_begun (contents (of JournalA past)) ≡ false) (sym (c.is_made.ensures.past h)) (sym (c.in-Ok.ensures.value h) ∙ c.if-made.false) in
+    subst (λ (past : List Event). is_begun (contents (of JournalA past)) ≡ false) (sym (c.is_made.ensures.past h)) (sym (made_begun (reads_as old)) ∙ sym (c.in-Ok.ensures.value h) ∙ c.if-made.false) in
     subst (λ (past : List Event). Throughout (EveryDisk (WasOrIsNew past set)) past new) (c.is_made.ensures.past h)
     (made_moments middle new set c.as_slice.result.now (c.as_slice.ensures ∙ c.in-Ok-write_settings.ensures) c.requires (c.make.ensures.only_here h) (c.make.ensures.any_moment h unbegun))
 
@@ -69,7 +73,7 @@ returns-clause-created g c h = record {
   waiting = c.new.ensures;
   count = refl;
   last = refl;
-  tiers = subst (HasTiers c.args.settings.now []) (sym c.in-Ok-new_tiers.ensures) (tiers_begin c.args.settings.now c.requires.tiers);
+  tiers = subst (HasTiers c.args.settings.now nothing_stored) (sym c.in-Ok-new_tiers.ensures) (tiers_begin c.args.settings.now c.requires.tiers);
   before = ap (λ (tiers : TiersState). tiers.points.before) c.in-Ok-new_tiers.ensures;
   going = refl;
 }

@@ -11,8 +11,8 @@ use Rattle.store_core.proofs.StoreLemmas.{kept_by}
 use Rattle.store_core.proofs.store.Store.kept_above.Goals as goal
 
 pub returns-clause-kept : goal.returns-clause-kept
-returns-clause-kept g c = λ past set beats rest is_at.
-    let ordered = points_ordered (first_tier set ∷ other_tiers set) (map seen beats) c.args.self.now.tiers is_at.tiers in
+returns-clause-kept g c = λ past set stored rest is_at.
+    let ordered = points_ordered (first_tier set ∷ other_tiers set) (map seen stored.after) c.args.self.now.tiers is_at.tiers in
     c.in-Ok.ensures.kept (subst (λ (s : StoreState). AreOrdered (items_of s.tiers.points)) (sym c.self.view_is) ordered)
     ∙ ap (λ (kept : Kept). take c.args.most (filter (is_above c.args.from) kept.beats))
-    (ap (λ (s : StoreState). kept_in s.tiers.points) c.self.view_is ∙ kept_by past c.args.self.now set beats rest is_at)
+    (ap (λ (s : StoreState). kept_in s.tiers.points) c.self.view_is ∙ kept_by past c.args.self.now set stored rest is_at)
