@@ -16,10 +16,10 @@ use Rattle.beat_entries.proofs.Slots.{none-all}
 use Rattle.agent_core.specs.Kept.{Follows}
 use Rattle.agent_core.specs.Rules.{beat_refusal, changes_grid, changes_grid_of, lacks_chart, lacks_dimension}
 use Rattle.chart_registry.specs.Accepted.{IsWithin}
-use Rattle.agent_core.proofs.DefinedLemmas.{owned, regular-after}
+use Rattle.beat_entries.proofs.AfterLemmas.{owned, regular-after}
 use Rattle.chart_registry.proofs.AcceptedLemmas.{passed}
 use Rattle.agent_core.proofs.HistoryLemmas.{follows-passed, Passed}
-use Rattle.agent_core.proofs.Within.{room-for, within-after}
+use Rattle.beat_entries.proofs.Within.{room-for, within-after}
 
 -- ---- the update_every of a chart stays
 same-grid : (registry : Registry) (copies : Bool) (last moment : ℕ) (beat : OpenBeat) → beat_refusal registry copies last moment beat ≡ None → changes_grid registry beat ≡ false

@@ -31,7 +31,7 @@ use Rattle.agent_core.specs.Agent.{AgentState, Holds, IsAgentOf}
 use Rattle.alarm_events.specs.declared.event.Event.{Event as AlarmEvent}
 use Rattle.agent_core.specs.Alarms.{alarms_at, HaveFollowed}
 use Rattle.agent_core.specs.LastSeen.{IsLatestOf}
-use Rattle.agent_core.specs.Kept.{kept_of, note_of, point_of, stored_points, AreBeatsOf, Follows, IsBeatOf, StandsForHealth, StandsForHistory, StandsForOneOf}
+use Rattle.agent_core.specs.Kept.{kept_of, note_of, point_of, stored_points, AreBeatsOf, Follows, IsBeatOf, StandsForHealth, StandsForHistory, StandsForOneOf, IsTakenBeat}
 use Rattle.agent_core.specs.Replay.{HasSeenBeat, HasTakenRows}
 use Rattle.agent_core.specs.declared.left.Role.{Role}
 use Rattle.agent_core.specs.Roles.{child_in, copies, role_of}
@@ -58,6 +58,15 @@ pub rows-taken : (registry : Registry) (lasts lasts' : List (Option Last)) (h : 
     → HasTakenRows registry lasts lasts' numbered → IsNext registry lasts h moment beat → IsRegular registry beat → AreLastOf lasts' (collected moment beat ∷ h)
 rows-taken registry lasts lasts' h moment beat numbered same taken next regular =
     subst (HasTakenRows registry lasts lasts') same taken h beat next.lasts_are next.registry_is regular refl
+
+-- a numbered beat has its moment
+pub numbered-at : (registry : Registry) (moment : ℕ) (beat : OpenBeat) (after : Registry) (numbered : NumberedBeat) → IsTakenBeat registry moment beat after numbered → numbered ≡ numbered_beat after numbered.moment beat
+numbered-at registry moment beat after numbered taken =
+    taken.numbered_is ∙ (λ i. numbered_beat after (sym (ap (λ (n : NumberedBeat). n.moment) taken.numbered_is) i) beat)
+
+pub same-next : (after : Registry) (lasts : List (Option Last)) (g : List Beat) (moment : ℕ) (beat : OpenBeat) (numbered : NumberedBeat) → numbered ≡ numbered_beat after moment beat
+    → IsNext after lasts g moment beat → IsNext after lasts g numbered.moment beat
+same-next after lasts g moment beat numbered is next = subst (λ (m : ℕ). IsNext after lasts g m beat) (sym (ap (λ (n : NumberedBeat). n.moment) is)) next
 
 -- and so are its rows and points taken as what was last seen
 pub seen-taken : (registry : Registry) (latest latest' : Latest) (h : List Beat) (moment : ℕ) (beat : OpenBeat) (numbered : NumberedBeat) (kept : StoreBeat) → numbered ≡ numbered_beat registry moment beat

@@ -6,7 +6,6 @@ pub mod CallLemmas
 pub mod ClosedLemmas
 pub mod CopyCalls
 pub mod CopyLemmas
-pub mod DefinedLemmas
 pub mod EntryLemmas
 pub mod FedLemmas
 pub mod FollowLemmas
@@ -15,7 +14,6 @@ pub mod FrontLemmas
 pub mod GoingOnLemmas
 pub mod HealthLemmas
 pub mod HistoryLemmas
-pub mod IndexLemmas
 pub mod KeptLemmas
 pub mod LastSeenLemmas
 pub mod LimitLemmas

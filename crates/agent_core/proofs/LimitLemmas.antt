@@ -33,7 +33,7 @@ use Rattle.agent_core.specs.Notes.{entry_goes_on, with_entry}
 use Rattle.agent_core.specs.Roles.{may_collect, may_copy}
 use Rattle.agent_core.specs.Rules.{too_many_charts, too_many_dimensions, HasLimits, IsOpenBeat}
 use Rattle.agent_core.proofs.Lists.{all-put_all}
-use Rattle.agent_core.proofs.Within.{few-charts, few-dimensions}
+use Rattle.beat_entries.proofs.Within.{few-charts, few-dimensions}
 
 -- ---- definitions
 abbrev pub IsGrid : ChartDef → Type 0

@@ -49,7 +49,8 @@ use Rattle.agent_core.specs.Roles.{may_copy, role_of}
 use Rattle.agent_core.specs.Storing.{MayTake, MayTakeAll}
 use Rattle.agent_core.specs.Rules.{changes_grid, changes_grid_of, lacks_chart, too_many_charts, too_many_dimensions, IsOpenBeat}
 use Rattle.agent_core.proofs.FollowLemmas.{keeps, KeepsGrid}
-use Rattle.agent_core.proofs.Within.{names-tests, within-after}
+use Rattle.beat_entries.proofs.Within.{within-after}
+use Rattle.agent_core.proofs.Within.{names-tests}
 
 -- ---- lists
 any-at : {X : Type 0} (p : X → Bool) (xs : List X) (i : ℕ) (x : X) → slice_get xs i ≡ Some x → p x ≡ true → list_any p xs ≡ true

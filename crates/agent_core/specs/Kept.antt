@@ -8,7 +8,9 @@ use Rattle.history.specs.declared.beat.OpenDim.{OpenDim}
 use Rattle.history.specs.declared.chart.ChartDef.{ChartDef}
 use Rattle.history.specs.declared.fault.BlockFault.{BlockFault}
 use Rattle.history.specs.History.{Beat, collected, copied, health, missing, child, last, registry_of, Copy, Gap, Word}
-use Rattle.history.specs.Registry.{Registry, is_chart}
+use Rattle.history.specs.declared.numbered.NumberedBeat.{NumberedBeat}
+use Rattle.history.specs.Registry.{Registry, is_chart, with_definitions}
+use Rattle.history.specs.Regular.{IsRegular}
 use Rattle.beat_points.specs.declared.series_word.SeriesWord.{SeriesWord}
 use Rattle.beat_points.specs.Points.{beat_points}
 use Rattle.entry_codec.specs.declared.entry.Entry.{Entry}
@@ -53,6 +55,12 @@ kept_of h moment beat =
 pub record Follows (h : List Beat) (moment : ℕ) (beat : OpenBeat) : Type 0 where
   pub is_open : IsOpenBeat beat
   pub accepted : beat_refusal (registry_of h) (is_some (child h)) (last h) moment beat ≡ None
+
+-- a registry has taken a beat of this moment, and this is the beat by its numbers
+pub record IsTakenBeat (before : Registry) (moment : ℕ) (beat : OpenBeat) (after : Registry) (numbered : NumberedBeat) : Type 0 where
+  pub applied : after ≡ with_definitions before beat.charts beat.dimensions
+  pub numbered_is : numbered ≡ numbered_beat after moment beat
+  pub regular : IsRegular after beat
 
 -- what a store keeps of a beat that was collected after a history: its moment, its points and its entry
 pub record IsCollectedOf (h : List Beat) (moment : ℕ) (beat : OpenBeat) (kept : StoreBeat) : Type 0 where

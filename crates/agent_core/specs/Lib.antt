@@ -8,7 +8,6 @@ pub mod Copying
 pub mod Faults
 pub mod Fed
 pub mod Health
-pub mod Index
 pub mod Keeping
 pub mod Kept
 pub mod LastSeen

@@ -36,10 +36,10 @@ use crate::fault::{AgentFault, store_fault};
 use crate::keeping::{add, add_health, defines_some};
 use crate::last_seen::nothing_seen;
 use crate::left::{Left, Role};
-use crate::refusal::refusal;
 use crate::replaying::{open_store, replay_all};
 use crate::reply::{Reply, Said};
 use alarm_core::{Alarms, Latest, Log};
+use beat_entries::{BeatFault, take_beat};
 use beat_points::LastRows;
 use chart_registry::Registry;
 use collect_block::{Feed, Step};
@@ -436,26 +436,30 @@ impl Agent {
         if let Some(cause) = self.fault {
             return Err(AgentFault::Reopen(cause));
         }
-        let reason = refusal(
+        let taken = take_beat(
             self.alloc,
-            &self.registry,
+            &mut self.registry,
             self.role.copies(),
             self.last,
             moment,
             beat,
         );
-        if let Some(reason) = reason {
-            return Err(AgentFault::Refused(reason));
-        }
+        let numbered = match taken {
+            Ok(numbered) => numbered,
+            Err(BeatFault::Refused(reason)) => return Err(AgentFault::Refused(reason)),
+            Err(BeatFault::Memory) => {
+                self.fault = Some(Why::Memory);
+                return Err(AgentFault::Memory);
+            }
+        };
         match add(
             self.alloc,
             &mut self.store,
-            &mut self.registry,
+            &self.registry,
             &mut self.last_rows,
             &mut self.latest,
             host,
-            beat,
-            moment,
+            &numbered,
         ) {
             Ok(()) => {
                 let stepping = Stepping::Beat(moment, defines_some(beat));

@@ -7,10 +7,9 @@ ghost use Rattle.host_model.specs.Disks.{EveryDisk};
 ghost use Rattle.host_model.specs.Moments.{Throughout};
 ghost use Rattle.history.specs.declared.beat.OpenBeat.{OpenBeat as AnOpenBeat};
 ghost use Rattle.history.specs.History.{Beat as HistoryBeat, collected, health};
-ghost use Rattle.history.specs.Registry.{Registry as ARegistry, same_chart, same_dimension, with_definitions};
+ghost use Rattle.history.specs.Registry.{Registry as ARegistry, same_chart};
 ghost use Rattle.beat_points.specs.Points.{IsNext};
-ghost use Rattle.history.specs.Regular.{AreApart, IsRegular};
-ghost use Rattle.beat_entries.specs.Defined.{IsDefinedIn};
+ghost use Rattle.history.specs.Regular.{AreApart};
 ghost use Rattle.history.specs.Numbered.{numbered_beat, IsThere};
 ghost use Rattle.entry_codec.specs.declared.entry.Entry.TheVariants as entry;
 ghost use Rattle.tier_settings.specs.declared.settings.Settings.{Settings as ASettings};
@@ -22,18 +21,17 @@ ghost use Rattle.store_core.specs.Store.{IsReady, IsReplayed, IsStoreOf};
 ghost use Rattle.store_core.specs.Stored.{Stored as AStored, stored_with};
 ghost use Rattle.agent_core.specs.Agent.{Holds};
 ghost use Rattle.agent_core.specs.Keeping.{KeepsStore};
-ghost use Rattle.agent_core.specs.Kept.{kept_of, Follows, StandsForHistory};
+ghost use Rattle.agent_core.specs.Kept.{kept_of, Follows, IsTakenBeat, StandsForHistory};
 ghost use Rattle.agent_core.specs.Health.{health_refusal};
 ghost use Rattle.agent_core.specs.Notes.{names_series};
 ghost use Rattle.agent_core.specs.Replay.{HasRoom, HasSeenBeat, HasTakenRows};
 ghost use Rattle.chart_registry.specs.declared.fault.RegistryFault.TheVariants as registry_fault;
-ghost use Rattle.agent_core.specs.Rules.{changes_grid, lacks_chart, lacks_dimension, too_many_charts, too_many_dimensions, HasLimits, IsOpenBeat};
+ghost use Rattle.agent_core.specs.Rules.{HasLimits};
 
 use crate::fault::{AgentFault, store_fault};
 use crate::last_seen::see_collected;
 use crate::points::stored_points;
 use alarm_core::Latest;
-use beat_entries::number_beat;
 use beat_points::LastRows;
 use chart_registry::{Registry, RegistryFault};
 use entry_codec::{Entry, EntryFault, write_collected, write_entry};
@@ -41,13 +39,6 @@ use history::{NumberedBeat, OpenBeat};
 use host_model::Host;
 use std::alloc::{AllocError, Global};
 use store_core::{Beat, BeatPointList, ByteList, Store};
-
-/// What a store keeps of a beat, and the beat by number.
-#[derive(Drop)]
-struct Kept {
-    beat: Beat,
-    numbered: NumberedBeat,
-}
 
 /// What a store keeps of a numbered beat, whose definitions the registry has.
 fn stored_beat(
@@ -87,37 +78,6 @@ fn stored_beat(
     })
 }
 
-/// What a store keeps of a beat, by number, once the registry has its definitions.
-fn kept_of(
-    alloc: Global,
-    registry: &Registry,
-    last_rows: &LastRows,
-    beat: &OpenBeat,
-    moment: u32,
-) -> Result<Kept, AllocError>
-    requires regular { IsRegular registry.now beat.now }
-    requires defined { IsDefinedIn registry.now beat.now }
-    requires later { 0 < moment }
-    requires limits { IsWithinLimits (numbered_beat registry.now moment beat.now) }
-    requires registry { HasLimits registry.now }
-    ensures kept { IfOk result
-        (λ kept. (h : List HistoryBeat) → IsNext registry.now last_rows.now h moment beat.now
-        → kept.beat ≡ kept_of h moment beat.now) }
-    ensures numbered { IfOk result
-        (λ kept. kept.numbered ≡ numbered_beat registry.now moment beat.now) }
-    ensures there { IfOk result (λ kept. IsThere registry.now kept.numbered) }
-    ensures spelt { OnOk result
-        (HasSpelling (entry.Collected (numbered_beat registry.now moment beat.now))) }
-    ensures moment { IfOk result (λ kept. kept.beat.moment ≡ Some moment) }
-    ensures named { IfOk result (λ kept. names_series registry.now kept.beat.points ≡ true) }
-    ensures form { IfOk result (λ kept. InForm kept.beat) }
-    ensures size { IfOk result (λ kept. length (beat_bytes kept.beat) ≤ 2 ^ 26) }
-{
-    let numbered = number_beat(alloc, registry, moment, beat)?;
-    let beat = stored_beat(alloc, registry, last_rows, &numbered)?;
-    Ok(Kept { beat, numbered })
-}
-
 /// Why a registry did not take a beat that was tested before: there was no memory.
 pub(crate) fn untaken(fault: RegistryFault) -> AllocError
     requires { fault ≡ registry_fault.Memory }
@@ -127,48 +87,6 @@ pub(crate) fn untaken(fault: RegistryFault) -> AllocError
         RegistryFault::GridChanged
         | RegistryFault::TooManyCharts
         | RegistryFault::TooManyDimensions => unreachable!(),
-    }
-}
-
-/// What a store keeps of a beat, whose definitions the registry takes. After an `Err` it may have taken a
-/// part of them.
-fn keep(
-    alloc: Global,
-    registry: &mut Registry,
-    last_rows: &LastRows,
-    beat: &OpenBeat,
-    moment: u32,
-) -> Result<Kept, AllocError>
-    requires is_open { IsOpenBeat beat.now }
-    requires charts { AreApart same_chart registry.old.charts }
-    requires dimensions { AreApart same_dimension registry.old.dimensions }
-    requires has_charts { lacks_chart registry.old beat.now ≡ false }
-    requires has_dimensions { lacks_dimension registry.old beat.now ≡ false }
-    requires few { too_many_dimensions registry.old beat.now ≡ false }
-    requires few_charts { too_many_charts registry.old beat.now ≡ false }
-    requires kept_grids { changes_grid registry.old beat.now ≡ false }
-    requires limits { HasLimits registry.old }
-    requires later { 0 < moment }
-    ensures applied { OnOk result
-        (registry.new ≡ with_definitions registry.old beat.now.charts beat.now.dimensions) }
-    ensures kept { IfOk result
-        (λ kept. (h : List HistoryBeat) → IsNext registry.new last_rows.now h moment beat.now
-        → kept.beat ≡ kept_of h moment beat.now) }
-    ensures numbered { IfOk result
-        (λ kept. kept.numbered ≡ numbered_beat registry.new moment beat.now) }
-    ensures there { IfOk result (λ kept. IsThere registry.new kept.numbered) }
-    ensures spelt { OnOk result
-        (HasSpelling (entry.Collected (numbered_beat registry.new moment beat.now))) }
-    ensures moment { IfOk result (λ kept. kept.beat.moment ≡ Some moment) }
-    ensures named { IfOk result (λ kept. names_series registry.new kept.beat.points ≡ true) }
-    ensures form { IfOk result (λ kept. InForm kept.beat) }
-    ensures size { IfOk result (λ kept. length (beat_bytes kept.beat) ≤ 2 ^ 26) }
-    ensures regular { OnOk result (IsRegular registry.new beat.now) }
-    ensures limits { OnOk result (HasLimits registry.new) }
-{
-    match registry.apply(beat) {
-        Ok(()) => kept_of(alloc, registry, last_rows, beat, moment),
-        Err(fault) => Err(untaken(fault)),
     }
 }
 
@@ -297,18 +215,19 @@ fn see_beat(
     alloc: Global,
     latest: &mut Latest,
     registry: &Registry,
-    kept: &Kept,
+    numbered: &NumberedBeat,
+    kept: &Beat,
     before: u32,
 ) -> Result<(), AgentFault>
-    requires there { IsThere registry.now kept.now.numbered }
-    requires named { names_series registry.now kept.now.beat.points ≡ true }
+    requires there { IsThere registry.now numbered.now }
+    requires named { names_series registry.now kept.now.points ≡ true }
     ensures seen { OnOk result
-        (HasSeenBeat registry.now latest.old latest.new kept.now.numbered kept.now.beat.points) }
+        (HasSeenBeat registry.now latest.old latest.new numbered.now kept.now.points) }
     ensures before { OnOk result (latest.new.before ≡ before) }
     ensures memory { IfErr result (λ fault. fault ≡ AgentFault.Memory) }
 {
-    let points = kept.beat.points.as_slice();
-    match see_collected(alloc, latest, registry, &kept.numbered, points, before) {
+    let points = kept.points.as_slice();
+    match see_collected(alloc, latest, registry, numbered, points, before) {
         Ok(()) => Ok(()),
         Err(_) => Err(AgentFault::Memory),
     }
@@ -321,58 +240,54 @@ pub(crate) fn defines_some(beat: &OpenBeat) -> bool
     !beat.charts.is_empty() || !beat.dimensions.is_empty()
 }
 
-/// Adds a beat that may follow the history to the parts of an agent. At every moment a crash leaves the
-/// history with the beat or without it. After an `Err` the parts are of no more use.
+/// Adds a beat that may follow the history to the parts of an agent, by number: the registry has taken it. At every
+/// moment a crash leaves the history with the beat or without it. After an `Err` the parts are of no more use.
 pub(crate) fn add<H: Host>(
     alloc: Global,
     store: &mut Store,
-    registry: &mut Registry,
+    registry: &Registry,
     last_rows: &mut LastRows,
     latest: &mut Latest,
     host: &mut H,
-    beat: &OpenBeat,
-    moment: u32,
+    numbered: &NumberedBeat,
 ) -> Result<(), AgentFault>
     requires ready { IsReady H.honest (H.seen host.old).past store.old }
     requires replayed { IsReplayed store.old }
     requires going { store.old.fault ≡ None }
-    requires is_open { IsOpenBeat beat.now }
-    requires charts { AreApart same_chart registry.old.charts }
-    requires dimensions { AreApart same_dimension registry.old.dimensions }
-    requires has_charts { lacks_chart registry.old beat.now ≡ false }
-    requires has_dimensions { lacks_dimension registry.old beat.now ≡ false }
-    requires few { too_many_dimensions registry.old beat.now ≡ false }
-    requires few_charts { too_many_charts registry.old beat.now ≡ false }
-    requires kept_grids { changes_grid registry.old beat.now ≡ false }
-    requires limits { HasLimits registry.old }
-    requires later { store.old.last < moment }
-    ensures any_moment { H.honest → (set : ASettings) (h : List HistoryBeat)
-        → Holds (H.seen host.old).past store.old registry.old last_rows.old latest.old set h
-        → Follows h moment beat.now
+    requires there { IsThere registry.now numbered.now }
+    requires canonical { is_collected_canonical numbered.now ≡ true }
+    requires limits { IsWithinLimits numbered.now }
+    requires numbered { (opened : AnOpenBeat)
+        × (numbered.now ≡ numbered_beat registry.now numbered.now.moment opened) }
+    requires charts { AreApart same_chart registry.now.charts }
+    requires registry { HasLimits registry.now }
+    requires later { store.old.last < numbered.now.moment }
+    ensures any_moment { H.honest → (before : ARegistry) (moment : ℕ) (opened : AnOpenBeat)
+        (set : ASettings) (h : List HistoryBeat)
+        → IsTakenBeat before moment opened registry.now numbered.now
+        → Holds (H.seen host.old).past store.old before last_rows.old latest.old set h
+        → Follows h moment opened
         → Throughout (EveryDisk (λ disk. StandsForHistory set h disk
-        ⊎ StandsForHistory set (collected moment beat.now ∷ h) disk)) (H.seen host.old).past
+        ⊎ StandsForHistory set (collected moment opened ∷ h) disk)) (H.seen host.old).past
         (H.seen host.new).past }
     ensures done { OnOk result
-        (H.honest → (set : ASettings) (h : List HistoryBeat)
-        → Holds (H.seen host.old).past store.old registry.old last_rows.old latest.old set h
-        → Follows h moment beat.now
-        → Holds (H.seen host.new).past store.new registry.new last_rows.new latest.new set
-        (collected moment beat.now ∷ h)) }
+        (H.honest → (before : ARegistry) (moment : ℕ) (opened : AnOpenBeat)
+        (set : ASettings) (h : List HistoryBeat)
+        → IsTakenBeat before moment opened registry.now numbered.now
+        → Holds (H.seen host.old).past store.old before last_rows.old latest.old set h
+        → Follows h moment opened
+        → Holds (H.seen host.new).past store.new registry.now last_rows.new latest.new set
+        (collected moment opened ∷ h)) }
     ensures keeps { KeepsStore H.honest (H.seen host.old) store.old result (H.seen host.new)
         store.new }
-    ensures last { OnOk result (store.new.last ≡ moment) }
-    ensures charts { OnOk result (AreApart same_chart registry.new.charts) }
-    ensures dimensions { OnOk result (AreApart same_dimension registry.new.dimensions) }
-    ensures limits { OnOk result (HasLimits registry.new) }
-    ensures same { OnOk result ((beat.now.charts ≡ []) × (beat.now.dimensions ≡ [])
-        → registry.new ≡ registry.old) }
+    ensures last { OnOk result (store.new.last ≡ numbered.now.moment) }
     ensures before { OnOk result (latest.new.before ≡ store.old.last) }
 {
-    let Ok(kept) = keep(alloc, registry, last_rows, beat, moment) else {
+    let Ok(kept) = stored_beat(alloc, registry, last_rows, numbered) else {
         return Err(AgentFault::Memory);
     };
     let before = store.last();
-    commit(store, host, &kept.beat)?;
-    take_rows(last_rows, registry, &kept.numbered)?;
-    see_beat(alloc, latest, registry, &kept, before)
+    commit(store, host, &kept)?;
+    take_rows(last_rows, registry, numbered)?;
+    see_beat(alloc, latest, registry, numbered, &kept, before)
 }

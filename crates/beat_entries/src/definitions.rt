@@ -3,9 +3,11 @@ ghost use Rattle.std.specs.List.{cons_option};
 ghost use Rattle.std.specs.List.Sorted.{IsPermutation, IsNonDecreasingBy};
 ghost use Rattle.beat_entries.specs.Defined.{IsDefinedIn};
 ghost use Rattle.history.specs.Numbered.{numbered_charts, numbered_dimensions};
+ghost use Rattle.beat_entries.specs.Coming.{CanNumber};
 ghost use Rattle.beat_entries.specs.Gathered.{chart_at, dimension_at};
+ghost use Rattle.beat_entries.specs.Rules.{with_beat};
 
-use chart_registry::Registry;
+use crate::coming::Coming;
 use fixed_num::ListOf;
 use history::{
     ChartDef, ChartList, DimensionList, NumberedChart, NumberedDimension, OpenBeat, OpenDim,
@@ -13,12 +15,14 @@ use history::{
 use std::alloc::{AllocError, Global};
 
 /// A chart with its number.
-fn number_chart(registry: &Registry, def: &ChartDef) -> Result<Option<NumberedChart>, AllocError>
-    ensures { IfOk result (λ made. made ≡ chart_at registry.now def.now) }
+fn number_chart(coming: &Coming, def: &ChartDef) -> Result<Option<NumberedChart>, AllocError>
+    requires { CanNumber coming.now }
+    ensures { IfOk result (λ made. made
+        ≡ chart_at (with_beat coming.now.registry.now coming.now.beat.now) def.now) }
 {
-    match registry.chart_of(def.id.as_str()) {
-        Some(number) => Ok(Some(NumberedChart {
-            number,
+    match coming.chart(def.id.as_str()) {
+        Some(place) => Ok(Some(NumberedChart {
+            number: place.number,
             def: def.clone()?,
         })),
         None => Ok(None),
@@ -28,13 +32,15 @@ fn number_chart(registry: &Registry, def: &ChartDef) -> Result<Option<NumberedCh
 /// Adds a chart, if it has a number.
 fn push_chart(
     charts: &mut Vec<NumberedChart>,
-    registry: &Registry,
+    coming: &Coming,
     def: &ChartDef,
 ) -> Result<(), AllocError>
+    requires { CanNumber coming.now }
     ensures { OnOk result (charts.new.items ≡ charts.old.items
-        ++ cons_option (chart_at registry.now def.now) []) }
+        ++ cons_option
+        (chart_at (with_beat coming.now.registry.now coming.now.beat.now) def.now) []) }
 {
-    if let Some(chart) = number_chart(registry, def)? {
+    if let Some(chart) = number_chart(coming, def)? {
         charts.push(chart)?;
     }
     Ok(())
@@ -42,14 +48,16 @@ fn push_chart(
 
 fn gather_charts(
     alloc: Global,
-    registry: &Registry,
+    coming: &Coming,
     defs: &[ChartDef],
 ) -> Result<Vec<NumberedChart>, AllocError>
-    ensures { IfOk result (λ charts. charts.items ≡ filter_map (chart_at registry.now) defs.now) }
+    requires { CanNumber coming.now }
+    ensures { IfOk result (λ charts. charts.items ≡ filter_map
+        (chart_at (with_beat coming.now.registry.now coming.now.beat.now)) defs.now) }
 {
     let mut charts = Vec::with_capacity(alloc, defs.len())?;
     for def in defs {
-        push_chart(&mut charts, registry, def)?;
+        push_chart(&mut charts, coming, def)?;
     }
     Ok(charts)
 }
@@ -65,29 +73,35 @@ fn sort_charts(mut charts: Vec<NumberedChart>) -> Result<ChartList, AllocError>
 /// The charts that a beat defines, in the order of their numbers.
 pub(crate) fn charts(
     alloc: Global,
-    registry: &Registry,
+    coming: &Coming,
     beat: &OpenBeat,
 ) -> Result<ChartList, AllocError>
-    requires { IsDefinedIn registry.now beat.now }
-    ensures { IfOk result (λ list. list ≡ numbered_charts registry.now beat.now) }
+    requires can { CanNumber coming.now }
+    requires defined { IsDefinedIn
+        (with_beat coming.now.registry.now coming.now.beat.now) beat.now }
+    ensures { IfOk result (λ list. list
+        ≡ numbered_charts (with_beat coming.now.registry.now coming.now.beat.now) beat.now) }
 {
-    sort_charts(gather_charts(alloc, registry, beat.charts.as_slice())?)
+    sort_charts(gather_charts(alloc, coming, beat.charts.as_slice())?)
 }
 
 /// A dimension with its number and that of its chart.
 fn number_dimension(
-    registry: &Registry,
+    coming: &Coming,
     dimension: &OpenDim,
 ) -> Result<Option<NumberedDimension>, AllocError>
-    ensures { IfOk result (λ made. made ≡ dimension_at registry.now dimension.now) }
+    requires { CanNumber coming.now }
+    ensures { IfOk result (λ made. made
+        ≡ dimension_at (with_beat coming.now.registry.now coming.now.beat.now) dimension.now) }
 {
-    let Some(chart) = registry.chart_of(dimension.chart.as_str()) else {
+    let chart = dimension.chart.as_str();
+    let Some(place) = coming.chart(chart) else {
         return Ok(None);
     };
-    match registry.series_of(chart, dimension.def.id.as_str()) {
+    match coming.series(place.known, chart, dimension.def.id.as_str()) {
         Some(series) => Ok(Some(NumberedDimension {
             series,
-            chart,
+            chart: place.number,
             def: dimension.def.clone()?,
         })),
         None => Ok(None),
@@ -97,13 +111,15 @@ fn number_dimension(
 /// Adds a dimension, if it has a number.
 fn push_dimension(
     dimensions: &mut Vec<NumberedDimension>,
-    registry: &Registry,
+    coming: &Coming,
     dimension: &OpenDim,
 ) -> Result<(), AllocError>
+    requires { CanNumber coming.now }
     ensures { OnOk result (dimensions.new.items ≡ dimensions.old.items
-        ++ cons_option (dimension_at registry.now dimension.now) []) }
+        ++ cons_option
+        (dimension_at (with_beat coming.now.registry.now coming.now.beat.now) dimension.now) []) }
 {
-    if let Some(numbered) = number_dimension(registry, dimension)? {
+    if let Some(numbered) = number_dimension(coming, dimension)? {
         dimensions.push(numbered)?;
     }
     Ok(())
@@ -111,15 +127,16 @@ fn push_dimension(
 
 fn gather_dimensions(
     alloc: Global,
-    registry: &Registry,
+    coming: &Coming,
     defs: &[OpenDim],
 ) -> Result<Vec<NumberedDimension>, AllocError>
-    ensures { IfOk result
-        (λ dimensions. dimensions.items ≡ filter_map (dimension_at registry.now) defs.now) }
+    requires { CanNumber coming.now }
+    ensures { IfOk result (λ dimensions. dimensions.items ≡ filter_map
+        (dimension_at (with_beat coming.now.registry.now coming.now.beat.now)) defs.now) }
 {
     let mut dimensions = Vec::with_capacity(alloc, defs.len())?;
     for dimension in defs {
-        push_dimension(&mut dimensions, registry, dimension)?;
+        push_dimension(&mut dimensions, coming, dimension)?;
     }
     Ok(dimensions)
 }
@@ -135,11 +152,14 @@ fn sort_dimensions(mut dimensions: Vec<NumberedDimension>) -> Result<DimensionLi
 /// The dimensions that a beat defines, in the order of their numbers.
 pub(crate) fn dimensions(
     alloc: Global,
-    registry: &Registry,
+    coming: &Coming,
     beat: &OpenBeat,
 ) -> Result<DimensionList, AllocError>
-    requires { IsDefinedIn registry.now beat.now }
-    ensures { IfOk result (λ list. list ≡ numbered_dimensions registry.now beat.now) }
+    requires can { CanNumber coming.now }
+    requires defined { IsDefinedIn
+        (with_beat coming.now.registry.now coming.now.beat.now) beat.now }
+    ensures { IfOk result (λ list. list
+        ≡ numbered_dimensions (with_beat coming.now.registry.now coming.now.beat.now) beat.now) }
 {
-    sort_dimensions(gather_dimensions(alloc, registry, beat.dimensions.as_slice())?)
+    sort_dimensions(gather_dimensions(alloc, coming, beat.dimensions.as_slice())?)
 }

@@ -1,4 +1,4 @@
-ghost use Rattle.std.specs.Prelude.{◌≡◌, true, false, IfOk, IfErr, OnOk};
+ghost use Rattle.std.specs.Prelude.{◌≡◌, [], true, false, IfOk, IfErr, OnOk};
 ghost use Rattle.entry_codec.specs.Entries.{is_collected_canonical};
 ghost use Rattle.history.specs.Numbered.{numbered_beat, IsThere};
 ghost use Rattle.history.specs.Regular.{IsRegular};
@@ -6,11 +6,27 @@ ghost use Rattle.beat_entries.specs.Defined.{IsDefinedIn};
 ghost use Rattle.beat_entries.specs.Next.{goes_on, with_numbered};
 ghost use Rattle.beat_entries.specs.declared.refusal.EntryRefusal.TheVariants.{NotNext};
 
+use crate::coming::Coming;
+use crate::defining;
 use crate::refusal::EntryRefusal;
-use crate::{defining, definitions, rows};
+use crate::rows::find_rows;
+use crate::taking::number;
 use chart_registry::Registry;
+use fixed_num::ListOf;
 use history::{NumberedBeat, OpenBeat};
 use std::alloc::{AllocError, Global};
+
+/// The definitions of a beat without any.
+fn nothing(alloc: Global) -> OpenBeat
+    ensures charts { result.charts ≡ [] }
+    ensures dimensions { result.dimensions ≡ [] }
+{
+    OpenBeat {
+        charts: ListOf::new(alloc),
+        dimensions: ListOf::new(alloc),
+        rows: ListOf::new(alloc),
+    }
+}
 
 /// The beat that was collected at `moment` by the numbers of a registry that has its definitions. It has
 /// the beat's definitions, rows and values, each list in the order of its numbers, each number once. Each
@@ -27,12 +43,14 @@ pub fn number_beat(
     ensures canonical { IfOk result (λ numbered. is_collected_canonical numbered ≡ true) }
     ensures there { IfOk result (IsThere registry.now) }
 {
-    Ok(NumberedBeat {
-        moment,
-        charts: definitions::charts(alloc, registry, beat)?,
-        dimensions: definitions::dimensions(alloc, registry, beat)?,
-        rows: rows::rows(alloc, registry, beat)?,
-    })
+    // To have asked tells the prover how much the registry has at most.
+    let _ = (registry.charts(), registry.dimensions());
+    let defined = nothing(alloc);
+    let coming = Coming::new(alloc, registry, &defined);
+    match find_rows(alloc, &coming, moment, beat.rows.as_slice()) {
+        Some(found) => number(alloc, &coming, moment, beat, found.rows),
+        None => unreachable!(),
+    }
 }
 
 /// Defines in the registry what a numbered beat defines. `NotNext` exactly where the beat does not go on from

@@ -1,10 +1,13 @@
 //! A collected beat by number: made of a beat that names charts and dimensions by their ids, and defined in a
 //! registry when it is read again.
 //!
-//! A beat names charts and dimensions by their ids. `number_beat` gives it by the numbers of a registry that
-//! has the beat's definitions already: its charts, dimensions and rows, and the values of each row, in the order
-//! of their numbers. It is proved to be its definition, which goes once through the registry, while the code
-//! looks up by hashes and sorts what the beat says. A beat so numbered is in the one form that has a spelling.
+//! A beat names charts and dimensions by their ids. `take_beat` judges it, gives it by number and defines in
+//! the registry what it defines: its charts, dimensions and rows, and the values of each row, in the order of
+//! their numbers. What it gives is proved to be its definition, which goes once through the registry, while the code
+//! looks up by hashes and sorts what the beat says. A new id's number is known before anything is defined: it is
+//! the id's place among the new ones, behind what the registry has. So each chart and each value is looked up once,
+//! for the judgement and for the number. A beat so numbered is in the one form that has a spelling. `number_beat`
+//! does the same where the registry has the beat's definitions already.
 //!
 //! `define` reads a numbered beat back: it defines what the beat defines, each under its number, and tests that
 //! the rows are of what is there. No id is looked up for a value, and no beat by ids is made again. The entry of
@@ -13,19 +16,27 @@
 //! The crate stands on the numbers of `chart_registry` and on the entries of `entry_codec`.
 #![tactic(auto)]
 
+mod beat_fault;
+mod coming;
 mod copied;
 mod defining;
 mod definitions;
 mod entry;
+mod fresh;
+mod gathered;
 mod law;
+mod reasons;
 mod refusal;
 mod rows;
+mod taking;
 mod usual;
 
+pub use beat_fault::BeatFault;
 pub use copied::{any_copied, define_copied};
 pub use entry::{define, number_beat};
 pub use law::{any_defined, any_limits, any_next, any_numbered};
 pub use refusal::EntryRefusal;
+pub use taking::take_beat;
 pub use usual::{usual_chart, usual_dimension};
 
 #[cfg(test)]

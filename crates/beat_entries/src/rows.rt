@@ -1,67 +1,89 @@
-ghost use Rattle.std.specs.Prelude.{◌≡◌, ◌<◌, ◌++◌, [], IfOk, OnOk, IsSome, All, length, filter_map};
-ghost use Rattle.std.specs.List.{cons_option};
-ghost use Rattle.std.specs.List.Sorted.{IsPermutation, IsNonDecreasingBy};
-ghost use Rattle.chart_registry.specs.Defining.{chart_id};
-ghost use Rattle.history.specs.Looking.{same_value};
-ghost use Rattle.history.specs.Registry.{chart_of, same_dimension};
-ghost use Rattle.history.specs.declared.beat.OpenRow.{OpenRow as Open};
-ghost use Rattle.history.specs.Regular.{AreApart, IsRegular};
-ghost use Rattle.beat_entries.specs.Defined.{IsDefinedIn};
-ghost use Rattle.history.specs.Numbered.{numbered_values, numbered_rows};
-ghost use Rattle.beat_entries.specs.Gathered.{value_at, row_at};
+//! The rows of a beat by number. Each chart and each value is looked up once.
 
-use chart_registry::Registry;
+ghost use Rattle.std.specs.Prelude.{◌≡◌, ◌++◌, ◌||◌, [], true, false, not, IfOk, OnOk, IfSome, All, filter_map, is_none};
+ghost use Rattle.std.specs.List.{cons_option, list_any};
+ghost use Rattle.std.specs.List.Sorted.{IsPermutation, IsNonDecreasingBy};
+ghost use Rattle.std.specs.Option.{option_map_or};
+ghost use Rattle.history.specs.Looking.{same_value};
+ghost use Rattle.history.specs.Numbered.{numbered_rows};
+ghost use Rattle.history.specs.Refusal.{chart_now, has_chart, has_dimension, is_off};
+ghost use Rattle.history.specs.Registry.{same_chart};
+ghost use Rattle.history.specs.declared.beat.OpenBeat.{OpenBeat as AnOpenBeat};
+ghost use Rattle.history.specs.declared.beat.OpenRow.{OpenRow as ARow};
+ghost use Rattle.history.specs.declared.beat.OpenValue.{OpenValue as AValue};
+ghost use Rattle.history.specs.Regular.{AreApart, same_row};
+ghost use Rattle.history.specs.Registry.{Registry as ARegistry};
+ghost use Rattle.beat_entries.specs.Coming.{CanNumber};
+ghost use Rattle.beat_entries.specs.Fresh.{IsKnownAs};
+ghost use Rattle.beat_entries.specs.Gathered.{value_at, row_at};
+ghost use Rattle.beat_entries.specs.Rules.{changes_grid, row_lacks_dimension, with_beat};
+
+use crate::coming::Coming;
+use crate::gathered::Gathered;
+use collect_block::is_off;
 use fixed_num::ListOf;
-use history::{OpenBeat, OpenRow, OpenValue, Row, RowList, Value, ValueList};
+use history::{OpenRow, OpenValue, Row, RowList, Value, ValueList};
 use std::alloc::{AllocError, Global};
 
-/// A value with its number, in a row of the chart with this number.
-fn number_value(registry: &Registry, chart: u32, value: &OpenValue) -> Option<Value>
-    requires { chart < length registry.now.charts }
-    ensures { result ≡ value_at registry.now (chart_id registry.now chart) value.now }
-{
-    match registry.series_of(chart, value.id.as_str()) {
-        Some(series) => Some(Value {
-            series,
-            value: value.value,
-            anomalous: value.anomalous,
-        }),
-        None => None,
-    }
+/// What the values of a row come to.
+#[derive(Drop)]
+struct FoundValues {
+    /// Those of a dimension that is there.
+    values: Gathered<Value>,
+    /// Whether one is of a dimension that is not.
+    lack: bool,
 }
 
-/// Adds a value, if it has a number.
-fn push_value(
-    values: &mut Vec<Value>,
-    registry: &Registry,
-    chart: u32,
+/// Keeps a value of a row of this chart by number, if its dimension is there.
+fn take_value(
+    values: &mut Gathered<Value>,
+    coming: &Coming,
+    known: Option<u32>,
+    chart: &str,
     value: &OpenValue,
-) -> Result<(), AllocError>
-    requires { chart < length registry.now.charts }
-    ensures { OnOk result (values.new.items ≡ values.old.items
-        ++ cons_option (value_at registry.now (chart_id registry.now chart) value.now) []) }
+) -> bool
+    requires { IsKnownAs coming.now.registry.now chart.now known }
+    ensures found { result
+        ≡ has_dimension coming.now.registry.now coming.now.beat.now chart.now value.now.id }
+    ensures before { values.new.whole ≡ true → values.old.whole ≡ true }
+    ensures items { CanNumber coming.now → values.new.whole ≡ true
+        → values.new.items.items ≡ values.old.items.items ++ cons_option
+        (value_at (with_beat coming.now.registry.now coming.now.beat.now) chart.now value.now) [] }
 {
-    if let Some(numbered) = number_value(registry, chart, value) {
-        values.push(numbered)?;
+    match coming.series(known, chart, value.id.as_str()) {
+        Some(series) => {
+            values.push(Value {
+                series,
+                value: value.value,
+                anomalous: value.anomalous,
+            });
+            true
+        }
+        None => false,
     }
-    Ok(())
 }
 
-fn gather_values(
+fn find_values(
     alloc: Global,
-    registry: &Registry,
-    chart: u32,
+    coming: &Coming,
+    known: Option<u32>,
+    chart: &str,
     given: &[OpenValue],
-) -> Result<Vec<Value>, AllocError>
-    requires { chart < length registry.now.charts }
-    ensures { IfOk result (λ values. values.items
-        ≡ filter_map (value_at registry.now (chart_id registry.now chart)) given.now) }
+) -> FoundValues
+    requires { IsKnownAs coming.now.registry.now chart.now known }
+    ensures lack { result.lack ≡ list_any (λ (value : AValue). not
+        (has_dimension coming.now.registry.now coming.now.beat.now chart.now value.id)) given.now }
+    ensures values { CanNumber coming.now → result.values.whole ≡ true
+        → result.values.items.items ≡ filter_map
+        (value_at (with_beat coming.now.registry.now coming.now.beat.now) chart.now) given.now }
 {
-    let mut values = Vec::with_capacity(alloc, given.len())?;
+    let mut values = Gathered::with_room(alloc, given.len());
+    let mut lack = false;
     for value in given {
-        push_value(&mut values, registry, chart, value)?;
+        let there = take_value(&mut values, coming, known, chart, value);
+        lack = lack || !there;
     }
-    Ok(values)
+    FoundValues { values, lack }
 }
 
 fn sort_values(mut values: Vec<Value>) -> Result<ValueList, AllocError>
@@ -72,54 +94,97 @@ fn sort_values(mut values: Vec<Value>) -> Result<ValueList, AllocError>
     Ok(ListOf::from_vec(values))
 }
 
-/// A row with its number, and its values in the order of theirs.
-fn number_row(alloc: Global, registry: &Registry, row: &OpenRow) -> Result<Option<Row>, AllocError>
-    requires own { AreApart same_dimension registry.now.dimensions }
-    requires apart { AreApart same_value row.now.values }
-    ensures { IfOk result (λ made. made ≡ row_at registry.now row.now) }
+/// A row of the chart with this number, with its values in the order of theirs.
+fn numbered_row(number: u32, values: Gathered<Value>) -> Result<Row, AllocError>
+    ensures whole { OnOk result (values.whole ≡ true) }
+    ensures chart { IfOk result (λ row. row.chart ≡ number) }
+    ensures same { IfOk result (λ row. IsPermutation values.items.items row.values) }
+    ensures rises { IfOk result (λ row. IsNonDecreasingBy (λ value. value.series) row.values) }
 {
-    match registry.chart_of(row.chart.as_str()) {
-        Some(chart) => {
-            let values = gather_values(alloc, registry, chart, row.values.as_slice())?;
-            let values = sort_values(values)?;
-            Ok(Some(Row { chart, values }))
-        }
-        None => Ok(None),
+    if !values.whole {
+        return Err(AllocError);
     }
+    Ok(Row {
+        chart: number,
+        values: sort_values(values.items)?,
+    })
 }
 
-/// Adds a row, if it has a number.
-fn push_row(
+/// What the rows of a beat come to, each of a chart that is there.
+#[derive(Drop)]
+pub(crate) struct FoundRows {
+    /// The rows, with those of their values whose dimensions are there.
+    pub(crate) rows: Gathered<Row>,
+    /// Whether a value is of a dimension that is not.
+    pub(crate) lack: bool,
+    /// Whether the moment is off the grid of a row's chart.
+    pub(crate) off_grid: bool,
+}
+
+/// Takes a row of a beat of this moment, if its chart is there.
+fn take_row(
     alloc: Global,
-    rows: &mut Vec<Row>,
-    registry: &Registry,
+    found: &mut FoundRows,
+    coming: &Coming,
+    moment: u32,
     row: &OpenRow,
-) -> Result<(), AllocError>
-    requires own { AreApart same_dimension registry.now.dimensions }
-    requires apart { AreApart same_value row.now.values }
-    ensures { OnOk result (rows.new.items ≡ rows.old.items
-        ++ cons_option (row_at registry.now row.now) []) }
+) -> bool
+    requires { AreApart same_value row.now.values }
+    ensures found { result
+        ≡ has_chart coming.now.registry.now coming.now.beat.now row.now.chart }
+    ensures lack { result ≡ true → found.new.lack
+        ≡ (found.old.lack
+        || row_lacks_dimension coming.now.registry.now coming.now.beat.now row.now) }
+    ensures off { result ≡ true → changes_grid coming.now.registry.now coming.now.beat.now ≡ false
+        → found.new.off_grid ≡ (found.old.off_grid || option_map_or (is_off moment)
+        (chart_now coming.now.registry.now coming.now.beat.now row.now.chart) false) }
+    ensures before { result ≡ true → found.new.rows.whole ≡ true → found.old.rows.whole ≡ true }
+    ensures rows { result ≡ true → CanNumber coming.now → found.new.rows.whole ≡ true
+        → found.new.rows.items.items ≡ found.old.rows.items.items ++ cons_option
+        (row_at (with_beat coming.now.registry.now coming.now.beat.now) row.now) [] }
 {
-    if let Some(numbered) = number_row(alloc, registry, row)? {
-        rows.push(numbered)?;
-    }
-    Ok(())
+    let Some(place) = coming.chart(row.chart.as_str()) else {
+        return false;
+    };
+    let given = row.values.as_slice();
+    let values = find_values(alloc, coming, place.known, row.chart.as_str(), given);
+    found.lack = found.lack || values.lack;
+    found.off_grid = found.off_grid || is_off(Some(place.update_every), moment);
+    found.rows.keep(numbered_row(place.number, values.values));
+    true
 }
 
-fn gather_rows(
+/// The rows of a beat of this moment, or nothing where one is of a chart that is not there.
+pub(crate) fn find_rows(
     alloc: Global,
-    registry: &Registry,
+    coming: &Coming,
+    moment: u32,
     given: &[OpenRow],
-) -> Result<Vec<Row>, AllocError>
-    requires own { AreApart same_dimension registry.now.dimensions }
-    requires apart { All (λ (row : Open). AreApart same_value row.values) given.now }
-    ensures { IfOk result (λ rows. rows.items ≡ filter_map (row_at registry.now) given.now) }
+) -> Option<FoundRows>
+    requires { All (λ (row : ARow). AreApart same_value row.values) given.now }
+    ensures found { is_none result ≡ list_any (λ (row : ARow). not
+        (has_chart coming.now.registry.now coming.now.beat.now row.chart)) given.now }
+    ensures lack { IfSome result (λ found. found.lack ≡ list_any
+        (row_lacks_dimension coming.now.registry.now coming.now.beat.now) given.now) }
+    ensures off { changes_grid coming.now.registry.now coming.now.beat.now ≡ false
+        → IfSome result (λ found. found.off_grid ≡ list_any
+        (λ (row : ARow). option_map_or (is_off moment)
+        (chart_now coming.now.registry.now coming.now.beat.now row.chart) false) given.now) }
+    ensures rows { CanNumber coming.now
+        → IfSome result (λ found. found.rows.whole ≡ true → found.rows.items.items ≡ filter_map
+        (row_at (with_beat coming.now.registry.now coming.now.beat.now)) given.now) }
 {
-    let mut rows = Vec::with_capacity(alloc, given.len())?;
+    let mut found = FoundRows {
+        rows: Gathered::with_room(alloc, given.len()),
+        lack: false,
+        off_grid: false,
+    };
     for row in given {
-        push_row(alloc, &mut rows, registry, row)?;
+        if !take_row(alloc, &mut found, coming, moment, row) {
+            return None;
+        }
     }
-    Ok(rows)
+    Some(found)
 }
 
 fn sort_rows(mut rows: Vec<Row>) -> Result<RowList, AllocError>
@@ -130,15 +195,15 @@ fn sort_rows(mut rows: Vec<Row>) -> Result<RowList, AllocError>
     Ok(ListOf::from_vec(rows))
 }
 
-/// The rows of a beat, in the order of their charts' numbers.
-pub(crate) fn rows(
-    alloc: Global,
-    registry: &Registry,
-    beat: &OpenBeat,
-) -> Result<RowList, AllocError>
-    requires regular { IsRegular registry.now beat.now }
-    requires defined { IsDefinedIn registry.now beat.now }
-    ensures { IfOk result (λ list. list ≡ numbered_rows registry.now beat.now) }
+/// The rows in the order of their charts' numbers, if there was memory for all of them.
+pub(crate) fn sorted(rows: Gathered<Row>) -> Result<RowList, AllocError>
+    ensures { IfOk result (λ list. (registry : ARegistry) (beat : AnOpenBeat)
+        → AreApart same_chart registry.charts → AreApart same_row beat.rows
+        → (rows.whole ≡ true → rows.items.items ≡ filter_map (row_at registry) beat.rows)
+        → list ≡ numbered_rows registry beat) }
 {
-    sort_rows(gather_rows(alloc, registry, beat.rows.as_slice())?)
+    if !rows.whole {
+        return Err(AllocError);
+    }
+    sort_rows(rows.items)
 }

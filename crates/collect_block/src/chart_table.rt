@@ -60,6 +60,13 @@ impl ChartTable {
         }
     }
 
+    /// Where the definition of the chart with this id stands, from 0.
+    pub fn place_of(&self, id: &str) -> Option<usize>
+        ensures { result ≡ position (is_chart id.now) self.now }
+    {
+        self.places.get(id).copied()
+    }
+
     /// Keeps a definition, in the place of an earlier one of the same chart. After an `Err` all is as before.
     pub fn define(&mut self, def: ChartDef) -> Result<(), AllocError>
         ensures ok { OnOk result (self.new ≡ put same_chart self.old def) }

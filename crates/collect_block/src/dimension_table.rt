@@ -51,6 +51,13 @@ impl DimensionTable {
         self.defs.as_slice()
     }
 
+    /// Where the definition of the chart's dimension with this id stands, from 0.
+    pub fn place_of(&self, chart: &str, id: &str) -> Option<usize>
+        ensures { result ≡ position (is_dimension chart.now id.now) self.now }
+    {
+        place_of(&self.tables, chart, id)
+    }
+
     /// Whether the chart has a dimension with this id.
     pub fn has(&self, chart: &str, id: &str) -> bool
         ensures { result ≡ list_any (is_dimension chart.now id.now) self.now }

@@ -7,10 +7,11 @@ use Rattle.entry_codec.specs.Entries.{IsWithinLimits}
 use Rattle.beat_entries.specs.Defined.{IsDefinedIn}
 use Rattle.beat_entries.proofs.LimitLemmas.{within-limits}
 use Rattle.agent_core.specs.Rules.{HasLimits}
-use Rattle.agent_core.proofs.DefinedLemmas.{charts-apart, defined-after, dimensions-apart}
+use Rattle.beat_entries.proofs.AfterLemmas.{charts-apart, defined-after, dimensions-apart}
 use Rattle.agent_core.proofs.LimitLemmas.{limits-after}
 use Rattle.agent_core.proofs.StoringLemmas.{no-numbered-rows}
-use Rattle.agent_core.proofs.Within.{few-charts, few-dimensions, names-tests, tested-memory}
+use Rattle.beat_entries.proofs.Within.{few-charts, few-dimensions, tested-memory}
+use Rattle.agent_core.proofs.Within.{names-tests}
 use Rattle.agent_core.proofs.storing.define.Goals as goal
 
 pub number_beat-requires-clause-defined : goal.number_beat-requires-clause-defined

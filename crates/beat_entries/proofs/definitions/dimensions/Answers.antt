@@ -4,14 +4,15 @@ use Rattle.std.specs.List.Sorted.{IsPermutation, IsNonDecreasingBy}
 use Rattle.history.specs.declared.numbered.NumberedDimension.{NumberedDimension}
 use Rattle.history.specs.Numbered.{numbered_dimensions}
 use Rattle.beat_entries.specs.Gathered.{dimension_at}
+use Rattle.beat_entries.specs.Rules.{with_beat}
 use Rattle.beat_entries.proofs.EntryLemmas.{dimensions-are, ok-both}
 use Rattle.beat_entries.proofs.definitions.dimensions.Goals as goal
 
 pub returns : goal.returns
 returns c =
-    let registry = c.args.registry.now in
+    let registry = with_beat c.args.coming.now.registry.now c.args.coming.now.beat.now in
     let beat = c.args.beat.now in
     let items = c.in_ok-gather_dimensions.field-0.items in
     let gathered : items ≡ filter_map (dimension_at registry) beat.dimensions = c.in_ok-gather_dimensions.ensures ∙ ap (filter_map (dimension_at registry)) c.as_slice.ensures in
     ok-both (λ (list : List NumberedDimension). IsPermutation items list) (λ (list : List NumberedDimension). IsNonDecreasingBy (λ (item : NumberedDimension). item.series) list) (λ (list : List NumberedDimension). list ≡ numbered_dimensions registry beat)
-    (λ list same up. dimensions-are registry beat c.requires list (subst (λ (all : List NumberedDimension). IsPermutation all list) gathered same) up) c.sort_dimensions.result c.sort_dimensions.ensures.same c.sort_dimensions.ensures.rises
+    (λ list same up. dimensions-are registry beat c.requires.defined list (subst (λ (all : List NumberedDimension). IsPermutation all list) gathered same) up) c.sort_dimensions.result c.sort_dimensions.ensures.same c.sort_dimensions.ensures.rises

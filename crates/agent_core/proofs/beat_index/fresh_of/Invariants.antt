@@ -1,7 +1,0 @@
-use Rattle.std.proofs.Common.{◌≡◌, take}
-use Rattle.std.specs.List.{filter}
-use Rattle.history.specs.Refusal.{is_new_dimension}
-use Rattle.agent_core.proofs.beat_index.fresh_of.Given as goal
-
-abbrev pub invariant-loop-dimension : goal.invariant-loop-dimension
-invariant-loop-dimension l = l.table ≡ filter (is_new_dimension l.registry) (take l.dimension-index l.dimensions)
