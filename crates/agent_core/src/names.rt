@@ -10,7 +10,7 @@ ghost use Rattle.agent_core.specs.Rules.{changes_grid, changes_grid_of, dimensio
 
 use crate::left::Role;
 use chart_registry::{MOST_CHARTS, MOST_DIMENSIONS, MOST_DIMENSIONS_OF_CHART, Registry};
-use collect_block::{is_known_dimension, known_dimensions_of, known_update_every};
+use chart_registry::{is_known_dimension, known_dimensions_of, known_update_every};
 use history::BlockFault;
 use replication::{ChartName, Data, DimName, Names};
 

@@ -188,7 +188,7 @@ impl<'a> Coming<'a> {
     {
         match &self.fresh {
             Some(fresh) => fresh.dimensions.as_slice().len(),
-            None => collect_block::new_dimensions(self.registry, self.beat.dimensions.as_slice()),
+            None => chart_registry::new_dimensions(self.registry, self.beat.dimensions.as_slice()),
         }
     }
 
@@ -199,7 +199,7 @@ impl<'a> Coming<'a> {
     {
         match &self.fresh {
             Some(fresh) => fresh.dimensions.count_of(chart),
-            None => collect_block::new_dimensions_of(
+            None => chart_registry::new_dimensions_of(
                 self.registry,
                 self.beat.dimensions.as_slice(),
                 chart,

@@ -20,7 +20,7 @@ ghost use Rattle.beat_entries.specs.Rules.{changes_grid, row_lacks_dimension, wi
 
 use crate::coming::Coming;
 use crate::gathered::Gathered;
-use collect_block::is_off;
+use chart_registry::is_off;
 use fixed_num::ListOf;
 use history::{OpenRow, OpenValue, Row, RowList, Value, ValueList};
 use std::alloc::{AllocError, Global};

@@ -9,9 +9,11 @@ pub mod FewLemmas
 pub mod Finding
 pub mod FirstLemmas
 pub mod Growing
+pub mod Lists
 pub mod OpenLemmas
 pub mod Places
 pub mod ReasonLemmas
 pub mod RegistryLemmas
 pub mod RoomLemmas
 pub mod RowsLemmas
+pub mod TablesLemmas

@@ -6,12 +6,24 @@
 //! it refuses, is proved to be what the definitions of `history` say: a chart keeps its update_every, and
 //! there are at most 4,096 charts, 1,024 dimensions of one chart and 65,536 in all. A refused definition
 //! changes nothing. Each call looks up by a hash, and none goes through all charts or dimensions.
+//!
+//! A `ChartTable` and a `DimensionTable` have the definitions of a beat that is not in the registry yet,
+//! and find them by hashes too.
 #![tactic(auto)]
 
+mod chart_table;
 mod charts;
+mod dimension_table;
 mod dimensions;
 mod fault;
+mod known;
 mod registry;
 
+pub use chart_table::ChartTable;
+pub use dimension_table::DimensionTable;
 pub use fault::RegistryFault;
+pub use known::{
+    is_known_dimension, is_known_dimension_at, is_new_chart, is_new_dimension, is_off,
+    known_dimensions_of, known_update_every, new_charts, new_dimensions, new_dimensions_of,
+};
 pub use registry::{MOST_CHARTS, MOST_DIMENSIONS, MOST_DIMENSIONS_OF_CHART, Registry};

@@ -15,8 +15,8 @@ use Rattle.chart_registry.proofs.Applying.{has_chart-any}
 use Rattle.chart_registry.proofs.RowsLemmas.{same_text}
 use Rattle.collect_block.specs.declared.beat_tables.BeatTables.{BeatTables}
 use Rattle.collect_block.specs.BeatTables.{beat_of, CountsNew}
-use Rattle.collect_block.specs.Places.{count_in, with_count}
-use Rattle.collect_block.proofs.TablesLemmas.{bytes_eq_turned}
+use Rattle.chart_registry.specs.Places.{count_in, with_count}
+use Rattle.chart_registry.proofs.TablesLemmas.{bytes_eq_turned}
 
 and-none : (a : Bool) → cond {A = ℕ} (a && false) 1 0 ≡ 0
 and-none true = refl

@@ -9,7 +9,7 @@ use Rattle.indexmap.proofs.SetLemmas.{map-remove}
 use Rattle.chart_registry.proofs.Places.{map-set_kept}
 use Rattle.chart_registry.proofs.RowsLemmas.{same_text}
 use Rattle.collect_block.specs.Marks.{mark_of, AreMarksOf}
-use Rattle.collect_block.proofs.TablesLemmas.{place-within, passes-place}
+use Rattle.chart_registry.proofs.TablesLemmas.{place-within, passes-place}
 
 abbrev own_mark : OpenValue → ℕ
 own_mark value = mark_of value.id

@@ -3,7 +3,7 @@ use Rattle.history.specs.declared.beat.OpenBeat.{OpenBeat}
 use Rattle.history.specs.Refusal.{is_new_chart, is_new_dimension, is_new_of}
 use Rattle.history.specs.Registry.{Registry, is_of}
 use Rattle.collect_block.specs.declared.beat_tables.BeatTables.{BeatTables}
-use Rattle.collect_block.specs.Places.{count_in}
+use Rattle.chart_registry.specs.Places.{count_in}
 
 -- the beat that the tables hold
 abbrev pub beat_of : BeatTables → OpenBeat

@@ -3,6 +3,5 @@ pub mod Block
 pub mod Feed
 pub mod Grown
 pub mod Marks
-pub mod Places
 pub mod Tables
 pub mod Text

@@ -9,15 +9,13 @@ ghost use Rattle.history.specs.declared.chart.ChartDef.{ChartDef as ChartDefinit
 ghost use Rattle.history.specs.declared.dimension.DimDef.{DimDef as DimDefinition};
 ghost use Rattle.collect_block.specs.BeatTables.{beat_of, chart_full, all_full, CountsNew};
 
-use crate::chart_table::ChartTable;
 use crate::count_table::{CountTable, raised};
-use crate::dimension_table::DimensionTable;
-use crate::known::{
+use crate::row_table::RowTable;
+use chart_registry::{
+    ChartTable, DimensionTable, MOST_CHARTS, MOST_DIMENSIONS, MOST_DIMENSIONS_OF_CHART, Registry,
     is_known_dimension_at, is_off, known_dimensions_of, known_update_every, new_charts,
     new_dimensions, new_dimensions_of,
 };
-use crate::row_table::RowTable;
-use chart_registry::{MOST_CHARTS, MOST_DIMENSIONS, MOST_DIMENSIONS_OF_CHART, Registry};
 use history::{BlockFault, ChartDef, OpenBeat, OpenDim, OpenRow};
 use std::alloc::{AllocError, Global};
 

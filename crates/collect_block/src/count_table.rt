@@ -1,9 +1,9 @@
 ghost use Rattle.std.specs.Prelude.{◌≡◌, ◌+◌, ℕ, List, [], length, min, string_bytes, OnOk, OnErr};
 ghost use Rattle.history.specs.Put.{put};
 ghost use Rattle.history.specs.Registry.{same_dimension};
-ghost use Rattle.collect_block.specs.Places.{count_in, with_count};
+ghost use Rattle.chart_registry.specs.Places.{count_in, with_count};
 
-use crate::dimension_table::DimensionTable;
+use chart_registry::DimensionTable;
 use history::OpenDim;
 use indexmap::IndexMap;
 use std::alloc::{AllocError, Global};

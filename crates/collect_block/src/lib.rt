@@ -20,24 +20,15 @@
 mod beat_tables;
 mod block;
 mod block_values;
-mod chart_table;
 mod count_table;
-mod dimension_table;
 mod feed;
-mod known;
 mod law;
 mod row_table;
 mod step;
 mod text;
 
-pub use chart_table::ChartTable;
-pub use dimension_table::DimensionTable;
 pub use feed::Feed;
 pub use history::{BlockFault, Line, OpenBeat, OpenDim, OpenRow, OpenValue};
-pub use known::{
-    is_known_dimension, is_new_chart, is_new_dimension, is_off, known_dimensions_of,
-    known_update_every, new_charts, new_dimensions, new_dimensions_of,
-};
 pub use law::any_later;
 pub use step::Step;
 pub use text::{End, Item, ItemList, ReadText, read_text};

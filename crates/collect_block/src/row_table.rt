@@ -2,7 +2,7 @@ ghost use Rattle.std.specs.Prelude.{◌≡◌, ◌<◌, ◌||◌, ℕ, List, [],
 ghost use Rattle.std.specs.List.{list_any};
 ghost use Rattle.std.specs.Str.{bytes_eq};
 ghost use Rattle.collect_block.specs.Block.{row_of};
-ghost use Rattle.collect_block.specs.Places.{place_in, FindsRows};
+ghost use Rattle.chart_registry.specs.Places.{place_in, FindsRows};
 
 use crate::block::Block;
 use fixed_num::ListOf;

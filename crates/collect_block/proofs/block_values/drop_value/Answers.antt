@@ -2,7 +2,7 @@ use Rattle.std.proofs.Common.{◌≡◌, not, filter, position, Some, sym, ap, �
 use Rattle.history.specs.declared.beat.OpenValue.{OpenValue}
 use Rattle.history.specs.Looking.{is_value}
 use Rattle.chart_registry.proofs.Places.{first-from_position, nowhere-from_position}
-use Rattle.collect_block.proofs.Lists.{filter-remove, filter-nowhere}
+use Rattle.chart_registry.proofs.Lists.{filter-remove, filter-nowhere}
 use Rattle.collect_block.proofs.MarksLemmas.{marks-removed}
 use Rattle.collect_block.proofs.block_values.drop_value.Goals as goal
 

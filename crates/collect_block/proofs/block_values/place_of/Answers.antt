@@ -2,7 +2,7 @@ use Rattle.std.proofs.Common.{arith, ◌<◌, length, below_more, sym, ap, ◌�
 use Rattle.std.specs.Str.{bytes_eq}
 use Rattle.std.proofs.lemmas.List.{get_or_default}
 use Rattle.history.specs.Looking.{is_value}
-use Rattle.collect_block.proofs.Lists.{position-reached, position-missed}
+use Rattle.chart_registry.proofs.Lists.{position-reached, position-missed}
 use Rattle.collect_block.proofs.MarksLemmas.{length-marks, mark-apart}
 use Rattle.collect_block.proofs.block_values.place_of.Goals as goal
 use Rattle.collect_block.proofs.block_values.place_of.Goals.{else-mark-other-via-then-mark-other+else-eq, else-mark-other-via-else-mark-other}

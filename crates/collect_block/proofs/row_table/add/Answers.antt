@@ -1,8 +1,8 @@
 use Rattle.std.proofs.Common.{arith, ◌≡◌, [], ◌∷◌, ◌++◌, ◌||◌, is_some, sym, ap, subst, ◌∙◌}
 use Rattle.std.specs.Str.{bytes_eq}
 use Rattle.collect_block.specs.Block.{row_of}
-use Rattle.collect_block.specs.Places.{place_in, FindsRows}
-use Rattle.collect_block.proofs.TablesLemmas.{row-added}
+use Rattle.chart_registry.specs.Places.{place_in, FindsRows}
+use Rattle.chart_registry.proofs.TablesLemmas.{row-added}
 use Rattle.collect_block.proofs.row_table.add.Goals as goal
 
 pub returns-in-Ok-clause-found : goal.returns-in-Ok-clause-found

@@ -1,8 +1,8 @@
 use Rattle.std.proofs.Common.{List, ℕ, cond, is_some, Some, ap, ◌∙◌, string_bytes}
 use Rattle.std.specs.Str.{bytes_eq}
 use Rattle.std.proofs.lemmas.Map.Text.{hash_map_updates_text}
-use Rattle.collect_block.specs.Places.{place_in}
-use Rattle.collect_block.proofs.TablesLemmas.{is_some-updated}
+use Rattle.chart_registry.specs.Places.{place_in}
+use Rattle.chart_registry.proofs.TablesLemmas.{is_some-updated}
 use Rattle.collect_block.proofs.row_table.make_room.Goals as goal
 
 pub returns-clause-ok : goal.returns-clause-ok

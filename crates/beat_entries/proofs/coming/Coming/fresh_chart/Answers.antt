@@ -5,7 +5,7 @@ use Rattle.history.specs.declared.chart.ChartDef.{ChartDef}
 use Rattle.history.specs.Refusal.{is_new_chart}
 use Rattle.history.specs.Registry.{chart_of, is_chart}
 use Rattle.chart_registry.proofs.RegistryLemmas.{chart_of-within}
-use Rattle.collect_block.proofs.TablesLemmas.{find-nowhere, find-place}
+use Rattle.chart_registry.proofs.TablesLemmas.{find-nowhere, find-place}
 use Rattle.beat_entries.specs.Rules.{with_beat}
 use Rattle.beat_entries.proofs.ComingLemmas.{any-fresh, chart-fresh, chart-nowhere, find-fresh, some-map}
 use Rattle.beat_entries.proofs.EntryLemmas.{any-find}

@@ -1,7 +1,7 @@
 use Rattle.std.proofs.Common.{◌≡◌, ◌+◌, min, Some, length, unwrap_or, ap, ◌∙◌, string_bytes, if◌then◌else◌}
 use Rattle.std.specs.Str.{bytes_eq}
 use Rattle.std.proofs.lemmas.Map.Text.{hash_map_updates_text}
-use Rattle.collect_block.specs.Places.{place_in, count_in}
+use Rattle.chart_registry.specs.Places.{place_in, count_in}
 use Rattle.collect_block.proofs.CountLemmas.{ok-holds, count-updated}
 use Rattle.collect_block.proofs.count_table.CountTable.define.Goals as goal
 
