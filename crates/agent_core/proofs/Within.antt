@@ -1,5 +1,5 @@
 -- The limits of the registry of a history, and of what the names of a Data define.
-use Rattle.std.proofs.Common.{◌≡◌, ℕ, ◌≤◌, false, List, [], ◌∷◌, length, None, is_some, arith}
+use Rattle.std.proofs.Common.{◌≡◌, false, List, [], ◌∷◌, None, is_some, arith}
 use Rattle.history.specs.declared.beat.OpenBeat.{OpenBeat}
 use Rattle.history.specs.declared.fault.BlockFault.TheVariants as fault
 use Rattle.history.specs.History.{Beat, collected, copied, health, missing, child, last, registry_of}
