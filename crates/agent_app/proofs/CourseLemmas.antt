@@ -1,5 +1,5 @@
 -- Runs on one host, one after the other: what they stored stays.
-use Rattle.std.proofs.Common.{◌≡◌, ◌⊎◌, inl, inr, ℕ, ◌≤◌, Bool, true, false, List, [], ◌∷◌, length, drop, Option, Some, None, sym, refl, ap, subst, ◌∙◌, append-nil, length-append, arith, true≢false}
+use Rattle.std.proofs.Common.{◌≡◌, ◌⊎◌, inl, inr, ℕ, ◌≤◌, Bool, true, false, List, [], ◌∷◌, length, drop, Option, Some, None, Err, sym, refl, ap, subst, ◌∙◌, append-nil, length-append, arith, true≢false}
 use Rattle.std.proofs.Math.ListN.{drop_of_length-le}
 use Rattle.std.specs.List.{Contains}
 use Rattle.host_model.specs.declared.file.File.{File}
@@ -22,17 +22,23 @@ use Rattle.store_core.specs.Stands.{is_made}
 use Rattle.store_core.proofs.StandLemmas.{stands_made}
 use Rattle.agent_core.specs.Kept.{StandsForHistory, StandsForNew}
 use Rattle.agent_core.specs.Notes.{HasNotes}
+use Rattle.link_session.specs.declared.fault.SessionFault.TheVariants.{Memory}
 use Rattle.link_session.specs.Keeps.{no_more, IsAckedUpTo, Keeps}
+use Rattle.link_session.specs.Parent.{parent_begins, parent_does}
+use Rattle.link_session.specs.Session.{Exchanges, LinkSeen}
 use Rattle.link_session.proofs.AckLemmas.{acked-nothing, acked-since, acked-weaker, text-front, IsFront}
-use Rattle.link_session.proofs.ExtendsLemmas.{extends-length}
+use Rattle.link_session.proofs.ExtendsLemmas.{extends-further, extends-length}
+use Rattle.link_session.proofs.LinkLemmas.{sends-nothing}
 use Rattle.agent_app.specs.declared.collect.Collector.{Collector}
 use Rattle.agent_app.specs.Collect.{CollectsAll, CollectsOn, HasHeard, Outside}
-use Rattle.agent_app.specs.Course.{asked, begun, collected, converted, every_of, made_again, no_run, none_found, now_made, one_run, ran, AreStored, Course, Database, Gives, HoldsDatabase, HoldsRuns, Input, MayHaveMade, OfCollector, OfSource, OneRun, WhereWhole}
+use Rattle.agent_app.specs.Course.{asked, begun, collected, configured, converted, made_again, no_run, none_found, now_made, one_run, ran, received, sent, AreStored, Course, Database, Gives, HoldsDatabase, HoldsRuns, Input, MayGive, MayHaveMade, OfCollector, OfHealth, OfLink, OfSource, OneRun, WhereWhole}
+use Rattle.agent_app.specs.Health.{history_with_health, ConfiguresAll, ConfiguresFrom}
 use Rattle.agent_app.specs.New.{Makes}
 use Rattle.agent_app.specs.Query.{Asks}
-use Rattle.agent_app.specs.Run.{history_with_text, is_opened, is_whole, run_every, IsHostAsFound, OnceRead, RunsAll, RunsOn, Stores}
+use Rattle.agent_app.specs.Receive.{done_with, ReceivesAll, ReceivesOn}
+use Rattle.agent_app.specs.Run.{history_with_text, is_opened, is_whole, run_every, IsHostAsFound, OnceRead, RunsAll, RunsOn}
+use Rattle.agent_app.specs.Send.{SendsAll}
 use Rattle.agent_app.proofs.CollectLemmas.{heard-nothing}
-use Rattle.agent_app.proofs.ExtendsLemmas.{extends-whole}
 
 -- a history is no database that is not there
 made-held : (set : Settings) (h : List Beat) (disk : File → List ℕ) → StandsForHistory set h disk → is_made disk ≡ false → ⊥
@@ -50,52 +56,118 @@ some-same s t e = cc
 none-some : (t : Status) → not_ended ≡ ended_with t → ⊥
 none-some t e = cc
 
--- ---- a run, whatever it has its text from
+-- ---- a command that stores, whatever it has that from
 
--- on a database of this history it took a text of its input
+-- on a database of this history it took this of its input
 pub record StoresOn (s : Status) (input : Input) (set : Settings) (h0 : List Beat) (new read : List Event) : Type 0 where
-  pub taken : List ℕ
-  pub ended : Bool
-  pub gives : Gives input (last h0) taken
-  pub stores : Stores s (every_of input) set h0 ended taken read new
+  pub whole : List Beat
+  pub gives : Gives input set h0 whole
+  pub stops : Throughout (EveryStop (Keeps set h0 whole (told read))) read new
+  pub ends : is_whole s ≡ true → EveryDisk (StandsForHistory set whole) new
+
+-- nothing was taken of the input
+abbrev pub GivesNothing : Input → Type 0
+GivesNothing input = (set : Settings) (h : List Beat) → Gives input set h h
 
 pub record IsRunOf (honest : Type 0) (s : Status) (input : Input) (host host' : Seen) : Type 0 where
-  pub found : honest → (HasNotes true (reads_as host.past) → ⊥) → IsHostAsFound honest host host' × ((last : ℕ) → Gives input last [])
+  pub found : honest → (HasNotes true (reads_as host.past) → ⊥) → IsHostAsFound honest host host' × GivesNothing input
   pub unmade : honest → is_made (reads_as host.past) ≡ false → (s ≡ status.NotADatabase) ⊎ (s ≡ status.DiskFault) ⊎ (s ≡ status.Memory)
-  pub resumes : honest → (set : Settings) (h0 : List Beat) → StandsForHistory set h0 (reads_as host.past) → OnceRead (StoresOn s input set h0 host'.past) ((last : ℕ) → Gives input last []) s host.past host'.past
+  pub resumes : honest → (set : Settings) (h0 : List Beat) → StandsForHistory set h0 (reads_as host.past) → OnceRead (StoresOn s input set h0 host'.past) (GivesNothing input) s host.past host'.past
+
+-- it was once the database was read, or nothing was taken
+once-by : (On On' : List Event → Type 0) (untaken untaken' : Type 0) (s : Status) (old new : List Event) → ((read : List Event) → On read → On' read) → (untaken → untaken') → OnceRead On untaken s old new → OnceRead On' untaken' s old new
+once-by On On' untaken untaken' s old new on not once = record { read = once.read; before = once.before; silent = once.silent; after = by once.after }
+  where
+    by : On once.read ⊎ (((s ≡ status.DiskFault) ⊎ (s ≡ status.Memory)) × (new ≡ once.read) × untaken) → On' once.read ⊎ (((s ≡ status.DiskFault) ⊎ (s ≡ status.Memory)) × (new ≡ once.read) × untaken')
+    by (inl then) = inl (on once.read then)
+    by (inr (short, is, none)) = inr (short, is, not none)
+
+-- of a link nothing was heard
+abbrev unheard : (set : Settings) (h : List Beat) (link : LinkSeen) → Exchanges (parent_does set) (parent_begins h) (Err Memory) link link
+unheard set h link = record {
+  taken = [];
+  takes = Takes-none link.left;
+  within = omega arith;
+  frames = [];
+  rest = [];
+  cut = record { found = []; handed = refl; frames = tt; spelt = refl };
+  broken = None;
+  breaks = tt;
+  says = record { said = []; unsaid = []; whole = refl; sends = sends-nothing link.sent; complete = λ all. refl };
+  why = tt;
+}
+
+link-nothing : (link link' : LinkSeen) → link' ≡ link → GivesNothing (OfLink link link')
+link-nothing link link' same set h = subst (λ (l : LinkSeen). Gives (OfLink link l) set h h) (sym same) (Err Memory, unheard set h link, refl)
 
 module _ (honest : Type 0) (host host' : Seen) where
   pub of-run : (s : Status) (left left' : Option (List ℕ)) (faults faults' : ℕ) → RunsAll honest s left left' faults faults' host host' → IsRunOf honest s (OfSource left left') host host'
   of-run s left left' faults faults' all = record {
-    found = λ h none. let found = all.untaken h none in (found.host_is, λ last. nothing found.source.0);
+    found = λ h none. let found = all.untaken h none in (found.host_is, nothing found.source.0);
     unmade = all.finds.unmade;
-    resumes = λ h set h0 here. let run = all.resumes h set h0 here in record { read = run.read; before = run.before; silent = run.silent; after = by set h0 run.read run.after };
+    resumes = λ h set h0 here. once-by _ (StoresOn s (OfSource left left') set h0 host'.past) (left' ≡ left) (GivesNothing (OfSource left left')) s host.past host'.past (by set h0) nothing (all.resumes h set h0 here);
   }
     where
-      nothing : left' ≡ left → Takes left [] left'
-      nothing same = subst (Takes left []) (sym same) (Takes-none left)
+      nothing : left' ≡ left → GivesNothing (OfSource left left')
+      nothing same set h = ([], subst (Takes left []) (sym same) (Takes-none left), refl)
 
-      by : (set : Settings) (h0 : List Beat) (read : List Event)
-          → RunsOn s run_every set h0 left left' read host'.past (Rose faults faults') (Rose host.tell_faults host'.tell_faults) (Rose host.disk_faults host'.disk_faults) ⊎ (((s ≡ status.DiskFault) ⊎ (s ≡ status.Memory)) × (host'.past ≡ read) × (left' ≡ left))
-          → StoresOn s (OfSource left left') set h0 host'.past read ⊎ (((s ≡ status.DiskFault) ⊎ (s ≡ status.Memory)) × (host'.past ≡ read) × ((last : ℕ) → Takes left [] left'))
-      by set h0 read (inl on) = inl (record { taken = on.runs.taken; ended = on.runs.ended; gives = on.runs.takes; stores = on.runs.stores })
-      by set h0 read (inr (short, is, same)) = inr (short, is, λ last. nothing same)
+      by : (set : Settings) (h0 : List Beat) (read : List Event) → RunsOn s run_every set h0 left left' read host'.past (Rose faults faults') (Rose host.tell_faults host'.tell_faults) (Rose host.disk_faults host'.disk_faults) → StoresOn s (OfSource left left') set h0 host'.past read
+      by set h0 read on = record { whole = history_with_text run_every h0 on.runs.taken; gives = (on.runs.taken, on.runs.takes, refl); stops = on.runs.stores.stops; ends = on.runs.stores.ends }
 
   pub of-collect : (collector : Collector) (s : Status) (outside outside' : Outside) → CollectsAll honest collector s outside outside' host host' → IsRunOf honest s (OfCollector collector outside outside') host host'
   of-collect collector s outside outside' all = record {
     found = λ h none. let found = all.untaken h none in (found.1, nothing found.0);
     unmade = all.finds.unmade;
-    resumes = λ h set h0 here. let run = all.resumes h set h0 here in record { read = run.read; before = run.before; silent = run.silent; after = by set h0 run.read run.after };
+    resumes = λ h set h0 here.
+        once-by _ (StoresOn s (OfCollector collector outside outside') set h0 host'.past) (outside' ≡ outside) (GivesNothing (OfCollector collector outside outside')) s host.past host'.past (by set h0) nothing (all.resumes h set h0 here);
   }
     where
-      nothing : outside' ≡ outside → (last : ℕ) → Gives (OfCollector collector outside outside') last []
-      nothing same last = subst (λ (o : Outside). HasHeard collector last outside o []) (sym same) (heard-nothing collector last outside)
+      nothing : outside' ≡ outside → GivesNothing (OfCollector collector outside outside')
+      nothing same set h = ([], subst (λ (o : Outside). HasHeard collector (last h) outside o []) (sym same) (heard-nothing collector (last h) outside), refl)
 
-      by : (set : Settings) (h0 : List Beat) (read : List Event)
-          → CollectsOn s collector set h0 outside outside' read host'.past (Rose host.tell_faults host'.tell_faults) (Rose host.disk_faults host'.disk_faults) ⊎ (((s ≡ status.DiskFault) ⊎ (s ≡ status.Memory)) × (host'.past ≡ read) × (outside' ≡ outside))
-          → StoresOn s (OfCollector collector outside outside') set h0 host'.past read ⊎ (((s ≡ status.DiskFault) ⊎ (s ≡ status.Memory)) × (host'.past ≡ read) × ((last : ℕ) → Gives (OfCollector collector outside outside') last []))
-      by set h0 read (inl on) = inl (record { taken = on.collects.taken; ended = on.collects.ended; gives = on.collects.heard; stores = on.collects.stores })
-      by set h0 read (inr (short, is, same)) = inr (short, is, nothing same)
+      by : (set : Settings) (h0 : List Beat) (read : List Event) → CollectsOn s collector set h0 outside outside' read host'.past (Rose host.tell_faults host'.tell_faults) (Rose host.disk_faults host'.disk_faults) → StoresOn s (OfCollector collector outside outside') set h0 host'.past read
+      by set h0 read on = record {
+        whole = history_with_text collector.every h0 on.collects.taken;
+        gives = (on.collects.taken, on.collects.heard, refl);
+        stops = on.collects.stores.stops;
+        ends = on.collects.stores.ends;
+      }
+
+  pub of-health : (s : Status) (left left' : Option (List ℕ)) (faults faults' : ℕ) → ConfiguresAll honest s left left' faults faults' host host' → IsRunOf honest s (OfHealth left left') host host'
+  of-health s left left' faults faults' all = record {
+    found = λ h none. let found = all.untaken h none in (found.host_is, nothing found.source.0);
+    unmade = all.finds.unmade;
+    resumes = λ h set h0 here. once-by _ (StoresOn s (OfHealth left left') set h0 host'.past) (left' ≡ left) (GivesNothing (OfHealth left left')) s host.past host'.past (by set h0) nothing (all.resumes h set h0 here);
+  }
+    where
+      nothing : left' ≡ left → GivesNothing (OfHealth left left')
+      nothing same set h = ([], false, subst (Takes left []) (sym same) (Takes-none left), (λ e. absurd (true≢false (sym e))), refl)
+
+      by : (set : Settings) (h0 : List Beat) (read : List Event) → ConfiguresFrom s set h0 left left' read host'.past (Rose faults faults') (Rose host.tell_faults host'.tell_faults) (Rose host.disk_faults host'.disk_faults) → StoresOn s (OfHealth left left') set h0 host'.past read
+      by set h0 read on =
+          let configures = on.configures in
+          record {
+            whole = history_with_health h0 configures.ended configures.taken;
+            gives = (configures.taken, configures.ended, configures.takes, (λ e. (configures.at_end e).1), refl);
+            stops = configures.at.stops;
+            ends = configures.at.ends;
+          }
+
+  pub of-receive : (s : Status) (link link' : LinkSeen) → ReceivesAll honest s link link' host host' → IsRunOf honest s (OfLink link link') host host'
+  of-receive s link link' all = record {
+    found = λ h none. let found = all.untaken h none in (found.1, link-nothing link link' found.0);
+    unmade = all.finds.unmade;
+    resumes = λ h set h0 here.
+        once-by _ (StoresOn s (OfLink link link') set h0 host'.past) (link' ≡ link) (GivesNothing (OfLink link link')) s host.past host'.past (by set h0) (link-nothing link link') (all.resumes h set h0 here);
+  }
+    where
+      by : (set : Settings) (h0 : List Beat) (read : List Event) → ReceivesOn s set h0 link link' read host'.past → StoresOn s (OfLink link link') set h0 host'.past read
+      by set h0 read on = record {
+        whole = (done_with set h0 on.receives.exchanges.frames).now.history;
+        gives = (on.receives.result, on.receives.exchanges, refl);
+        stops = on.receives.stops;
+        ends = on.receives.ends;
+      }
 
 module _ (starts : List (Option Database)) (tried : List Settings) (runs : List OneRun) (honest : Type 0) (h : honest) (host host' : Seen)
     (held : EveryDisk (HoldsRuns starts tried runs) host.past) (first : IsDisk host.past (reads_as host.past))
@@ -112,12 +184,16 @@ module _ (starts : List (Option Database)) (tried : List Settings) (runs : List 
   read-as = held (reads_as host.past) first
 
   -- where the run has stored and told nothing
-  unchanged : (ended : Option Status) (taken : List ℕ) → ((last : ℕ) → Gives input last taken ⊎ ((ended ≡ None) × (taken ≡ []))) → ((t : Status) → ended ≡ Some t → is_opened t ≡ false) → ((t : Status) → ended ≡ Some t → is_whole t ≡ true → taken ≡ [])
+  unchanged : (ended : Option Status) → GivesNothing input ⊎ (ended ≡ None) → ((t : Status) → ended ≡ Some t → is_opened t ≡ false)
       → (disk : File → List ℕ) (text : List ℕ) → IsDisk host.past disk → IsFront text (told host.past) → Stored ended disk text
-  unchanged ended taken takes unopened whole disk text images front = by here.stored here.are here.holds
+  unchanged ended nothing unopened disk text images front = by here.stored here.are here.holds
     where
       here : HoldsRuns starts tried runs disk
       here = held disk images
+
+      given : GivesNothing input ⊎ (ended ≡ None) → (set : Settings) (before : List Beat) → MayGive (run_as ended text) set before before
+      given (inl gives) set before = inl (gives set before)
+      given (inr is) set before = inr (is, refl)
 
       by : (o : Option Database) → AreStored tried here.start runs o → HoldsDatabase o disk → Stored ended disk text
       by None are holds =
@@ -130,14 +206,13 @@ module _ (starts : List (Option Database)) (tried : List Settings) (runs : List 
             start = here.start;
             among = here.among;
             stored = Some (record { settings = base.settings; history = before });
-            are = one_run runs (run_as ended text) base before taken are (takes (last before)) no_more (extends-whole (every_of input) before taken)
-                (λ t is all. sym (ap (history_with_text (every_of input) before) (whole t is all))) acked;
+            are = one_run runs (run_as ended text) base before before are (given nothing base.settings before) no_more no_more (λ t is all. refl) acked;
             holds = holds;
           }
 
   -- ---- there was no database
   module _ (unmade : is_made (reads_as host.past) ≡ false) where
-    found : IsHostAsFound honest host host' × ((last : ℕ) → Gives input last [])
+    found : IsHostAsFound honest host host' × GivesNothing input
     found = all.found h (λ notes. true≢false (sym (stands_made notes.settings notes.stored (reads_as host.past) notes.stands) ∙ unmade))
 
     not-opened : (t : Status) → Some s ≡ Some t → is_opened t ≡ false
@@ -154,11 +229,11 @@ module _ (starts : List (Option Database)) (tried : List Settings) (runs : List 
     moments-none : Throughout (EveryStop (Stored None)) host.past host'.past
     moments-none =
         untold (found.0.output h)
-        (λ disk text images by_then. unchanged None [] (λ last. inl (found.1 last)) (λ t is. absurd (none-some t is)) (λ t is. absurd (none-some t is)) disk text images (text-front host.past text by_then)) (found.0.any_moment h)
+        (λ disk text images by_then. unchanged None (inl found.1) (λ t is. absurd (none-some t is)) disk text images (text-front host.past text by_then)) (found.0.any_moment h)
 
     end-none : EveryDisk (λ disk. Stored (Some s) disk (told host'.past)) host'.past
     end-none disk images =
-        unchanged (Some s) [] (λ last. inl (found.1 last)) not-opened (λ t is whole. refl) disk (told host'.past) (at_end (found.0.any_moment h) disk images)
+        unchanged (Some s) (inl found.1) not-opened disk (told host'.past) (at_end (found.0.any_moment h) disk images)
         (record { more = []; whole = append-nil (told host'.past) ∙ found.0.output h })
 
   -- ---- there was one of this history
@@ -173,62 +248,61 @@ module _ (starts : List (Option Database)) (tried : List Settings) (runs : List 
     abbrev OnIt : List Event → Type 0
     OnIt = StoresOn s input set earlier host'.past
 
-    run : OnceRead OnIt ((last : ℕ) → Gives input last []) s host.past host'.past
+    run : OnceRead OnIt (GivesNothing input) s host.past host'.past
     run = all.resumes h set earlier stands
 
     -- a stop before the database was read: the run had taken nothing
     opening : Throughout (EveryStop (Stored None)) host.past run.read
     opening =
         untold run.silent
-        (λ disk text images by_then. unchanged None [] (λ last. inr (refl, refl)) (λ t is. absurd (none-some t is)) (λ t is. absurd (none-some t is)) disk text images (text-front host.past text by_then)) run.before
+        (λ disk text images by_then. unchanged None (inr refl) (λ t is. absurd (none-some t is)) disk text images (text-front host.past text by_then)) run.before
 
-    once-read : (ended : Option Status) (taken : List ℕ) → Gives input (last earlier) taken → (disk : File → List ℕ) (text : List ℕ) → (keeps : Keeps set earlier (history_with_text (every_of input) earlier taken) (told run.read) disk text)
-        → WhereWhole (run_as ended text) (keeps.stored ≡ history_with_text (every_of input) earlier taken) → Stored ended disk text
-    once-read ended taken takes disk text keeps whole =
+    once-read : (ended : Option Status) (whole : List Beat) → Gives input set earlier whole → (disk : File → List ℕ) (text : List ℕ) → (keeps : Keeps set earlier whole (told run.read) disk text)
+        → WhereWhole (run_as ended text) (keeps.stored ≡ whole) → Stored ended disk text
+    once-read ended whole gives disk text keeps all =
         let acked = subst (λ (first : List ℕ). IsAckedUpTo (length keeps.stored) (drop (length first) text)) run.silent keeps.acked in
         record {
           start = start;
           among = among;
           stored = Some (record { settings = set; history = keeps.stored });
-          are = one_run runs (run_as ended text) base keeps.stored taken are (inl takes) keeps.since keeps.within whole acked;
+          are = one_run runs (run_as ended text) base keeps.stored whole are (inl gives) keeps.since keeps.within all acked;
           holds = keeps.stands;
         }
 
     moments-some : Throughout (EveryStop (Stored None)) host.past host'.past
     moments-some = by run.after
       where
-        by : OnIt run.read ⊎ (((s ≡ status.DiskFault) ⊎ (s ≡ status.Memory)) × (host'.past ≡ run.read) × ((last : ℕ) → Gives input last [])) → Throughout (EveryStop (Stored None)) host.past host'.past
+        by : OnIt run.read ⊎ (((s ≡ status.DiskFault) ⊎ (s ≡ status.Memory)) × (host'.past ≡ run.read) × GivesNothing input) → Throughout (EveryStop (Stored None)) host.past host'.past
         by (inl on) =
             joined opening
-            (weakened (λ now keeps disk text images told_by. once-read None on.taken on.gives disk text (keeps disk text images told_by) (λ t is. absurd (none-some t is))) on.stores.stops)
+            (weakened (λ now keeps disk text images told_by. once-read None on.whole on.gives disk text (keeps disk text images told_by) (λ t is. absurd (none-some t is))) on.stops)
         by (inr (short, is, none)) = subst (Throughout (EveryStop (Stored None)) host.past) (sym is) opening
 
     -- the run on it ended
     end-on : OnIt run.read → EveryDisk (λ disk. Stored (Some s) disk (told host'.past)) host'.past
     end-on on disk images = by (is_whole s) refl
       where
-        keeps : Keeps set earlier (history_with_text (every_of input) earlier on.taken) (told run.read) disk (told host'.past)
-        keeps = at_end on.stores.stops disk (told host'.past) images (full_text host'.past (told host'.past) refl)
+        keeps : Keeps set earlier on.whole (told run.read) disk (told host'.past)
+        keeps = at_end on.stops disk (told host'.past) images (full_text host'.past (told host'.past) refl)
 
         by : (whole : Bool) → is_whole s ≡ whole → Stored (Some s) disk (told host'.past)
         by false part =
-            once-read (Some s) on.taken on.gives disk (told host'.past) keeps
+            once-read (Some s) on.whole on.gives disk (told host'.past) keeps
             (λ t is all. absurd (true≢false (sym all ∙ sym (ap is_whole (some-same s t is)) ∙ part)))
         by true all =
-            once-read (Some s) on.taken on.gives disk (told host'.past)
+            once-read (Some s) on.whole on.gives disk (told host'.past)
             (record {
-              stored = history_with_text (every_of input) earlier on.taken;
-              since = extends-whole (every_of input) earlier on.taken;
+              stored = on.whole;
+              since = extends-further earlier keeps.stored on.whole keeps.since keeps.within;
               within = no_more;
-              stands = on.stores.ends all disk images;
-              acked = acked-weaker (length keeps.stored) (length (history_with_text (every_of input) earlier on.taken)) (drop (length (told run.read)) (told host'.past))
-                  (extends-length keeps.stored (history_with_text (every_of input) earlier on.taken) keeps.within) keeps.acked;
+              stands = on.ends all disk images;
+              acked = acked-weaker (length keeps.stored) (length on.whole) (drop (length (told run.read)) (told host'.past)) (extends-length keeps.stored on.whole keeps.within) keeps.acked;
             }) (λ t is whole. refl)
 
     -- it ended before the database was read
-    end-unread : ((s ≡ status.DiskFault) ⊎ (s ≡ status.Memory)) → host'.past ≡ run.read → ((last : ℕ) → Gives input last []) → EveryDisk (λ disk. Stored (Some s) disk (told host'.past)) host'.past
+    end-unread : ((s ≡ status.DiskFault) ⊎ (s ≡ status.Memory)) → host'.past ≡ run.read → GivesNothing input → EveryDisk (λ disk. Stored (Some s) disk (told host'.past)) host'.past
     end-unread short is none disk images =
-        unchanged (Some s) [] (λ last. inl (none last)) (λ t there. sym (ap is_opened (some-same s t there)) ∙ unopened short) (λ t there whole. refl) disk (told host'.past)
+        unchanged (Some s) (inl none) (λ t there. sym (ap is_opened (some-same s t there)) ∙ unopened short) disk (told host'.past)
         (at_end run.before disk (subst (λ (p : List Event). IsDisk p disk) is images))
         (record { more = []; whole = append-nil (told host'.past) ∙ ap told is ∙ run.silent })
       where
@@ -239,7 +313,7 @@ module _ (starts : List (Option Database)) (tried : List Settings) (runs : List 
     end-some : EveryDisk (λ disk. Stored (Some s) disk (told host'.past)) host'.past
     end-some = by run.after
       where
-        by : OnIt run.read ⊎ (((s ≡ status.DiskFault) ⊎ (s ≡ status.Memory)) × (host'.past ≡ run.read) × ((last : ℕ) → Gives input last [])) → EveryDisk (λ disk. Stored (Some s) disk (told host'.past)) host'.past
+        by : OnIt run.read ⊎ (((s ≡ status.DiskFault) ⊎ (s ≡ status.Memory)) × (host'.past ≡ run.read) × GivesNothing input) → EveryDisk (λ disk. Stored (Some s) disk (told host'.past)) host'.past
         by (inl on) = end-on on
         by (inr (short, is, none)) = end-unread short is none
 
@@ -313,6 +387,11 @@ pub course-asked : (starts : List (Option Database)) (tried : List Settings) (ru
     → Asks honest answer s host host' → Throughout (EveryDisk (HoldsRuns starts tried runs)) host.past host'.past
 course-asked starts tried runs honest h host host' held answer s asks = weakened (λ past before disk images. held disk (before disk images)) (asks.any_moment h)
 
+-- copies were sent to a parent
+pub course-sent : (starts : List (Option Database)) (tried : List Settings) (runs : List OneRun) (honest : Type 0) → honest → (host host' : Seen) → EveryDisk (HoldsRuns starts tried runs) host.past → (s : Status) (link link' : LinkSeen)
+    → SendsAll honest s link link' host host' → Throughout (EveryDisk (HoldsRuns starts tried runs)) host.past host'.past
+course-sent starts tried runs honest h host host' held s link link' sends = weakened (λ past before disk images. held disk (before disk images)) (sends.host_is.any_moment h)
+
 module _ {H : Type 0} (honest : Type 0) (seen : H → Seen) (starts : List (Option Database)) (tried : List Settings) (first : (host : H) → honest → IsDisk (seen host).past (reads_as (seen host).past)) (h : honest) where
   pub course-kept : (runs : List OneRun) (host : H) → Course honest seen starts tried runs host → EveryDisk (HoldsRuns starts tried runs) (seen host).past
   course-kept runs host (begun begin holds) = λ disk images.
@@ -324,6 +403,14 @@ module _ {H : Type 0} (honest : Type 0) (seen : H → Seen) (starts : List (Opti
   course-kept runs host (collected before begin end collector s outside outside' course run) =
       course-end starts tried before honest h (seen begin) (seen host) (course-kept before begin course) (first begin h) s (OfCollector collector outside outside')
       (of-collect honest (seen begin) (seen host) collector s outside outside' run)
+  course-kept runs host (configured before begin end s left left' sf sf' course run) =
+      course-end starts tried before honest h (seen begin) (seen host) (course-kept before begin course) (first begin h) s (OfHealth left left')
+      (of-health honest (seen begin) (seen host) s left left' sf sf' run)
+  course-kept runs host (received before begin end s link link' course run) =
+      course-end starts tried before honest h (seen begin) (seen host) (course-kept before begin course) (first begin h) s (OfLink link link')
+      (of-receive honest (seen begin) (seen host) s link link' run)
+  course-kept runs host (sent before begin end s link link' course sends) =
+      at_end (course-sent starts tried runs honest h (seen begin) (seen host) (course-kept runs begin course) s link link' sends)
   course-kept runs host (converted before begin end course leaves) = λ disk images.
       course-kept runs begin course disk (λ file. subst (λ (changes : List Change). IsImage changes (disk file)) (at_end (leaves.any_moment h) file) (images file))
   course-kept runs host (asked before begin end answer s course asks) =

@@ -48,7 +48,7 @@ use Rattle.agent_app.specs.Sessions.{session_status, EndsAsBytes}
 use Rattle.agent_app.proofs.AckLemmas.{acked-refusal}
 use Rattle.agent_app.proofs.CauseLemmas.{apart, cause-as, refusal-inside, stayed, stayed-before}
 use Rattle.agent_app.proofs.OpeningLemmas.{by-fault, complete-by, disk-failed, failed_by, fault-is, found-finds, opened-disk, opening-stops, some-each, unopened-finds, unopened-host, untold-yet}
-use Rattle.agent_app.proofs.SendLemmas.{ended_with, unlinked}
+use Rattle.agent_app.proofs.SendLemmas.{ended_with, opening-none, unlinked}
 use Rattle.agent_app.proofs.SessionLemmas.{ends-as-bytes, NoFault}
 
 -- ---- how a session ends
@@ -466,6 +466,13 @@ module _ (honest : Type 0) (host : Seen) (agent : AgentState) (middle : Seen) (o
     found : finds_none s ≡ true → ⊥
     found none = found-one s none ends
 
+    ends-as : EndsAs result s
+    ends-as = by how
+      where
+        by : ((is_refused result ≡ false) × (s ≡ session_status result) × (host' ≡ late)) ⊎ ((why : BlockFault) × Refusal-by why) → EndsAs result s
+        by (inl (other, is, same)) = subst (EndsAs result) (sym is) (quiet-ends result other)
+        by (inr (why, (is, tells))) = subst (λ (r : SessionResult). EndsAs r s) (sym is) (refused-as honest why s late host' tells)
+
     link-cause : HasCause link.faults link'.faults (s ≡ status.LinkFault)
     link-cause = by how
       where
@@ -526,6 +533,7 @@ module _ (honest : Type 0) (host : Seen) (agent : AgentState) (middle : Seen) (o
       complete = λ h set h0 here. read-whole s set h0 link link' host host' link-cause tell-cause disk-cause host.past host'.past (resumes-so h set h0 here);
       finds = found-finds honest host agent middle opens s found;
       statuses = inl ends;
+      input = inl (result, ends-as, receives.taking);
       leaves = λ none. absurd (found none);
       untaken = λ h none. absurd (none (opens.notes h));
       others = others;
@@ -601,6 +609,7 @@ module _ (honest : Type 0) (host host' : Seen) (first : honest → IsDisk host.p
     complete = λ h set h0 here. read-whole (opening_status why) set h0 link link host host' unheard-link unheard-tell unheard-disk host.past host'.past (unheard-since h set h0 here);
     finds = unopened-finds honest host host' first why opens;
     statuses = opening-ends why;
+    input = inr (opening-none why, refl);
     leaves = λ none. (refl, unopened-host honest host host' first why opens);
     untaken = λ h none. (refl, unopened-host honest host host' first why opens);
     others = λ h. (opens.only_here h).others;

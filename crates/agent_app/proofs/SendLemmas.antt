@@ -9,7 +9,7 @@ use Rattle.host_model.specs.Past.{Event, of, told, IsDisk}
 use Rattle.host_model.specs.Seen.{Seen}
 use Rattle.agent_core.specs.declared.fault.AgentFault.{AgentFault}
 use Rattle.agent_core.specs.declared.fault.AgentFault.TheVariants as fault
-use Rattle.agent_core.specs.Agent.{AgentState}
+use Rattle.agent_core.specs.Agent.{id_of, AgentState}
 use Rattle.agent_core.specs.Calls.{Opens}
 use Rattle.agent_core.specs.Copies.{data_of_history}
 use Rattle.agent_core.specs.Kept.{StandsForHistory}
@@ -60,6 +60,13 @@ opening-ends fault.NotADatabase = inr refl
 opening-ends fault.DiskFault = inl refl
 opening-ends (fault.Damaged part) = inr refl
 opening-ends other = inl refl
+
+-- no database was opened
+pub opening-none : (why : AgentFault) → (finds_none (opening_status why) ≡ true) ⊎ (opening_status why ≡ status.DiskFault) ⊎ (opening_status why ≡ status.Memory)
+opening-none fault.NotADatabase = inl refl
+opening-none fault.DiskFault = inr (inl refl)
+opening-none (fault.Damaged part) = inl refl
+opening-none other = inr (inr refl)
 
 pub unlinked : (why : AgentFault) → opening_status why ≡ status.LinkFault → ⊥
 unlinked fault.NotADatabase e = cc
@@ -168,6 +175,7 @@ module _ (honest : Type 0) (host : Seen) (agent : AgentState) (middle : Seen) (o
     others = λ h file other. ap (λ (p : List Event). of file p) (quiet h) ∙ (opens.only_here h).others file other;
     finds = found-finds honest host agent middle opens (session_status result) found;
     statuses = inl ends;
+    input = (id_of agent, inl (result, refl, sends.taking));
     leaves = λ none. absurd (found none);
     untaken = λ h none. absurd (none (opens.notes h));
     link_cause = link-cause;
@@ -196,6 +204,7 @@ module _ (honest : Type 0) (host host' : Seen) (first : honest → IsDisk host.p
     others = λ h. (opens.only_here h).others;
     finds = unopened-finds honest host host' first why opens;
     statuses = opening-ends why;
+    input = (0, inr (opening-none why, refl));
     leaves = λ none. refl;
     untaken = λ h none. refl;
     link_cause = unsent-link;

@@ -24,10 +24,11 @@ use Rattle.link_session.specs.Keeps.{Keeps}
 use Rattle.link_session.specs.Parent.{parent_begins, parent_does, Parent}
 use Rattle.link_session.specs.Receiving.{AreTrueOf}
 use Rattle.link_session.specs.Session.{Exchanges, LinkSeen}
+use Rattle.link_session.specs.Taking.{ParentEndsAt}
 use Rattle.agent_app.specs.Convert.{refusal_line, refusal_status}
 use Rattle.agent_app.specs.Run.{finds_none, is_whole, Finds, IsHostAsFound, LeavesOthers, OnceRead, TellsRun}
 use Rattle.agent_app.specs.Running.{TellRose, TellsRefusal}
-use Rattle.agent_app.specs.Sessions.{session_status, EndsAsBytes}
+use Rattle.agent_app.specs.Sessions.{session_status, EndsAsBytes, TakesSession}
 
 -- ---- the end of a session
 
@@ -109,6 +110,8 @@ pub record ReceivesAll (honest : Type 0) (status : Status) (link link' : LinkSee
   pub finds : Finds honest status host
   -- whatever the host tells, these are the statuses
   pub statuses : (ends_a_receive status ≡ true) ⊎ (finds_none status ≡ true)
+  -- no more is taken of the link than a session may take
+  pub input : TakesSession ParentEndsAt EndsAs status link link'
   -- where no database can be opened nobody is spoken to and all is left as it was found, whatever status it ended with
   pub leaves : finds_none status ≡ true → (link' ≡ link) × IsHostAsFound honest host host'
   pub untaken : honest → (HasNotes true (reads_as host.past) → ⊥) → (link' ≡ link) × IsHostAsFound honest host host'

@@ -1,5 +1,5 @@
 -- What `send` promises.
-use Rattle.std.specs.Prelude.{◌≡◌, ◌⊎◌, Bool, true, false, List, IfSome}
+use Rattle.std.specs.Prelude.{◌≡◌, ◌⊎◌, ℕ, Bool, true, false, List, IfSome}
 use Rattle.host_model.specs.declared.status.Status.{Status}
 use Rattle.host_model.specs.declared.status.Status.TheVariants.{Ok as Done, DiskFault, LinkFault, PeerRefused, LinkEnded, InputLimit, Memory}
 use Rattle.host_model.specs.Cause.{HasCause, Rose}
@@ -14,8 +14,9 @@ use Rattle.agent_core.specs.Notes.{HasNotes}
 use Rattle.link_session.specs.Child.{child_begins, child_does}
 use Rattle.link_session.specs.Exchange.{SessionResult}
 use Rattle.link_session.specs.Session.{Exchanges, LinkSeen}
+use Rattle.link_session.specs.Taking.{ChildEndsAt}
 use Rattle.agent_app.specs.Run.{finds_none, Finds, IsHostAsFound, LeavesOthers}
-use Rattle.agent_app.specs.Sessions.{session_status, EndsAsBytes}
+use Rattle.agent_app.specs.Sessions.{session_status, EndsAsBytes, TakesSession}
 
 -- the statuses of a session that sends, but those of one that found no database that can be opened
 abbrev pub ends_a_send : Status → Bool
@@ -53,6 +54,8 @@ pub record SendsAll (honest : Type 0) (status : Status) (link link' : LinkSeen) 
   pub finds : Finds honest status host
   -- whatever the host tells, these are the statuses
   pub statuses : (ends_a_send status ≡ true) ⊎ (finds_none status ≡ true)
+  -- no more is taken of the link than a session may take; the id is the database's own
+  pub input : (id : ℕ) × TakesSession (λ ended before f. ChildEndsAt id ended f) (λ result s. s ≡ session_status result) status link link'
   -- where no database can be opened nobody is spoken to, whatever status it ended with
   pub leaves : finds_none status ≡ true → link' ≡ link
   pub untaken : honest → (HasNotes true (reads_as host.past) → ⊥) → link' ≡ link

@@ -1,5 +1,5 @@
 -- How a session with another agent ends.
-use Rattle.std.specs.Prelude.{◌≡◌, ℕ, ◌<◌, ◌≤◌, List, [], length, take, ◌⊎◌, Option, Some, None, Ok, Err}
+use Rattle.std.specs.Prelude.{◌≡◌, ℕ, ◌<◌, ◌≤◌, true, List, [], length, take, ◌⊎◌, Option, Some, None, Ok, Err}
 use Rattle.host_model.specs.declared.status.Status.{Status}
 use Rattle.host_model.specs.declared.status.Status.TheVariants as status
 use Rattle.point_lines.specs.declared.refusal.Refusal.TheVariants as refusal
@@ -13,7 +13,10 @@ use Rattle.link_session.specs.declared.fault.PeerFault.TheVariants.{WrongChild, 
 use Rattle.link_session.specs.declared.fault.SessionFault.{SessionFault}
 use Rattle.link_session.specs.declared.fault.SessionFault.TheVariants.{LinkFault, Agent, PeerRefused, Ended, InputLimit, TellFault, Memory}
 use Rattle.link_session.specs.Exchange.{exchange, Course, SessionResult}
+use Rattle.link_session.specs.Session.{LinkSeen}
+use Rattle.link_session.specs.Taking.{TakesLink}
 use Rattle.agent_app.specs.Convert.{refusal_status}
+use Rattle.agent_app.specs.Run.{finds_none}
 
 -- the number of a refusal between two agents
 abbrev pub peer_kind : PeerFault → ℕ
@@ -39,6 +42,15 @@ fault_status Memory = status.Memory
 abbrev pub session_status : SessionResult → Status
 session_status (Ok done) = status.Ok
 session_status (Err fault) = fault_status fault
+
+-- ---- what is taken of the link, whatever the host tells
+
+-- A session ended so, with this status, and took of the link what a session may: at most 2^40 bytes, which say why it ended.
+-- Or no database was opened, and nothing was taken. `EndsAt` says at which frames an end may end a session, and `EndsAs` with
+-- which status.
+abbrev pub TakesSession : (EndsAt : SessionResult → List Frame → Frame → Type 0) → (EndsAs : SessionResult → Status → Type 0) → Status → (link link' : LinkSeen) → Type 0
+TakesSession EndsAt EndsAs s link link' =
+    ((result : SessionResult) × EndsAs result s × TakesLink EndsAt result link link') ⊎ (((finds_none s ≡ true) ⊎ (s ≡ status.DiskFault) ⊎ (s ≡ status.Memory)) × (link' ≡ link))
 
 -- ---- with which status a session ends over all bytes of its link, where nothing outside of it fails
 

@@ -7,6 +7,7 @@ use Rattle.host_model.specs.Disks.{EveryDisk}
 use Rattle.host_model.specs.Moments.{EveryStop, Throughout}
 use Rattle.host_model.specs.Past.{of, told, Event, MayAdd, Told}
 use Rattle.host_model.specs.Seen.{Seen}
+use Rattle.host_model.proofs.MomentLemmas.{at_end}
 use Rattle.history.specs.declared.fault.BlockFault.{BlockFault}
 use Rattle.history.specs.History.{Beat, child, last, registry_of}
 use Rattle.history.specs.Registry.{Registry}
@@ -19,16 +20,17 @@ use Rattle.plugin_text.specs.Lines.{rest}
 use Rattle.alarm_events.specs.declared.event.Event.{Event as AlarmEvent}
 use Rattle.tier_settings.specs.declared.settings.Settings.{Settings}
 use Rattle.store_core.specs.declared.fault.Why.{Why}
+use Rattle.store_core.specs.declared.fault.Why.TheVariants as spent_for
 use Rattle.store_core.specs.Store.{counted}
 use Rattle.store_core.proofs.StoreLemmas.{ready_elsewhere}
 use Rattle.agent_core.specs.declared.fault.AgentFault.{AgentFault}
 use Rattle.agent_core.specs.declared.fault.AgentFault.TheVariants as agent_fault
 use Rattle.agent_core.specs.declared.left.Role.{Role}
 use Rattle.agent_core.specs.declared.reply.Reply.{Reply}
-use Rattle.agent_core.specs.Agent.{AgentIsReady, AgentState, IsAgentOf}
+use Rattle.agent_core.specs.Agent.{AgentIsReady, AgentState, IsAgentOf, IsSpentAfter}
 use Rattle.agent_core.specs.Calls.{agent_adds, agent_verdict, TakesData}
 use Rattle.agent_core.specs.Copying.{added_by, added_to, events_onto, refusal_by, verdict_of}
-use Rattle.agent_core.specs.Faults.{fault_after, LeavesAll, RefusedBy, ReopensWith}
+use Rattle.agent_core.specs.Faults.{cause_of, fault_after, LeavesAll, RefusedBy, ReopensWith}
 use Rattle.agent_core.specs.Kept.{onto, StandsForFront}
 use Rattle.agent_core.specs.Replies.{event_lines, reply_text, stored_line}
 use Rattle.agent_core.specs.Roles.{role_of}
@@ -39,17 +41,18 @@ use Rattle.link_session.specs.declared.fault.SessionFault.TheVariants.{LinkFault
 use Rattle.link_session.specs.declared.flow.Flow.{Flow}
 use Rattle.link_session.specs.declared.flow.Flow.TheVariants.{GoesOn}
 use Rattle.link_session.specs.Exchange.{ends, Course}
-use Rattle.link_session.specs.Keeps.{IsAckedUpTo, Keeps}
+use Rattle.link_session.specs.Keeps.{no_more, IsAckedUpTo, Keeps}
 use Rattle.link_session.specs.Parent.{copies, stores, stores_unless, takes_by, Parent}
-use Rattle.link_session.specs.Receiving.{keeps_all, CopiesSo, HasStored, IsAgentsReceiving, IsCutShort, IsReceiving, ParentTakes, SaysHave, StoresAt, StoresOnly, TellsFront}
+use Rattle.link_session.specs.Receiving.{keeps_all, CopiesSo, HasGoneOn, HasStored, IsAgentsReceiving, IsCutShort, IsReceiving, ParentTakes, SaysHave, StoresAt, StoresOnly, TellsFront}
 use Rattle.link_session.specs.Sending.{IsAgents}
 use Rattle.link_session.specs.Session.{is_refusal, result_of, says_all, ClosesSo, IsAgentEnd, IsRefusing, SaysThen}
+use Rattle.link_session.proofs.ChildLemmas.{id-is}
 use Rattle.link_session.proofs.EventLemmas.{acked-told, closed-told}
 use Rattle.link_session.proofs.ExtendsLemmas.{extends-onto}
 use Rattle.link_session.proofs.ParentLemmas.{no-cause, still-copies, takes-still, IsStill}
 use Rattle.link_session.proofs.SendingLemmas.{spent-none}
 use Rattle.link_session.proofs.StepLemmas.{failed-does, said-does, said-unsaid, silent-does}
-use Rattle.link_session.proofs.StoreLemmas.{all-stored, beats-stored, front-stops, silent-front, still-stored, stored-since, tells-all, text-told, torn-front, torn-stops, torn-stored}
+use Rattle.link_session.proofs.StoreLemmas.{agent-told, all-stored, beats-stored, front-stops, gone-on, silent-front, still-stored, stored-since, tells-all, text-told, torn-front, torn-stops, torn-stored}
 
 -- ---- what the agent says of it is what its history does
 module _ (past : List Event) (agent : AgentState) (set : Settings) (h : List Beat) (is_of : IsAgentOf past agent set h) (message : Data) where
@@ -167,8 +170,19 @@ module _ (honest : Type 0) (host : Seen) (agent : AgentState) (message : Data) (
           (subst (λ (course : Course Parent). CopiesSo set h0 h start made course (Some id) (failed (agent_fault.Refused why)) agent host.past a a) (sym course-is)
           (still-copies honest host agent set h0 h start made at over (Some id) (failed (agent_fault.Refused why)) a a refl refl (silent-does over (copies id h) (failed (agent_fault.Refused why)) a refl refl tt) (λ e. cc))))
 
-      failed-copies : (fault : AgentFault) → refusal_by (agent_verdict agent message) agent.registry agent.role message ≡ None → is_refusal fault ≡ false → IsAgentEnd fault (taking set h).ended → CopiesBadly fault
-      failed-copies fault free short closes =
+      -- the agent has spent itself on these beats
+      spent-so : (cause : Why) → agent'.fault ≡ Some cause → EveryDisk (StandsForFront set h (agent_adds agent message)) middle.past → IsSpentAfter middle.past agent' set h (agent_adds agent message)
+      spent-so cause spent images = record {
+        cause = cause;
+        spent = spent;
+        count = takes.stays.0 ∙ at.agent_of.count;
+        last_is = takes.stays.1 ∙ at.agent_of.last_is;
+        id = takes.id ∙ sym (id-is host.past agent set h at.agent_of);
+        images = images;
+      }
+
+      failed-copies : (fault : AgentFault) (cause : Why) → agent'.fault ≡ Some cause → refusal_by (agent_verdict agent message) agent.registry agent.role message ≡ None → is_refusal fault ≡ false → IsAgentEnd fault (taking set h).ended → CopiesBadly fault
+      failed-copies fault cause spent free short closes =
           let history = history-by set id h message (verdict_of h message) refl (refused-for None free) ∙ ap (onto h) (sym (adds-is host.past agent set h at.agent_of message)) in
           let moments = takes.any_moment hon set h at.agent_of in
           let silent = (takes.only_here hon).output in
@@ -179,22 +193,31 @@ module _ (honest : Type 0) (host : Seen) (agent : AgentState) (message : Data) (
             output = subst (λ (all : Bool). TellsFront all (made ++ (taking set h).told) start middle.past) (sym short) (silent-front host.past agent set h0 h start made at adds middle.past moments silent (taking set h).told);
             stored = λ all. absurd (true≢false (sym all ∙ short));
             unsaid = λ _. (refl, still-stored host.past agent set h0 h start made at adds middle.past moments silent);
+            goes_on = subst (λ (g : List Beat). HasGoneOn (keeps_all (Err (Agent fault))) middle.past agent' set h0 g) (sym history) (record {
+              stored = h;
+              tried = adds;
+              since = at.since;
+              within = no_more;
+              sound = inr (spent-so cause spent (at_end moments));
+              complete = λ all. absurd (true≢false (sym all ∙ short));
+            });
           }
 
       badly-copies : (fault : AgentFault) → RefusedBy {T = Verdict × Reply} (refusal_by (agent_verdict agent message) agent.registry agent.role message) (Err fault) → ReopensWith agent.fault fault
-          → (LeavesAll fault → (agent' ≡ agent) × (middle ≡ host)) → CopiesBadly fault
-      badly-copies (agent_fault.Refused why) refused reopens unchanged = let same = unchanged tt in refused-copies why refused same.0 same.1
-      badly-copies (agent_fault.Health why) refused reopens unchanged = absurd refused
-      badly-copies agent_fault.DiskFault refused reopens unchanged = failed-copies agent_fault.DiskFault refused refl tt
-      badly-copies agent_fault.NotADatabase refused reopens unchanged = absurd refused
-      badly-copies (agent_fault.Damaged part) refused reopens unchanged = absurd refused
-      badly-copies (agent_fault.Reopen cause) refused reopens unchanged = absurd refused
-      badly-copies agent_fault.Exists refused reopens unchanged = absurd refused
-      badly-copies agent_fault.Memory refused reopens unchanged = failed-copies agent_fault.Memory refused refl tt
+          → (LeavesAll fault → (agent' ≡ agent) × (middle ≡ host)) → agent'.fault ≡ cause_of fault → CopiesBadly fault
+      badly-copies (agent_fault.Refused why) refused reopens unchanged spent = let same = unchanged tt in refused-copies why refused same.0 same.1
+      badly-copies (agent_fault.Health why) refused reopens unchanged spent = absurd refused
+      badly-copies agent_fault.DiskFault refused reopens unchanged spent = failed-copies agent_fault.DiskFault spent_for.Disk spent refused refl tt
+      badly-copies agent_fault.NotADatabase refused reopens unchanged spent = absurd refused
+      badly-copies (agent_fault.Damaged part) refused reopens unchanged spent = absurd refused
+      badly-copies (agent_fault.Reopen cause) refused reopens unchanged spent = absurd refused
+      badly-copies agent_fault.Exists refused reopens unchanged spent = absurd refused
+      badly-copies agent_fault.Memory refused reopens unchanged spent = failed-copies agent_fault.Memory spent_for.Memory spent refused refl tt
 
     pub data-badly : (a : Option (List ℕ)) → ParentTakes honest host agent taking (failed fault) middle agent' (Some id) a a
     data-badly a = record {
-      does = λ hon set h0 h start made at. badly-copies hon set h0 h start made at a fault (takes.refused at.agent_of.going) takes.reopens takes.unchanged;
+      does = λ hon set h0 h start made at. badly-copies hon set h0 h start made at a fault (takes.refused at.agent_of.going) takes.reopens takes.unchanged
+          (takes.fault ∙ ap (λ (f : Option Why). fault_after {T = Verdict × Reply} f (Err fault)) at.agent_of.going);
       stores = badly-stores;
       faults = agents-receiving fault takes.reopens takes.refused;
     }
@@ -308,14 +331,23 @@ module _ (honest : Type 0) (host : Seen) (agent : AgentState) (message : Data) (
       abbrev Has : Result Flow SessionFault → List Event → Option (List ℕ) → Type 0
       Has r past sent' = CopiesSo set h0 h start made course (Some id) r agent' past a sent'
 
+      goes-on-with : IsAgentOf new.past agent' set (onto h more) → (r : Result Flow SessionFault) → HasGoneOn (keeps_all (result_of r)) new.past agent' set h0 (onto h more)
+      goes-on-with is_of r = gone-on new.past agent' set h0 (onto h more) at-middle.since is_of (keeps_all (result_of r))
+
+      -- a front of the text was told
+      torn-agent : MayAdd (λ (n : ℕ). Told (take n course.told)) middle.past new.past → IsAgentOf new.past agent' set (onto h more)
+      torn-agent (inl same) = subst (λ (p : List Event). IsAgentOf p agent' set (onto h more)) (sym same) at-middle.agent_of
+      torn-agent (inr (n, added)) = subst (λ (p : List Event). IsAgentOf p agent' set (onto h more)) (sym added) (agent-told (take n course.told) middle.past agent' set (onto h more) at-middle.agent_of)
+
       cut-copies : (fault : SessionFault) → says_all (Err fault) ≡ false → keeps_all (Err fault) ≡ false → ClosesSo (Err fault) None → Throughout (EveryStop (Keeps set h0 (onto h more) (told start))) start new.past
-          → TellsFront false (made ++ course.told) start new.past → HasStored set (onto h more) start made new.past → Has (Err fault) new.past a
-      cut-copies fault short shorter closes stops output has = record {
+          → TellsFront false (made ++ course.told) start new.past → HasStored set (onto h more) start made new.past → IsAgentOf new.past agent' set (onto h more) → Has (Err fault) new.past a
+      cut-copies fault short shorter closes stops output has is_of = record {
         does = failed-does course (copies id (onto h more)) fault a short closes;
         stops = stops;
         output = subst (λ (all : Bool). TellsFront all (made ++ course.told) start new.past) (sym shorter) output;
         stored = λ all. absurd (true≢false (sym all ∙ shorter));
         unsaid = λ _. (refl, stored-since set h (onto h more) start new.past made (extends-onto h more) has);
+        goes_on = goes-on-with is_of (Err fault);
       }
 
       cut-short : (fault : SessionFault) → IsCutShort fault honest course.told middle.past new.past → Has (Err fault) new.past a
@@ -323,12 +355,12 @@ module _ (honest : Type 0) (host : Seen) (agent : AgentState) (message : Data) (
           subst (λ (f : SessionFault). Has (Err f) new.past a) (sym is)
           (cut-copies TellFault refl refl tt (torn-stops middle.past agent' set h0 (onto h more) start made at-middle course.told acked new.past (torn hon))
           (torn-front middle.past agent' set h0 (onto h more) start made at-middle course.told acked new.past (torn hon))
-          (torn-stored middle.past agent' set h0 (onto h more) start made at-middle course.told acked new.past (torn hon)))
+          (torn-stored middle.past agent' set h0 (onto h more) start made at-middle course.told acked new.past (torn hon)) (torn-agent (torn hon)))
       cut-short fault (inr (is, same)) =
           subst (λ (f : SessionFault). Has (Err f) new.past a) (sym is)
           (cut-copies Memory refl refl tt (subst (λ (p : List Event). Throughout (EveryStop (Keeps set h0 (onto h more) (told start))) start p) (sym (same hon)) at-middle.stops)
           (record { said = made; unsaid = course.told; whole = refl; tells = ap told (same hon) ∙ at-middle.tells; complete = λ e. cc })
-          (subst (HasStored set (onto h more) start made) (sym (same hon)) (all-stored middle.past agent' set h0 (onto h more) start made at-middle)))
+          (subst (HasStored set (onto h more) start made) (sym (same hon)) (all-stored middle.past agent' set h0 (onto h more) start made at-middle)) (torn-agent (inl (same hon))))
 
       have-said : (honest → new.past ≡ Told course.told ∷ middle.past) → SaysThen (frame.Have (last (onto h more))) GoesOn result a b → Has result new.past b
       have-said told said =
@@ -343,6 +375,7 @@ module _ (honest : Type 0) (host : Seen) (agent : AgentState) (message : Data) (
               stored-since set h (onto h more) start new.past made (extends-onto h more) (torn-stored middle.past agent' set h0 (onto h more) start made at-middle course.told acked new.past
                   (inr (length course.told, told hon ∙ ap (λ (t : List ℕ). Told t ∷ middle.past) (sym (take-length course.told))))),
             );
+            goes_on = goes-on-with after.agent_of result;
           }
 
       have-copies : SaysHave honest course.told (last (onto h more)) result middle.past new.past a b → Has result new.past b

@@ -11,6 +11,7 @@ pub mod AckLemmas
 pub mod EventLemmas
 pub mod ExtendsLemmas
 pub mod StoreLemmas
+pub mod TakingLemmas
 pub mod ReceiveLemmas
 pub mod ParentLemmas
 pub mod DataLemmas

@@ -21,12 +21,12 @@ use Rattle.link_session.specs.declared.flow.Flow.TheVariants.{GoesOn, Done}
 use Rattle.link_session.specs.Exchange.{ends, leaves, refuses, Course}
 use Rattle.link_session.specs.Keeps.{Keeps}
 use Rattle.link_session.specs.Parent.{asks, copies, copies_other, hears_first, hears_next, waits, Parent}
-use Rattle.link_session.specs.Receiving.{keeps_all, CopiesSo, GoesSo, IsReceiving, ParentTakes, StoresAt, StoresOnly, TellsFront}
+use Rattle.link_session.specs.Receiving.{keeps_all, CopiesSo, GoesSo, HasGoneOn, IsReceiving, ParentTakes, StoresAt, StoresOnly, TellsFront}
 use Rattle.link_session.specs.Sending.{IsAgents}
 use Rattle.link_session.specs.Session.{result_of, DoesSo, IsRefusing, Leaves, SaysThen}
 use Rattle.link_session.proofs.SendingLemmas.{spent-none}
 use Rattle.link_session.proofs.StepLemmas.{leaves-does, leaves-refusing, leaves-unsaid, said-does, said-unsaid, silent-does}
-use Rattle.link_session.proofs.StoreLemmas.{all-stored, tells-all}
+use Rattle.link_session.proofs.StoreLemmas.{all-stored, gone-on, tells-all}
 
 -- ---- faults
 pub refusing-receives : (result : Result Flow SessionFault) → IfErr result IsRefusing → IfErr result IsReceiving
@@ -89,6 +89,7 @@ module _ (honest : Type 0) (host : Seen) (agent : AgentState) where
         output = subst (λ (t : List ℕ). TellsFront (keeps_all (result_of result)) t start host.past) (sym all-is) (tells-all host.past agent set h0 h start made at (keeps_all (result_of result)));
         stored = λ _. subst (λ (t : List ℕ). StoresAt host.past agent set h0 course.now.history start t) (sym all-is) (subst (λ (g : List Beat). StoresAt host.past agent set h0 g start made) (sym same) at);
         unsaid = λ short. (unsaid short, all-stored host.past agent set h0 h start made at);
+        goes_on = subst (λ (g : List Beat). HasGoneOn (keeps_all (result_of result)) host.past agent set h0 g) (sym same) (gone-on host.past agent set h0 h at.since at.agent_of (keeps_all (result_of result)));
       }
 
   pub takes-still : (course : Settings → List Beat → Course Parent) (peer' : Option ℕ) (result : Result Flow SessionFault) (a b : Option (List ℕ)) → AgentIsReady honest host.past agent → IfErr result IsRefusing

@@ -1,5 +1,5 @@
 -- How a parent's session goes on, and ends.
-use Rattle.std.proofs.Common.{◌≡◌, ℕ, ◌≤◌, Bool, true, false, List, [], ◌∷◌, ◌++◌, length, drop, append-nil, Option, Some, None, IfSome, Result, Ok, Err, arith, IfErr, IsErrOf, refl, sym, ap, subst, ◌∙◌}
+use Rattle.std.proofs.Common.{◌≡◌, ℕ, ◌≤◌, Bool, true, false, List, [], ◌∷◌, ◌++◌, length, drop, append-nil, Option, Some, None, IfSome, IsSome, OnOk, Result, Ok, Err, arith, IfErr, IsErrOf, refl, sym, ap, subst, ◌∙◌}
 use Rattle.link_frames.proofs.StreamLaw.{all-spelt}
 use Rattle.host_model.specs.Cause.{HasCause}
 use Rattle.std.specs.List.{flat_map, AllByRecursion}
@@ -25,9 +25,10 @@ use Rattle.link_session.specs.Exchange.{both, broken_by, exchange, Course, Sessi
 use Rattle.link_session.specs.Incoming.{waiting, HasGiven}
 use Rattle.link_session.specs.Keeps.{no_more, IsAckedUpTo, Keeps}
 use Rattle.link_session.specs.Parent.{parent_begins, parent_does, Parent}
-use Rattle.link_session.specs.Receiving.{keeps_all, AnswersStored, Copies, CopiesSo, HasStored, IsReceiving, ParentTakes, ReceivesHistory, StoresAt, StoresOnly, TellsFront}
+use Rattle.link_session.specs.Receiving.{keeps_all, AnswersStored, Copies, CopiesSo, HasGoneOn, HasStored, IsReceiving, ParentTakes, ReceivesHistory, StoresAt, StoresOnly, TellsFront}
 use Rattle.link_session.specs.Sending.{spent_by, IsAgents}
 use Rattle.link_session.specs.Session.{result_of, says_all, HearsNoMore, IsSilentFor, LinkSeen, SaysFront, Talks}
+use Rattle.link_session.specs.Taking.{EndsOnlyAt, ParentEndsAt, ParentEndsBy}
 use Rattle.link_session.proofs.AckLemmas.{acked-nothing, acked-since, text-front}
 use Rattle.link_session.proofs.CopyLemmas.{stops-copy}
 use Rattle.link_session.proofs.ExchangeLemmas.{all-front, done-next, frame-ends, silence-ends, talks-first, talks-next}
@@ -35,7 +36,8 @@ use Rattle.link_session.proofs.LinkLemmas.{all-sends, front-sends, sends-nothing
 use Rattle.link_session.proofs.ParentLemmas.{no-cause}
 use Rattle.link_session.proofs.SendingLemmas.{spent-none}
 use Rattle.link_session.proofs.SendLemmas.{all_well, cause-alike, silent-outside}
-use Rattle.link_session.proofs.StoreLemmas.{all-stored, stands-all, tells-all}
+use Rattle.link_session.proofs.StoreLemmas.{all-stored, gone-on, stands-all, tells-all}
+use Rattle.link_session.proofs.TakingLemmas.{frame-taken, knows-some, not_yet, parent-only, silence-taken, KnowsSince}
 
 -- what a parent with this history has done
 abbrev pub done_by : Settings → List Beat → List Frame → Course Parent
@@ -53,6 +55,7 @@ pub record IsUnderWay (honest : Type 0) (host : Seen) (agent : AgentState) (link
   pub frames : List Frame
   pub given : HasGiven incoming link.left link'.left frames
   pub goes : honest → (set : Settings) (h : List Beat) → IsAgentOf host.past agent set h → GoesOnWith set h frames peer host.past host'.past agent' link.sent link'.sent
+  pub knows : KnowsSince peer frames
   pub stores : StoresOnly honest host agent all_well host' agent'
   pub faults : link'.faults ≡ link.faults
 
@@ -178,6 +181,7 @@ module _ (honest : Type 0) (host : Seen) (agent : AgentState) (link : LinkSeen) 
         });
       };
     };
+    knows = not_yet;
     stores = only-start honest host agent ready;
     faults = refl;
   }
@@ -212,8 +216,10 @@ module _ (honest : Type 0) (host : Seen) (agent : AgentState) (link : LinkSeen) 
                 closed = λ _. goes.at.closed;
                 copy = λ floors child rises copy truth. stops-copy set floors child rises h on.frames host.past host'.past (all-spelt hears.taken hears.rest on.frames hears.cut) truth copy goes.at.stops;
               };
+          agent_is = λ hon set h is_of. gone-on host'.past agent' set h (done_by set h on.frames).now.history (on.goes hon set h is_of).at.since (on.goes hon set h is_of).at.agent_of (keeps_all (failing_with fault));
           stores = stores-silent honest host agent host' agent' on.stores fault (silent-outside fault hears.broken hears.taken hears.rest link'.left hears.why) keeps.1;
           faults = keeps.0;
+          taking = silence-taken ParentEndsAt link fault on.frames between link' hears;
           cause = subst (λ (n : ℕ). HasCause n link'.faults (IsErrOf (failing_with fault) LinkFault)) on.faults cause;
         }
 
@@ -221,6 +227,7 @@ module _ (honest : Type 0) (host : Seen) (agent : AgentState) (link : LinkSeen) 
     module _ (f : Frame) (incoming' : Incoming) (heard : LinkSeen) (given : HasGiven incoming' link.left heard.left (on.frames ++ f ∷ [])) (same : heard.sent ≡ between.sent) (unfailed : heard.faults ≡ between.faults)
         (result : Result Flow SessionFault) (host'' : Seen) (agent'' : AgentState) (peer' : Option ℕ) (link' : LinkSeen)
         (takes : ParentTakes honest host' agent' (λ set h. parent_does set (record { history = h; peer = peer }) f) result host'' agent'' peer' heard.sent link'.sent)
+        (only : EndsOnlyAt (λ (ended : SessionResult). ParentEndsBy peer ended f) result) (known : OnOk result (IsSome peer'))
         (left : link'.left ≡ heard.left) (cause : HasCause heard.faults link'.faults (IsErrOf result LinkFault)) where
       given-then : HasGiven incoming' link.left link'.left (on.frames ++ f ∷ [])
       given-then = subst (λ (l : Option (List ℕ)). HasGiven incoming' link.left l (on.frames ++ f ∷ [])) (sym left) given
@@ -283,7 +290,7 @@ module _ (honest : Type 0) (host : Seen) (agent : AgentState) (link : LinkSeen) 
           stored = subst (λ (fs : List Frame). HasStored set (done_by set h fs).now.history host.past (done_by set h fs).told host''.past) (sym (take-append_seam on.frames (f ∷ []))) (so.unsaid short).1;
         }
 
-        copies-then : (result ≡ Ok GoesOn → ⊥) → Copies set h (result_of result) host.past host''.past link link'
+        abbrev copies-then : (result ≡ Ok GoesOn → ⊥) → Copies set h (result_of result) host.past host''.past link link'
         copies-then over = record {
           exchanges = frame-ends (parent_does set) (parent_begins h) link on.frames now between.sent goes.talks f (record { history = course.now.history; peer = peer' }) result incoming' link' so.does given-then over;
           heard = answers (keeps_all (result_of result)) refl
@@ -302,6 +309,7 @@ module _ (honest : Type 0) (host : Seen) (agent : AgentState) (link : LinkSeen) 
         frames = on.frames ++ f ∷ [];
         given = given-then;
         goes = λ hon set h is_of. goes-then hon set h is_of is;
+        knows = knows-some peer' on.frames f (subst (λ (r : Result Flow SessionFault). OnOk r (IsSome peer')) is known);
         stores = subst (λ (r : Result Flow SessionFault). StoresOnly honest host agent (result_of r) host'' agent'') is
             (stores-result honest host agent result host'' agent'' (stores-joined honest host agent host' agent' on.stores result host'' agent'' takes.stores));
         faults = cause-then.stays (λ e. cc);
@@ -310,8 +318,11 @@ module _ (honest : Type 0) (host : Seen) (agent : AgentState) (link : LinkSeen) 
       pub ends-there : (result ≡ Ok GoesOn → ⊥) → ReceivesHistory honest host agent link (result_of result) host'' agent'' link'
       ends-there over = record {
         copies = λ hon set h is_of. copies-then hon set h is_of over;
+        agent_is = λ hon set h is_of.
+            subst (λ (g : List Beat). HasGoneOn (keeps_all (result_of result)) host''.past agent'' set h g) (sym (history-is hon set h is_of)) (so hon set h is_of).goes_on;
         stores = stores-result honest host agent result host'' agent'' (stores-joined honest host agent host' agent' on.stores result host'' agent'' takes.stores);
         faults = receives-of result takes.faults;
+        taking = frame-taken ParentEndsAt link on.frames f incoming' link' given-then result over (parent-only peer on.frames on.knows f result only);
         cause = cause-alike link.faults link'.faults result cause-then;
       }
 

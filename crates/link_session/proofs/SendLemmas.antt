@@ -25,10 +25,12 @@ use Rattle.link_session.specs.Exchange.{SessionResult}
 use Rattle.link_session.specs.Incoming.{HasGiven}
 use Rattle.link_session.specs.Sending.{spent_by, ChildTakes, IsAgents, IsSending, OnlyReads, SendsHistory}
 use Rattle.link_session.specs.Session.{result_of, says_all, DoesSo, HearsNoMore, IsEndFor, IsSilentFor, LinkSeen, Says, SaysFront, Talks}
+use Rattle.link_session.specs.Taking.{ChildEndsAt, EndsOnlyAt, IsEndOver}
 use Rattle.link_session.proofs.ChildLemmas.{id-is}
 use Rattle.link_session.proofs.ExchangeLemmas.{frame-ends, silence-ends, talks-first, talks-next}
 use Rattle.link_session.proofs.HearLemmas.{one-bytes, says-front}
 use Rattle.link_session.proofs.SendingLemmas.{only-as, only-joined, only-nothing}
+use Rattle.link_session.proofs.TakingLemmas.{frame-taken, nothing-taken, silence-taken}
 
 abbrev pub all_well : SessionResult
 all_well = Ok tt
@@ -113,6 +115,10 @@ silent-sends TellFault broken taken rest left silent = silent
 silent-sends Memory broken taken rest left silent = tt
 
 module _ (honest : Type 0) (host : Seen) (agent : AgentState) (link : LinkSeen) where
+  -- at which frames it may end
+  abbrev EndsAt : SessionResult → List Frame → Frame → Type 0
+  EndsAt ended before f = ChildEndsAt (id_of agent) ended f
+
   -- ---- it begins
   pub says-hello : (incoming : Incoming) (link' : LinkSeen) → AgentIsReady honest host.past agent → ((left : Option (List ℕ)) → HasGiven incoming left left []) → Sends link.sent (frame_bytes (frame.Hello (id_of agent))) link'.sent → link'.left ≡ link.left
       → link'.faults ≡ link.faults → IsUnderWay honest host agent link incoming None host agent link'
@@ -142,6 +148,7 @@ module _ (honest : Type 0) (host : Seen) (agent : AgentState) (link : LinkSeen) 
     };
     reads = only-nothing honest host agent (Err fault) (unsaid-outside fault link.sent link'.sent said) ready;
     faults = unsaid-sends fault link.sent link'.sent said;
+    taking = nothing-taken EndsAt link (Err fault) link' left (unsaid-over fault link.sent link'.sent said);
     cause = cause;
   }
     where
@@ -153,6 +160,15 @@ module _ (honest : Type 0) (host : Seen) (agent : AgentState) (link : LinkSeen) 
       unsaid-why Ended a b said = absurd said
       unsaid-why InputLimit a b said = absurd said
       unsaid-why TellFault a b said = absurd said
+
+      unsaid-over : (fault : SessionFault) (a b : Option (List ℕ)) → Says (frame.Hello (id_of agent)) (Err fault) a b → IsEndOver EndsAt (Err fault) [] [] [] link'.left
+      unsaid-over LinkFault a b said = tt
+      unsaid-over Memory a b said = tt
+      unsaid-over (Agent fault) a b said = tt
+      unsaid-over (PeerRefused fault) a b said = absurd said
+      unsaid-over Ended a b said = absurd said
+      unsaid-over InputLimit a b said = absurd said
+      unsaid-over TellFault a b said = tt
 
       unsaid-outside : (fault : SessionFault) (a b : Option (List ℕ)) → Says (frame.Hello (id_of agent)) (Err fault) a b → IsAgents {T = Unit {0}} (Err fault) → ⊥
       unsaid-outside (Agent fault) a b said is = said
@@ -179,6 +195,7 @@ module _ (honest : Type 0) (host : Seen) (agent : AgentState) (link : LinkSeen) 
       exchanges = λ hon set h is_of. silence-ends (child_does set.id (data_of_history set h)) (child_begins set.id) link on.frames last between.sent (on.talks hon set h is_of) fault between link' refl hears;
       reads = only-as honest host agent host' agent' all_well (Err fault) (λ e. e) (silent-outside fault hears.broken hears.taken hears.rest link'.left hears.why) on.reads;
       faults = silent-sends fault hears.broken hears.taken hears.rest link'.left hears.why;
+      taking = silence-taken EndsAt link fault on.frames between link' hears;
       cause = subst (λ (n : ℕ). HasCause n link'.faults (IsErrOf {T = Unit {0}} (Err fault) LinkFault)) on.faults cause;
     }
 
@@ -186,6 +203,7 @@ module _ (honest : Type 0) (host : Seen) (agent : AgentState) (link : LinkSeen) 
     module _ (f : Frame) (incoming' : Incoming) (heard : LinkSeen) (given : HasGiven incoming' link.left heard.left (on.frames ++ f ∷ [])) (same : heard.sent ≡ between.sent) (unfailed : heard.faults ≡ between.faults)
         (result : Result Flow SessionFault) (host'' : Seen) (agent'' : AgentState) (last' : Option ℕ) (link' : LinkSeen)
         (takes : ChildTakes honest host' agent' (λ set h. child_does set.id (data_of_history set h) last f) result host'' agent'' last' heard.sent link'.sent)
+        (only : EndsOnlyAt (λ (ended : SessionResult). ChildEndsAt (id_of agent') ended f) result)
         (left : link'.left ≡ heard.left) (cause : HasCause heard.faults link'.faults (IsErrOf result LinkFault)) where
       given-then : HasGiven incoming' link.left link'.left (on.frames ++ f ∷ [])
       given-then = subst (λ (l : Option (List ℕ)). HasGiven incoming' link.left l (on.frames ++ f ∷ [])) (sym left) given
@@ -212,5 +230,6 @@ module _ (honest : Type 0) (host : Seen) (agent : AgentState) (link : LinkSeen) 
         exchanges = λ hon set h is_of. frame-ends (child_does set.id (data_of_history set h)) (child_begins set.id) link on.frames last between.sent (on.talks hon set h is_of) f last' result incoming' link' (does-then hon set h is_of) given-then over;
         reads = only-result honest host agent host'' agent'' result (only-joined honest host agent host'' agent'' host' agent' all_well result (λ e. e) on.reads takes.reads);
         faults = sends-alike result takes.faults;
+        taking = frame-taken EndsAt link on.frames f incoming' link' given-then result over (subst (λ (id : ℕ). EndsOnlyAt (λ (ended : SessionResult). ChildEndsAt id ended f) result) on.reads.id only);
         cause = cause-alike link.faults link'.faults result cause-then;
       }

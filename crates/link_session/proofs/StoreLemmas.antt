@@ -15,13 +15,17 @@ use Rattle.agent_core.specs.Agent.{AgentState, IsAgentOf}
 use Rattle.agent_core.specs.Kept.{onto, StandsForFront, StandsForHistory}
 use Rattle.agent_core.proofs.KeptLemmas.{agent-told, stays}
 use Rattle.link_session.specs.Keeps.{no_more, Extends, IsAckedUpTo, Keeps}
-use Rattle.link_session.specs.Receiving.{HasStored, StoresAt, TellsFront}
+use Rattle.link_session.specs.Receiving.{HasGoneOn, HasStored, StoresAt, TellsFront}
 use Rattle.link_session.proofs.AckLemmas.{acked-more, acked-since, acked-weaker, closed-more, text-front}
 use Rattle.link_session.proofs.ExtendsLemmas.{extends-front, extends-further, extends-length, extends-onto}
 
 -- ---- an agent
 pub stands-all : (past : List Event) (agent : AgentState) (set : Settings) (h : List Beat) → IsAgentOf past agent set h → EveryDisk (StandsForHistory set h) past
 stands-all past agent set h is_of = stays past agent.store agent.registry agent.last_rows agent.latest set h is_of.holds
+
+-- it is of all that was stored
+pub gone-on : (past : List Event) (agent : AgentState) (set : Settings) (h0 h : List Beat) → Extends h0 h → IsAgentOf past agent set h → (all : Bool) → HasGoneOn all past agent set h0 h
+gone-on past agent set h0 h since is_of all = record { stored = h; tried = []; since = since; within = no_more; sound = inl is_of; complete = λ _. is_of }
 
 -- ---- what a crash leaves
 pub keeps-more : (set : Settings) (h0 h whole : List Beat) (before : List ℕ) → Extends h whole → (start new : List Event) → Throughout (EveryStop (Keeps set h0 h before)) start new → Throughout (EveryStop (Keeps set h0 whole before)) start new

@@ -4,5 +4,6 @@ pub mod Incoming
 pub mod Keeps
 pub mod Parent
 pub mod Session
+pub mod Taking
 pub mod Sending
 pub mod Receiving

@@ -19,9 +19,9 @@ use Rattle.store_core.specs.declared.fault.Why.{Why}
 use Rattle.store_core.specs.Own.{IsForeign}
 use Rattle.agent_core.specs.declared.fault.AgentFault.{AgentFault}
 use Rattle.agent_core.specs.declared.fault.AgentFault.TheVariants as agent_fault
-use Rattle.agent_core.specs.Agent.{id_of, AgentIsReady, AgentState, IsAgentOf}
+use Rattle.agent_core.specs.Agent.{id_of, AgentIsReady, AgentState, IsAgentOf, IsSoundBy}
 use Rattle.agent_core.specs.Copies.{seen_moment, IsCopyOfChild, IsTrueOfChild, SeenBeat}
-use Rattle.agent_core.specs.Kept.{StandsForHistory}
+use Rattle.agent_core.specs.Kept.{onto, StandsForHistory}
 use Rattle.link_session.specs.declared.fault.SessionFault.{SessionFault}
 use Rattle.link_session.specs.declared.fault.SessionFault.TheVariants.{LinkFault, Agent, TellFault, Memory}
 use Rattle.link_session.specs.declared.fault.PeerFault.{PeerFault}
@@ -33,6 +33,7 @@ use Rattle.link_session.specs.Keeps.{Extends, IsAckedUpTo, Keeps}
 use Rattle.link_session.specs.Parent.{parent_begins, parent_does, Parent}
 use Rattle.link_session.specs.Sending.{spent_by}
 use Rattle.link_session.specs.Session.{is_refusal, result_of, DoesSo, Exchanges, Leaves, LinkSeen, SaysThen}
+use Rattle.link_session.specs.Taking.{ParentEndsAt, TakesLink}
 
 -- ---- what was told and stored
 
@@ -105,6 +106,16 @@ pub record StoresAt (past : List Event) (agent : AgentState) (set : Settings) (h
   pub acked : IsAckedUpTo (length h) made
   pub stops : Throughout (EveryStop (Keeps set h0 h (told start))) start past
 
+-- The agent is of a history with a front of the new beats, or it was before a call with more of them failed. It is of the
+-- whole where `all` says so.
+pub record HasGoneOn (all : Bool) (past : List Event) (agent : AgentState) (set : Settings) (h0 whole : List Beat) : Type 0 where
+  pub stored : List Beat
+  pub tried : List Beat
+  pub since : Extends h0 stored
+  pub within : Extends (onto stored tried) whole
+  pub sound : IsSoundBy past agent set stored tried
+  pub complete : all ≡ true → IsAgentOf past agent set whole
+
 -- a parent with history `h` did this at a frame, or something failed while it did
 pub record CopiesSo (set : Settings) (h0 h : List Beat) (start : List Event) (made : List ℕ) (course : Course Parent) (peer' : Option ℕ) (result : Result Flow SessionFault) (agent' : AgentState) (new : List Event) (sent sent' : Option (List ℕ)) : Type 0 where
   pub does : DoesSo course (record { history = course.now.history; peer = peer' }) result sent sent'
@@ -113,6 +124,7 @@ pub record CopiesSo (set : Settings) (h0 h : List Beat) (start : List Event) (ma
   pub stored : keeps_all (result_of result) ≡ true → StoresAt new agent' set h0 course.now.history start (made ++ course.told)
   -- where not all of it was stored and told, nothing was said, and what had been stored and told still is
   pub unsaid : keeps_all (result_of result) ≡ false → (sent' ≡ sent) × HasStored set h start made new
+  pub goes_on : HasGoneOn (keeps_all (result_of result)) new agent' set h0 course.now.history
 
 -- a parent did this at a frame, which depends on the history that its agent is of
 pub record ParentTakes (honest : Type 0) (host : Seen) (agent : AgentState) (course : Settings → List Beat → Course Parent) (result : Result Flow SessionFault) (host' : Seen) (agent' : AgentState) (peer' : Option ℕ) (sent sent' : Option (List ℕ)) : Type 0 where
@@ -147,8 +159,13 @@ pub record Copies (set : Settings) (h0 : List Beat) (result : SessionResult) (ol
 -- `receive` with this result left the host, the agent and the link so
 pub record ReceivesHistory (honest : Type 0) (host : Seen) (agent : AgentState) (link : LinkSeen) (result : SessionResult) (host' : Seen) (agent' : AgentState) (link' : LinkSeen) : Type 0 where
   pub copies : honest → (set : Settings) (h : List Beat) → IsAgentOf host.past agent set h → Copies set h result host.past host'.past link link'
+  -- the agent is of what was stored, or its last call failed for the disk or for memory: then it has its fault, and is opened again
+  pub agent_is : (h : honest) (set : Settings) (h0 : List Beat) (is_of : IsAgentOf host.past agent set h0)
+      → HasGoneOn (keeps_all result) host'.past agent' set h0 (exchange (parent_does set) (parent_begins h0) (copies h set h0 is_of).exchanges.frames).now.history
   pub stores : StoresOnly honest host agent result host' agent'
   pub faults : IfErr result IsReceiving
+  -- whatever the host tells, no more is taken of the link than may be, and its bytes say why it ended
+  pub taking : TakesLink ParentEndsAt result link link'
   -- the link fails exactly where it counted a failure
   pub cause : HasCause link.faults link'.faults (IsErrOf result LinkFault)
 

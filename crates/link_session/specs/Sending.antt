@@ -15,6 +15,7 @@ use Rattle.link_session.specs.declared.flow.Flow.{Flow}
 use Rattle.link_session.specs.Child.{child_begins, child_does}
 use Rattle.link_session.specs.Exchange.{Course, SessionResult}
 use Rattle.link_session.specs.Session.{DoesSo, Exchanges, LinkSeen}
+use Rattle.link_session.specs.Taking.{ChildEndsAt, TakesLink}
 
 -- ---- an agent that only answers
 
@@ -66,5 +67,7 @@ pub record SendsHistory (honest : Type 0) (host : Seen) (agent : AgentState) (li
   pub exchanges : honest → (set : Settings) (h : List Beat) → IsAgentOf host.past agent set h → Exchanges (child_does set.id (data_of_history set h)) (child_begins set.id) result link link'
   pub reads : OnlyReads honest host agent result host' agent'
   pub faults : IfErr result IsSending
+  -- whatever the host tells, no more is taken of the link than may be, and its bytes say why it ended
+  pub taking : TakesLink (λ ended before f. ChildEndsAt (id_of agent) ended f) result link link'
   -- the link fails exactly where it counted a failure
   pub cause : HasCause link.faults link'.faults (IsErrOf result LinkFault)

@@ -1,11 +1,13 @@
 //! A child, which sends its history to a parent.
-ghost use Rattle.std.specs.Prelude.{◌≡◌, Err, IsErrOf};
+ghost use Rattle.std.specs.Prelude.{◌≡◌, ℕ, Err, IsErrOf};
 ghost use Rattle.host_model.specs.Cause.{HasCause};
-ghost use Rattle.agent_core.specs.Agent.{AgentIsReady};
+ghost use Rattle.agent_core.specs.Agent.{id_of, AgentIsReady};
 ghost use Rattle.agent_core.specs.Copies.{data_of_history};
 ghost use Rattle.link_session.specs.Child.{answers, child_does, hears_ask, hears_bye, hears_have};
 ghost use Rattle.link_session.specs.Sending.{ChildTakes, SendsHistory};
+ghost use Rattle.link_frames.specs.declared.frame.Frame.TheVariants as frame;
 ghost use Rattle.link_session.specs.Session.{link_seen, DoesSo, IsRefusing};
+ghost use Rattle.link_session.specs.Taking.{ChildEndsAt, EndsOnlyAt};
 
 use crate::fault::{PeerFault, SessionFault};
 use crate::flow::Flow;
@@ -38,6 +40,7 @@ impl Child {
         ensures takes { ChildTakes H.honest (H.seen host.old) agent.old
             (λ set h. answers self.old.last (data_of_history set h ask.now))
             result (H.seen host.new) agent.new self.new.last (L.sent link.old) (L.sent link.new) }
+        ensures ends { EndsOnlyAt (λ ended. ended ≡ Ok tt) result }
         ensures left { L.left link.new ≡ L.left link.old }
         ensures cause { HasCause (L.faults link.old) (L.faults link.new)
             (IsErrOf result SessionFault.LinkFault) }
@@ -64,6 +67,8 @@ impl Child {
         ensures takes { ChildTakes H.honest (H.seen host.old) agent.old
             (λ set h. hears_have set.id (data_of_history set h) self.old.last had)
             result (H.seen host.new) agent.new self.new.last (L.sent link.old) (L.sent link.new) }
+        ensures ends { EndsOnlyAt
+            (λ ended. ChildEndsAt (id_of agent.old) ended (frame.Have had)) result }
         ensures left { L.left link.new ≡ L.left link.old }
         ensures cause { HasCause (L.faults link.old) (L.faults link.new)
             (IsErrOf result SessionFault.LinkFault) }
@@ -96,6 +101,8 @@ impl Child {
         ensures takes { ChildTakes H.honest (H.seen host.old) agent.old
             (λ set h. hears_ask set.id (data_of_history set h) self.old.last ask.now)
             result (H.seen host.new) agent.new self.new.last (L.sent link.old) (L.sent link.new) }
+        ensures ends { EndsOnlyAt
+            (λ ended. ChildEndsAt (id_of agent.old) ended (frame.Ask ask.now)) result }
         ensures left { L.left link.new ≡ L.left link.old }
         ensures cause { HasCause (L.faults link.old) (L.faults link.new)
             (IsErrOf result SessionFault.LinkFault) }
@@ -111,6 +118,8 @@ impl Child {
         ensures does { DoesSo (hears_bye reason self.now.last) self.now.last (Err result)
             (L.sent link.old) (L.sent link.new) }
         ensures faults { IsRefusing result }
+        ensures ends { (id : ℕ)
+            → EndsOnlyAt (λ ended. ChildEndsAt id ended (frame.Bye reason)) (Err result) }
         ensures left { L.left link.new ≡ L.left link.old }
         ensures cause { HasCause (L.faults link.old) (L.faults link.new)
             (result ≡ SessionFault.LinkFault) }
@@ -136,6 +145,8 @@ impl Child {
         ensures takes { ChildTakes H.honest (H.seen host.old) agent.old
             (λ set h. child_does set.id (data_of_history set h) self.old.last frame.now)
             result (H.seen host.new) agent.new self.new.last (L.sent link.old) (L.sent link.new) }
+        ensures ends { EndsOnlyAt
+            (λ ended. ChildEndsAt (id_of agent.old) ended frame.now) result }
         ensures left { L.left link.new ≡ L.left link.old }
         ensures cause { HasCause (L.faults link.old) (L.faults link.new)
             (IsErrOf result SessionFault.LinkFault) }
@@ -154,6 +165,7 @@ impl Child {
 ///
 /// It tells its id, and answers the frames of the parent one by one, until it has nothing more to
 /// send. Nothing is stored and nothing is told. After `Agent` with `Memory` the agent must be opened again.
+/// No more than 2^40 bytes are taken of the link.
 pub fn send<H: Host, L: Link>(
     alloc: Global,
     agent: &mut Agent,

@@ -1,5 +1,5 @@
 //! A parent, which receives the history of a child.
-ghost use Rattle.std.specs.Prelude.{◌≡◌, ◌∷◌, List, Some, IfErr, IsErrOf, OnOk};
+ghost use Rattle.std.specs.Prelude.{◌≡◌, ◌∷◌, List, Some, IfErr, IsErrOf, IsSome, OnOk};
 ghost use Rattle.host_model.specs.Cause.{HasCause};
 ghost use Rattle.host_model.specs.Past.{Told};
 ghost use Rattle.link_frames.specs.DataForm.{IsData};
@@ -14,6 +14,7 @@ ghost use Rattle.agent_core.specs.Replies.{reply_text};
 ghost use Rattle.link_session.specs.Parent.{copies_other, hears_first, hears_next, parent_does, takes_by};
 ghost use Rattle.link_session.specs.Receiving.{GoesSo, IsCutShort, ParentTakes, ReceivesHistory, SaysHave};
 ghost use Rattle.link_session.specs.Session.{link_seen, SaysThen};
+ghost use Rattle.link_session.specs.Taking.{EndsOnlyAt, ParentEndsAtFirst, ParentEndsAtLater, ParentEndsBy};
 
 use crate::fault::{PeerFault, SessionFault};
 use crate::flow::Flow;
@@ -87,6 +88,8 @@ impl Parent {
         ensures takes { ParentTakes H.honest (H.seen host.old) agent.old
             (λ set h. hears_first h frame.now)
             result (H.seen host.new) agent.new self.new.peer (L.sent link.old) (L.sent link.new) }
+        ensures ends { EndsOnlyAt (λ ended. ParentEndsAtFirst ended frame.now) result }
+        ensures known { OnOk result (IsSome self.new.peer) }
         ensures left { L.left link.new ≡ L.left link.old }
         ensures cause { HasCause (L.faults link.old) (L.faults link.new)
             (IsErrOf result SessionFault.LinkFault) }
@@ -147,6 +150,8 @@ impl Parent {
         ensures takes { ParentTakes H.honest (H.seen host.old) agent.old
             (λ set h. takes_by set id h message.now (verdict_of h message.now))
             result (H.seen host.new) agent.new (Some id) (L.sent link.old) (L.sent link.new) }
+        ensures ends { EndsOnlyAt
+            (λ ended. ParentEndsAtLater ended (frame.Data message.now)) result }
         ensures left { L.left link.new ≡ L.left link.old }
         ensures cause { HasCause (L.faults link.old) (L.faults link.new)
             (IsErrOf result SessionFault.LinkFault) }
@@ -192,6 +197,7 @@ impl Parent {
         ensures takes { ParentTakes H.honest (H.seen host.old) agent.old
             (λ set h. hears_next set id h frame.now)
             result (H.seen host.new) agent.new (Some id) (L.sent link.old) (L.sent link.new) }
+        ensures ends { EndsOnlyAt (λ ended. ParentEndsAtLater ended frame.now) result }
         ensures left { L.left link.new ≡ L.left link.old }
         ensures cause { HasCause (L.faults link.old) (L.faults link.new)
             (IsErrOf result SessionFault.LinkFault) }
@@ -218,6 +224,9 @@ impl Parent {
         ensures takes { ParentTakes H.honest (H.seen host.old) agent.old
             (λ set h. parent_does set (record { history = h; peer = self.old.peer }) frame.now)
             result (H.seen host.new) agent.new self.new.peer (L.sent link.old) (L.sent link.new) }
+        ensures ends { EndsOnlyAt
+            (λ ended. ParentEndsBy self.old.peer ended frame.now) result }
+        ensures known { OnOk result (IsSome self.new.peer) }
         ensures left { L.left link.new ≡ L.left link.old }
         ensures cause { HasCause (L.faults link.old) (L.faults link.new)
             (IsErrOf result SessionFault.LinkFault) }
@@ -235,7 +244,8 @@ impl Parent {
 /// stored, told as `STORED` with the number of its last beat and the lines of its events, and
 /// answered by a Have. It says Have only once the beats are on the disk and told. `Agent` with
 /// `Refused` comes where the history does not take it, and then nothing is said for it. After
-/// `Agent` with another fault the agent must be opened again.
+/// `Agent` with another fault the agent must be opened again. At every other end it is of the
+/// history with all that was stored. No more than 2^40 bytes are taken of the link.
 pub fn receive<H: Host, L: Link>(
     alloc: Global,
     agent: &mut Agent,

@@ -1,5 +1,5 @@
-use Rattle.agent_app.specs.Course.{OfCollector, OfSource}
-use Rattle.agent_app.proofs.CourseLemmas.{course-asked, course-kept, course-moments, course-new, of-collect, of-run}
+use Rattle.agent_app.specs.Course.{OfCollector, OfHealth, OfLink, OfSource}
+use Rattle.agent_app.proofs.CourseLemmas.{course-asked, course-kept, course-moments, course-new, course-sent, of-collect, of-health, of-receive, of-run}
 use Rattle.agent_app.proofs.law.any_course.Goals as goal
 
 pub returns-clause-kept : goal.returns-clause-kept
@@ -19,6 +19,25 @@ returns-clause-collects_moments g c h starts tried runs host host' asked status 
     (course-kept g.H.Host.honest g.H.Host.seen starts tried (λ at h file. g.met.H.Host.reads_an_image at file h) h runs host course)
     (λ file. g.met.H.Host.reads_an_image host file h) status (OfCollector asked outside outside')
     (of-collect g.H.Host.honest (g.H.Host.seen host) (g.H.Host.seen host') asked status outside outside' run)
+
+pub returns-clause-configures_moments : goal.returns-clause-configures_moments
+returns-clause-configures_moments g c h starts tried runs host host' status left left' sf sf' course run =
+    course-moments starts tried runs g.H.Host.honest h (g.H.Host.seen host) (g.H.Host.seen host')
+    (course-kept g.H.Host.honest g.H.Host.seen starts tried (λ at h file. g.met.H.Host.reads_an_image at file h) h runs host course)
+    (λ file. g.met.H.Host.reads_an_image host file h) status (OfHealth left left')
+    (of-health g.H.Host.honest (g.H.Host.seen host) (g.H.Host.seen host') status left left' sf sf' run)
+
+pub returns-clause-receives_moments : goal.returns-clause-receives_moments
+returns-clause-receives_moments g c h starts tried runs host host' status link link' course run =
+    course-moments starts tried runs g.H.Host.honest h (g.H.Host.seen host) (g.H.Host.seen host')
+    (course-kept g.H.Host.honest g.H.Host.seen starts tried (λ at h file. g.met.H.Host.reads_an_image at file h) h runs host course)
+    (λ file. g.met.H.Host.reads_an_image host file h) status (OfLink link link')
+    (of-receive g.H.Host.honest (g.H.Host.seen host) (g.H.Host.seen host') status link link' run)
+
+pub returns-clause-sends_moments : goal.returns-clause-sends_moments
+returns-clause-sends_moments g c h starts tried runs host host' status link link' course sends =
+    course-sent starts tried runs g.H.Host.honest h (g.H.Host.seen host) (g.H.Host.seen host')
+    (course-kept g.H.Host.honest g.H.Host.seen starts tried (λ at h file. g.met.H.Host.reads_an_image at file h) h runs host course) status link link' sends
 
 pub returns-clause-asks_moments : goal.returns-clause-asks_moments
 returns-clause-asks_moments g c h starts tried runs host host' answer status course asks =

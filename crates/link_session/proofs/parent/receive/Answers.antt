@@ -41,7 +41,7 @@ returns-in_err-take_frame g c =
     let p = err_from_is_err_and c.from_residual-in_err-take_frame.result c.from_residual-in_err-take_frame.ensures.1 in
     rw (p.1, p.2) (ends-there g.H.Host.honest (g.H.Host.seen c.args.host.now) c.args.agent.now link c.frames.incoming c.frames.parent.peer (g.H.Host.seen c.frames.host) c.frames.agent between on
     c.frame.result.now c.hear.new.incoming heard (c.in_ok-hear.ensures.given link.left on.frames on.given c.frame.result.now c.frame.ensures) c.in_ok-hear.ensures.sent (c.in_ok-hear.ensures.cause.stays (λ e. cc))
-    (Err c.in_err-take_frame.field-0.0) (g.H.Host.seen c.take_frame.new.host) c.take_frame.new.agent c.take_frame.new.self.peer link' c.in_err-take_frame.ensures.takes c.in_err-take_frame.ensures.left c.in_err-take_frame.ensures.cause
+    (Err c.in_err-take_frame.field-0.0) (g.H.Host.seen c.take_frame.new.host) c.take_frame.new.agent c.take_frame.new.self.peer link' c.in_err-take_frame.ensures.takes c.in_err-take_frame.ensures.ends c.in_err-take_frame.ensures.known c.in_err-take_frame.ensures.left c.in_err-take_frame.ensures.cause
     (λ e. cc))
 
 pub frames-preserved : goal.frames-preserved
@@ -55,7 +55,7 @@ frames-preserved g c =
     let is : c.take_frame.result ≡ Ok GoesOn = c.in_ok-take_frame.was ∙ ap Ok c.in-GoesOn.is in
     goes-on g.H.Host.honest (g.H.Host.seen c.args.host.now) c.args.agent.now link c.frames.incoming c.frames.parent.peer (g.H.Host.seen c.frames.host) c.frames.agent between on
     c.frame.result.now c.hear.new.incoming heard (c.in_ok-hear.ensures.given link.left on.frames on.given c.frame.result.now c.frame.ensures) c.in_ok-hear.ensures.sent (c.in_ok-hear.ensures.cause.stays (λ e. cc))
-    c.take_frame.result (g.H.Host.seen c.take_frame.new.host) c.take_frame.new.agent c.take_frame.new.self.peer link' c.take_frame.ensures.takes c.take_frame.ensures.left c.take_frame.ensures.cause is
+    c.take_frame.result (g.H.Host.seen c.take_frame.new.host) c.take_frame.new.agent c.take_frame.new.self.peer link' c.take_frame.ensures.takes c.take_frame.ensures.ends c.take_frame.ensures.known c.take_frame.ensures.left c.take_frame.ensures.cause is
 
 pub returns-in-Done : goal.returns-in-Done
 returns-in-Done g c =
@@ -69,4 +69,4 @@ returns-in-Done g c =
     subst (λ (r : SessionResult). ReceivesHistory g.H.Host.honest (g.H.Host.seen c.args.host.now) c.args.agent.now link r (g.H.Host.seen c.take_frame.new.host) c.take_frame.new.agent link') (ap result_of is)
     (ends-there g.H.Host.honest (g.H.Host.seen c.args.host.now) c.args.agent.now link c.frames.incoming c.frames.parent.peer (g.H.Host.seen c.frames.host) c.frames.agent between on
     c.frame.result.now c.hear.new.incoming heard (c.in_ok-hear.ensures.given link.left on.frames on.given c.frame.result.now c.frame.ensures) c.in_ok-hear.ensures.sent (c.in_ok-hear.ensures.cause.stays (λ e. cc))
-    c.take_frame.result (g.H.Host.seen c.take_frame.new.host) c.take_frame.new.agent c.take_frame.new.self.peer link' c.take_frame.ensures.takes c.take_frame.ensures.left c.take_frame.ensures.cause (λ e. cc))
+    c.take_frame.result (g.H.Host.seen c.take_frame.new.host) c.take_frame.new.agent c.take_frame.new.self.peer link' c.take_frame.ensures.takes c.take_frame.ensures.ends c.take_frame.ensures.known c.take_frame.ensures.left c.take_frame.ensures.cause (λ e. cc))

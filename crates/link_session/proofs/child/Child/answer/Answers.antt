@@ -4,6 +4,11 @@ use Rattle.agent_core.specs.declared.fault.AgentFault.{AgentFault}
 use Rattle.agent_core.specs.Calls.{AnswersAsk}
 use Rattle.link_session.proofs.ChildLemmas.{answers-badly, answers-data, answers-none}
 use Rattle.link_session.proofs.SpellingLemmas.{bye-spelt}
+use Rattle.link_session.specs.Exchange.{SessionResult}
+use Rattle.link_session.specs.declared.flow.Flow.TheVariants.{Done}
+use Rattle.link_frames.specs.declared.frame.Frame.TheVariants as frame
+use Rattle.link_frames.specs.Frames.{done}
+use Rattle.link_session.proofs.TakingLemmas.{said-on, said-only}
 use Rattle.link_session.proofs.child.Child.answer.Goals as goal
 
 pub answer_with-requires-in-Ok-None : goal.answer_with-requires-in-Ok-None
@@ -31,3 +36,9 @@ returns-in-Err-clause-takes g c =
     let host' = g.H.Host.seen c.data.new.host in
     answers-badly g.H.Host.honest host c.args.agent.now c.args.self.now.last c.args.ask.now host' c.data.new.self c.in-Err.fault _
     (subst (λ (r : Result (Option Data) AgentFault). AnswersAsk g.H.Host.honest host c.args.agent.now c.args.ask.now r host' c.data.new.self) c.in-Err.is c.data.ensures)
+
+pub returns-in-Ok-Some-clause-ends : goal.returns-in-Ok-Some-clause-ends
+returns-in-Ok-Some-clause-ends g c = said-on (λ (r : SessionResult). r ≡ Ok tt) (frame.Data c.in-Ok-Some.message) c.answer_with.result _ _ c.answer_with.ensures.says
+
+pub returns-in-Ok-None-clause-ends : goal.returns-in-Ok-None-clause-ends
+returns-in-Ok-None-clause-ends g c = said-only (λ (r : SessionResult). r ≡ Ok tt) (frame.Bye done) Done c.answer_with-in-Ok-None.result _ _ c.answer_with-in-Ok-None.ensures.says (λ _. refl)

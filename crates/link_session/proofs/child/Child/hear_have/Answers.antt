@@ -1,6 +1,9 @@
 use Rattle.agent_core.specs.Copies.{data_of_history}
 use Rattle.link_session.specs.Child.{hears_have}
 use Rattle.link_session.proofs.ChildLemmas.{had-less, had-more, had-nothing, takes-refused}
+use Rattle.agent_core.specs.Agent.{id_of}
+use Rattle.link_frames.specs.declared.frame.Frame.TheVariants as frame
+use Rattle.link_session.proofs.TakingLemmas.{answer-only, bad-only}
 use Rattle.link_session.proofs.child.Child.hear_have.Goals as goal
 
 pub returns-in_default-clause-takes : goal.returns-in_default-clause-takes
@@ -19,3 +22,12 @@ pub returns-then-had-upto-2-clause-takes : goal.returns-then-had-upto-2-clause-t
 returns-then-had-upto-2-clause-takes g c =
     had-less g.H.Host.honest (g.H.Host.seen c.args.host.now) c.args.agent.now c.args.self.now.last c.in-Some.upto c.args.had (g.L.Link.sent c.args.link.now)
     c.in-Some.is c.if-had-upto.false c.if-had-upto-2.true c.requires
+
+pub returns-in_default-clause-ends : goal.returns-in_default-clause-ends
+returns-in_default-clause-ends g c = bad-only (id_of c.args.agent.now) (frame.Have c.args.had) c.refuse.result _ _ tt c.refuse.ensures.leaves
+
+pub returns-then-had-upto-clause-ends : goal.returns-then-had-upto-clause-ends
+returns-then-had-upto-clause-ends g c = answer-only (id_of c.args.agent.now) (frame.Have c.args.had) c.answer.result tt c.answer.ensures.ends
+
+pub returns-clause-ends : goal.returns-clause-ends
+returns-clause-ends g c = bad-only (id_of c.args.agent.now) (frame.Have c.args.had) c.refuse-2.result _ _ tt c.refuse-2.ensures.leaves

@@ -1,9 +1,12 @@
-use Rattle.std.proofs.Common.{Some, refl, ap, subst, sym}
+use Rattle.std.proofs.Common.{Err, Some, refl, ap, subst, sym}
 use Rattle.link_frames.specs.declared.frame.Frame.{Frame}
 use Rattle.link_session.specs.Parent.{copies, hears_next}
 use Rattle.link_session.specs.Receiving.{ParentTakes}
 use Rattle.link_session.proofs.ParentLemmas.{gone-refusing, still-gone, still-refused, takes-still, IsStill}
 use Rattle.link_session.proofs.StepLemmas.{leaves-refusing}
+use Rattle.link_session.specs.Exchange.{SessionResult}
+use Rattle.link_session.specs.Taking.{EndsOnlyAt, ParentEndsAtLater}
+use Rattle.link_session.proofs.TakingLemmas.{ask-later, gone-only, have-later, hello-later}
 use Rattle.link_session.proofs.parent.Parent.hear_next.Goals as goal
 
 pub returns-in-Data-clause-takes : goal.returns-in-Data-clause-takes
@@ -35,3 +38,19 @@ returns-in-Have-clause-takes g c =
     let f = c.args.frame.now in
     takes-still g.H.Host.honest (g.H.Host.seen c.args.host.now) c.args.agent.now (λ set h. hears_next set c.args.id h f) _ _ _ _ c.requires.ready (leaves-refusing _ _ c.refuse-in-Have.result _ _ c.refuse-in-Have.ensures.leaves)
     (λ set h is_of. still-refused h (hears_next set c.args.id h f) (copies c.args.id h) _ c.refuse-in-Have.result _ _ (ap (hears_next set c.args.id h) c.in-Have.is) refl c.refuse-in-Have.ensures.leaves)
+
+pub returns-in-Data-clause-ends : goal.returns-in-Data-clause-ends
+returns-in-Data-clause-ends g c = subst (λ (f : Frame). EndsOnlyAt (λ (r : SessionResult). ParentEndsAtLater r f) c.take_data.result) (sym c.in-Data.is) c.take_data.ensures.ends
+
+pub returns-in-Bye-clause-ends : goal.returns-in-Bye-clause-ends
+returns-in-Bye-clause-ends g c =
+    subst (λ (f : Frame). EndsOnlyAt (λ (r : SessionResult). ParentEndsAtLater r f) c.hear_bye.result) (sym c.in-Bye.is) (gone-only c.in-Bye.reason c.hear_bye.result _ _ c.hear_bye.ensures.goes)
+
+pub returns-in-Hello-clause-ends : goal.returns-in-Hello-clause-ends
+returns-in-Hello-clause-ends g c = subst (λ (f : Frame). EndsOnlyAt (λ (r : SessionResult). ParentEndsAtLater r f) (Err c.refuse.result)) (sym c.in-Hello.is) (hello-later _ c.refuse.result _ _ c.refuse.ensures.leaves)
+
+pub returns-in-Ask-clause-ends : goal.returns-in-Ask-clause-ends
+returns-in-Ask-clause-ends g c = subst (λ (f : Frame). EndsOnlyAt (λ (r : SessionResult). ParentEndsAtLater r f) (Err c.refuse-in-Ask.result)) (sym c.in-Ask.is) (ask-later _ c.refuse-in-Ask.result _ _ c.refuse-in-Ask.ensures.leaves)
+
+pub returns-in-Have-clause-ends : goal.returns-in-Have-clause-ends
+returns-in-Have-clause-ends g c = subst (λ (f : Frame). EndsOnlyAt (λ (r : SessionResult). ParentEndsAtLater r f) (Err c.refuse-in-Have.result)) (sym c.in-Have.is) (have-later _ c.refuse-in-Have.result _ _ c.refuse-in-Have.ensures.leaves)

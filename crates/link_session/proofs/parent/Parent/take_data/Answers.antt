@@ -14,6 +14,9 @@ use Rattle.link_session.proofs.DataLemmas.{data-badly, data-left, data-stored}
 use Rattle.link_session.proofs.ParentLemmas.{still-asks, still-left}
 use Rattle.link_session.proofs.SpellingLemmas.{bye-spelt}
 use Rattle.link_session.proofs.StepLemmas.{leaves-refusing, said-refusing, silent-does}
+use Rattle.link_session.specs.Exchange.{SessionResult}
+use Rattle.link_session.specs.Taking.{ParentEndsAtLater}
+use Rattle.link_session.proofs.TakingLemmas.{have-only, left-only, said-on}
 use Rattle.link_session.proofs.parent.Parent.take_data.Goals as goal
 
 pub returns-in-Err-clause-takes : goal.returns-in-Err-clause-takes
@@ -70,3 +73,12 @@ returns-clause-takes g c =
     (subst (λ (r : Result (Verdict × Reply) AgentFault). TakesData g.H.Host.honest host c.args.agent.now c.args.message.now r middle c.take.new.self) c.in-Ok.is c.take.ensures))
     refl (Err c.leave.result) _ _ c.requires.ready (leaves-refusing _ _ c.leave.result _ _ c.leave.ensures.leaves)
     (λ same set h is_of. still-left h (takes_by set c.args.id h c.args.message.now other) (copies c.args.id h) _ c.leave.result _ _ refl refl c.leave.ensures.leaves)
+
+pub returns-in-Stored-clause-ends : goal.returns-in-Stored-clause-ends
+returns-in-Stored-clause-ends g c = have-only (λ (r : SessionResult). ParentEndsAtLater r (frame.Data c.args.message.now)) g.H.Host.honest _ _ c.have.result _ _ _ _ c.have.ensures.says
+
+pub returns-in-Ahead-clause-ends : goal.returns-in-Ahead-clause-ends
+returns-in-Ahead-clause-ends g c = said-on (λ (r : SessionResult). ParentEndsAtLater r (frame.Data c.args.message.now)) _ c.ask.result _ _ c.ask.ensures.says
+
+pub returns-clause-ends : goal.returns-clause-ends
+returns-clause-ends g c = left-only (λ (r : SessionResult). ParentEndsAtLater r (frame.Data c.args.message.now)) _ _ c.leave.result _ _ c.leave.ensures.leaves (c.args.message.now, refl)
