@@ -1,9 +1,9 @@
 -- Pairs depend on what alarms say of charts alone; lists that agree item by item.
-use Rattle.std.proofs.Common.{◌≡◌, ℕ, zero, suc, ◌+◌, ◌<◌, ◌≤◌, Bool, false, cond, List, [], ◌∷◌, ◌++◌, length, get_or, map, filter, take, Option, Some, None, arith, refl, sym, ap, ◌∙◌}
+use Rattle.std.proofs.Common.{◌≡◌, ℕ, zero, suc, ◌+◌, ◌<◌, Bool, false, cond, List, [], ◌∷◌, ◌++◌, length, get_or, map, filter, take, Option, Some, None, arith, refl, sym, ap, ◌∙◌}
 use Rattle.std.specs.Prelude.{slice_get}
 use Rattle.std.specs.List.{flat_map, range_with_len}
 use Rattle.std.specs.Option.{option_map, option_map_or}
-use Rattle.std.proofs.lemmas.List.{length-map, take_all}
+use Rattle.std.proofs.lemmas.List.{length-map}
 use Rattle.std.proofs.lemmas.List.Concat.{flat_map-cons}
 use Rattle.std.proofs.lemmas.Option.{slice_get-map}
 use Rattle.health_config.specs.Entity.{Alarm, alarm_of}
@@ -37,21 +37,6 @@ words_more {A} {B} f xs ys i d e inside too so_far is =
     ∙ ap (λ (zs : List B). zs ++ f (get_or xs i d) ∷ []) so_far
     ∙ ap (λ (z : B). take i ys ++ z ∷ []) is
     ∙ sym (take_more ys i e too)
-
-pub words_done : {A B : Type 0} (f : A → B) (xs : List A) (ys : List B) (i : ℕ) → length xs ≤ i → length ys ≤ i → map f (take i xs) ≡ take i ys → map f xs ≡ ys
-words_done {A} {B} f xs ys i end too so_far = sym (ap (map f) (take_all i xs end)) ∙ so_far ∙ take_all i ys too
-
-pub owners_more : {A B C : Type 0} (f : A → C) (g : B → C) (xs : List A) (ys : List B) (i : ℕ) (d : A) (e : B) → i < length xs → i < length ys
-    → map f (take i xs) ≡ map g (take i ys) → f (get_or xs i d) ≡ g (get_or ys i e) → map f (take (i + 1) xs) ≡ map g (take (i + 1) ys)
-owners_more {A} {B} {C} f g xs ys i d e inside too so_far is =
-    map_more f xs i d inside
-    ∙ ap (λ (zs : List C). zs ++ f (get_or xs i d) ∷ []) so_far
-    ∙ ap (λ (z : C). map g (take i ys) ++ z ∷ []) is
-    ∙ sym (map_more g ys i e too)
-
-pub owners_done : {A B C : Type 0} (f : A → C) (g : B → C) (xs : List A) (ys : List B) (i : ℕ) → length xs ≤ i → length ys ≤ i
-    → map f (take i xs) ≡ map g (take i ys) → map f xs ≡ map g ys
-owners_done {A} {B} {C} f g xs ys i end too so_far = sym (ap (map f) (take_all i xs end)) ∙ so_far ∙ ap (map g) (take_all i ys too)
 
 -- lists that agree whole agree at each place
 pub owners_at : {A B C : Type 0} (f : A → C) (g : B → C) (xs : List A) (ys : List B) (i : ℕ) (d : A) (e : B) → i < length xs → i < length ys → map f xs ≡ map g ys

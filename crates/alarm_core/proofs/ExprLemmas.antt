@@ -20,15 +20,6 @@ words-chain left (step ∷ steps) =
     ∙ append_assoc (words left) (words (tree_of step.1) ++ word.Combined step.0 ∷ []) (row_words steps)
     ∙ ap (λ (more : List Word). words left ++ more) (append_assoc (words (tree_of step.1)) (word.Combined step.0 ∷ []) (row_words steps))
 
--- one operator more of a row
-pub words-step : (start before operand after : List Word) (operator : Operator) (more : List Word)
-    → operand ≡ before ++ start → after ≡ operand ++ word.Combined operator ∷ []
-    → after ++ more ≡ before ++ (start ++ (word.Combined operator ∷ more))
-words-step start before operand after operator more first second =
-    ap (λ (all : List Word). all ++ more) (second ∙ ap (λ (all : List Word). all ++ word.Combined operator ∷ []) first)
-    ∙ append_assoc (before ++ start) (word.Combined operator ∷ []) more
-    ∙ append_assoc before start (word.Combined operator ∷ more)
-
 binary_words : (self head : Expr) (first : Box Expr Global) (rest : Vec (Operator × Expr) Global) (old middle new : List Word)
     → self ≡ Binary first rest → head ≡ first.value
     → middle ≡ old ++ words (tree_of head) → new ≡ middle ++ row_words rest.items → new ≡ old ++ words (tree_of self)

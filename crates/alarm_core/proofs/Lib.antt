@@ -6,13 +6,12 @@ pub mod SeriesLemmas
 pub mod LookupLemmas
 pub mod ValueLemmas
 pub mod PairLemmas
-pub mod RowLemmas
 pub mod ExprLemmas
 pub mod SameLemmas
 pub mod LogLemmas
 pub mod TableLemmas
 mod WantedLemmas
 mod ChartLemmas
-pub mod RunLemmas
+mod RunLemmas
 mod AgainLemmas
 mod ShortLemmas

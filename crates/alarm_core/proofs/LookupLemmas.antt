@@ -3,7 +3,7 @@ use Rattle.std.proofs.Common.{◌≡◌, ℕ, zero, suc, ◌+◌, ◌-◌, ◌*�
 use Rattle.std.proofs.Math.IntN.{+ℤ_idl}
 use Rattle.std.proofs.Math.Nat.{mul-le-mul_left}
 use Rattle.std.proofs.lemmas.Int.{fits_signed_from_abs, unsigned_abs-mul, int_min_is, int_max_is, ints}
-use Rattle.std.proofs.lemmas.Bool.{cond-false, cond-true, le-ltb, lt-ltb, ltb-false}
+use Rattle.std.proofs.lemmas.Bool.{cond-false, le-ltb, ltb-false}
 use Rattle.std.proofs.lemmas.List.{append-nil, take_more, take_all}
 use Rattle.std.proofs.lemmas.List.Sums.{length-filter, count_by-le-length}
 use Rattle.std.proofs.lemmas.List.Elements.{filter-append, filter_map-append}
@@ -27,7 +27,6 @@ use Rattle.query_engine.specs.Windows.{members_between, group_of}
 use Rattle.query_engine.proofs.MemberLemmas.{members-append, members_few, members_within}
 use Rattle.query_engine.proofs.JoinLemmas.{joined-none, record_of-append}
 use Rattle.health_expr.specs.declared.value.Value.{Value}
-use Rattle.health_expr.specs.declared.value.Value.TheVariants.{Nan}
 use Rattle.health_expr.specs.Value.{fixed, is_zero}
 use Rattle.history.specs.Registry.{Registry}
 use Rattle.alarm_core.specs.declared.gather.Gathered.{Gathered}
@@ -344,11 +343,6 @@ found_above registry chart lookup moment floor told series start stop value star
     ∙ ap (λ (n : ℕ). looked_up_in registry (series_of_chart registry chart) lookup n stop told) starts
     ∙ ap (λ (n : ℕ). looked_up_in registry (series_of_chart registry chart) lookup (start_of lookup moment) n told) stops
     ∙ sym (cond-false (ltb (start_of lookup moment) floor) _ _ (le-ltb (start_of lookup moment) floor (subst (λ (n : ℕ). floor ≤ n) starts above)))
-
-pub found_below : (registry : Registry) (chart : ℕ) (lookup : Lookup) (moment floor : ℕ) (told : ℕ → List Point) (start : ℕ)
-    → start ≡ start_of lookup moment → start < floor → Nan ≡ looked_up registry chart lookup moment floor told
-found_below registry chart lookup moment floor told start starts below =
-    sym (cond-true (ltb (start_of lookup moment) floor) _ _ (lt-ltb (start_of lookup moment) floor (subst (λ (n : ℕ). n < floor) starts below)))
 
 -- ---- shares
 

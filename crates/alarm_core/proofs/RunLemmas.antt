@@ -23,7 +23,6 @@ use Rattle.alarm_core.specs.Pairing.{alarm_at}
 use Rattle.alarm_core.specs.Runs.{AreRunsOf, StandIn, alarms_in}
 use Rattle.alarm_core.specs.Step.{is_in_new_span}
 use Rattle.alarm_core.specs.Telling.{tell, tell_some, tell_all}
-use Rattle.alarm_core.proofs.RowLemmas.{tell_first}
 
 -- ---- the runs of pairs
 
@@ -114,6 +113,10 @@ in_place {A} f xs i y d inside is =
     ∙ append_assoc (take i xs) (y ∷ []) (map f (drop (i + 1) xs))
     ∙ ap (λ (z : A). take i xs ++ z ∷ map f (drop (i + 1) xs)) is
     ∙ ap (λ (rest : List A). take i xs ++ map f rest) (sym (drop_more xs i d inside))
+
+tell_first : (told : Told) (event : Option Event) (more : List Event) → tell_all told (cons_option event more) ≡ tell_all (tell_some told event) more
+tell_first told None more = refl
+tell_first told (Some event) more = refl
 
 pub told_in_place : {A : Type 0} (f : A → Option Event) (xs : List A) (i : ℕ) (y d : A) (before after : Told) → i < length xs → after ≡ tell_some before (f (get_or xs i d))
     → tell_all after (filter_map f (drop (i + 1) (set xs i y))) ≡ tell_all before (filter_map f (drop i xs))

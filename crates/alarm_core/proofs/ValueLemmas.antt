@@ -15,29 +15,12 @@ use Rattle.tier_rollup.specs.declared.point.Point.{Point}
 use Rattle.query_engine.specs.Points.{are_rising_from, is_asked, points_between}
 use Rattle.query_engine.specs.Joining.{joined, HaveRoom}
 use Rattle.query_engine.specs.Windows.{is_between, members_between}
-use Rattle.query_engine.proofs.MemberLemmas.{one, one_out, members_asked, rising_take, between_low, between_high}
-use Rattle.query_engine.proofs.JoinLemmas.{joined-none, record_of-append, room}
+use Rattle.query_engine.proofs.MemberLemmas.{one, members_asked, rising_take, between_low, between_high}
+use Rattle.query_engine.proofs.JoinLemmas.{record_of-append, room}
 use Rattle.alarm_core.specs.Lookups.{sized, members}
 use Rattle.alarm_core.proofs.LookupLemmas.{all_within, all_few, all-append}
 
 -- ---- one point
-
--- a point outside changes nothing
-pub point_out : (absolute : Bool) (start stop : ℕ) (point : Point) (before : Option Record) → is_between start stop point.moment ≡ false
-    → before ≡ joined before (record_of (members absolute start stop (point ∷ [])))
-point_out absolute start stop point before out =
-    sym (ap (λ (found : List Added). joined before (record_of (map (sized absolute) found))) (one_out start stop point out) ∙ joined-none before)
-
--- nor does one without a value
-pub point_empty : (absolute : Bool) (start stop : ℕ) (point : Point) (before : Option Record) → point_of point.word ≡ None
-    → before ≡ joined before (record_of (members absolute start stop (point ∷ [])))
-point_empty absolute start stop point before empty =
-    let none : one start stop point ≡ [] = go (point_of point.word) empty in
-    sym (ap (λ (found : List Added). joined before (record_of (map (sized absolute) found))) none ∙ joined-none before)
-  where
-    go : (o : Option Value) → o ≡ None → members_between start stop (filter_map (λ (p : Point). option_map (λ (v : Value). record { moment = p.moment; units = v.units; anomalous = v.anomalous }) o) (point ∷ [])) ≡ []
-    go None e = refl
-    go (Some v) e = absurd (cc)
 
 -- a point inside adds its value
 pub point_in : (absolute : Bool) (start stop : ℕ) (point : Point) (value : Value) (units : ℤ) → is_between start stop point.moment ≡ true → point_of point.word ≡ Some value

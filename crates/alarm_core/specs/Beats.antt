@@ -44,7 +44,7 @@ beat_of sight floor told = record {
   told = told;
 }
 
--- an alarm of so many seconds is stepped at a beat
+-- whether an alarm that is computed every so many seconds is stepped at a beat
 abbrev pub is_due : Sight → ℕ → Bool
 is_due sight every = is_in_new_span every sight.latest.now.before sight.moment
 

@@ -20,6 +20,6 @@ pub record AreRunsOf (pairs : List Pair) (runs : List Run) : Type 0 where
 abbrev pub alarms_with : List Run → Run → List ℕ → List ℕ
 alarms_with runs run more = map (λ run. run.alarm) runs ++ dedup_from ◌==◌ run.alarm more
 
--- and of states
+-- states stand in runs: one behind the other these have the alarms of the states
 abbrev pub StandIn : List Run → List State → Type 0
 StandIn runs states = map (λ state. state.alarm) states ≡ map holder.Alarm (flat_map alarms_in runs)
