@@ -1,0 +1,22 @@
+ghost use Rattle.std.specs.Prelude.{◌≡◌, ◌≢◌, ◌<◌, ◌≤◌, ◌*◌, ℕ, List, length, All};
+ghost use Rattle.checkpoint_body.specs.declared.item.BucketRecord.{BucketRecord as ABucketRecord};
+ghost use Rattle.checkpoint_body.specs.declared.item.Point.{Point as APoint};
+ghost use Rattle.checkpoint_body.specs.Records.{record_pages, record_pages_size, records_of};
+ghost use Rattle.checkpoint_body.specs.Slots.{points_of, slot_pages, slot_pages_size};
+
+/// The laws of the pages of points: they give the points back, and have 28 bytes at most for each of them: 24 for
+/// a page's head, or for six empty slots before a point, and 4 for the point's own slot. It does nothing.
+pub fn any_slots()
+    ensures back { (points : List APoint) → All (λ (point : APoint). point.word ≢ 0) points
+        → points_of (slot_pages points) ≡ points }
+    ensures size { (points : List APoint) → slot_pages_size (slot_pages points) ≤ 28 * length points }
+{}
+
+/// The laws of the pages of records: they give the records back, and have 80 bytes at most for each of them: 24
+/// for a page's head, and 56 for the record. It does nothing.
+pub fn any_records()
+    ensures back { (width : ℕ) (items : List ABucketRecord) → 0 < width
+        → records_of (record_pages width items) ≡ items }
+    ensures size { (width : ℕ) (items : List ABucketRecord)
+        → record_pages_size (record_pages width items) ≤ 80 * length items }
+{}
