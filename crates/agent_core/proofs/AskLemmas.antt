@@ -4,6 +4,7 @@ use Rattle.std.specs.List.{filter, list_all, AllByRecursion}
 use Rattle.std.proofs.lemmas.Bool.{and_parts, cond-false, cond_both, ne_eqb}
 use Rattle.std.proofs.lemmas.List.{length-map, reverse-append, take-map}
 use Rattle.std.proofs.lemmas.List.Elements.{recursion_from_All}
+use Rattle.list_lemmas.proofs.Every.{all-filter, all-take, all-append}
 use Rattle.storage_number.specs.Word.{is_word}
 use Rattle.host_model.specs.Past.{Event}
 use Rattle.history.specs.History.{Beat, collected, copied, health, missing, registry_of, Word}
@@ -25,8 +26,7 @@ use Rattle.replication.specs.declared.names.Names.{Names}
 use Rattle.replication.specs.Answer.{data_of, from_of, AreBeatsOf as AreSentOf, AreOfSeries}
 use Rattle.replication.specs.Copies.{above, RisesFrom}
 use Rattle.replication.specs.Names.{beat_moment}
-use Rattle.replication.proofs.AboveLaws.{all-filter, all-take}
-use Rattle.replication.proofs.Copies.{all-append, all-map}
+use Rattle.replication.proofs.Copies.{all-map}
 use Rattle.replication.proofs.FrontLaws.{data_of-take}
 use Rattle.replication.proofs.NamesLaws.{above-map}
 use Rattle.replication.proofs.Wholes.{all-of-map}

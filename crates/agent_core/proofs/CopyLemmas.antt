@@ -8,6 +8,7 @@ use Rattle.std.proofs.Math.Seq.{take-nil}
 use Rattle.std.proofs.lemmas.Bool.{cases_Bool, and_from, and_parts, cond-true, cond-false, or_left, or_right}
 use Rattle.std.proofs.lemmas.List.{append-nil, append_assoc, length-map, map-append, take-map}
 use Rattle.std.proofs.lemmas.Option.{none-some, same_Some}
+use Rattle.list_lemmas.proofs.Every.{all-take, all-append}
 use Rattle.history.specs.declared.beat.OpenBeat.{OpenBeat}
 use Rattle.history.specs.History.{Beat, collected, copied, health, missing, child as child_of, gaps, last, registry_of, Word}
 use Rattle.history.specs.Registry.{Registry, is_dimension, same_dimension, series_of, with_definitions}
@@ -28,8 +29,7 @@ use Rattle.replication.specs.Answer.{AreNames, AreOfSeries}
 use Rattle.replication.specs.Copies.{end_of, first_beats, first_gaps, gap_between, last_with, latest, EndsBy, IsCopy, RisesFrom}
 use Rattle.replication.specs.Names.{named_beat, named_beats, named_point}
 use Rattle.replication.specs.Verdict.{is_stored}
-use Rattle.replication.proofs.AboveLaws.{all-take}
-use Rattle.replication.proofs.Copies.{all-append, all-map, keeps-copy, keeps-within, latest-later, rises-later}
+use Rattle.replication.proofs.Copies.{all-map, keeps-copy, keeps-within, latest-later, rises-later}
 use Rattle.replication.proofs.Verdicts.{stored-begins}
 use Rattle.link_frames.specs.DataForm.{IsData}
 use Rattle.store_core.specs.declared.beat.Beat.{Beat as StoreBeat}

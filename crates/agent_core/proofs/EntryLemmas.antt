@@ -15,7 +15,7 @@ use Rattle.history.specs.declared.numbered.NumberedBeat.{NumberedBeat}
 use Rattle.history.specs.declared.numbered.NumberedChart.{NumberedChart}
 use Rattle.history.specs.declared.numbered.NumberedDimension.{NumberedDimension}
 use Rattle.field_codec.specs.Spelling.{list_bytes, u32_bytes}
-use Rattle.field_codec.proofs.Lengths.{length-flag_bytes, length-text_bytes, length-u32_bytes, length-u64_bytes}
+use Rattle.field_codec.proofs.Lengths.{items-length, length-flag_bytes, length-list_bytes, length-text_bytes, length-u32_bytes, length-u64_bytes}
 use Rattle.entry_codec.specs.declared.charts.CopiedChart.{CopiedChart}
 use Rattle.entry_codec.specs.declared.dimensions.CopiedDimension.{CopiedDimension}
 use Rattle.entry_codec.specs.declared.entry.Copied.{Copied}
@@ -48,17 +48,6 @@ dimension-id : (def : DimDef) → dimension_keeps_limits def ≡ true → length
 dimension-id def keeps =
     let both = (and_parts (is_id def.id && is_short def.name && is_factor def.multiplier) (is_factor def.divisor) keeps).0 in
     id-length def.id (and_parts (is_id def.id) (is_short def.name) (and_parts (is_id def.id && is_short def.name) (is_factor def.multiplier) both).0).0
-
--- ---- lists
-items-length : {X : Type 0} (bytes : X → List ℕ) (most : ℕ) (items : List X) → AllByRecursion (λ (x : X). length (bytes x) ≤ most) items → length (flat_map bytes items) ≤ most * length items
-items-length bytes most [] all = omega arith
-items-length bytes most (x ∷ items) all =
-    let more : most * length (x ∷ items) ≡ most + most * length items = omega arith in
-    omega (arith, more, ap length (flat_map-cons bytes x items), length-append (bytes x) (flat_map bytes items), all.0, items-length bytes most items all.1)
-
-length-list_bytes : {X : Type 0} (bytes : X → List ℕ) (items : List X) → length (list_bytes bytes items) ≡ 4 + length (flat_map bytes items)
-unfolding list_bytes
-length-list_bytes bytes items = omega (arith, length-append (u32_bytes (length items)) (flat_map bytes items), length-u32_bytes (length items))
 
 -- ---- charts, dimensions and words
 told-chart-length : (chart : NumberedChart) → chart_keeps_limits chart.def ≡ true → length (copied_chart_bytes (told_chart chart)) ≤ 412

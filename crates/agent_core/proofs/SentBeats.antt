@@ -4,8 +4,10 @@ use Rattle.std.specs.List.{list_all, AllByRecursion}
 use Rattle.std.proofs.lemmas.Bool.{and_from, and_parts, le-leb, leb-true, lt-ltb, ltb-true}
 use Rattle.std.proofs.lemmas.List.{append-nil, drop_more, length-append, map-append}
 use Rattle.std.proofs.lemmas.Option.{get_or_from_slice_get, slice_get-get_or}
+use Rattle.list_lemmas.proofs.Every.{all-append}
 use Rattle.storage_number.specs.Word.{is_word}
-use Rattle.entry_codec.specs.Lists.{is_ascending, IsShortListOf}
+use Rattle.field_codec.specs.Lists.{IsShortListOf}
+use Rattle.entry_codec.specs.Lists.{is_ascending}
 use Rattle.beat_tiers.specs.declared.kept.KeptBeat.{KeptBeat}
 use Rattle.beat_tiers.specs.declared.kept.KeptPoint.{KeptPoint}
 use Rattle.beat_tiers.specs.Above.{RiseAbove}
@@ -13,7 +15,7 @@ use Rattle.replication.specs.declared.beats.Beat.{Beat as SentBeat}
 use Rattle.replication.specs.declared.beats.SeriesWord.{SeriesWord}
 use Rattle.replication.specs.Copies.{latest, RisesFrom}
 use Rattle.replication.specs.Names.{beat_moment}
-use Rattle.replication.proofs.Copies.{all-append, all-map, latest-later, rises-later}
+use Rattle.replication.proofs.Copies.{all-map, latest-later, rises-later}
 use Rattle.link_frames.specs.DataForm.{is_storage_number, place_of}
 use Rattle.link_frames.specs.Fields.{FitsBeat, FitsWord}
 use Rattle.agent_core.specs.Asking.{beat_with, AreSendable, IsSendable}

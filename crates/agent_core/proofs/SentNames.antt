@@ -6,6 +6,7 @@ use Rattle.std.proofs.lemmas.Bool.{cases_Bool, and_from, and_parts, eq-eqb, le-l
 use Rattle.std.proofs.lemmas.List.{length-map, take_more}
 use Rattle.std.proofs.lemmas.List.Elements.{recursion_from_All}
 use Rattle.std.proofs.lemmas.Option.{get_or_from_slice_get, same_Some, slice_get_within}
+use Rattle.list_lemmas.proofs.Every.{all-append}
 use Rattle.history.specs.declared.beat.OpenDim.{OpenDim}
 use Rattle.history.specs.declared.chart.ChartDef.{ChartDef}
 use Rattle.history.specs.declared.dimension.DimDef.{DimDef}
@@ -18,9 +19,8 @@ use Rattle.chart_registry.proofs.RowsLemmas.{bytes_eq_same, same_text}
 use Rattle.replication.specs.declared.names.DimName.{DimName}
 use Rattle.replication.specs.declared.names.Names.{Names}
 use Rattle.replication.specs.Answer.{AreNames}
-use Rattle.replication.proofs.Copies.{all-append}
 use Rattle.replication.proofs.PointsLaws.{found}
-use Rattle.entry_codec.specs.Lists.{IsText}
+use Rattle.field_codec.specs.Lists.{IsText}
 use Rattle.entry_codec.proofs.Lengths.{id-length}
 use Rattle.link_frames.specs.DataForm.{has_id, AreApart as ApartNames}
 use Rattle.link_frames.specs.DataForm.{is_chart as may_be_sent, same_chart as same_name, same_dimension as same_dimension_name}

@@ -12,7 +12,7 @@ ghost use Rattle.history.specs.Registry.{same_chart, same_dimension};
 ghost use Rattle.history.specs.Regular.{AreApart};
 ghost use Rattle.beat_tiers.specs.Above.{RiseAbove};
 ghost use Rattle.entry_codec.specs.declared.entry.Settings.{Settings as ASettings};
-ghost use Rattle.entry_codec.specs.Lists.{IsShortListOf};
+ghost use Rattle.field_codec.specs.Lists.{IsShortListOf};
 ghost use Rattle.replication.specs.Answer.{data_of, from_of};
 ghost use Rattle.replication.specs.Copies.{RisesFrom};
 ghost use Rattle.replication.specs.Names.{beat_moment};

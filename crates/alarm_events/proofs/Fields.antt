@@ -1,15 +1,15 @@
 -- The law of each thing that kept alarms have, made of the laws of its fields.
-use Rattle.std.proofs.Common.{◌≡◌, ℕ, zero, suc, ◌^◌, ◌<◌, ◌==◌, Bool, true, false, ◌&&◌, cond, List, [], ◌∷◌, ◌++◌, Option, Some, None, ℤ, Ok, Err, refl, sym, ap, subst, ◌∙◌, arith}
+use Rattle.std.proofs.Common.{◌≡◌, ℕ, zero, suc, ◌^◌, ◌<◌, ◌==◌, Bool, true, false, ◌&&◌, cond, List, [], ◌∷◌, ◌++◌, Option, Some, None, ℤ, Ok, refl, sym, ap, subst, ◌∙◌, arith}
 use Rattle.std.specs.Prelude.{FitsSigned}
 use Rattle.std.specs.Int.{w128}
 use Rattle.std.proofs.lemmas.Bool.{and_parts, eqb-true}
 use Rattle.field_codec.specs.declared.fault.FieldFault.TheVariants.{Range}
 use Rattle.field_codec.specs.Field.{IsBytes, IsField}
-use Rattle.field_codec.specs.Reading.{ReadOf, read_passing, read_u8, read_i128}
+use Rattle.field_codec.specs.Reading.{read_passing, read_u8, read_i128}
 use Rattle.field_codec.specs.Spelling.{u8_bytes, i128_bytes}
 use Rattle.field_codec.proofs.Combined.{done_is, field_from, passing_field, read_as-ok}
 use Rattle.field_codec.proofs.Fields.{u32_field, u64_field, i128_field, flag_field, bytes_field}
-use Rattle.alarm_events.proofs.Combining.{◌⊗◌, made_of, list_field, short_text_field}
+use Rattle.field_codec.proofs.Lists.{◌⊗◌, made_of, list_field, short_text_field}
 use Rattle.health_expr.specs.declared.value.Value.{Value}
 use Rattle.health_expr.specs.declared.value.Value.TheVariants.{Nan, Inf, Fixed}
 use Rattle.alarm_events.specs.declared.status.Status.{Status}

@@ -1,4 +1,2 @@
-mod Loops
-pub mod Combining
 pub mod Fields
 pub mod AlarmsLaw

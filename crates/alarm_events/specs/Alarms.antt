@@ -2,10 +2,10 @@
 use Rattle.std.specs.Prelude.{◌≡◌, ℕ, ◌<◌, ◌^◌, ◌==◌, Bool, true, ◌&&◌, nat_le, if◌then◌else◌, List, ◌++◌, length, Option, Some, None, Ok, Err}
 use Rattle.field_codec.specs.declared.fault.FieldFault.{FieldFault}
 use Rattle.field_codec.specs.declared.fault.FieldFault.TheVariants as field
+use Rattle.field_codec.specs.Lists.{◌>>◌, read_list, IsShortListOf}
 use Rattle.field_codec.specs.Reading.{ReadOf, read_as, read_u64, read_bytes}
 use Rattle.field_codec.specs.Spelling.{u64_bytes, sized_bytes, list_bytes}
 use Rattle.alarm_events.specs.declared.event.Event.{Event}
-use Rattle.alarm_events.specs.Lists.{◌>>◌, read_list, IsShortListOf}
 use Rattle.alarm_events.specs.declared.kept_fault.KeptFault.{KeptFault}
 use Rattle.alarm_events.specs.declared.kept_fault.KeptFault.TheVariants as kept
 use Rattle.alarm_events.specs.declared.kept.KeptAlarms.{KeptAlarms}

@@ -1,9 +1,9 @@
 -- A delay is spelt as a flag and its three numbers, which are 0 where there is none.
 use Rattle.std.specs.Prelude.{ℕ, ◌<◌, ◌^◌, ◌==◌, Bool, true, false, ◌&&◌, ◌||◌, List, ◌++◌, Option, Some, None}
 use Rattle.field_codec.specs.declared.fault.FieldFault.TheVariants.{Range}
+use Rattle.field_codec.specs.Lists.{◌>>◌}
 use Rattle.field_codec.specs.Reading.{ReadOf, read_as, read_passing, read_flag, read_u32}
 use Rattle.field_codec.specs.Spelling.{flag_bytes, u32_bytes}
-use Rattle.alarm_events.specs.Lists.{◌>>◌}
 use Rattle.alarm_events.specs.declared.delay.Delay.{Delay}
 
 -- a flag, how long a rise and a fall wait, and the due moment

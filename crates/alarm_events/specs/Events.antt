@@ -1,12 +1,12 @@
 -- An event.
 use Rattle.std.specs.Prelude.{ℕ, ◌<◌, ◌^◌, List, ◌++◌, length, Option}
+use Rattle.field_codec.specs.Lists.{◌>>◌, IsText}
 use Rattle.field_codec.specs.Reading.{ReadOf, read_as, read_u32, read_u64, read_text}
 use Rattle.field_codec.specs.Spelling.{u32_bytes, u64_bytes, text_bytes}
 use Rattle.health_expr.specs.declared.value.Value.{Value}
 use Rattle.health_expr.specs.Value.{IsWithin}
 use Rattle.alarm_events.specs.declared.event.Event.{Event}
 use Rattle.alarm_events.specs.declared.status.Status.{Status}
-use Rattle.alarm_events.specs.Lists.{◌>>◌, IsText}
 use Rattle.alarm_events.specs.Dues.{due_bytes, read_due, IsSpelledDue}
 use Rattle.alarm_events.specs.Statuses.{status_bytes, read_status}
 use Rattle.alarm_events.specs.Values.{value_bytes, read_value, IsSpelledValue}

@@ -1,7 +1,6 @@
 pub mod Status
 pub mod Event
 pub mod Log
-pub mod Lists
 pub mod Values
 pub mod Statuses
 pub mod Delays

@@ -1,11 +1,11 @@
 -- The state of an alarm of a chart.
 use Rattle.std.specs.Prelude.{ℕ, ◌<◌, ◌^◌, List, ◌++◌, length, Option}
+use Rattle.field_codec.specs.Lists.{◌>>◌, IsText}
 use Rattle.field_codec.specs.Reading.{ReadOf, read_as, read_u32, read_text}
 use Rattle.field_codec.specs.Spelling.{u32_bytes, text_bytes}
 use Rattle.health_expr.specs.declared.value.Value.{Value}
 use Rattle.health_expr.specs.Value.{IsWithin}
 use Rattle.alarm_events.specs.declared.status.Status.{Status}
-use Rattle.alarm_events.specs.Lists.{◌>>◌, IsText}
 use Rattle.alarm_events.specs.declared.delay.Delay.{Delay}
 use Rattle.alarm_events.specs.declared.state.KeptState.{KeptState}
 use Rattle.alarm_events.specs.Delays.{delay_bytes, read_delay, IsSpelledDelay}

@@ -1,7 +1,7 @@
 //! How long the changes of an alarm wait, and that as bytes.
-ghost use Rattle.std.specs.Prelude.{◌≡◌, ◌++◌, Ok, Err, IfOk, IfErr, OnOk, IsOkUnless};
+ghost use Rattle.std.specs.Prelude.{◌≡◌, ◌++◌, IsTrue, Ok, Err, IfOk, IfErr, OnOk, IsOkUnless};
+ghost use Rattle.field_codec.specs.Lists.{IsRefusal};
 ghost use Rattle.alarm_events.specs.Delays.{delay_bytes, parts_bytes, read_delay, IsSpelledDelay};
-ghost use Rattle.alarm_events.specs.Lists.{IsRefusal};
 
 use field_codec::{FieldFault, Reader, Writer};
 
@@ -42,6 +42,17 @@ pub(crate) fn put(delay: Option<Delay>, writer: &mut Writer) -> Result<(), Field
         Some(delay) => put_parts(true, delay.up, delay.down, delay.due, writer),
         None => put_parts(false, 0, 0, 0, writer),
     }
+}
+
+/// A delay has a spelling: a number that is read is in the range of its type.
+pub(crate) fn is_short(delay: Option<Delay>) -> bool
+    ensures always { IsTrue result }
+    ensures delay { IsSpelledDelay delay }
+{
+    if let Some(delay) = delay {
+        let (_up, _down, _due) = (delay.up, delay.down, delay.due);
+    }
+    true
 }
 
 #[tactic(auto, unfolding(crate::specs::Delays::read_delay))]

@@ -1,7 +1,7 @@
 //! A due moment that may be missing, as bytes.
-ghost use Rattle.std.specs.Prelude.{◌≡◌, ◌++◌, Ok, Err, IfOk, IfErr, OnOk, IsOkUnless};
+ghost use Rattle.std.specs.Prelude.{◌≡◌, ◌++◌, IsTrue, Ok, Err, IfOk, IfErr, OnOk, IsOkUnless};
+ghost use Rattle.field_codec.specs.Lists.{IsRefusal};
 ghost use Rattle.alarm_events.specs.Dues.{due_bytes, read_due, IsSpelledDue};
-ghost use Rattle.alarm_events.specs.Lists.{IsRefusal};
 
 use field_codec::{FieldFault, Reader, Writer};
 
@@ -21,6 +21,17 @@ pub(crate) fn put(due: Option<u32>, writer: &mut Writer) -> Result<(), FieldFaul
             writer.put_u32(0)
         }
     }
+}
+
+/// A due moment has a spelling: a number that is read is in the range of its type.
+pub(crate) fn is_short(due: Option<u32>) -> bool
+    ensures always { IsTrue result }
+    ensures due { IsSpelledDue due }
+{
+    if let Some(moment) = due {
+        let _moment = moment;
+    }
+    true
 }
 
 #[tactic(auto, unfolding(crate::specs::Dues::read_due))]

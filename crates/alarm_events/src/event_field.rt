@@ -2,12 +2,13 @@
 ghost use Rattle.std.specs.Prelude.{◌≡◌, ◌++◌, ◌↔◌, Ok, Err, IsTrue, IfOk, IfErr, OnOk, IsOkUnless};
 
 use crate::event::Event;
-use crate::list::Item;
-use crate::{due, status_field, text, value};
-use field_codec::{FieldFault, Reader, Writer};
+use crate::format::AlarmFormat;
+use crate::{due, status_field, value};
+use field_codec::list::ListItem;
+use field_codec::{FieldFault, Reader, Writer, text};
 use std::alloc::Global;
 
-impl Item for Event {
+impl ListItem<AlarmFormat> for Event {
     ghost use Rattle.alarm_events.specs.Events.{IsEvent, IsShortEvent, event_bytes, read_event};
 
     ghost is_item = { IsEvent };
@@ -19,7 +20,11 @@ impl Item for Event {
     ghost read_item = { read_event };
 
     fn is_short(&self) -> bool {
-        text::is_short(&self.chart) && text::is_short(&self.alarm) && value::is_short(self.value)
+        let (_id, _moment) = (self.id, self.moment);
+        text::is_short(&self.chart)
+            && text::is_short(&self.alarm)
+            && value::is_short(self.value)
+            && due::is_short(self.due)
     }
 
     #[tactic(auto, unfolding(crate::specs::Events::event_bytes))]

@@ -12,7 +12,7 @@
 //! grows with the items that are read, so that a count takes no memory by itself.
 //!
 //! It stands on `health_expr` for values, on `fixed_num` for texts and numbers, on `field_codec` for the fields
-//! of bytes, and on the kit's `circular_buffer` for the ring.
+//! and lists of bytes, and on the kit's `circular_buffer` for the ring.
 #![tactic(auto)]
 
 mod delay;
@@ -20,17 +20,16 @@ mod due;
 mod event;
 mod event_field;
 mod fault;
+mod format;
 mod kept;
 mod kept_fault;
 mod law;
-mod list;
 mod log;
 mod reading;
 mod short;
 mod state;
 mod status;
 mod status_field;
-mod text;
 mod value;
 mod writing;
 

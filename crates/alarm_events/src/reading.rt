@@ -1,13 +1,12 @@
 ghost use Rattle.std.specs.Prelude.{◌≡◌, ◌⊎◌, Some, None, Ok, Err, IfOk, IfErr};
+ghost use Rattle.field_codec.specs.Lists.{IsRefusal};
 ghost use Rattle.field_codec.specs.Reading.{read_bytes};
-ghost use Rattle.alarm_events.specs.Lists.{IsRefusal};
 ghost use Rattle.alarm_events.specs.Alarms.{alarms_bytes, read_fields, read_alarms, are_few, HasSpelling};
 
 use crate::kept::{KeptAlarms, MOST_STATES};
 use crate::kept_fault::KeptFault;
-use crate::list;
 use crate::log::SHOWN;
-use field_codec::{ByteList, FieldFault, Reader};
+use field_codec::{ByteList, FieldFault, Reader, list};
 use std::alloc::Global;
 
 fn take_text(alloc: Global, reader: &mut Reader<'_>) -> Result<ByteList, FieldFault>

@@ -3,7 +3,8 @@ ghost use Rattle.std.specs.Prelude.{◌↔◌, IsTrue};
 ghost use Rattle.alarm_events.specs.Alarms.{IsShort};
 
 use crate::kept::KeptAlarms;
-use crate::{list, reading};
+use crate::reading;
+use field_codec::list;
 
 /// Whether alarms have a spelling: their texts have at most 65,535 bytes, the health text fewer than 2^32, their
 /// values are within the limit of expressions, and there are no more states and events than there may be.

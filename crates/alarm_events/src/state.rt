@@ -2,10 +2,11 @@
 ghost use Rattle.std.specs.Prelude.{◌≡◌, ◌++◌, ◌↔◌, Ok, Err, IsTrue, IfOk, IfErr, OnOk, IsOkUnless};
 
 use crate::delay::{self, Delay};
-use crate::list::Item;
+use crate::format::AlarmFormat;
 use crate::status::Status;
-use crate::{status_field, text, value};
-use field_codec::{FieldFault, Reader, Writer};
+use crate::{status_field, value};
+use field_codec::list::ListItem;
+use field_codec::{FieldFault, Reader, Writer, text};
 use fixed_num::{ListOf, Text};
 use health_expr::Value;
 use std::alloc::Global;
@@ -27,7 +28,7 @@ pub struct KeptState {
 /// The states of alarms.
 pub type KeptStateList = ListOf<KeptState>;
 
-impl Item for KeptState {
+impl ListItem<AlarmFormat> for KeptState {
     ghost use Rattle.alarm_events.specs.States.{IsState, IsShortState, state_bytes, read_state};
 
     ghost is_item = { IsState };
@@ -39,7 +40,8 @@ impl Item for KeptState {
     ghost read_item = { read_state };
 
     fn is_short(&self) -> bool {
-        text::is_short(&self.alarm) && value::is_short(self.value)
+        let _chart = self.chart;
+        text::is_short(&self.alarm) && value::is_short(self.value) && delay::is_short(self.delay)
     }
 
     #[tactic(auto, unfolding(crate::specs::States::state_bytes))]

@@ -1,7 +1,7 @@
 //! A status as a byte.
 ghost use Rattle.std.specs.Prelude.{◌≡◌, ◌++◌, Ok, Err, IfOk, IfErr, OnOk, IsOkUnless};
+ghost use Rattle.field_codec.specs.Lists.{IsRefusal};
 ghost use Rattle.alarm_events.specs.Statuses.{status_bytes, read_status};
-ghost use Rattle.alarm_events.specs.Lists.{IsRefusal};
 
 use crate::status::Status;
 use field_codec::{FieldFault, Reader, Writer};

@@ -1,8 +1,8 @@
 //! A value as its kind, and its number where it has one.
 ghost use Rattle.std.specs.Prelude.{◌≡◌, ◌++◌, ◌↔◌, Ok, Err, IsTrue, IfOk, IfErr, OnOk, IsOkUnless};
+ghost use Rattle.field_codec.specs.Lists.{IsRefusal};
 ghost use Rattle.health_expr.specs.Value.{IsWithin};
 ghost use Rattle.alarm_events.specs.Values.{value_bytes, read_value, read_fixed, is_within, IsSpelledValue};
-ghost use Rattle.alarm_events.specs.Lists.{IsRefusal};
 
 use field_codec::{FieldFault, Reader, Writer};
 use fixed_num::{LIMIT, Units};
@@ -35,7 +35,8 @@ fn is_within(units: Units) -> bool
 
 /// Whether a value is within the limit of expressions.
 pub(crate) fn is_short(value: Value) -> bool
-    ensures { IsTrue result ↔ IsWithin value }
+    ensures short { IsTrue result ↔ IsWithin value }
+    ensures value { IsTrue result ↔ IsSpelledValue value }
 {
     match value {
         Value::Nan | Value::Inf(_) => true,

@@ -2,8 +2,7 @@ ghost use Rattle.std.specs.Prelude.{◌≡◌, ◌++◌, Some, IfOk, OnOk, IsOkU
 ghost use Rattle.alarm_events.specs.Alarms.{alarms_bytes, read_alarms, HasSpelling, IsShort};
 
 use crate::kept::KeptAlarms;
-use crate::list;
-use field_codec::{ByteList, FieldFault, Writer};
+use field_codec::{ByteList, FieldFault, Writer, list};
 use std::alloc::{AllocError, Global};
 
 #[tactic(auto, unfolding(crate::specs::Alarms::alarms_bytes))]

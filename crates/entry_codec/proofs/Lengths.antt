@@ -6,7 +6,7 @@ use Rattle.std.proofs.lemmas.List.Concat.{flat_map-cons}
 use Rattle.std.proofs.lemmas.List.Elements.{recursion_from_All}
 use Rattle.std.proofs.lemmas.List.Sums.{sum_by-cons}
 use Rattle.field_codec.specs.Spelling.{u32_bytes, list_bytes}
-use Rattle.field_codec.proofs.Lengths.{length-u8_bytes, length-u32_bytes, length-i32_bytes, length-i64_bytes, length-flag_bytes, length-text_bytes}
+use Rattle.field_codec.proofs.Lengths.{length-u8_bytes, length-u32_bytes, length-i32_bytes, length-i64_bytes, length-flag_bytes, length-text_bytes, items-length, length-list_bytes}
 use Rattle.history.specs.declared.chart.ChartDef.{ChartDef}
 use Rattle.history.specs.declared.dimension.DimDef.{DimDef}
 use Rattle.history.specs.declared.limits.TheConstants.{ID_LIMIT, UPDATE_EVERY_LIMIT}
@@ -23,25 +23,6 @@ use Rattle.entry_codec.specs.Entries.{collected_bytes, entry_bytes, IsShortColle
 use Rattle.entry_codec.specs.Rows.{row_bytes, value_bytes, IsShortRow, IsShortValue}
 
 -- ---- lists
-
-items-length : {X : Type 0} (bytes : X → List ℕ) (most : ℕ) (items : List X) → AllByRecursion (λ (x : X). length (bytes x) ≤ most) items
-    → length (flat_map bytes items) ≤ most * length items
-items-length bytes most [] all = omega arith
-items-length bytes most (x ∷ items) all =
-    let more : most * length (x ∷ items) ≡ most + most * length items = omega arith in
-    omega (
-      arith,
-      more,
-      ap length (flat_map-cons bytes x items),
-      length-append (bytes x) (flat_map bytes items),
-      all.0,
-      items-length bytes most items all.1,
-    )
-
-length-list_bytes : {X : Type 0} (bytes : X → List ℕ) (items : List X) → length (list_bytes bytes items) ≡ 4 + length (flat_map bytes items)
-unfolding list_bytes
-length-list_bytes bytes items =
-    omega (arith, length-append (u32_bytes (length items)) (flat_map bytes items), length-u32_bytes (length items))
 
 -- what each item is where it keeps its limits
 all-kept : {X : Type 0} (keeps : X → Bool) (P : X → Type 0) → ((x : X) → keeps x ≡ true → P x) → (items : List X)

@@ -2,13 +2,13 @@
 use Rattle.std.specs.Prelude.{ℕ, zero, suc, ℤ, ◌<◌, ◌^◌, Bool, nat_lt, List, ◌++◌, length, FitsSigned}
 use Rattle.std.specs.Int.{w64}
 use Rattle.field_codec.specs.declared.fault.FieldFault.TheVariants.{Range}
+use Rattle.field_codec.specs.Lists.{◌>>◌, IsText}
 use Rattle.field_codec.specs.Reading.{ReadOf, read_as, read_passing, read_u8, read_u32, read_i64, read_flag, read_text}
 use Rattle.field_codec.specs.Spelling.{u8_bytes, u32_bytes, i64_bytes, flag_bytes, text_bytes}
 use Rattle.history.specs.declared.chart.ChartKind.{ChartKind}
 use Rattle.history.specs.declared.chart.ChartKind.TheVariants.{Line, Area, Stacked}
 use Rattle.history.specs.declared.numbered.NumberedChart.{NumberedChart}
 use Rattle.entry_codec.specs.declared.charts.CopiedChart.{CopiedChart}
-use Rattle.entry_codec.specs.Lists.{◌>>◌, IsText}
 
 -- how a chart is drawn, as a number
 abbrev pub kind_number : ChartKind → ℕ

@@ -2,13 +2,13 @@
 use Rattle.std.specs.Prelude.{ℕ, zero, suc, ℤ, ◌<◌, ◌^◌, Bool, true, false, nat_lt, List, ◌++◌, length, FitsSigned}
 use Rattle.std.specs.Int.{w32}
 use Rattle.field_codec.specs.declared.fault.FieldFault.TheVariants.{Range}
+use Rattle.field_codec.specs.Lists.{◌>>◌, IsText}
 use Rattle.field_codec.specs.Reading.{ReadOf, read_as, read_passing, read_u8, read_u32, read_i32, read_flag, read_text}
 use Rattle.field_codec.specs.Spelling.{u8_bytes, u32_bytes, i32_bytes, flag_bytes, text_bytes}
 use Rattle.history.specs.declared.dimension.Algorithm.{Algorithm}
 use Rattle.history.specs.declared.dimension.Algorithm.TheVariants.{Absolute, Incremental, PercentageOfAbsoluteRow, PercentageOfIncrementalRow}
 use Rattle.history.specs.declared.numbered.NumberedDimension.{NumberedDimension}
 use Rattle.entry_codec.specs.declared.dimensions.CopiedDimension.{CopiedDimension}
-use Rattle.entry_codec.specs.Lists.{◌>>◌, IsText}
 
 -- how points come from values, as a number
 abbrev pub algorithm_number : Algorithm → ℕ

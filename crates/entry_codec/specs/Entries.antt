@@ -4,6 +4,7 @@ use Rattle.std.specs.List.{list_all, sum_by}
 use Rattle.storage_number.specs.Word.{is_word}
 use Rattle.field_codec.specs.declared.fault.FieldFault.{FieldFault}
 use Rattle.field_codec.specs.declared.fault.FieldFault.TheVariants as fields
+use Rattle.field_codec.specs.Lists.{◌>>◌, read_list, IsShortListOf}
 use Rattle.field_codec.specs.Reading.{ReadOf, read_as, read_passing, read_u8, read_u32, read_u64, read_bytes}
 use Rattle.field_codec.specs.Spelling.{u8_bytes, u32_bytes, u64_bytes, sized_bytes, list_bytes}
 use Rattle.entry_codec.specs.declared.charts.CopiedChart.{CopiedChart}
@@ -25,7 +26,7 @@ use Rattle.history.specs.declared.row.Value.{Value}
 use Rattle.entry_codec.specs.declared.words.CopiedWord.{CopiedWord}
 use Rattle.entry_codec.specs.Charts.{chart_bytes, copied_chart_bytes, read_chart, read_copied_chart, IsChart, IsCopiedChart, IsShortChart, IsShortCopiedChart}
 use Rattle.entry_codec.specs.Dimensions.{copied_dimension_bytes, dimension_bytes, read_copied_dimension, read_dimension, IsCopiedDimension, IsDimension, IsShortCopiedDimension, IsShortDimension}
-use Rattle.entry_codec.specs.Lists.{◌>>◌, is_ascending, read_list, IsShortListOf}
+use Rattle.entry_codec.specs.Lists.{is_ascending}
 use Rattle.entry_codec.specs.Rows.{read_row, row_bytes, IsRow, IsShortRow}
 use Rattle.entry_codec.specs.Words.{read_word, word_bytes, IsCopiedWord, IsShortWord}
 

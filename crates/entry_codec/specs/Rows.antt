@@ -1,11 +1,11 @@
 -- The rows of a collected beat.
 use Rattle.std.specs.Prelude.{ℕ, ℤ, ◌<◌, ◌^◌, Bool, List, ◌++◌, FitsSigned}
 use Rattle.std.specs.Int.{w64}
+use Rattle.field_codec.specs.Lists.{◌>>◌, read_list, IsShortListOf}
 use Rattle.field_codec.specs.Reading.{ReadOf, read_as, read_u32, read_i64, read_flag}
 use Rattle.field_codec.specs.Spelling.{u32_bytes, i64_bytes, flag_bytes, list_bytes}
 use Rattle.history.specs.declared.row.Row.{Row}
 use Rattle.history.specs.declared.row.Value.{Value}
-use Rattle.entry_codec.specs.Lists.{◌>>◌, read_list, IsShortListOf}
 
 abbrev pub value_of : (ℕ × ℤ) × Bool → Value
 value_of ((series, value), anomalous) = record { series = series; value = value; anomalous = anomalous }

@@ -1,9 +1,9 @@
 -- The storage numbers of a copied beat.
 use Rattle.std.specs.Prelude.{ℕ, ◌<◌, ◌^◌, List, ◌++◌}
+use Rattle.field_codec.specs.Lists.{◌>>◌}
 use Rattle.field_codec.specs.Reading.{ReadOf, read_as, read_u32}
 use Rattle.field_codec.specs.Spelling.{u32_bytes}
 use Rattle.entry_codec.specs.declared.words.CopiedWord.{CopiedWord}
-use Rattle.entry_codec.specs.Lists.{◌>>◌}
 
 abbrev pub word_of : ℕ × ℕ → CopiedWord
 word_of (series, word) = record { series = series; word = word }

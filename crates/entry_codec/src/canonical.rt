@@ -5,7 +5,7 @@ ghost use Rattle.std.specs.List.{list_all};
 ghost use Rattle.entry_codec.specs.Entries.{are_values_ascending, is_canonical, is_collected_canonical, is_copied_canonical, is_storage_number};
 
 use crate::entry::{Copied, Entry};
-use crate::list;
+use crate::order;
 use crate::words::CopiedWord;
 use history::{NumberedBeat, Row};
 
@@ -13,7 +13,7 @@ fn are_values_ascending(rows: &[Row]) -> bool
     ensures { result ≡ list_all are_values_ascending rows.now }
 {
     rows.iter()
-        .all(|row| list::is_ascending(row.values.as_slice()))
+        .all(|row| order::is_ascending(row.values.as_slice()))
 }
 
 fn are_storage_numbers(words: &[CopiedWord]) -> bool
@@ -26,13 +26,13 @@ fn are_storage_numbers(words: &[CopiedWord]) -> bool
 pub(crate) fn is_collected(collected: &NumberedBeat) -> bool
     ensures { result ≡ is_collected_canonical collected.now }
 {
-    if !list::is_ascending(collected.charts.as_slice()) {
+    if !order::is_ascending(collected.charts.as_slice()) {
         return false;
     }
-    if !list::is_ascending(collected.dimensions.as_slice()) {
+    if !order::is_ascending(collected.dimensions.as_slice()) {
         return false;
     }
-    if !list::is_ascending(collected.rows.as_slice()) {
+    if !order::is_ascending(collected.rows.as_slice()) {
         return false;
     }
     are_values_ascending(collected.rows.as_slice())
@@ -42,13 +42,13 @@ pub(crate) fn is_collected(collected: &NumberedBeat) -> bool
 fn is_copied(copied: &Copied) -> bool
     ensures { result ≡ is_copied_canonical copied.now }
 {
-    if !list::is_ascending(copied.charts.as_slice()) {
+    if !order::is_ascending(copied.charts.as_slice()) {
         return false;
     }
-    if !list::is_ascending(copied.dimensions.as_slice()) {
+    if !order::is_ascending(copied.dimensions.as_slice()) {
         return false;
     }
-    if !list::is_ascending(copied.words.as_slice()) {
+    if !order::is_ascending(copied.words.as_slice()) {
         return false;
     }
     are_storage_numbers(copied.words.as_slice())

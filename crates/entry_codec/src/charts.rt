@@ -1,8 +1,10 @@
 ghost use Rattle.std.specs.Prelude.{◌≡◌, ◌++◌, ◌↔◌, Ok, Err, IsTrue, IfOk, IfErr, OnOk, IsOkUnless};
 
-use crate::list::Item;
-use crate::{kind, text};
-use field_codec::{FieldFault, Reader, Writer};
+use crate::format::EntryFormat;
+use crate::kind;
+use crate::order::Numbered;
+use field_codec::list::ListItem;
+use field_codec::{FieldFault, Reader, Writer, text};
 use fixed_num::{ListOf, Text};
 use history::{ChartDef, NumberedChart};
 use std::alloc::Global;
@@ -19,7 +21,15 @@ pub struct CopiedChart {
     pub update_every: u32,
 }
 
-impl Item for NumberedChart {
+impl Numbered for NumberedChart {
+    ghost item_number = { λ c. c.number };
+
+    fn number(&self) -> u32 {
+        self.number
+    }
+}
+
+impl ListItem<EntryFormat> for NumberedChart {
     ghost use Rattle.entry_codec.specs.Charts.{IsChart, IsShortChart, chart_bytes, read_chart};
 
     ghost is_item = { IsChart };
@@ -29,12 +39,6 @@ impl Item for NumberedChart {
     ghost item_bytes = { chart_bytes };
 
     ghost read_item = { read_chart };
-
-    ghost item_number = { λ c. c.number };
-
-    fn number(&self) -> u32 {
-        self.number
-    }
 
     fn is_short(&self) -> bool {
         let def = &self.def;
@@ -91,7 +95,15 @@ impl Item for NumberedChart {
     }
 }
 
-impl Item for CopiedChart {
+impl Numbered for CopiedChart {
+    ghost item_number = { λ c. c.number };
+
+    fn number(&self) -> u32 {
+        self.number
+    }
+}
+
+impl ListItem<EntryFormat> for CopiedChart {
     ghost use Rattle.entry_codec.specs.Charts.{IsCopiedChart, IsShortCopiedChart, copied_chart_bytes, read_copied_chart};
 
     ghost is_item = { IsCopiedChart };
@@ -101,12 +113,6 @@ impl Item for CopiedChart {
     ghost item_bytes = { copied_chart_bytes };
 
     ghost read_item = { read_copied_chart };
-
-    ghost item_number = { λ c. c.number };
-
-    fn number(&self) -> u32 {
-        self.number
-    }
 
     fn is_short(&self) -> bool {
         let (_number, _update_every) = (self.number, self.update_every);

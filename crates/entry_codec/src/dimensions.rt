@@ -1,8 +1,10 @@
 ghost use Rattle.std.specs.Prelude.{◌≡◌, ◌++◌, ◌↔◌, Ok, Err, IsTrue, IfOk, IfErr, OnOk, IsOkUnless};
 
-use crate::list::Item;
-use crate::{marks, text};
-use field_codec::{FieldFault, Reader, Writer};
+use crate::format::EntryFormat;
+use crate::marks;
+use crate::order::Numbered;
+use field_codec::list::ListItem;
+use field_codec::{FieldFault, Reader, Writer, text};
 use fixed_num::{ListOf, Text};
 use history::{DimDef, NumberedDimension};
 use std::alloc::Global;
@@ -19,7 +21,15 @@ pub struct CopiedDimension {
     pub hidden: bool,
 }
 
-impl Item for NumberedDimension {
+impl Numbered for NumberedDimension {
+    ghost item_number = { λ d. d.series };
+
+    fn number(&self) -> u32 {
+        self.series
+    }
+}
+
+impl ListItem<EntryFormat> for NumberedDimension {
     ghost use Rattle.entry_codec.specs.Dimensions.{IsDimension, IsShortDimension, dimension_bytes, read_dimension};
 
     ghost is_item = { IsDimension };
@@ -29,12 +39,6 @@ impl Item for NumberedDimension {
     ghost item_bytes = { dimension_bytes };
 
     ghost read_item = { read_dimension };
-
-    ghost item_number = { λ d. d.series };
-
-    fn number(&self) -> u32 {
-        self.series
-    }
 
     fn is_short(&self) -> bool {
         let def = &self.def;
@@ -78,7 +82,15 @@ impl Item for NumberedDimension {
     }
 }
 
-impl Item for CopiedDimension {
+impl Numbered for CopiedDimension {
+    ghost item_number = { λ d. d.series };
+
+    fn number(&self) -> u32 {
+        self.series
+    }
+}
+
+impl ListItem<EntryFormat> for CopiedDimension {
     ghost use Rattle.entry_codec.specs.Dimensions.{IsCopiedDimension, IsShortCopiedDimension, copied_dimension_bytes, read_copied_dimension};
 
     ghost is_item = { IsCopiedDimension };
@@ -88,12 +100,6 @@ impl Item for CopiedDimension {
     ghost item_bytes = { copied_dimension_bytes };
 
     ghost read_item = { read_copied_dimension };
-
-    ghost item_number = { λ d. d.series };
-
-    fn number(&self) -> u32 {
-        self.series
-    }
 
     fn is_short(&self) -> bool {
         let (_series, _chart) = (self.series, self.chart);

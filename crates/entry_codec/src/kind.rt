@@ -1,8 +1,8 @@
 //! How a chart is drawn, as a byte.
 
 ghost use Rattle.std.specs.Prelude.{◌≡◌, ◌++◌, Ok, Err, IfOk, IfErr, OnOk, IsOkUnless};
+ghost use Rattle.field_codec.specs.Lists.{IsRefusal};
 ghost use Rattle.entry_codec.specs.Charts.{kind_bytes, read_kind};
-ghost use Rattle.entry_codec.specs.Lists.{IsRefusal};
 
 use field_codec::{FieldFault, Reader, Writer};
 use history::ChartKind;

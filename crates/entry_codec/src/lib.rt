@@ -10,7 +10,7 @@
 //! refused with the first fault from the left, and after all fields with `NotCanonical`. A list grows with
 //! the items that are read, so that a count takes no memory by itself.
 //!
-//! It stands on `field_codec` for the fields, on the definitions of `history`, and on `storage_number` for
+//! It stands on `field_codec` for the fields and lists, on the definitions of `history`, and on `storage_number` for
 //! which words are storage numbers.
 #![tactic(auto)]
 
@@ -19,13 +19,13 @@ mod charts;
 mod dimensions;
 mod entry;
 mod fault;
+mod format;
 mod kind;
 mod law;
-mod list;
 mod marks;
+mod order;
 mod reading;
 mod rows;
-pub mod text;
 mod words;
 mod writing;
 

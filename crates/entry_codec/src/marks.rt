@@ -1,8 +1,8 @@
 //! The algorithm and the marks of a dimension, each as a byte.
 
 ghost use Rattle.std.specs.Prelude.{◌≡◌, ◌++◌, Ok, Err, IfOk, IfErr, OnOk, IsOkUnless};
+ghost use Rattle.field_codec.specs.Lists.{IsRefusal};
 ghost use Rattle.entry_codec.specs.Dimensions.{algorithm_bytes, read_algorithm, marks_bytes, read_marks};
-ghost use Rattle.entry_codec.specs.Lists.{IsRefusal};
 
 use field_codec::{FieldFault, Reader, Writer};
 use history::Algorithm;

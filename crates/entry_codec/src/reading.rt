@@ -1,12 +1,12 @@
 ghost use Rattle.std.specs.Prelude.{◌≡◌, ℕ, ◌⊎◌, Ok, Err, IfOk, IfErr};
+ghost use Rattle.field_codec.specs.Lists.{IsRefusal};
 ghost use Rattle.field_codec.specs.Reading.{read_bytes};
 ghost use Rattle.entry_codec.specs.Entries.{entry_bytes, read_collected, read_copied, read_entry, read_fields, read_gap, read_kind_fields, read_settings, read_tier, read_version, HasSpelling, IsNoSpelling};
-ghost use Rattle.entry_codec.specs.Lists.{IsRefusal};
 
+use crate::canonical;
 use crate::entry::{Copied, Entry, Gap, Settings, TierSettings};
 use crate::fault::EntryFault;
-use crate::{canonical, list};
-use field_codec::{ByteList, FieldFault, Reader};
+use field_codec::{ByteList, FieldFault, Reader, list};
 use history::NumberedBeat;
 use std::alloc::Global;
 

@@ -1,11 +1,21 @@
 ghost use Rattle.std.specs.Prelude.{◌≡◌, ◌++◌, ◌↔◌, Ok, Err, IsTrue, IfOk, IfErr, OnOk, IsOkUnless};
 
-use crate::list::{self, Item};
+use crate::format::EntryFormat;
+use crate::order::Numbered;
+use field_codec::list::{self, ListItem};
 use field_codec::{FieldFault, Reader, Writer};
 use history::{Row, Value};
 use std::alloc::Global;
 
-impl Item for Value {
+impl Numbered for Value {
+    ghost item_number = { λ v. v.series };
+
+    fn number(&self) -> u32 {
+        self.series
+    }
+}
+
+impl ListItem<EntryFormat> for Value {
     ghost use Rattle.entry_codec.specs.Rows.{IsValue, IsShortValue, value_bytes, read_value};
 
     ghost is_item = { IsValue };
@@ -15,12 +25,6 @@ impl Item for Value {
     ghost item_bytes = { value_bytes };
 
     ghost read_item = { read_value };
-
-    ghost item_number = { λ v. v.series };
-
-    fn number(&self) -> u32 {
-        self.series
-    }
 
     fn is_short(&self) -> bool {
         let (_series, _value) = (self.series, self.value);
@@ -47,7 +51,15 @@ impl Item for Value {
     }
 }
 
-impl Item for Row {
+impl Numbered for Row {
+    ghost item_number = { λ r. r.chart };
+
+    fn number(&self) -> u32 {
+        self.chart
+    }
+}
+
+impl ListItem<EntryFormat> for Row {
     ghost use Rattle.entry_codec.specs.Rows.{IsRow, IsShortRow, row_bytes, read_row};
 
     ghost is_item = { IsRow };
@@ -57,12 +69,6 @@ impl Item for Row {
     ghost item_bytes = { row_bytes };
 
     ghost read_item = { read_row };
-
-    ghost item_number = { λ r. r.chart };
-
-    fn number(&self) -> u32 {
-        self.chart
-    }
 
     fn is_short(&self) -> bool {
         let _chart = self.chart;

@@ -1,6 +1,8 @@
 ghost use Rattle.std.specs.Prelude.{◌≡◌, ◌++◌, ◌↔◌, Ok, Err, IsTrue, IfOk, IfErr, OnOk, IsOkUnless};
 
-use crate::list::Item;
+use crate::format::EntryFormat;
+use crate::order::Numbered;
+use field_codec::list::ListItem;
 use field_codec::{FieldFault, Reader, Writer};
 use fixed_num::ListOf;
 use std::alloc::Global;
@@ -15,7 +17,15 @@ pub struct CopiedWord {
     pub word: u32,
 }
 
-impl Item for CopiedWord {
+impl Numbered for CopiedWord {
+    ghost item_number = { λ w. w.series };
+
+    fn number(&self) -> u32 {
+        self.series
+    }
+}
+
+impl ListItem<EntryFormat> for CopiedWord {
     ghost use Rattle.entry_codec.specs.Words.{IsCopiedWord, IsShortWord, word_bytes, read_word};
 
     ghost is_item = { IsCopiedWord };
@@ -25,12 +35,6 @@ impl Item for CopiedWord {
     ghost item_bytes = { word_bytes };
 
     ghost read_item = { read_word };
-
-    ghost item_number = { λ w. w.series };
-
-    fn number(&self) -> u32 {
-        self.series
-    }
 
     fn is_short(&self) -> bool {
         let (_series, _word) = (self.series, self.word);

@@ -2,10 +2,10 @@ ghost use Rattle.std.specs.Prelude.{◌≡◌, ◌<◌, ◌^◌, ◌++◌, ◌�
 ghost use Rattle.entry_codec.specs.Entries.{collected_bytes, copied_bytes, entry_bytes, gap_bytes, is_collected_canonical, read_entry, settings_bytes, tier_bytes, HasSpelling, IsCollected, IsCopied, IsGap, IsSettings, IsShort, IsShortCollected, IsShortCopied, IsTier, IsWithinLimits};
 ghost use Rattle.entry_codec.specs.declared.entry.Entry.TheVariants as entry;
 
+use crate::canonical;
 use crate::entry::{Copied, Entry, Gap, Settings, TierSettings};
 use crate::fault::EntryFault;
-use crate::{canonical, list};
-use field_codec::{ByteList, FieldFault, Writer};
+use field_codec::{ByteList, FieldFault, Writer, list};
 use history::NumberedBeat;
 use std::alloc::{AllocError, Global};
 

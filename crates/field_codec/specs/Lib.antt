@@ -1,3 +1,4 @@
 pub mod Field
+pub mod Lists
 pub mod Reading
 pub mod Spelling

@@ -7,6 +7,7 @@ use Rattle.std.proofs.lemmas.List.{length-map, length-take, map-append}
 use Rattle.std.proofs.lemmas.List.Folds.{list_all-map}
 use Rattle.std.proofs.lemmas.Map.Keys.{any_passes_from_place}
 use Rattle.std.proofs.lemmas.Option.{slice_get-map}
+use Rattle.list_lemmas.proofs.Every.{all-filter, all-take}
 use Rattle.entry_codec.specs.Lists.{is_ascending}
 use Rattle.replication.specs.declared.ask.Ask.{Ask}
 use Rattle.replication.specs.declared.beats.Beat.{Beat}
@@ -20,7 +21,6 @@ use Rattle.replication.specs.Bytes.{data_bytes}
 use Rattle.replication.specs.Copies.{RisesFrom, above, latest}
 use Rattle.replication.specs.Names.{beat_moment, words_of, uses, is_of_chart, uses_chart, used_names, placed_dimension, placed_word, placed_beat}
 use Rattle.replication.specs.Places.{select, place}
-use Rattle.replication.proofs.AboveLaws.{all-filter, all-take}
 use Rattle.replication.proofs.Copies.{all-map, rises-take, RisesFrom-above}
 use Rattle.replication.proofs.FrontLaws.{fits, longest-le}
 use Rattle.replication.proofs.NamesLaws.{RisesFrom-map, latest-map, IsUsed, all-used, all-split}

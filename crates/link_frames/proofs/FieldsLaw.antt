@@ -5,7 +5,7 @@ use Rattle.field_codec.specs.Reading.{ReadOf}
 use Rattle.field_codec.specs.Spelling.{u32_bytes, u64_bytes, flag_bytes, text_bytes, list_bytes}
 use Rattle.field_codec.proofs.Combined.{as_field}
 use Rattle.field_codec.proofs.Fields.{u32_field, u64_field, flag_field}
-use Rattle.entry_codec.proofs.Fields.{◌⊗◌, list_field, short_text_field}
+use Rattle.field_codec.proofs.Lists.{◌⊗◌, list_field, short_text_field}
 use Rattle.replication.specs.declared.ask.Ask.{Ask}
 use Rattle.replication.specs.declared.beats.Beat.{Beat}
 use Rattle.replication.specs.declared.beats.SeriesWord.{SeriesWord}

@@ -8,7 +8,7 @@ use Rattle.field_codec.specs.declared.fault.FieldFault.{FieldFault}
 use Rattle.field_codec.specs.declared.fault.FieldFault.TheVariants as fields
 use Rattle.field_codec.proofs.Combined.{done_is, field_from, read_as-ok}
 use Rattle.field_codec.proofs.Fields.{u8_field, u32_field, u64_field, bytes_field}
-use Rattle.entry_codec.specs.Lists.{IsRefusal}
+use Rattle.field_codec.specs.Lists.{IsRefusal}
 use Rattle.replication.specs.declared.message.Data.{Data}
 use Rattle.replication.specs.Bytes.{data_bytes, data_fields}
 use Rattle.link_frames.specs.declared.frame.Frame.{Frame}

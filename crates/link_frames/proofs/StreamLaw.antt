@@ -5,11 +5,11 @@ use Rattle.std.proofs.lemmas.Grind.{flat_map-append}
 use Rattle.std.proofs.lemmas.List.{append-nil, drop-append-le, drop_at, length-append, length-drop, take-append-drop, take-append-le, take_all, take_at}
 use Rattle.std.proofs.lemmas.List.Concat.{flat_map-cons}
 use Rattle.byteorder.specs.Numbers.{little_from-take, little_number-reads_back}
+use Rattle.list_lemmas.proofs.Every.{all-append}
 use Rattle.field_codec.specs.Field.{IsBytes}
 use Rattle.field_codec.specs.Spelling.{u32_bytes, sized_bytes}
 use Rattle.field_codec.proofs.Lengths.{length-u32_bytes}
 use Rattle.field_codec.proofs.Numbers.{little_bytes-little_number}
-use Rattle.replication.proofs.Copies.{all-append}
 use Rattle.link_frames.specs.declared.frame.Frame.{Frame}
 use Rattle.link_frames.specs.Frames.{body_bytes, body_limit, frame_bytes, HasSpelling, IsNoBody}
 use Rattle.link_frames.specs.Stream.{Feeds, HandsOut, HasNoFrame, IsBad, IsOpen, IsTooLong, body, said}
@@ -105,8 +105,11 @@ after bytes rest end first second third one two = record {
 }
 
 -- one frame in front of others
-regroup : (f : Frame) (fs : List Frame) (rest : List ℕ) → flat_map frame_bytes (f ∷ fs) ++ rest ≡ frame_bytes f ++ (flat_map frame_bytes fs ++ rest)
+pub regroup : (f : Frame) (fs : List Frame) (rest : List ℕ) → flat_map frame_bytes (f ∷ fs) ++ rest ≡ frame_bytes f ++ (flat_map frame_bytes fs ++ rest)
 regroup f fs rest = ap (λ (bs : List ℕ). bs ++ rest) (flat_map-cons frame_bytes f fs) ∙ append_assoc (frame_bytes f) (flat_map frame_bytes fs) rest
+
+pub all-spelt : (bytes rest : List ℕ) (frames : List Frame) → HandsOut bytes [] frames rest → AllByRecursion HasSpelling frames
+all-spelt bytes rest frames cut = subst (AllByRecursion HasSpelling) (sym cut.handed) cut.frames
 
 -- there is one list of frames up to where none stands
 one_list : (fs gs : List Frame) (rest end : List ℕ) → AllByRecursion HasSpelling fs → AllByRecursion HasSpelling gs

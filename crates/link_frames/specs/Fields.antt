@@ -1,7 +1,7 @@
 -- Which values fit the fields that they are spelt by: whole numbers below the limit of their bytes, texts of a
 -- length that two bytes count, and lists of a length that four bytes count.
 use Rattle.std.specs.Prelude.{◌<◌, ◌^◌}
-use Rattle.entry_codec.specs.Lists.{IsShortListOf, IsText}
+use Rattle.field_codec.specs.Lists.{IsShortListOf, IsText}
 use Rattle.replication.specs.declared.ask.Ask.{Ask}
 use Rattle.replication.specs.declared.beats.Beat.{Beat}
 use Rattle.replication.specs.declared.beats.SeriesWord.{SeriesWord}

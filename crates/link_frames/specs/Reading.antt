@@ -2,7 +2,7 @@
 use Rattle.std.specs.Prelude.{ℕ, zero, suc, Bool, List, [], ◌∷◌, Err}
 use Rattle.field_codec.specs.declared.fault.FieldFault.TheVariants.{Short, Range}
 use Rattle.field_codec.specs.Reading.{ReadOf, read_as, read_u8, read_u32, read_u64, read_flag, read_text}
-use Rattle.entry_codec.specs.Lists.{◌>>◌, read_list}
+use Rattle.field_codec.specs.Lists.{◌>>◌, read_list}
 use Rattle.replication.specs.declared.ask.Ask.{Ask}
 use Rattle.replication.specs.declared.beats.Beat.{Beat}
 use Rattle.replication.specs.declared.beats.SeriesWord.{SeriesWord}

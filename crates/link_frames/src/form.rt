@@ -5,7 +5,7 @@ ghost use Rattle.link_frames.specs.Frames.{HasFields, IsInForm};
 
 use crate::data_form::is_data;
 use crate::frame::{BAD_FRAME, DONE, Frame, WRONG_CHILD};
-use crate::list;
+use field_codec::list;
 use replication::{Ask, Data, Names};
 use std::alloc::{AllocError, Global};
 
@@ -39,7 +39,7 @@ fn fits_ask(ask: &Ask) -> bool
 fn fit_names(names: &Names) -> bool
     ensures { IsTrue result ↔ FitNames names.now }
 {
-    list::fits(&names.charts) && list::fits(&names.dimensions)
+    list::is_short_list(&names.charts) && list::is_short_list(&names.dimensions)
 }
 
 fn fits_message(message: &Data) -> bool
@@ -47,7 +47,7 @@ fn fits_message(message: &Data) -> bool
 {
     let (_child, _prev, _from) = (message.child, message.prev, message.from);
     let (_upto, _floor) = (message.upto, message.floor);
-    fit_names(&message.names) && list::fits(&message.beats)
+    fit_names(&message.names) && list::is_short_list(&message.beats)
 }
 
 /// Whether the numbers, texts and lists of a frame fit their fields.

@@ -1,24 +1,26 @@
 //! The charts, dimensions, words and beats of a `Data`, as items of its lists.
 ghost use Rattle.std.specs.Prelude.{◌≡◌, ◌++◌, ◌↔◌, Ok, IsTrue, IfOk, IfErr, OnOk, IsOkUnless};
 
-use crate::list::{self, Item};
-use entry_codec::text;
-use field_codec::{FieldFault, Reader, Writer};
+use crate::format::FrameFormat;
+use field_codec::list::{self, ListItem};
+use field_codec::{FieldFault, Reader, Writer, text};
 use replication::{Beat, ChartName, DimName, SeriesWord};
 use std::alloc::Global;
 
-impl Item for ChartName {
+impl ListItem<FrameFormat> for ChartName {
     ghost use Rattle.replication.specs.Bytes.{chart_bytes};
     ghost use Rattle.link_frames.specs.Fields.{FitsChart};
     ghost use Rattle.link_frames.specs.Reading.{read_chart};
 
     ghost is_item = { FitsChart };
 
+    ghost is_short_item = { FitsChart };
+
     ghost item_bytes = { chart_bytes };
 
     ghost read_item = { read_chart };
 
-    fn fits(&self) -> bool {
+    fn is_short(&self) -> bool {
         let _update_every = self.update_every;
         text::is_short(&self.id) && text::is_short(&self.context)
     }
@@ -43,18 +45,20 @@ impl Item for ChartName {
     }
 }
 
-impl Item for DimName {
+impl ListItem<FrameFormat> for DimName {
     ghost use Rattle.replication.specs.Bytes.{dimension_bytes};
     ghost use Rattle.link_frames.specs.Fields.{FitsDimension};
     ghost use Rattle.link_frames.specs.Reading.{read_dimension};
 
     ghost is_item = { FitsDimension };
 
+    ghost is_short_item = { FitsDimension };
+
     ghost item_bytes = { dimension_bytes };
 
     ghost read_item = { read_dimension };
 
-    fn fits(&self) -> bool {
+    fn is_short(&self) -> bool {
         let _chart = self.chart;
         text::is_short(&self.id)
     }
@@ -75,18 +79,20 @@ impl Item for DimName {
     }
 }
 
-impl Item for SeriesWord {
+impl ListItem<FrameFormat> for SeriesWord {
     ghost use Rattle.replication.specs.Bytes.{word_bytes};
     ghost use Rattle.link_frames.specs.Fields.{FitsWord};
     ghost use Rattle.link_frames.specs.Reading.{read_word};
 
     ghost is_item = { FitsWord };
 
+    ghost is_short_item = { FitsWord };
+
     ghost item_bytes = { word_bytes };
 
     ghost read_item = { read_word };
 
-    fn fits(&self) -> bool {
+    fn is_short(&self) -> bool {
         let (_series, _word) = (self.series, self.word);
         true
     }
@@ -105,20 +111,22 @@ impl Item for SeriesWord {
     }
 }
 
-impl Item for Beat {
+impl ListItem<FrameFormat> for Beat {
     ghost use Rattle.replication.specs.Bytes.{beat_bytes};
     ghost use Rattle.link_frames.specs.Fields.{FitsBeat};
     ghost use Rattle.link_frames.specs.Reading.{read_beat};
 
     ghost is_item = { FitsBeat };
 
+    ghost is_short_item = { FitsBeat };
+
     ghost item_bytes = { beat_bytes };
 
     ghost read_item = { read_beat };
 
-    fn fits(&self) -> bool {
+    fn is_short(&self) -> bool {
         let _moment = self.moment;
-        list::fits(&self.words)
+        list::is_short_list(&self.words)
     }
 
     #[tactic(auto, unfolding(replication::specs::Bytes::beat_bytes))]

@@ -10,8 +10,8 @@
 //! it keeps fewer than 2^24 + 4 bytes (`any_cut`). Nothing is reserved by a length or a count; what is read of a
 //! body takes some times the bytes of the body. No contract says so.
 //!
-//! It stands on the spelling of a `Data` of `replication`, on the fields of `field_codec` and the lists of
-//! `entry_codec`, on the form of ids of `history`, and on `storage_number` for which words are storage numbers.
+//! It stands on the spelling of a `Data` of `replication`, on the fields and lists of `field_codec`, on the order of
+//! lists of `entry_codec`, on the form of ids of `history`, and on `storage_number` for which words are storage numbers.
 #![tactic(auto)]
 
 mod apart;
@@ -19,10 +19,10 @@ mod cut;
 mod data_form;
 mod fault;
 mod form;
+mod format;
 mod frame;
 mod items;
 mod law;
-mod list;
 mod reader;
 mod reading;
 mod used;

@@ -1,14 +1,13 @@
 //! From the body of a frame to the frame that has it.
 ghost use Rattle.std.specs.Prelude.{◌≡◌, ◌≤◌, length, Ok, Err, IsErrOf, IfOk, IfErr};
-ghost use Rattle.entry_codec.specs.Lists.{IsRefusal};
+ghost use Rattle.field_codec.specs.Lists.{IsRefusal};
 ghost use Rattle.link_frames.specs.Frames.{body_bytes, body_limit, HasSpelling, IsInForm, IsNoBody};
 ghost use Rattle.link_frames.specs.Reading.{read_ask, read_body, read_data, read_kind, read_names};
 
 use crate::fault::FrameFault;
 use crate::form::is_in_form;
 use crate::frame::Frame;
-use crate::list;
-use field_codec::{FieldFault, Reader};
+use field_codec::{FieldFault, Reader, list};
 use replication::{Ask, Data, Names};
 use std::alloc::Global;
 

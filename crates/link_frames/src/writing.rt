@@ -8,8 +8,7 @@ ghost use Rattle.link_frames.specs.Frames.{ask_bytes, body_bytes, body_limit, fr
 use crate::fault::FrameFault;
 use crate::form::{has_fields, is_in_form};
 use crate::frame::{BODY_LIMIT, Frame};
-use crate::list;
-use field_codec::{ByteList, FieldFault, Writer};
+use field_codec::{ByteList, FieldFault, Writer, list};
 use replication::{Ask, Data, Names};
 use std::alloc::Global;
 

@@ -6,20 +6,6 @@ use Rattle.std.proofs.lemmas.Bool.{cases_Bool, cond-true, cond-false, leb-true, 
 use Rattle.replication.specs.Copies.{RisesFrom, above}
 use Rattle.replication.proofs.Copies.{above-in, above-out}
 
--- what holds of all holds of those that stay
-pub all-filter : {X : Type 0} (P : X → Type 0) (test : X → Bool) (xs : List X) → AllByRecursion P xs → AllByRecursion P (filter test xs)
-all-filter P test [] all = tt
-all-filter P test (x ∷ xs) all =
-    elim (cases_Bool (test x)) [
-      | inl here ↦ subst (AllByRecursion P) (sym (cond-true (test x) (x ∷ filter test xs) (filter test xs) here)) (all.0, all-filter P test xs all.1)
-      | inr not_here ↦ subst (AllByRecursion P) (sym (cond-false (test x) (x ∷ filter test xs) (filter test xs) not_here)) (all-filter P test xs all.1)
-    ]
-
-pub all-take : {X : Type 0} (P : X → Type 0) (n : ℕ) (xs : List X) → AllByRecursion P xs → AllByRecursion P (take n xs)
-all-take P zero xs all = tt
-all-take P (suc n) [] all = tt
-all-take P (suc n) (x ∷ xs) all = (all.0, all-take P n xs all.1)
-
 module _ {B : Type 0} (moment : B → ℕ) where
   rises-above : (low : ℕ) (xs : List B) → RisesFrom moment low xs → (j : ℕ) (d : B) → j < length xs → low < moment (get_or xs j d)
   rises-above low [] rises j d lt = absurd (omega arith)

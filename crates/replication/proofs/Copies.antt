@@ -6,6 +6,7 @@ use Rattle.std.proofs.lemmas.List.{append-nil, take-take}
 use Rattle.std.proofs.lemmas.List.Elements.{filter-append}
 use Rattle.std.proofs.lemmas.List.Folds.{list_any-append}
 use Rattle.std.proofs.lemmas.Bool.{cases_lt, cases_Bool, cond-true, cond-false, and_from, and_left, and_right, le-leb, lt-leb, lt-ltb, le-ltb, or_from, or_left, or_right, or_cases}
+use Rattle.list_lemmas.proofs.Every.{all-append}
 use Rattle.replication.specs.declared.gap.Gap.{Gap}
 use Rattle.replication.specs.Copies.{is_in, is_outside, EndsBy, had_floor, Message, gap_of, first_gaps, first_beats, RisesFrom, latest, last_with, up_to, above, between, IsCopy, IsTrueOf}
 
@@ -37,10 +38,6 @@ get-some (x ∷ xs) (suc i) lt none = get-some xs i (omega arith) none
 pub all-map : {X : Type 0} (P Q : X → Type 0) (xs : List X) → ((x : X) → P x → Q x) → AllByRecursion P xs → AllByRecursion Q xs
 all-map P Q [] each all = tt
 all-map P Q (x ∷ xs) each all = (each x all.0, all-map P Q xs each all.1)
-
-pub all-append : {X : Type 0} (P : X → Type 0) (xs ys : List X) → AllByRecursion P xs → AllByRecursion P ys → AllByRecursion P (xs ++ ys)
-all-append P [] ys all more = more
-all-append P (x ∷ xs) ys all more = (all.0, all-append P xs ys all.1 more)
 
 -- a moment after the end of all gaps lies in none
 outside-after : (last : ℕ) (gaps : List Gap) → AllByRecursion (EndsBy last) gaps → (n : ℕ) → last < n → is_outside gaps n ≡ true

@@ -12,6 +12,7 @@ use Rattle.std.proofs.lemmas.List.Folds.{find_at}
 use Rattle.std.proofs.lemmas.List.Sums.{prefix_len-le-length}
 use Rattle.std.proofs.lemmas.Option.{slice_get_within}
 use Rattle.std.proofs.lemmas.List.Elements.{filter_map-append}
+use Rattle.list_lemmas.proofs.Searches.{find-none}
 use Rattle.replication.specs.declared.beats.SeriesWord.{SeriesWord}
 use Rattle.replication.specs.declared.names.Names.{Names}
 use Rattle.replication.specs.Names.{named_point}
@@ -80,10 +81,6 @@ with_ids-next ids points i x lt at =
     ap (with_ids ids) rest
 
 -- ---- charts
-find-none : {X : Type 0} (p : X → Bool) (xs : List X) → list_any p xs ≡ false → find p xs ≡ None
-find-none p [] none = refl
-find-none p (x ∷ xs) none = let parts = or_parts (p x) (list_any p xs) none in cond-false (p x) (Some x) (find p xs) parts.0 ∙ find-none p xs parts.1
-
 -- a chart that is not there is added
 pub with_id-new : (ids : List (List ℕ)) (id : List ℕ) → position_or_len (bytes_eq id) ids ≡ length ids → with_id ids id ≡ ids ++ id ∷ []
 with_id-new ids id is = elim (cases_Bool (list_any (bytes_eq id) ids)) [

@@ -13,6 +13,7 @@ use Rattle.std.proofs.lemmas.List.Folds.{list_any-append, find_at}
 use Rattle.std.proofs.lemmas.Map.Text.{is_eq-slice_cmp}
 use Rattle.std.proofs.lemmas.Option.{slice_get-map, slice_get_within}
 use Rattle.std.proofs.lemmas.Slice.Eq.{bytes_eq-Decides}
+use Rattle.list_lemmas.proofs.Every.{all-at}
 use Rattle.replication.specs.declared.named.NamedBeat.{NamedBeat}
 use Rattle.replication.specs.declared.named.NamedPoint.{NamedPoint}
 use Rattle.replication.specs.declared.names.ChartName.{ChartName}
@@ -38,11 +39,6 @@ find-some p (x ∷ xs) any =
 -- the first that passes stands at its place
 pub found : {X : Type 0} (p : X → Bool) (xs : List X) → list_any p xs ≡ true → (x : X) × ((slice_get xs (position_or_len p xs) ≡ Some x) × (p x ≡ true))
 found p xs any = let some = find-some p xs any in (some.0, (sym (find_at p xs) ∙ some.1.0, some.1.1))
-
-pub all-at : {X : Type 0} (P : X → Type 0) (xs : List X) (k : ℕ) (x : X) → AllByRecursion P xs → slice_get xs k ≡ Some x → P x
-all-at P [] k x all is = absurd (cc)
-all-at P (y ∷ ys) zero x all is = let same : y ≡ x = cc in subst P same all.0
-all-at P (y ∷ ys) (suc k) x all is = all-at P ys k x all.1 is
 
 -- ---- names
 bytes_eq-itself : (text : List ℕ) → bytes_eq text text ≡ true

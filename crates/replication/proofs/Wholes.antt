@@ -5,6 +5,7 @@ use Rattle.std.specs.Option.{option_map_or}
 use Rattle.std.proofs.lemmas.Bool.{cases_Bool, cond-true, cond-false, cond_both, eqb-true, eq-eqb, or_left, or_right, or_cases}
 use Rattle.std.proofs.lemmas.List.{length-map}
 use Rattle.std.proofs.lemmas.Option.{slice_get_within}
+use Rattle.list_lemmas.proofs.Every.{all-filter, all-take, all-at}
 use Rattle.replication.specs.declared.ask.Ask.{Ask}
 use Rattle.replication.specs.declared.beats.Beat.{Beat}
 use Rattle.replication.specs.declared.beats.SeriesWord.{SeriesWord}
@@ -15,11 +16,9 @@ use Rattle.replication.specs.Answer.{AreNames, AreOfSeries, AreBeatsOf, HaveWord
 use Rattle.replication.specs.Copies.{above}
 use Rattle.replication.specs.Names.{beat_moment, words_of, uses, uses_chart, placed_dimension, used_names, placed_word, placed_beat}
 use Rattle.replication.specs.Places.{select, place}
-use Rattle.replication.proofs.AboveLaws.{all-filter, all-take}
 use Rattle.replication.proofs.Copies.{get-some}
 use Rattle.replication.proofs.NamesLaws.{IsUsed, all-used, all-split}
 use Rattle.replication.proofs.Places.{select-place}
-use Rattle.replication.proofs.PointsLaws.{all-at}
 
 pub all-of-map : {X Y : Type 0} (P : Y → Type 0) (f : X → Y) (xs : List X) → AllByRecursion (λ x. P (f x)) xs → AllByRecursion P (map f xs)
 all-of-map P f [] all = tt

@@ -9,6 +9,7 @@ use Rattle.std.proofs.lemmas.Bool.{cases_Bool, cond-true, cond-false, and_parts,
 use Rattle.std.proofs.lemmas.List.{length-map, take_more}
 use Rattle.std.proofs.lemmas.List.Concat.{flat_map-append}
 use Rattle.std.proofs.lemmas.List.Sums.{sum_by-cons}
+use Rattle.list_lemmas.proofs.Every.{all-append, all-at}
 use Rattle.replication.specs.declared.ask.Ask.{Ask as AnAsk}
 use Rattle.replication.specs.declared.message.Data.{Data}
 use Rattle.replication.specs.declared.named.NamedBeat.{NamedBeat}
@@ -23,11 +24,11 @@ use Rattle.replication.specs.Points.{name_cmp, put, put_all, in_order, points_of
 use Rattle.replication.specs.Sound.{IsTrueData, HavePoints, Sound}
 use Rattle.replication.specs.Verdict.{is_stored}
 use Rattle.replication.specs.World.{start, floor_now, may_follow, with_beat, answer_in, told, with_first, kept_of, child_of, verdict_in, delivered, happens, run_from, run, step_points, points_in}
-use Rattle.replication.proofs.Copies.{all-append, all-map, keeps-copy, keeps-ends, keeps-within, keeps-last, ends-within, copy-later, true-later, rises-later, latest-later}
+use Rattle.replication.proofs.Copies.{all-map, keeps-copy, keeps-ends, keeps-within, keeps-last, ends-within, copy-later, true-later, rises-later, latest-later}
 use Rattle.replication.proofs.NamesLaws.{RisesFrom-map, answer-true, answer-child, answer-prev}
 use Rattle.replication.proofs.Verdicts.{stored-begins}
 use Rattle.replication.proofs.Wholes.{answer-whole}
-use Rattle.replication.proofs.PointsLaws.{all-at, named_beats-numbered, names_of-AreNames, numbered_beats-AreBeatsOf}
+use Rattle.replication.proofs.PointsLaws.{named_beats-numbered, names_of-AreNames, numbered_beats-AreBeatsOf}
 
 pub starts-sound : Sound start
 starts-sound = record {

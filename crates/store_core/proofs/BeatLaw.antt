@@ -7,7 +7,7 @@ use Rattle.field_codec.specs.Field.{IsBytes, IsField}
 use Rattle.field_codec.specs.Reading.{ReadOf}
 use Rattle.field_codec.specs.Spelling.{sized_bytes, u32_bytes, list_bytes}
 use Rattle.field_codec.proofs.Fields.{bytes_field, u32_field}
-use Rattle.entry_codec.proofs.Fields.{◌⊗◌, list_field, made_of}
+use Rattle.field_codec.proofs.Lists.{◌⊗◌, list_field, made_of}
 use Rattle.field_codec.proofs.Lengths.{length-u32_bytes}
 use Rattle.store_core.specs.declared.beat.Beat.{Beat}
 use Rattle.beat_tiers.specs.declared.item.BeatPoint.{BeatPoint}

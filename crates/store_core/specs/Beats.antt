@@ -4,7 +4,8 @@ use Rattle.std.specs.List.{list_all}
 use Rattle.storage_number.specs.Word.{is_word}
 use Rattle.field_codec.specs.Reading.{ReadOf, read_as, read_u32, read_bytes}
 use Rattle.field_codec.specs.Spelling.{u32_bytes, sized_bytes, list_bytes}
-use Rattle.entry_codec.specs.Lists.{◌>>◌, is_ascending, read_list, IsShortListOf}
+use Rattle.field_codec.specs.Lists.{◌>>◌, read_list, IsShortListOf}
+use Rattle.entry_codec.specs.Lists.{is_ascending}
 use Rattle.store_core.specs.declared.beat.Beat.{Beat}
 use Rattle.beat_tiers.specs.declared.item.BeatPoint.{BeatPoint}
 

@@ -2,7 +2,7 @@
 
 ghost use Rattle.std.specs.Prelude.{◌≡◌, ◌∷◌, ◌++◌, [], Ok, Err, IfOk, IfErr, OnOk, IsOkUnless};
 ghost use Rattle.field_codec.specs.Reading.{read_bytes};
-ghost use Rattle.entry_codec.specs.Lists.{read_items, read_list, IsRefusal};
+ghost use Rattle.field_codec.specs.Lists.{read_items, read_list, IsRefusal};
 ghost use Rattle.store_core.specs.Beats.{beat_in, read_fields, read_moment, read_point};
 
 use crate::beat::{Beat, BeatPoint, BeatPointList};
@@ -58,7 +58,7 @@ fn take_points(
     Ok(points)
 }
 
-#[tactic(auto, unfolding(entry_codec::specs::Lists::read_list))]
+#[tactic(auto, unfolding(field_codec::specs::Lists::read_list))]
 fn take_list(alloc: Global, reader: &mut Reader<'_>) -> Result<BeatPointList, FieldFault>
     ensures taken { IfOk result
         (λ points. read_list read_point reader.old ≡ Ok (points, reader.new)) }

@@ -2,7 +2,7 @@
 
 ghost use Rattle.std.specs.Prelude.{◌≡◌, ◌++◌, IfOk, OnOk, IsOkUnless};
 ghost use Rattle.std.specs.List.{flat_map, AllByRecursion};
-ghost use Rattle.entry_codec.specs.Lists.{IsShortListOf};
+ghost use Rattle.field_codec.specs.Lists.{IsShortListOf};
 ghost use Rattle.field_codec.specs.Spelling.{list_bytes};
 ghost use Rattle.store_core.specs.Beats.{beat_bytes, moment_bytes, point_bytes, IsPoint, IsShort};
 

@@ -1,6 +1,6 @@
 use Rattle.std.proofs.Common.{◌≡◌, ◌<◌, length, IfSome, sym, subst, arith}
 use Rattle.std.specs.List.{AllByRecursion}
-use Rattle.replication.proofs.Copies.{all-append}
+use Rattle.list_lemmas.proofs.Every.{all-append}
 use Rattle.agent_core.specs.Asking.{IsChartInUtf8}
 use Rattle.agent_core.specs.Copies.{chart_name}
 use Rattle.agent_core.proofs.SentNames.{named-more}

@@ -1,6 +1,6 @@
 use Rattle.std.proofs.Common.{◌<◌, length, sym, subst, arith}
 use Rattle.std.specs.List.{AllByRecursion}
-use Rattle.replication.proofs.Copies.{all-append}
+use Rattle.list_lemmas.proofs.Every.{all-append}
 use Rattle.agent_core.specs.Asking.{HasChart, IsDimensionInUtf8}
 use Rattle.agent_core.specs.Copies.{dimension_name}
 use Rattle.agent_core.proofs.SentNames.{holds-more, named-more}

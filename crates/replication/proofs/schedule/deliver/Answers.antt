@@ -1,11 +1,11 @@
 use Rattle.std.proofs.Common.{◌≡◌, ℕ, ◌+◌, true, length, Option, Some, slice_get, rules, sym, ap, ◌∙◌, arith}
 use Rattle.std.proofs.lemmas.Grind.{common_steps}
+use Rattle.list_lemmas.proofs.Every.{all-at}
 use Rattle.replication.specs.declared.message.Data.{Data}
 use Rattle.replication.specs.Names.{named_beats, message_of}
 use Rattle.replication.specs.Sound.{IsTrueData}
 use Rattle.replication.specs.Verdict.{is_stored}
 use Rattle.replication.specs.World.{kept_of, verdict_in}
-use Rattle.replication.proofs.PointsLaws.{all-at}
 use Rattle.replication.proofs.ScheduleCode.{judged-same, stored-first, stored-end, of-one}
 use Rattle.replication.proofs.schedule.deliver.Goals as goal
 

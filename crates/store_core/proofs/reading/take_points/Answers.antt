@@ -1,7 +1,7 @@
 use Rattle.std.proofs.lemmas.Result.{err_from_is_err_and}
 use Rattle.field_codec.specs.declared.fault.FieldFault.TheVariants as FieldFault
-use Rattle.entry_codec.specs.Lists.{read_items}
-use Rattle.entry_codec.proofs.Loops.{begins, goes_on, ends, is_done}
+use Rattle.field_codec.specs.Lists.{read_items}
+use Rattle.field_codec.proofs.Loops.{begins, goes_on, ends, is_done}
 use Rattle.store_core.specs.Beats.{read_point}
 use Rattle.store_core.proofs.reading.take_points.Goals as goal
 

@@ -1,6 +1,6 @@
 use Rattle.std.proofs.Common.{◌≡◌, ◌-◌}
-use Rattle.entry_codec.specs.Lists.{read_items}
-use Rattle.entry_codec.proofs.Loops.{with_front}
+use Rattle.field_codec.specs.Lists.{read_items}
+use Rattle.field_codec.proofs.Loops.{with_front}
 use Rattle.store_core.specs.Beats.{read_point}
 use Rattle.store_core.proofs.reading.take_points.Given as goal
 

@@ -1,7 +1,7 @@
 use Rattle.std.proofs.Common.{ltb, length, take, subst, sym, ◌∙◌, ap}
+use Rattle.list_lemmas.proofs.Every.{all-filter, all-take}
 use Rattle.replication.specs.declared.beats.Beat.{Beat}
 use Rattle.replication.specs.Answer.{AreOfSeries, AreBeatsOf}
-use Rattle.replication.proofs.AboveLaws.{all-filter, all-take}
 use Rattle.replication.proofs.child.Child.answer.Goals as goal
 
 pub front_len-requires-clause-series : goal.front_len-requires-clause-series
