@@ -36,7 +36,7 @@ fn is_next(width: u32, page: &RecordPage, item: &BucketRecord) -> bool
     }
     page.series == item.series
         && page.step == width
-        && moment_of(page.first, width, len) == u64::from(item.bucket * width)
+        && moment_of(page.first, width, len) == u128::from(item.bucket * width)
 }
 
 /// Puts a record into the page, where that takes it. Whether it does.

@@ -37,7 +37,7 @@ fn takes(page: &SlotPage, point: &Point, empty: u8) -> bool
     let place = len + usize::from(empty);
     page.series == point.series
         && page.step == point.step
-        && moment_of(page.first, page.step, place) == u64::from(point.moment)
+        && moment_of(page.first, page.step, place) == u128::from(point.moment)
         && place < MOST_SLOTS
 }
 

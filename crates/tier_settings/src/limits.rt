@@ -29,7 +29,8 @@ fn is_tier(tier: &Tier) -> bool
     1 <= tier.items && tier.items <= MOST_ITEMS && 1 <= tier.extents && tier.extents <= MOST_EXTENTS
 }
 
-fn are_tiers(tiers: &[Tier]) -> bool
+/// Whether each of the tiers keeps the limits of its items and segments.
+pub fn are_tiers(tiers: &[Tier]) -> bool
     ensures { result ≡ list_all is_tier tiers.now }
 {
     tiers.iter().all(is_tier)
@@ -45,8 +46,8 @@ pub fn has_widths(tiers: &[Tier]) -> bool
     [second.width, minute.width, hour.width] == WIDTHS
 }
 
-/// Whether a database may have these settings: it has a tier of each width, in their order, and no other, and
-/// in each 1 to 262,144 items make a segment full, and 1 to 1,024 segments are kept.
+/// Whether a database may have these settings: it has a tier of each width, in their order, and no
+/// other, and in each 1 to 262,144 items make a segment full, and 1 to 1,024 segments are kept.
 pub fn is_in_limits(settings: &Settings) -> bool
     ensures { IsTrue result ↔ InLimits settings.now }
 {

@@ -27,8 +27,8 @@ fn tier_of(width: u32, quota: (u32, u32)) -> Tier
 }
 
 impl Settings {
-    /// The settings with this id, and with these items and extents of the tiers of 1, 60 and 3,600 seconds, in
-    /// this order.
+    /// The settings with this id, and with these items and extents of the tiers of 1, 60 and 3,600
+    /// seconds, in this order.
     pub fn new(alloc: Global, id: u64, quotas: [(u32, u32); 3]) -> Result<Settings, AllocError>
         ensures { IfOk result (λ settings. settings ≡ settings_of id quotas) }
     {
