@@ -25,17 +25,17 @@ are_extents tier extents =
 
 -- ---- open records
 
-abbrev pub are_ascending : List OpenRecord → Bool
-are_ascending [] = true
-are_ascending (one ∷ []) = true
-are_ascending (one ∷ next ∷ others) = nat_lt one.series next.series && are_ascending (next ∷ others)
+abbrev pub is_ascending : List ℕ → Bool
+is_ascending [] = true
+is_ascending (one ∷ []) = true
+is_ascending (one ∷ next ∷ others) = nat_lt one next && is_ascending (next ∷ others)
 
 abbrev pub is_series : OpenRecord → Bool
 is_series one = nat_lt one.series 65536
 
 -- one for a series at most, by series
 abbrev pub are_open : List OpenRecord → Bool
-are_open records = list_all is_series records && are_ascending records
+are_open records = list_all is_series records && is_ascending (map (λ one. one.series) records)
 
 -- ---- pages
 

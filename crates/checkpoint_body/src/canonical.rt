@@ -1,9 +1,11 @@
 //! Whether a body is in the form in which it is written.
-ghost use Rattle.std.specs.Prelude.{◌≡◌, ◌==◌, nat_lt, not, map, count_by};
+ghost use Rattle.std.specs.Prelude.{◌≡◌, ◌==◌, [], ◌∷◌, ◌++◌, nat_le, nat_lt, not, map, count_by};
+ghost use Rattle.std.specs.Option.{option_to_list};
+ghost use Rattle.checkpoint_body.specs.declared.body.OpenRecord.{OpenRecord as AnOpenRecord};
 ghost use Rattle.tier_settings.specs.Limits.{HasWidths};
-ghost use Rattle.std.specs.List.{list_all};
+ghost use Rattle.std.specs.List.{list_all, list_any};
 ghost use Rattle.checkpoint_body.specs.Body.{is_canonical};
-ghost use Rattle.checkpoint_body.specs.Canonical.{are_apart, are_ascending, are_extents, are_in_order, are_open, is_before, is_point_tier, is_record_page, is_record_tier, is_series, is_slot, is_slot_page, point_count, record_count, record_span, slot_span, spaced};
+ghost use Rattle.checkpoint_body.specs.Canonical.{are_apart, are_extents, are_in_order, are_open, is_ascending, is_before, is_point_tier, is_record_page, is_record_tier, is_series, is_slot, is_slot_page, point_count, record_count, record_span, slot_span, spaced};
 
 use crate::body::{Body, Extent, OpenRecord, PointTier, RecordTier};
 use crate::grid::moment_of;
@@ -13,13 +15,19 @@ use crate::slots::MOST_SLOTS;
 use crate::span::Span;
 use tier_settings::{Tier, are_tiers};
 
+fn has_slot(extents: &[Extent], slot: u32) -> bool
+    ensures { result ≡ list_any (λ other. other.slot == slot) extents.now }
+{
+    extents.iter().any(|other| other.slot == slot)
+}
+
 /// Whether no extent has the slot of another.
 fn are_apart(extents: &[Extent]) -> bool
     ensures { result ≡ are_apart extents.now }
 {
     let mut ahead = extents;
     while let Some((extent, others)) = ahead.split_first() {
-        if others.iter().any(|other| other.slot == extent.slot) {
+        if has_slot(others, extent.slot) {
             return false;
         }
         ahead = others;
@@ -27,31 +35,55 @@ fn are_apart(extents: &[Extent]) -> bool
     true
 }
 
+fn have_slots(tier: &Tier, extents: &[Extent]) -> bool
+    ensures { result ≡ list_all (λ extent. nat_le extent.slot tier.now.extents) extents.now }
+{
+    extents.iter().all(|extent| extent.slot <= tier.extents)
+}
+
 /// Whether a tier may keep these extents.
 fn are_extents(tier: &Tier, extents: &[Extent]) -> bool
     ensures { result ≡ are_extents tier.now extents.now }
 {
     extents.len() <= tier.extents as usize
-        && extents.iter().all(|extent| extent.slot <= tier.extents)
+        && have_slots(tier, extents)
         && are_apart(extents)
 }
 
-/// Whether each series is below the next.
-fn are_ascending(records: &[OpenRecord]) -> bool
-    ensures { result ≡ are_ascending records.now }
+/// Whether a number may follow the last one.
+fn is_above(last: Option<u32>, number: u32) -> bool
+    ensures { result ≡ is_ascending (option_to_list last ++ number ∷ []) }
 {
-    for place in 1..records.len() {
-        if records[place - 1].series >= records[place].series {
+    match last {
+        None => true,
+        Some(last) => last < number,
+    }
+}
+
+/// Whether the records are by series, each series once.
+fn are_ascending(records: &[OpenRecord]) -> bool
+    ensures { result ≡ is_ascending (map (λ (one : AnOpenRecord). one.series) records.now) }
+{
+    let mut last = None;
+    for record in records {
+        if !is_above(last, record.series) {
             return false;
         }
+        last = Some(record.series);
     }
     true
+}
+
+fn are_of_series(records: &[OpenRecord]) -> bool
+    ensures { result ≡ list_all is_series records.now }
+{
+    records.iter().all(|record| record.series < 65_536)
 }
 
 fn are_open(records: &[OpenRecord]) -> bool
     ensures { result ≡ are_open records.now }
 {
-    records.iter().all(|record| record.series < 65_536) && are_ascending(records)
+    are_of_series(records) && are_ascending(records)
 }
 
 fn slot_span(page: &SlotPage) -> Span
@@ -82,13 +114,26 @@ fn is_before(one: Span, next: Span) -> bool
     one.series < next.series || one.series == next.series && one.end < u128::from(next.first)
 }
 
+/// Whether a page may follow the last one.
+fn may_follow(last: Option<Span>, next: Span) -> bool
+    ensures { result ≡ are_in_order (option_to_list last ++ next ∷ []) }
+{
+    match last {
+        None => true,
+        Some(last) => is_before(last, next),
+    }
+}
+
 fn are_slots_in_order(pages: &[SlotPage]) -> bool
     ensures { result ≡ are_in_order (map slot_span pages.now) }
 {
-    for place in 1..pages.len() {
-        if !is_before(slot_span(&pages[place - 1]), slot_span(&pages[place])) {
+    let mut last = None;
+    for page in pages {
+        let span = slot_span(page);
+        if !may_follow(last, span) {
             return false;
         }
+        last = Some(span);
     }
     true
 }
@@ -96,10 +141,13 @@ fn are_slots_in_order(pages: &[SlotPage]) -> bool
 fn are_records_in_order(pages: &[RecordPage]) -> bool
     ensures { result ≡ are_in_order (map record_span pages.now) }
 {
-    for place in 1..pages.len() {
-        if !is_before(record_span(&pages[place - 1]), record_span(&pages[place])) {
+    let mut last = None;
+    for page in pages {
+        let span = record_span(page);
+        if !may_follow(last, span) {
             return false;
         }
+        last = Some(span);
     }
     true
 }

@@ -1,4 +1,5 @@
 ghost use Rattle.std.specs.Prelude.{◌≡◌, ◌⊎◌, Ok, Err, Some, None, IfOk, IfErr};
+ghost use Rattle.tier_settings.specs.Limits.{HasWidths};
 ghost use Rattle.field_codec.specs.Lists.{read_list, IsRefusal};
 ghost use Rattle.field_codec.specs.Reading.{read_bytes, read_u32, read_u64};
 ghost use Rattle.checkpoint_body.specs.Body.{body_bytes, read_body, read_fields, HasSpelling, IsNoSpelling};
@@ -38,6 +39,7 @@ fn take_version(reader: &mut Reader<'_>) -> Result<(), FieldFault>
 #[tactic(auto, unfolding(crate::specs::Fields::read_settings))]
 fn take_settings(alloc: Global, reader: &mut Reader<'_>) -> Result<Settings, FieldFault>
     ensures taken { IfOk result (λ settings. read_settings reader.old ≡ Ok (settings, reader.new)) }
+    ensures widths { IfOk result (λ settings. HasWidths settings.tiers) }
     ensures fault { IfErr result (IsRefusal (read_settings reader.old)) }
 {
     take_version(reader)?;
@@ -107,6 +109,7 @@ fn take_side(alloc: Global, reader: &mut Reader<'_>) -> Result<ByteList, FieldFa
 #[tactic(auto, unfolding(crate::specs::Body::read_fields))]
 fn take_body(alloc: Global, reader: &mut Reader<'_>) -> Result<Body, FieldFault>
     ensures taken { IfOk result (λ body. read_fields reader.old ≡ Ok (body, reader.new)) }
+    ensures widths { IfOk result (λ body. HasWidths body.settings.tiers) }
     ensures fault { IfErr result (IsRefusal (read_fields reader.old)) }
 {
     let settings = take_settings(alloc, reader)?;
