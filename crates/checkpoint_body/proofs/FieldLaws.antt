@@ -1,27 +1,23 @@
 -- The law of each part of a body, made of the laws of its fields.
-use Rattle.std.proofs.Common.{◌≡◌, ℕ, zero, suc, ◌^◌, ◌<◌, true, List, [], ◌∷◌, ◌++◌, flat_map, length, refl, sym, ap, subst, ◌∙◌, append_assoc, arith}
+use Rattle.std.proofs.Common.{◌≡◌, ℕ, ◌^◌, ◌<◌, true, List, [], ◌∷◌, ◌++◌, flat_map, refl, sym, ap, ◌∙◌, append_assoc, arith}
 use Rattle.std.specs.Prelude.{nat_eq}
 use Rattle.std.specs.List.{AllByRecursion}
 use Rattle.std.proofs.lemmas.Bool.{eqb-true}
 use Rattle.std.proofs.lemmas.List.{append-nil}
 use Rattle.std.proofs.lemmas.List.Concat.{flat_map-cons}
-use Rattle.fixed_num.specs.declared.units.Record.{Record}
 use Rattle.tier_settings.specs.declared.settings.Settings.{Settings}
 use Rattle.tier_settings.specs.declared.tier.Tier.{Tier}
-use Rattle.tier_settings.specs.Limits.{widths, HasWidths}
+use Rattle.tier_settings.specs.Limits.{HasWidths}
 use Rattle.tier_settings.specs.Settings.{tier_with}
 use Rattle.field_codec.specs.declared.fault.FieldFault.TheVariants.{Range}
 use Rattle.field_codec.specs.Field.{IsField}
-use Rattle.field_codec.specs.Lists.{read_list, IsShortListOf}
-use Rattle.field_codec.specs.Reading.{ReadOf, read_as, read_u8, read_u32}
-use Rattle.field_codec.specs.Spelling.{u8_bytes, u32_bytes, u64_bytes, list_bytes}
+use Rattle.field_codec.specs.Reading.{ReadOf, read_u8}
+use Rattle.field_codec.specs.Spelling.{u8_bytes, u32_bytes, u64_bytes}
 use Rattle.field_codec.proofs.Combined.{field_from, passing_field}
 use Rattle.field_codec.proofs.Fields.{bytes_field, i128_field, u8_field, u32_field, u64_field}
 use Rattle.field_codec.proofs.Lists.{◌⊗◌, list_field, made_of}
-use Rattle.checkpoint_body.specs.declared.body.Body.{Body}
-use Rattle.checkpoint_body.specs.declared.of_tiers.OfTiers.{OfTiers}
 use Rattle.checkpoint_body.specs.Body.{body_bytes, body_from, extents_of, floors_of, read_fields, sealed_of, FitsBody}
-use Rattle.checkpoint_body.specs.Fields.{each_bytes, extent_bytes, extent_of, of_tiers, open_record_bytes, open_record_of, quota_bytes, read_each, read_extent, read_open_record, read_quota, read_record, read_record_page, read_settings, read_slot_page, read_version, record_bytes, record_of, record_page_bytes, record_page_from, settings_bytes, settings_from, slot_page_bytes, slot_page_from, FitsExtent, FitsOpenRecord, FitsRecord, FitsRecordPage, FitsSettings, FitsSlotPage, FitsWord, IsEach, IsQuota}
+use Rattle.checkpoint_body.specs.Fields.{each_bytes, extent_bytes, extent_of, of_tiers, open_record_bytes, open_record_of, quota_bytes, read_each, read_extent, read_open_record, read_quota, read_record, read_record_page, read_settings, read_slot_page, read_version, record_bytes, record_of, record_page_bytes, record_page_from, settings_bytes, settings_from, slot_page_bytes, slot_page_from, FitsExtent, FitsOpenRecord, FitsRecord, FitsRecordPage, FitsSettings, FitsSlotPage, IsEach, IsQuota}
 
 -- another way to write the same spelling
 pub same_spelling : {X : Type 0} (V : X → Type 0) (s t : X → List ℕ) (read : List ℕ → ReadOf X) → ((x : X) → V x → s x ≡ t x) → IsField V s read → IsField V t read

@@ -1,29 +1,14 @@
 -- The points of a page of slots, and its size.
-use Rattle.std.proofs.Common.{◌≡◌, ◌≢◌, ℕ, zero, suc, ◌+◌, ◌*◌, ◌≤◌, ◌<◌, Bool, true, false, ◌&&◌, ◌==◌, ltb, cond, List, [], ◌∷◌, ◌++◌, length, replicate, Option, Some, None, refl, ap, sym, subst, ◌∙◌, arith}
+use Rattle.std.proofs.Common.{◌≡◌, ◌≢◌, ℕ, zero, suc, ◌+◌, ◌*◌, ◌≤◌, ◌<◌, Bool, ◌&&◌, ◌==◌, ltb, List, [], ◌∷◌, ◌++◌, length, replicate, Option, Some, None, refl, ap, sym, subst, ◌∙◌, arith}
 use Rattle.std.specs.Option.{option_map}
 use Rattle.std.specs.List.{find, AllByRecursion}
 use Rattle.std.proofs.Common.{length-append}
 use Rattle.std.proofs.lemmas.Bool.{and_parts, eqb-true, ltb-true}
 use Rattle.std.proofs.lemmas.List.{append-nil}
+use Rattle.list_lemmas.proofs.Searches.{found-all, found-passes}
 use Rattle.checkpoint_body.specs.declared.item.Point.{Point}
 use Rattle.checkpoint_body.specs.declared.page.SlotPage.{SlotPage}
 use Rattle.checkpoint_body.specs.Slots.{gaps, points_from, points_in, slot_page_of, slot_page_size, takes, with_point, with_word}
-
--- ---- what is found passes
-
-found_is : {X : Type 0} (a b : X) → Some a ≡ Some b → a ≡ b
-found_is a b e = cc
-
-module _ {X : Type 0} (test : X → Bool) (Q : X → Type 0) where
-  found_here : (x : X) (xs : List X) (found : X) (passes : Bool) → test x ≡ passes → Q x
-      → (find test xs ≡ Some found → (test found ≡ true) × Q found)
-      → cond passes (Some x) (find test xs) ≡ Some found → (test found ≡ true) × Q found
-  found_here x xs found true is holds later e = subst (λ (y : X). (test y ≡ true) × Q y) (found_is x found e) (is, holds)
-  found_here x xs found false is holds later e = later e
-
-  find-passes : (xs : List X) (found : X) → AllByRecursion Q xs → find test xs ≡ Some found → (test found ≡ true) × Q found
-  find-passes [] found all e = absurd cc
-  find-passes (x ∷ xs) found all e = found_here x xs found (test x) refl all.0 (find-passes xs found all.1) e
 
 -- ---- the points of a page
 
@@ -63,7 +48,7 @@ pub record Takes (page : SlotPage) (point : Point) (more : SlotPage) : Type 0 wh
   pub is : with_word page point.word empty ≡ more
 
 mapped : {X Y : Type 0} (f : X → Y) (o : Option X) (y : Y) → option_map f o ≡ Some y → (x : X) × (o ≡ Some x) × (f x ≡ y)
-mapped f (Some x) y e = (x, refl, found_is (f x) y e)
+mapped f (Some x) y e = (x, refl, cc)
 mapped f None y e = absurd cc
 
 few_gaps : AllByRecursion (λ (empty : ℕ). empty ≤ 6) gaps
@@ -73,17 +58,18 @@ pub takes_is : (page : SlotPage) (point : Point) (more : SlotPage) → with_poin
 takes_is page point more e =
     let found = mapped (with_word page point.word) (find (takes page point) gaps) more e in
     let empty = found.0 in
-    let passes = find-passes (takes page point) (λ (n : ℕ). n ≤ 6) gaps empty few_gaps found.1 in
+    let passes = found-passes (takes page point) gaps empty found.1 in
+    let few = found-all (λ (n : ℕ). n ≤ 6) (takes page point) gaps empty few_gaps found.1 in
     let first : Bool = page.series == point.series in
     let second : Bool = page.step == point.step in
     let third : Bool = page.first + (length page.words + empty) * page.step == point.moment in
     let fourth : Bool = ltb (length page.words + empty) 1024 in
-    let last = and_parts (first && second && third) fourth passes.0 in
+    let last = and_parts (first && second && third) fourth passes in
     let next = and_parts (first && second) third last.0 in
     let front = and_parts first second next.0 in
     record {
       empty = empty;
-      few = passes.1;
+      few = few;
       series = eqb-true page.series point.series front.0;
       step = eqb-true page.step point.step front.1;
       moment = eqb-true (page.first + (length page.words + empty) * page.step) point.moment next.1;

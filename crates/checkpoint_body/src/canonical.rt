@@ -45,9 +45,7 @@ fn have_slots(tier: &Tier, extents: &[Extent]) -> bool
 fn are_extents(tier: &Tier, extents: &[Extent]) -> bool
     ensures { result ≡ are_extents tier.now extents.now }
 {
-    extents.len() <= tier.extents as usize
-        && have_slots(tier, extents)
-        && are_apart(extents)
+    extents.len() <= tier.extents as usize && have_slots(tier, extents) && are_apart(extents)
 }
 
 /// Whether a number may follow the last one.

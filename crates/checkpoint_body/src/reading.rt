@@ -51,7 +51,8 @@ fn take_settings(alloc: Global, reader: &mut Reader<'_>) -> Result<Settings, Fie
 }
 
 fn take_floors(reader: &mut Reader<'_>) -> Result<OfTiers<u32>, FieldFault>
-    ensures taken { IfOk result (λ floors. read_each read_u32 reader.old ≡ Ok (floors, reader.new)) }
+    ensures taken { IfOk result
+        (λ floors. read_each read_u32 reader.old ≡ Ok (floors, reader.new)) }
     ensures fault { IfErr result (λ fault. read_each read_u32 reader.old ≡ Err fault) }
 {
     let points = reader.take_u32()?;
@@ -65,7 +66,8 @@ fn take_floors(reader: &mut Reader<'_>) -> Result<OfTiers<u32>, FieldFault>
 }
 
 fn take_sealed(reader: &mut Reader<'_>) -> Result<OfTiers<u64>, FieldFault>
-    ensures taken { IfOk result (λ sealed. read_each read_u64 reader.old ≡ Ok (sealed, reader.new)) }
+    ensures taken { IfOk result
+        (λ sealed. read_each read_u64 reader.old ≡ Ok (sealed, reader.new)) }
     ensures fault { IfErr result (λ fault. read_each read_u64 reader.old ≡ Err fault) }
 {
     let points = reader.take_u64()?;
@@ -78,10 +80,7 @@ fn take_sealed(reader: &mut Reader<'_>) -> Result<OfTiers<u64>, FieldFault>
     })
 }
 
-fn take_extents(
-    alloc: Global,
-    reader: &mut Reader<'_>,
-) -> Result<OfTiers<ExtentList>, FieldFault>
+fn take_extents(alloc: Global, reader: &mut Reader<'_>) -> Result<OfTiers<ExtentList>, FieldFault>
     ensures taken { IfOk result
         (λ extents. read_each (read_list read_extent) reader.old ≡ Ok (extents, reader.new)) }
     ensures fault { IfErr result (IsRefusal (read_each (read_list read_extent) reader.old)) }

@@ -42,8 +42,10 @@ fn is_next(width: u32, page: &RecordPage, item: &BucketRecord) -> bool
 /// Puts a record into the page, where that takes it. Whether it does.
 fn add_record(width: u32, page: &mut RecordPage, item: &BucketRecord) -> Result<bool, AllocError>
     requires { item.now.bucket * width < 2 ^ 32 }
-    ensures added { IfOk result (λ added. added ≡ true → with_record width page.old item.now ≡ Some page.new) }
-    ensures refused { IfOk result (λ added. added ≡ false → with_record width page.old item.now ≡ None) }
+    ensures added { IfOk result
+        (λ added. added ≡ true → with_record width page.old item.now ≡ Some page.new) }
+    ensures refused { IfOk result
+        (λ added. added ≡ false → with_record width page.old item.now ≡ None) }
     ensures same { IfOk result (λ added. added ≡ false → page.new ≡ page.old) }
 {
     if !is_next(width, page, item) {
@@ -53,9 +55,9 @@ fn add_record(width: u32, page: &mut RecordPage, item: &BucketRecord) -> Result<
     Ok(true)
 }
 
-/// The pages of records in the order of their series, then buckets, of a tier of this width in seconds: a record
-/// goes into the last page, where that is of its series, the record's bucket is the next one and at most 73 records
-/// result. Else it begins a page.
+/// The pages of records in the order of their series, then buckets, of a tier of this width in
+/// seconds: a record goes into the last page, where that is of its series, the record's bucket is
+/// the next one and at most 73 records result. Else it begins a page.
 pub fn record_pages(
     alloc: Global,
     width: u32,

@@ -63,7 +63,8 @@ fn push_word(words: &mut WordList, empty: u8, word: u32) -> Result<(), AllocErro
 
 /// Puts a point into the page, where that takes it. Whether it does.
 fn add_point(page: &mut SlotPage, point: &Point) -> Result<bool, AllocError>
-    ensures added { IfOk result (λ added. added ≡ true → with_point page.old point.now ≡ Some page.new) }
+    ensures added { IfOk result
+        (λ added. added ≡ true → with_point page.old point.now ≡ Some page.new) }
     ensures refused { IfOk result (λ added. added ≡ false → with_point page.old point.now ≡ None) }
     ensures same { IfOk result (λ added. added ≡ false → page.new ≡ page.old) }
 {
@@ -74,9 +75,9 @@ fn add_point(page: &mut SlotPage, point: &Point) -> Result<bool, AllocError>
     Ok(true)
 }
 
-/// The pages of points in the order of their series, then moments: a point goes into the last page, where that is
-/// of its series and step, the point is 1 to 7 steps past the last slot, and at most 1,024 slots result. Else
-/// it begins a page.
+/// The pages of points in the order of their series, then moments: a point goes into the last page,
+/// where that is of its series and step, the point is 1 to 7 steps past the last slot, and at most
+/// 1,024 slots result. Else it begins a page.
 pub fn slot_pages(alloc: Global, points: &[Point]) -> Result<SlotPageList, AllocError>
     ensures { IfOk result (λ pages. pages ≡ slot_pages points.now) }
 {

@@ -3,6 +3,7 @@ ghost use Rattle.std.specs.Prelude.{◌≡◌, ◌+◌, ◌*◌, ◌<◌, ◌^�
 ghost use Rattle.checkpoint_body.specs.declared.item.BucketRecord.{BucketRecord as ABucketRecord};
 
 use super::*;
+use field_codec::{ByteList, FieldFault, Writer};
 use fixed_num::Record;
 use std::alloc::{AllocError, Global};
 use std::test::Fail;
@@ -37,7 +38,8 @@ fn in_bucket(bucket: u32, count: u32) -> BucketRecord
 /// Records of so many buckets, one after the other.
 fn in_buckets(alloc: Global, first: u32, count: u32) -> Result<Vec<BucketRecord>, AllocError>
     requires { first + count < 1000 }
-    ensures { IfOk result (λ items. All (λ (item : ABucketRecord). item.bucket * 60 < 2 ^ 32) items.items) }
+    ensures { IfOk result (λ items.
+        All (λ (item : ABucketRecord). item.bucket * 60 < 2 ^ 32) items.items) }
 {
     let mut items = Vec::new(alloc);
     for place in 0..count {
@@ -157,5 +159,235 @@ fn a_bucket_left_out_begins_a_page(rt: HostRuntime) -> Result<(), Fail> {
         cut_records(rt.alloc(), items.as_slice())?.as_slice(),
         [(300, 60, 2), (480, 60, 1)].as_slice()
     );
+    Ok(())
+}
+
+// ---- bodies
+
+/// A record whose numbers are 56 bytes.
+fn put_record(writer: &mut Writer) -> Result<(), FieldFault> {
+    writer.put_i128(-5)?;
+    writer.put_i128(6)?;
+    writer.put_i128(1)?;
+    writer.put_u32(2)?;
+    writer.put_u32(1)
+}
+
+/// Version, id, and how many items and extents each tier has.
+fn put_settings(writer: &mut Writer) -> Result<(), FieldFault> {
+    writer.put_u8(1)?;
+    writer.put_u64(7)?;
+    for quota in [3, 2, 2, 2, 2, 1] {
+        writer.put_u32(quota)?;
+    }
+    Ok(())
+}
+
+/// Beats, last moment, floors, beats before the floor, and sealed segments.
+fn put_counts(writer: &mut Writer) -> Result<(), FieldFault> {
+    writer.put_u64(9)?;
+    for moment in [500, 100, 60, 0] {
+        writer.put_u32(moment)?;
+    }
+    for count in [4, 1, 0, 0] {
+        writer.put_u64(count)?;
+    }
+    Ok(())
+}
+
+/// One extent of tier 0, and an open record of minutes.
+fn put_extents(writer: &mut Writer) -> Result<(), FieldFault> {
+    writer.put_u32(1)?;
+    writer.put_u32(2)?;
+    writer.put_u64(11)?;
+    writer.put_u32(300)?;
+    writer.put_u64(4_096)?;
+    writer.put_u64(6)?;
+    for number in [0, 0, 1, 3, 480] {
+        writer.put_u32(number)?;
+    }
+    put_record(writer)?;
+    writer.put_u32(0)
+}
+
+/// A page of three slots, a page of a record of minutes, and two bytes beside.
+fn put_pages(writer: &mut Writer) -> Result<(), FieldFault> {
+    for number in [1, 3, 400, 10, 3, 0x0100_0000, 0, 0x0200_0000] {
+        writer.put_u32(number)?;
+    }
+    for number in [1, 3, 420, 60, 1] {
+        writer.put_u32(number)?;
+    }
+    put_record(writer)?;
+    writer.put_u32(0)?;
+    writer.put_bytes(b"ab")
+}
+
+fn by_hand(alloc: Global) -> Result<ByteList, FieldFault> {
+    let mut writer = Writer::new(alloc);
+    put_settings(&mut writer)?;
+    put_counts(&mut writer)?;
+    put_extents(&mut writer)?;
+    put_pages(&mut writer)?;
+    Ok(writer.into_bytes())
+}
+
+/// What is written of the body that the bytes read as.
+fn again(alloc: Global, bytes: &[u8]) -> Option<ByteList> {
+    match read_body(alloc, bytes) {
+        Ok(body) => write_body(alloc, &body).ok(),
+        Err(_) => None,
+    }
+}
+
+/// The record that is put.
+fn value() -> Record {
+    Record {
+        min: -5,
+        max: 6,
+        sum: 1,
+        count: 2,
+        anomalies: 1,
+    }
+}
+
+#[test]
+fn a_body_is_written_as_it_was_read(rt: HostRuntime) -> Result<(), Fail> {
+    let bytes = by_hand(rt.alloc())?;
+    assert_eq!(rt; bytes.len(), 323);
+    let body = read_body(rt.alloc(), bytes.as_slice())?;
+    let written = write_body(rt.alloc(), &body)?;
+    assert_eq!(rt; written.as_slice(), bytes.as_slice());
+    Ok(())
+}
+
+#[test]
+fn the_numbers_of_a_body_are_read(rt: HostRuntime) -> Result<(), Fail> {
+    let body = read_body(rt.alloc(), by_hand(rt.alloc())?.as_slice())?;
+    assert_eq!(rt; (body.settings.id, body.count, body.last), (7, 9, 500));
+    assert_eq!(rt;
+        (body.points.floor, body.minutes.floor, body.hours.floor),
+        (100, 60, 0)
+    );
+    assert_eq!(rt; (body.points.before, body.points.sealed), (4, 1));
+    assert_eq!(rt; body.side.as_slice(), b"ab".as_slice());
+    Ok(())
+}
+
+#[test]
+fn the_lists_of_a_body_are_read(rt: HostRuntime) -> Result<(), Fail> {
+    let body = read_body(rt.alloc(), by_hand(rt.alloc())?.as_slice())?;
+    let extent = Extent {
+        slot: 2,
+        serial: 11,
+        sealed_at: 300,
+        size: 4_096,
+        beats: 6,
+    };
+    assert_eq!(rt; body.points.extents.as_slice(), [extent].as_slice());
+    let open = OpenRecord {
+        series: 3,
+        start: 480,
+        value: value(),
+    };
+    assert_eq!(rt; body.minutes.open_records.as_slice(), [open].as_slice());
+    Ok(())
+}
+
+#[test]
+fn the_pages_of_a_body_are_read(rt: HostRuntime) -> Result<(), Fail> {
+    let body = read_body(rt.alloc(), by_hand(rt.alloc())?.as_slice())?;
+    assert_eq!(rt; (body.points.pages.len(), body.hours.pages.len()), (1, 0));
+    for page in body.points.pages.as_slice() {
+        assert_eq!(rt; (page.series, page.first, page.step), (3, 400, 10));
+        assert_eq!(rt;
+            page.words.as_slice(),
+            [0x0100_0000, 0, 0x0200_0000].as_slice()
+        );
+    }
+    for page in body.minutes.pages.as_slice() {
+        assert_eq!(rt; (page.series, page.first, page.step), (3, 420, 60));
+        assert_eq!(rt; page.records.as_slice(), [value()].as_slice());
+    }
+    Ok(())
+}
+
+/// The body by hand with another byte at a place.
+fn with_byte(alloc: Global, place: usize, byte: u8) -> Result<Vec<u8>, FieldFault> {
+    let mut bytes = by_hand(alloc)?.into_vec();
+    if let Some(slot) = bytes.get_mut(place) {
+        *slot = byte;
+    }
+    Ok(bytes)
+}
+
+/// Whether the body by hand is refused with another byte at a place.
+fn is_refused(alloc: Global, place: usize, byte: u8) -> Result<bool, FieldFault> {
+    let bytes = with_byte(alloc, place, byte)?;
+    Ok(again(alloc, bytes.as_slice()).is_none())
+}
+
+/// Whether the body by hand is read and written with another byte at a place.
+fn is_taken(alloc: Global, place: usize, byte: u8) -> Result<bool, FieldFault> {
+    let bytes = with_byte(alloc, place, byte)?;
+    match again(alloc, bytes.as_slice()) {
+        Some(written) => Ok(written.as_slice() == bytes.as_slice()),
+        None => Ok(false),
+    }
+}
+
+/// Other bytes that no body has.
+const REFUSED: [(usize, u8); 20] = [
+    (0, 2), // another version
+    (9, 0), // no items make a segment full
+    (9, 2), // the open segment would be full
+    (13, 0), // no extents are kept
+    (13, 1), // the slot is past the extents that are kept
+    (89, 2), // a second extent
+    (93, 3), // the slot is past the extents that are kept
+    (133, 0), // no open record
+    (139, 1), // the series is 65,539
+    (220, 128), // the page ends at 2^32 or later
+    (221, 2), // the last of two slots is empty
+    (228, 0), // the first slot is empty
+    (228, 5), // no storage number
+    (232, 3), // the open segment would be full
+    (236, 0), // the last slot is empty
+    (245, 165), // no bucket of minutes begins there
+    (249, 61), // no bucket has 61 seconds
+    (253, 0), // a page without records
+    (317, 1), // a byte follows
+    (317, 3), // the side ends early
+];
+
+/// Other bytes that another body has.
+const TAKEN: [(usize, u8); 12] = [
+    (1, 8),
+    (9, 4),
+    (33, 10),
+    (41, 1),
+    (93, 0),
+    (117, 0),
+    (137, 4),
+    (141, 1),
+    (216, 255),
+    (217, 20),
+    (228, 4),
+    (321, 0),
+];
+
+#[test]
+fn a_byte_that_no_body_has_is_refused(rt: HostRuntime) -> Result<(), Fail> {
+    for (place, byte) in REFUSED.as_slice() {
+        assert!(rt; is_refused(rt.alloc(), *place, *byte)?);
+    }
+    Ok(())
+}
+
+#[test]
+fn a_byte_that_another_body_has_is_read(rt: HostRuntime) -> Result<(), Fail> {
+    for (place, byte) in TAKEN.as_slice() {
+        assert!(rt; is_taken(rt.alloc(), *place, *byte)?);
+    }
     Ok(())
 }

@@ -40,7 +40,8 @@ fn put_settings(settings: &Settings, writer: &mut Writer) -> Result<(), FieldFau
 }
 
 fn put_floors(body: &Body, writer: &mut Writer) -> Result<(), FieldFault>
-    ensures put { OnOk result (writer.new ≡ writer.old ++ each_bytes u32_bytes (floors_of body.now)) }
+    ensures put { OnOk result
+        (writer.new ≡ writer.old ++ each_bytes u32_bytes (floors_of body.now)) }
     ensures memory { IsOkUnless result FieldFault.Memory }
 {
     writer.put_u32(body.points.floor)?;
@@ -49,7 +50,8 @@ fn put_floors(body: &Body, writer: &mut Writer) -> Result<(), FieldFault>
 }
 
 fn put_sealed(body: &Body, writer: &mut Writer) -> Result<(), FieldFault>
-    ensures put { OnOk result (writer.new ≡ writer.old ++ each_bytes u64_bytes (sealed_of body.now)) }
+    ensures put { OnOk result
+        (writer.new ≡ writer.old ++ each_bytes u64_bytes (sealed_of body.now)) }
     ensures memory { IsOkUnless result FieldFault.Memory }
 {
     writer.put_u64(body.points.sealed)?;
