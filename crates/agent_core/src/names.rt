@@ -9,8 +9,10 @@ ghost use Rattle.agent_core.specs.Copying.{copy_refusal, defined_chart, defined_
 ghost use Rattle.agent_core.specs.Rules.{changes_grid, changes_grid_of, dimensions_with, fills_chart, too_many_charts, too_many_dimensions};
 
 use crate::left::Role;
-use chart_registry::{MOST_CHARTS, MOST_DIMENSIONS, MOST_DIMENSIONS_OF_CHART, Registry};
-use chart_registry::{is_known_dimension, known_dimensions_of, known_update_every};
+use chart_registry::{
+    MOST_CHARTS, MOST_DIMENSIONS, MOST_DIMENSIONS_OF_CHART, Registry, is_known_dimension,
+    known_dimensions_of, known_update_every,
+};
 use history::BlockFault;
 use replication::{ChartName, Data, DimName, Names};
 

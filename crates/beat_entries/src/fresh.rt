@@ -3,8 +3,7 @@ ghost use Rattle.history.specs.Refusal.{is_new_chart, is_new_dimension};
 ghost use Rattle.history.specs.Registry.{same_chart, same_dimension};
 ghost use Rattle.history.specs.Regular.{AreApart};
 
-use chart_registry::Registry;
-use chart_registry::{ChartTable, DimensionTable, is_new_chart, is_new_dimension};
+use chart_registry::{ChartTable, DimensionTable, Registry, is_new_chart, is_new_dimension};
 use history::{ChartDef, OpenBeat, OpenDim};
 use std::alloc::{AllocError, Global};
 

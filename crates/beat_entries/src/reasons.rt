@@ -9,8 +9,10 @@ ghost use Rattle.beat_entries.specs.Rules.{changes_grid, changes_grid_of, conten
 
 use crate::coming::Coming;
 use crate::rows::FoundRows;
-use chart_registry::{MOST_CHARTS, MOST_DIMENSIONS, MOST_DIMENSIONS_OF_CHART, Registry};
-use chart_registry::{is_new_dimension, known_dimensions_of, known_update_every, new_charts};
+use chart_registry::{
+    MOST_CHARTS, MOST_DIMENSIONS, MOST_DIMENSIONS_OF_CHART, Registry, is_new_dimension,
+    known_dimensions_of, known_update_every, new_charts,
+};
 use history::{BlockFault, ChartDef, OpenBeat, OpenDim, OpenRow};
 
 fn dimensions_lack_chart(coming: &Coming) -> bool

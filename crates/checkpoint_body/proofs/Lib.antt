@@ -1,0 +1,5 @@
+pub mod BodyLaw
+pub mod FieldLaws
+pub mod PageLaws
+pub mod RecordLemmas
+pub mod SlotLemmas

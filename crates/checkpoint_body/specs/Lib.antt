@@ -1,0 +1,6 @@
+pub mod Body
+pub mod Canonical
+pub mod Fields
+pub mod Pages
+pub mod Records
+pub mod Slots
