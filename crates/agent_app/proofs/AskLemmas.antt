@@ -83,7 +83,7 @@ module _ (honest : Type 0) (agent : AgentState) (answer : Settings → List Beat
   -- it answered this, and then the answer was told
   module _ (middle : Seen) (quiet : honest → middle.past ≡ host.past) (untold : middle.tell_faults ≡ host.tell_faults) (unstored : middle.disk_faults ≡ host.disk_faults)
       (reply : List ℕ) (is-answer : (set : Settings) (g : List Beat) → IsAgentOf host.past agent set g → reply ≡ answer set g) (host' : Seen) (disk : host'.disk_faults ≡ middle.disk_faults) where
-    -- a front of it was told
+    -- a prefix of it was told
     front : (s : Status) (sent unsent : List ℕ) → reply ≡ sent ++ unsent → (is_whole s ≡ true → unsent ≡ []) → told host'.past ≡ told middle.past ++ sent → honest
         → (set : Settings) (g : List Beat) → IsAgentOf host.past agent set g → TellsRun s (answer set g) host.past host'.past
     front s sent unsent whole all tells h set g is_of = record {
@@ -180,7 +180,7 @@ module _ (honest : Type 0) (agent : AgentState) (text : List ℕ) (host : Seen) 
   abbrev answer : Settings → List Beat → List ℕ
   answer = reply_for text
 
-  -- there was no memory
+  -- memory ran out
   pub want-asking : result ≡ Err fault.Memory → Answering honest agent answer status.Memory host middle
   want-asking is =
       failed honest agent answer host status.Memory middle refl (inr (inr (inr refl))) (λ e. cc) queries.reads.quiet queries.reads.tells

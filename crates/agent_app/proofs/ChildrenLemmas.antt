@@ -28,7 +28,7 @@ use Rattle.agent_app.specs.Reading.{Ending, Ends, GoesOn, RefusedAt}
 use Rattle.agent_app.specs.Run.{run_reading, run_rules}
 use Rattle.agent_app.proofs.HasReadLemmas.{ending-onward, take-append_past}
 
--- ---- a front of a text up to a limit
+-- ---- a prefix of a text up to a limit
 front-within : (limit : ℕ) (told more : List ℕ) → (behind : List ℕ) × (take limit (told ++ more) ≡ take limit told ++ behind)
 front-within limit told more =
     elim (cases_lt (length told) limit) [

@@ -23,7 +23,7 @@ use Rattle.agent_app.specs.Reading.{Ending, Ends, RefusedAt, HasRead, Reading, r
 use Rattle.agent_app.proofs.CauseLemmas.{apart, ending-inside, is_outside, stayed}
 use Rattle.agent_app.proofs.HasReadLemmas.{read-next, read-start}
 
--- a call of `tell` that failed told a front
+-- a call of `tell` that failed told a prefix
 pub front_told : (bytes : List ℕ) (old new : List Event) → MayAdd (λ n. Told (take n bytes)) old new → TellsFront bytes old new
 front_told bytes old new (inl same) = record { sent = []; unsent = bytes; whole = refl; tells = rw same (sym (append-nil (told old))) }
 front_told bytes old new (inr (n, added)) = record { sent = take n bytes; unsent = drop n bytes; whole = sym (take-append-drop n bytes); tells = rw added refl }
@@ -66,7 +66,7 @@ module _ (old : Converting) (honest : Type 0) (front : List (List ℕ)) (past pa
       ap all_told (before.read.onward ended next more) ∙ append_assoc (before.sent ++ string_bytes old.out) ahead.told (ending_line ahead.ending)
       ∙ append_assoc before.sent (string_bytes old.out) (all_told ahead)
 
-  -- there was no memory
+  -- memory ran out
   pub no_memory : (status : Status) (waiting : List ℕ) (ended : Bool) (next : List ℕ) (more : List (List ℕ)) → status ≡ Memory
       → EndsIn status honest waiting (reading point_rules ended [] (front ++ next ∷ more)) past past' tf tf'
   no_memory status waiting ended next more is =

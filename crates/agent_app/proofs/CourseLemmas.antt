@@ -251,7 +251,7 @@ module _ (starts : List (Option Database)) (tried : List Settings) (runs : List 
     run : OnceRead OnIt (GivesNothing input) s host.past host'.past
     run = all.resumes h set earlier stands
 
-    -- a stop before the database was read: the run had taken nothing
+    -- a crash before the database was read: the run had taken nothing
     opening : Throughout (EveryStop (Stored None)) host.past run.read
     opening =
         untold run.silent

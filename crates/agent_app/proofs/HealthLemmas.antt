@@ -1,4 +1,4 @@
--- What `health` stores and tells, and what stops leave of it.
+-- What `health` stores and tells, and what crashes leave of it.
 use Rattle.std.proofs.Common.{◌≡◌, ◌⊎◌, inl, inr, ℕ, ◌+◌, Bool, true, false, List, [], ◌∷◌, ◌++◌, length, take, drop, codes, Option, Some, None, Result, Ok, Err, IfOk, IfErr, OnOk, refl, sym, ap, ap₂, subst, ◌∙◌, append_assoc, append-nil, arith, true≢false, if◌then◌else◌}
 use Rattle.std.specs.Fmt.{decimal}
 use Rattle.std.proofs.lemmas.List.{take-append-drop}
@@ -140,7 +140,7 @@ module _ (status : Status) (honest : Type 0) (text : List ℕ) (old new : List E
   cut-leaves (inl (is, rose, torn)) h file = at_end (may-told old new text (torn h)) file
   cut-leaves (inr (is, same)) h file = ap (of file) same
 
--- ---- what stops leave
+-- ---- what crashes leave
 
 -- a history between the one before and the one with all
 module _ (set : Settings) (h0 stored whole : List Beat) (since : Extends h0 stored) (within : Extends stored whole) (start : List Event) where
@@ -403,7 +403,7 @@ module _ (honest : Type 0) (agent : AgentState) (text : List ℕ) (host : Seen) 
       free : health_refusal text ≡ None
       free = subst (λ (r : Result Reply AgentFault). HealthRefusedBy (health_refusal text) r) is (sets.refused going)
 
-  -- there was no memory
+  -- memory ran out
   pub want-storing : result ≡ Err fault.Memory → StoresHealth honest agent text Memory host middle
   want-storing is = record {
     at = λ h set h0 is_of. silent-end set h0 text host.past (TellRose host middle) (DiskRose host middle) Memory middle.past refl (apart Memory TellFault refl refl) (kept h set h0 is_of) (silent h) tt;

@@ -41,7 +41,7 @@ made-new honest set host host' agent creates = record {
   tells = creates.tells;
 }
 
--- there was no memory
+-- memory ran out
 pub want-new : (honest : Type 0) (set : Settings) (host host' : Seen) (why : AgentFault) → Creates honest host set (Err why) host' → (why ≡ fault.Exists → ⊥) → (why ≡ fault.DiskFault → ⊥) → Makes honest set status.Memory host host'
 want-new honest set host host' why creates known stored = by why creates.faults refl
   where

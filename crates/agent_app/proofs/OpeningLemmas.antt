@@ -36,7 +36,7 @@ use Rattle.agent_core.proofs.Within.{within-of}
 use Rattle.agent_app.proofs.HasReadLemmas.{read-start}
 use Rattle.agent_app.proofs.RunLemmas.{EndsFor, Over, both-others, is-by-end, run-for, run-over, run-quiet, run_acts, stops-wider}
 
--- at each moment of the opening a stop leaves the history
+-- at each moment of the opening a crash leaves the history
 pub opening-stops : (set : Settings) (h0 : List Beat) (old new : List Event) → EveryDisk (StandsForHistory set h0) old → told new ≡ told old → Throughout (EveryDisk (IsDisk old)) old new → Throughout (EveryStop (Keeps set h0 h0 (told old))) old new
 opening-stops set h0 old new stands silent moments = untold silent shows moments
   where
@@ -302,7 +302,7 @@ pub record Since {H : Type 0} (honest : Type 0) (seen : H → Seen) (s : Status)
   pub others : LeavesOthers honest host (seen host')
   pub stops : (h : honest) (set : Settings) (h0 : List Beat) → EveryDisk (StandsForHistory set h0) host.past
       → Over honest seen h every set h0 host.past s ended text left (seen host').past source_rose (TellRose host (seen host')) (DiskRose host (seen host'))
-  -- once the database was read a stop leaves the history that the disk reads as
+  -- once the database was read a crash leaves the history that the disk reads as
   pub stands : honest → (set : Settings) (h0 : List Beat) → StandsForHistory set h0 (reads_as host.past) → EveryDisk (StandsForHistory set h0) (seen middle).past
   pub resumes : (h : honest) (set : Settings) (h0 : List Beat) → StandsForHistory set h0 (reads_as host.past)
       → Over honest seen h every set h0 (seen middle).past s ended text left (seen host').past source_rose (TellRose host (seen host')) (DiskRose host (seen host'))
@@ -340,7 +340,7 @@ module _ {H : Type 0} (honest : Type 0) (seen : H → Seen) (host : Seen) (agent
     stands-now : honest → (set : Settings) (h0 : List Beat) → StandsForHistory set h0 (reads_as host.past) → EveryDisk (StandsForHistory set h0) (seen middle).past
     stands-now h set h0 here = stands-all (seen middle).past agent set h0 (opens.opened h set h0 here)
 
-    -- since the database was read, a stop leaves that history
+    -- since the database was read, a crash leaves that history
     begins-read : honest → (set : Settings) (h0 : List Beat) → StandsForHistory set h0 (reads_as host.past) → IsRunning (seen middle).past running every set h0 [] (seen middle).past
     begins-read h set h0 here =
         let now = (seen middle).past in

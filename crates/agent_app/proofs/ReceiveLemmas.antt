@@ -359,7 +359,7 @@ module _ (honest : Type 0) (host : Seen) (agent : AgentState) (middle : Seen) (o
       stands : EveryDisk (StandsForHistory set whole) late.past
       stands = (receives.copies h set h0 is-of).ends keeps
 
-      -- a front of the line was told
+      -- a prefix of the line was told
       front-stop : (sent left : List ℕ) → sent ++ left ≡ last → Kept (Told sent ∷ late.past)
       front-stop sent left line-is disk said images by_then =
           let front : said ++ (drop by_then.0 sent ++ left) ≡ told start ++ (made ++ last) =

@@ -44,7 +44,7 @@ stops-wider s every set h0 ended text start new a b c a' b' c' f g h stop = reco
   cause = cause-wider s ended (run_reading every set h0 ended text).ending text a b c a' b' c' f g h stop.cause;
 }
 
--- where nothing outside failed, the status is that of how the reading ends, or there was no memory
+-- where nothing outside failed, the status is that of how the reading ends, or memory ran out
 status-told : (s : Status) (ended : Bool) (ending : Ending Refusal) (taken : List ℕ) (a b c : Type 0) → (a → ⊥) → (b → ⊥) → (c → ⊥) → HasRunCause s ended ending taken a b c → (s ≡ ending_status ending) ⊎ (s ≡ status.Memory)
 status-told status.Ok ended ending taken a b c f g h has = inl (ap ending_status (sym has))
 status-told (status.Refused line number) ended ending taken a b c f g h has = inl (has.2 ∙ ap ending_status (sym has.1))
@@ -159,7 +159,7 @@ module _ (honest : Type 0) (s : Status) (taken : List ℕ) (source_rose : Type 0
       others = others;
     }
 
-    -- there was no memory
+    -- memory ran out
     want-for : s ≡ status.Memory → EndsFor honest s taken source_rose host host'
     want-for is = takers-for (subst IsTakers (sym is) tt) (kept (λ e. cc) (λ e. cc))
 

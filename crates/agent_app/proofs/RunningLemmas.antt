@@ -76,7 +76,7 @@ module _ (past : List Event) (running : Running) (every : ℕ) (set : Settings) 
       }
 
   module _ (text : List ℕ) (acked : IsAckedUpTo (length now) text) where
-    -- a front of the text was told
+    -- a prefix of the text was told
     front-stop : (sent left : List ℕ) → sent ++ left ≡ text → EveryStop (Keeps set h0 now (told start)) (Told sent ∷ past)
     front-stop sent left whole disk said images by_then =
         let front : said ++ (drop by_then.0 sent ++ left) ≡ told start ++ (made ++ text) =

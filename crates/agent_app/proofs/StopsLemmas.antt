@@ -32,7 +32,7 @@ pub record Behind (made output : List ℕ) : Type 0 where
   pub left : List ℕ
   pub whole : output ≡ made ++ left
 
--- what was told of the lines that were read is a front of the output
+-- what was told of the lines that were read is a prefix of the output
 pub output-behind : (every : ℕ) (set : Settings) (h0 : List Beat) (front : List (List ℕ)) (read : List Line) (made : List ℕ) → HasRead (run_rules every set h0) front read made → (ended : Bool) (text next : List ℕ) (more : List (List ℕ)) → parts text ≡ front ++ next ∷ more
     → Behind made (run_output every set h0 ended text)
 output-behind every set h0 front read made has ended text next more whole =
@@ -87,7 +87,7 @@ module _ (past : List Event) (running : Running) (every : ℕ) (set : Settings) 
       cause = cause;
     }
 
-    -- there was no memory
+    -- memory ran out
     pub want-stop : Extends now (history_with_text every h0 text) → Behind made (run_output every set h0 ended text) → Stops Memory past
     want-stop more behind = short-stop Memory past made behind.left refl (keeps-more set h0 now (history_with_text every h0 text) (told start) more start past at.stops) behind.whole at.tells (λ is. absurd (short is)) (λ is. absurd (stored is)) tt
       where

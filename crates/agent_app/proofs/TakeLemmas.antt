@@ -319,7 +319,7 @@ module _ (honest : Type 0) (running : Running) (host : Seen) (number : ℕ) (byt
         → history_with_text every h0 text ≡ h0 → LeavesFiles host.past middle.past
     unwritten h every set h0 front start going text next more whole none = written-by h every set h0 front start going text next more whole none middle (leaves-nothing middle.past)
 
-    -- the disk failed, or there was no memory
+    -- the disk failed, or memory ran out
     pub torn-line : (status : Status) → is_whole status ≡ false → IsTakers status → (status ≡ TellFault → ⊥) → (status ≡ DiskFault → result ≡ Err agent_fault.DiskFault) → (result ≡ Err agent_fault.DiskFault → status ≡ DiskFault)
         → ((ended : Bool) (ending : Ending Refusal) (text : List ℕ) → HasRunCause status ended ending text ⊥ (TellRose host middle) (DiskRose host middle))
         → TakesLine honest running host number bytes (Err status) now middle

@@ -50,7 +50,7 @@ pub record Outside : Type 0 where
 abbrev pub outside_of : Option Children → ℕ → Option (List ℕ) → Outside
 outside_of children faults readings = record { children = children; spawn_faults = faults; readings = readings }
 
--- A collector whose database's last moment is this took turns, and the front of what they put was read as a text: the
+-- A collector whose database's last moment is this took turns, and the prefix of what they put was read as a text: the
 -- lines of its children, and the MOMENT lines that close their beats.
 pub record HasHeard (asked : Collector) (last : ℕ) (outside outside' : Outside) (taken : List ℕ) : Type 0 where
   -- what it heard of its children and put, and the answer of its last turn
@@ -140,7 +140,7 @@ pub record Collects (status : Status) (asked : Collector) (set : Settings) (h0 :
   pub stores : Stores status asked.every set h0 ended taken old new
   pub cause : HasCollectCause status heard.answer ended (run_reading asked.every set h0 ended taken).ending taken (Rose outside.spawn_faults outside'.spawn_faults) tell_rose disk_rose
 
--- from some moment on all that a stop might leave of the disk was a database of this history, and the run was one on it
+-- from some moment on all that a crash might leave of the disk was a database of this history, and the run was one on it
 pub record CollectsOn (status : Status) (asked : Collector) (set : Settings) (h0 : List Beat) (outside outside' : Outside) (read new : List Event) (tell_rose disk_rose : Type 0) : Type 0 where
   pub stands : EveryDisk (StandsForHistory set h0) read
   pub collects : Collects status asked set h0 outside outside' read new tell_rose disk_rose
@@ -174,7 +174,7 @@ pub record CollectsAll (honest : Type 0) (asked : Collector) (status : Status) (
   pub resumes : honest → (set : Settings) (h0 : List Beat) → StandsForHistory set h0 (reads_as host.past)
       → OnceRead (λ read. CollectsOn status asked set h0 outside outside' read host'.past (TellRose host host') (DiskRose host host')) (outside' ≡ outside) status host.past host'.past
   -- Where a spawner tells the children to come, and no call on the outside fails, the status is that of their text, or
-  -- there was no memory.
+  -- memory ran out.
   pub complete : honest → (set : Settings) (h0 : List Beat) → EveryDisk (StandsForHistory set h0) host.past → (begun : List (List (List ℕ))) (coming : List Child)
       → outside.children ≡ Some (record { starts = begun; running = None; coming = coming })
       → (Rose outside.spawn_faults outside'.spawn_faults → ⊥) → (TellRose host host' → ⊥) → (DiskRose host host' → ⊥) → EndsAsChildren status asked set h0 outside outside' coming

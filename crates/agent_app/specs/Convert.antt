@@ -70,7 +70,7 @@ tells_all TellFault = false
 tells_all Memory = false
 tells_all _ = true
 
--- what was told since is the front of the output, and all of it where the status says so
+-- what was told since is the prefix of the output, and all of it where the status says so
 pub record TellsOutput (status : Status) (output : List ℕ) (old new : List Event) : Type 0 where
   pub sent : List ℕ
   pub unsent : List ℕ
@@ -137,7 +137,7 @@ status_within limit text = ending_status (converted (nat_lt (length text) limit)
 abbrev pub status_of : List ℕ → Status
 status_of text = status_within input_limit text
 
--- where no call on the outside fails, the status is that of the text, or there was no memory
+-- where no call on the outside fails, the status is that of the text, or memory ran out
 abbrev pub EndsAsText : Status → Option (List ℕ) → (source_faults source_faults' tell_faults tell_faults' : ℕ) → Type 0
 EndsAsText status left source_faults source_faults' tell_faults tell_faults' =
     IfSome left (λ text. (Rose source_faults source_faults' → ⊥) → (Rose tell_faults tell_faults' → ⊥) → (status ≡ status_of text) ⊎ (status ≡ Memory))

@@ -14,7 +14,7 @@ use Rattle.agent_app.specs.declared.converting.Converting.{Converting}
 use Rattle.agent_app.specs.Convert.{all_told, converted, ending_status, output_of, point_rules, status_of, tells_all, HasStatusCause, IsUnasked, TellsOutput}
 use Rattle.agent_app.specs.Reading.{Ending, GoesOn, Ends as IsOver, RefusedAt, HasRead, Reading, reading}
 
--- a front of the bytes was told
+-- a prefix of the bytes was told
 pub record TellsFront (bytes : List ℕ) (old new : List Event) : Type 0 where
   pub sent : List ℕ
   pub unsent : List ℕ
@@ -44,7 +44,7 @@ pub record HasConverted (converting : Converting) (honest : Type 0) (front : Lis
 
 -- ---- how a run ends
 
--- a front of the output was told: all but what waits, unless the output or memory failed
+-- a prefix of the output was told: all but what waits, unless the output or memory failed
 pub record TellsBut (status : Status) (waiting output : List ℕ) (old new : List Event) : Type 0 where
   pub sent : List ℕ
   pub unsent : List ℕ
@@ -66,7 +66,7 @@ IsFinal GoesOn = ⊥
 IsFinal IsOver = Unit {0}
 IsFinal (RefusedAt line why) = Unit {0}
 
--- the run ended because the reading did, or the output failed, or there was no memory
+-- the run ended because the reading did, or the output failed, or memory ran out
 abbrev pub EndsAs : Status → Ending Refusal → (tell_rose : Type 0) → Type 0
 EndsAs status ending tell_rose = (IsFinal ending × (status ≡ ending_status ending)) ⊎ ((status ≡ TellFault) × tell_rose) ⊎ (status ≡ Memory)
 
@@ -75,7 +75,7 @@ pub record EndsIn (status : Status) (honest : Type 0) (waiting : List ℕ) (whol
   pub leaves : Leaves status honest waiting (all_told whole) past past' tell_faults tell_faults'
   pub cause : EndsAs status whole.ending (Rose tell_faults tell_faults')
 
--- the ending's bytes were added to what waits, or there was no memory
+-- the ending's bytes were added to what waits, or memory ran out
 abbrev pub AddsEnding : Status → Ending Refusal → (out added out' : List ℕ) → Type 0
 AddsEnding status ending out added out' = ((status ≡ ending_status ending) × (out' ≡ out ++ added)) ⊎ (status ≡ Memory)
 

@@ -44,13 +44,13 @@ Gives (OfHealth left left_after) set base whole =
 Gives (OfLink link link_after) set base whole =
     (result : SessionResult) × (exchanges : Exchanges (parent_does set) (parent_begins base) result link link_after) × (whole ≡ (done_with set base exchanges.frames).now.history)
 
--- one command that stores: how it ended, where no stop came before; what it has what it stores from; and what it told
+-- one command that stores: how it ended, where no crash came before; what it has what it stores from; and what it told
 pub record OneRun : Type 0 where
   pub status : Option Status
   pub input : Input
   pub text : List ℕ
 
--- this is the history with all that it took, where a stop may have come before it took any
+-- this is the history with all that it took, where a crash may have come before it took any
 abbrev pub MayGive : OneRun → Settings → (base whole : List Beat) → Type 0
 MayGive run set base whole = Gives run.input set base whole ⊎ ((run.status ≡ None) × (whole ≡ base))
 
@@ -78,7 +78,7 @@ pub record HoldsOneOf (starts : List (Option Database)) (disk : File → List �
 abbrev pub MayHaveMade : Status → Seen → Type 0
 MayHaveMade status host = (status ≡ Done) ⊎ ((status ≡ DiskFault) × (is_made (reads_as host.past) ≡ false))
 
--- Of a host whose disk held one of these databases whatever a stop left, or none where that is among them, and on which
+-- Of a host whose disk held one of these databases whatever a crash left, or none where that is among them, and on which
 -- commands were made one after the other that store, `run`, `collect`, `health` or `receive`, with whatever input and whatever
 -- end: these are they, the latest first. Between them texts may be converted, questions asked, copies sent to a parent and
 -- `new` tried, whatever each ended with. `tried` has the settings of each `new` that may have made a database.
@@ -110,7 +110,7 @@ MayHaveFoundNone run = (status : Status) → run.status ≡ Some status → is_o
 abbrev pub WhereWhole : OneRun → Type 0 → Type 0
 WhereWhole run holds = (status : Status) → run.status ≡ Some status → is_whole status ≡ true → holds
 
--- From this start these runs stored this: each goes on from what the one before it left, by a front of what it took, and by
+-- From this start these runs stored this: each goes on from what the one before it left, by a prefix of what it took, and by
 -- all of it where it ended so. Every beat that it acknowledged is there, and the settings stay. Before there is a database a
 -- run tells nothing. One that is made has settings of a `new`, and no beats.
 pub data AreStored (tried : List Settings) (start : Option Database) : List OneRun → Option Database → Type 0 where

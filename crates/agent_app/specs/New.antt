@@ -17,12 +17,12 @@ IsNewStatus status = (status ≡ Done) ⊎ (status ≡ Exists) ⊎ (status ≡ D
 
 -- `new` with these settings ended with this status, and left the host so
 pub record Makes (honest : Type 0) (set : Settings) (status : Status) (host host' : Seen) : Type 0 where
-  -- at every moment a stop leaves what it might have left before the call, no database, or the new one
+  -- at every moment a crash leaves what it might have left before the call, no database, or the new one
   pub any_moment : honest → Throughout (EveryDisk (λ disk. IsDisk host.past disk ⊎ StandsForNew set disk)) host.past host'.past
   -- at Ok it leaves the new one, and there was none
   pub created : status ≡ Done → honest → EveryDisk (StandsForHistory set []) host'.past
   pub none : status ≡ Done → honest → is_made (reads_as host.past) ≡ false
-  -- where there was no memory nothing has happened
+  -- where memory ran out nothing has happened
   pub memory : status ≡ Memory → honest → host'.past ≡ host.past
   -- exactly where there is a database it is refused, or the disk failed, or memory was short, and nothing has happened
   pub exists : status ≡ Exists → honest → is_made (reads_as host.past) ≡ true

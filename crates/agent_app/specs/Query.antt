@@ -58,16 +58,16 @@ IsAskStatus status = IsAnswerStatus status
 
 -- a command that answers with this of a history ended with this status, and left the host so
 pub record Asks (honest : Type 0) (answer : Settings → List Beat → List ℕ) (status : Status) (host host' : Seen) : Type 0 where
-  -- what was told is a front of the answer of the history that the files read as, and all of it unless the output, the
+  -- what was told is a prefix of the answer of the history that the files read as, and all of it unless the output, the
   -- disk or memory failed
   pub answered : honest → (set : Settings) (h : List Beat) → StandsForHistory set h (reads_as host.past) → TellsRun status (answer set h) host.past host'.past
-  -- where no call on the outside fails it is answered, or there was no memory
+  -- where no call on the outside fails it is answered, or memory ran out
   pub complete : honest → (set : Settings) (h : List Beat) → StandsForHistory set h (reads_as host.past) → (Rose host.tell_faults host'.tell_faults → ⊥)
       → (Rose host.disk_faults host'.disk_faults → ⊥) → (status ≡ Done) ⊎ (status ≡ Memory)
-  -- at every moment a stop leaves what it might have left before, and all files read as before
+  -- at every moment a crash leaves what it might have left before, and all files read as before
   pub any_moment : honest → Throughout (EveryDisk (IsDisk host.past)) host.past host'.past
   pub same : honest → (file : File) → reads_as host'.past file ≡ reads_as host.past file
-  -- before a byte is told of the history that the files read as, that is all that a stop leaves, and so it stays
+  -- before a byte is told of the history that the files read as, that is all that a crash leaves, and so it stays
   pub settled : honest → (set : Settings) (h : List Beat) → StandsForHistory set h (reads_as host.past) → Throughout (EveryStop (IsSettled set h (told host.past))) host.past host'.past
   pub done : honest → (set : Settings) (h : List Beat) → StandsForHistory set h (reads_as host.past) → status ≡ Done → EveryDisk (StandsForHistory set h) host'.past
   pub others : LeavesOthers honest host host'

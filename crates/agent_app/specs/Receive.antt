@@ -81,10 +81,10 @@ HoldsCopy set floors child disk = (h : List Beat) × StandsForHistory set h disk
 pub record Receives (status : Status) (set : Settings) (h0 : List Beat) (link link' : LinkSeen) (old new : List Event) : Type 0 where
   pub result : SessionResult
   pub ends_as : EndsAs result status
-  -- It did what a parent does with the frames in the bytes that it took. A front of what that says was sent, and all of it
+  -- It did what a parent does with the frames in the bytes that it took. A prefix of what that says was sent, and all of it
   -- unless the output, the disk, the link or memory failed; and that is why it ended.
   pub exchanges : Exchanges (parent_does set) (parent_begins h0) result link link'
-  -- at every moment a stop leaves the history with a front of the beats, and with every beat that was acknowledged
+  -- at every moment a crash leaves the history with a prefix of the beats, and with every beat that was acknowledged
   pub stops : Throughout (EveryStop (Keeps set h0 (done_with set h0 exchanges.frames).now.history (told old))) old new
   -- at the end all of them, unless the output, the disk or memory failed
   pub ends : is_whole status ≡ true → EveryDisk (StandsForHistory set (done_with set h0 exchanges.frames).now.history) new
@@ -92,7 +92,7 @@ pub record Receives (status : Status) (set : Settings) (h0 : List Beat) (link li
   -- a history that was a copy of a child is one at every moment, where each Data that came is true of the child
   pub copy : (floors : List ℕ) (child : List SeenBeat) → RisesFrom seen_moment 0 child → IsCopyOfChild floors child h0 → AreTrueOf floors child exchanges.frames → Throughout (EveryDisk (HoldsCopy set floors child)) old new
 
--- from some moment on all that a stop might leave of the disk was a database of this history, and the session was one over it
+-- from some moment on all that a crash might leave of the disk was a database of this history, and the session was one over it
 pub record ReceivesOn (status : Status) (set : Settings) (h0 : List Beat) (link link' : LinkSeen) (read new : List Event) : Type 0 where
   pub stands : EveryDisk (StandsForHistory set h0) read
   pub receives : Receives status set h0 link link' read new
@@ -103,7 +103,7 @@ pub record ReceivesAll (honest : Type 0) (status : Status) (link link' : LinkSee
   -- where the images differ, as after a run that the disk ended, that history counts which the files read as
   pub resumes : honest → (set : Settings) (h0 : List Beat) → StandsForHistory set h0 (reads_as host.past)
       → OnceRead (λ read. ReceivesOn status set h0 link link' read host'.past) (link' ≡ link) status host.past host'.past
-  -- where no call on the outside fails, the status is that of all bytes of the link, or there was no memory
+  -- where no call on the outside fails, the status is that of all bytes of the link, or memory ran out
   pub complete : honest → (set : Settings) (h0 : List Beat) → StandsForHistory set h0 (reads_as host.past)
       → IfSome link.left (λ bytes. (Rose link.faults link'.faults → ⊥) → (Rose host.tell_faults host'.tell_faults → ⊥) → (Rose host.disk_faults host'.disk_faults → ⊥)
       → EndsAsBytes (parent_does set) (parent_begins h0) status bytes)

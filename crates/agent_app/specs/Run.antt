@@ -95,7 +95,7 @@ is_whole DiskFault = false
 is_whole Memory = false
 is_whole status = true
 
--- what was told since is a front of the output, and all of it where the status says so
+-- what was told since is a prefix of the output, and all of it where the status says so
 pub record TellsRun (status : Status) (output : List ℕ) (old new : List Event) : Type 0 where
   pub sent : List ℕ
   pub unsent : List ℕ
@@ -108,9 +108,9 @@ abbrev pub HasRunCause : Status → Bool → Ending Refusal → List ℕ → (so
 HasRunCause DiskFault ended ending taken source_rose tell_rose disk_rose = disk_rose
 HasRunCause status ended ending taken source_rose tell_rose disk_rose = HasStatusCause status ended ending taken source_rose tell_rose
 
--- a text of which this was taken, on a database of these settings and this history: what a stop leaves, and what was told
+-- a text of which this was taken, on a database of these settings and this history: what a crash leaves, and what was told
 pub record Stores (status : Status) (every : ℕ) (set : Settings) (h0 : List Beat) (ended : Bool) (taken : List ℕ) (old new : List Event) : Type 0 where
-  -- at every moment a stop leaves the history with a front of the beats, and with every beat that was acknowledged
+  -- at every moment a crash leaves the history with a prefix of the beats, and with every beat that was acknowledged
   pub stops : Throughout (EveryStop (Keeps set h0 (history_with_text every h0 taken) (told old))) old new
   -- at the end all of them, unless the output, the disk or memory failed
   pub ends : is_whole status ≡ true → EveryDisk (StandsForHistory set (history_with_text every h0 taken)) new
@@ -143,7 +143,7 @@ pub record FailsAtMoment (every : ℕ) (set : Settings) (h0 : List Beat) (ended 
 abbrev pub FailsAtBeat : Status → ℕ → Settings → List Beat → Bool → (text sent : List ℕ) → Type 0
 FailsAtBeat status every set h0 ended text sent = status ≡ DiskFault → FailsAtMoment every set h0 ended text sent
 
--- from some moment on all that a stop might leave of the disk was a database of this history, and the run was one on it
+-- from some moment on all that a crash might leave of the disk was a database of this history, and the run was one on it
 pub record RunsOn (status : Status) (every : ℕ) (set : Settings) (h0 : List Beat) (left left' : Option (List ℕ)) (read new : List Event) (source_rose tell_rose disk_rose : Type 0) : Type 0 where
   pub stands : EveryDisk (StandsForHistory set h0) read
   pub runs : Runs status every set h0 left left' read new source_rose tell_rose disk_rose
@@ -156,13 +156,13 @@ pub record RunsOn (status : Status) (every : ℕ) (set : Settings) (h0 : List Be
 pub record OnceRead (On : List Event → Type 0) (untaken : Type 0) (status : Status) (old new : List Event) : Type 0 where
   -- what had happened once the database was read
   pub read : List Event
-  -- until then a stop leaves what it might have left before, and nothing is told
+  -- until then a crash leaves what it might have left before, and nothing is told
   pub before : Throughout (EveryDisk (IsDisk old)) old read
   pub silent : told read ≡ told old
   -- from then on the run is such, unless the disk or memory failed before, and then it ended there
   pub after : On read ⊎ (((status ≡ DiskFault) ⊎ (status ≡ Memory)) × (new ≡ read) × untaken)
 
--- a run on a database that reads as this history, whatever else a stop might have left of it
+-- a run on a database that reads as this history, whatever else a crash might have left of it
 abbrev pub Resumes : Status → ℕ → Settings → List Beat → (left left' : Option (List ℕ)) → (old new : List Event) → (source_rose tell_rose disk_rose : Type 0) → Type 0
 Resumes status every set h0 left left' old new source_rose tell_rose disk_rose =
     OnceRead (λ read. RunsOn status every set h0 left left' read new source_rose tell_rose disk_rose) (left' ≡ left) status old new
@@ -242,7 +242,7 @@ pub record RunsAll (honest : Type 0) (status : Status) (left left' : Option (Lis
   -- where the images differ, as after a run that the disk ended, that history counts which the files read as
   pub resumes : honest → (set : Settings) (h0 : List Beat) → StandsForHistory set h0 (reads_as host.past)
       → Resumes status run_every set h0 left left' host.past host'.past (Rose source_faults source_faults') (Rose host.tell_faults host'.tell_faults) (Rose host.disk_faults host'.disk_faults)
-  -- where no call on the outside fails, the status is that of the text, or there was no memory
+  -- where no call on the outside fails, the status is that of the text, or memory ran out
   pub complete : honest → (set : Settings) (h0 : List Beat) → EveryDisk (StandsForHistory set h0) host.past
       → IfSome left (λ text. (Rose source_faults source_faults' → ⊥) → (Rose host.tell_faults host'.tell_faults → ⊥) → (Rose host.disk_faults host'.disk_faults → ⊥)
       → (status ≡ run_status run_every set h0 text) ⊎ (status ≡ Memory))

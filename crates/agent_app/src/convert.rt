@@ -9,7 +9,7 @@ use line_stream::take_text;
 use std::alloc::Global;
 
 /// Tells what waits in `out`, as the last of a run that ends with this status. Where telling has
-/// failed before, or there was no memory, nothing more is told.
+/// failed before, or memory ran out, nothing more is told.
 fn tell_last<H: Host>(host: &mut H, out: &mut String, status: Status) -> Status
     ensures tells { TellsLast result status H.honest (string_bytes out.old)
         (H.seen host.old).past (H.seen host.new).past

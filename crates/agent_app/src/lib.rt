@@ -137,7 +137,7 @@ pub fn agent_main<S: Source, H: Host, L: Link, P: Spawner, C: Clock>(
     ensures leaves_disk { command_of words.now ≡ Some Command.Convert →
         LeavesDisk H.honest (H.seen host.old) (H.seen host.new) }
 
-    // Where nothing outside fails, the status is that of the text, or there was no memory.
+    // Where nothing outside fails, the status is that of the text, or memory ran out.
     ensures complete { command_of words.now ≡ Some Command.Convert →
         EndsAsText result (S.left source.old) (S.faults source.old) (S.faults source.new)
         (H.seen host.old).tell_faults (H.seen host.new).tell_faults }

@@ -1,4 +1,4 @@
--- The fronts of the beats that follow a history.
+-- The prefixes of the beats that follow a history.
 use Rattle.std.proofs.Common.{◌≡◌, ℕ, zero, suc, ◌+◌, ◌<◌, ◌≤◌, ◌⊎◌, inl, inr, Bool, true, not, List, [], ◌∷◌, ◌++◌, length, take, slice_get, Option, Some, None, refl, sym, ap, ◌∙◌, subst, append_assoc, append-nil, arith, length-append, if◌then◌else◌}
 use Rattle.std.specs.List.{enumerate_from, filter_map, list_all, list_any}
 use Rattle.std.specs.Option.{option_map}

@@ -89,7 +89,7 @@ IsDoneBy (entry.Health text) (stepping.Configuration config) = IsReadOf text con
 IsDoneBy (entry.Gap gap) stepping.Nothing = Unit {0}
 IsDoneBy found does = ⊥
 
--- ---- the front of a history
+-- ---- the prefix of a history
 
 -- a store keeps these beats, the oldest first, for those that follow a history
 abbrev pub AreNextOf : List Beat → List Beat → List StoreBeat → Type 0
@@ -103,7 +103,7 @@ pub record ArePartsOf (left : Left) (lasts : List (Option Last)) (latest : Lates
   pub last_rows_are : AreLastOf lasts g
   pub latest_is : IsLatestOf latest g
 
--- the store has replayed a front of the history, and the other parts are those of that front
+-- the store has replayed a prefix of the history, and the other parts are those of that prefix
 pub record IsReplaying (past : List Event) (store : StoreState) (left : Left) (lasts : List (Option Last)) (latest : Latest) (held : Held) (set : Settings) (h : List Beat) : Type 0 where
   pub front : List Beat
   pub more : List Beat
@@ -116,7 +116,7 @@ pub record IsReplaying (past : List Event) (store : StoreState) (left : Left) (l
   pub parts : ArePartsOf left lasts latest front
   pub held_is : held ≡ alarms_at set front
 
--- the store has replayed a front of what is stored, whose notes go on, and this is what they leave
+-- the store has replayed a prefix of what is stored, whose notes go on, and this is what they leave
 pub record HasTaken (past : List Event) (store : StoreState) (left : Left) (set : Settings) (stored : Stored) : Type 0 where
   pub applied : Stored
   pub rest : List StoreBeat

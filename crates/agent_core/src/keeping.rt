@@ -78,7 +78,7 @@ fn stored_beat(
     })
 }
 
-/// Why a registry did not take a beat that was tested before: there was no memory.
+/// Why a registry did not take a beat that was tested before: memory ran out.
 pub(crate) fn untaken(fault: RegistryFault) -> AllocError
     requires { fault ≡ registry_fault.Memory }
 {
@@ -120,7 +120,7 @@ pub(crate) fn commit<H: Host>(
     }
 }
 
-/// Why an entry that has a spelling was not written: there was no memory.
+/// Why an entry that has a spelling was not written: memory ran out.
 pub(crate) fn unwritten(fault: EntryFault) -> AllocError
     requires { fault ≡ EntryFault.Memory }
 {

@@ -9,7 +9,7 @@
 //! the agent of just the history that an honest host's disk stands for. `query` gives the reply to a question:
 //! the table, or the line of a refusal, that the definitions give over all beats of the history, whatever has
 //! expired below the floors. `line` answers a QUERY so. After a failure of
-//! the disk, or where memory was refused, each call answers that the agent must be opened again, with the first
+//! the disk, or where memory ran out, each call answers that the agent must be opened again, with the first
 //! cause, and the count, the last moment and the id answer as before. What a call promises is one record of
 //! facts (`Beats`, `Lines`, `SetsHealth`, `Logs`, `Creates`, `Opens`, `Queries`, `Keeps`, `TakesData`,
 //! `AnswersAsk`). It is proved from these records alone that an agent stays sound by its history.

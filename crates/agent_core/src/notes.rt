@@ -67,7 +67,7 @@ fn entry_in(alloc: Global, kept: &Beat) -> Result<Entry, AgentFault>
     }
 }
 
-/// Why an entry is not taken: it does not go on, or there was no memory.
+/// Why an entry is not taken: it does not go on, or memory ran out.
 fn fault_of(refusal: EntryRefusal) -> AgentFault
     ensures damaged { result ≡ AgentFault.Damaged 5 → refusal ≡ NotNext }
     ensures memory { result ≡ AgentFault.Memory → refusal ≡ NoMemory }

@@ -79,7 +79,7 @@ fn number_content<'a>(
     }
 }
 
-/// Why a registry did not take a beat that was tested before: there was no memory.
+/// Why a registry did not take a beat that was tested before: memory ran out.
 fn untaken(fault: RegistryFault) -> BeatFault
     requires { fault ≡ registry_fault.Memory }
     ensures { result ≡ BeatFault.Memory }

@@ -31,6 +31,6 @@ any-found {A} p (x ∷ xs) some none = by (p x) some none (any-found p xs)
     by false some none rest = rest some none
 
 -- ---- lists
--- the front of a list that was put together
+-- the prefix of a list that was put together
 pub take-front : {A : Type 0} (xs ys : List A) (n : ℕ) → length xs ≡ n → take n (xs ++ ys) ≡ xs
 take-front xs ys n e = let within : n ≤ length xs = omega arith in take-append-le n xs ys within ∙ take_all n xs (omega arith)

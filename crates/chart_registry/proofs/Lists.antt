@@ -18,7 +18,7 @@ module _ {A : Type 0} (p : A → Bool) where
       let parts = or_false (p x) (list_any p xs) e in
       ap (λ b. (b && q x) || list_any (λ x. p x && q x) xs) parts.0 ∙ any-none q xs parts.1
 
-  -- ---- a search from the front
+  -- ---- a search from the prefix
   module _ (xs : List A) (n : ℕ) (before : (k : ℕ) → k < n → (d : A) → p (get_or xs k d) ≡ false) where
     pub position-reached : (x : A) → n < length xs → p (get_or xs n x) ≡ true → position p xs ≡ Some n
     position-reached x within passes =

@@ -44,7 +44,7 @@ module _ {A : Type 0} (same : A → A → Bool) where
   put_all-append xs [] zs = refl
   put_all-append xs (y ∷ ys) zs = put_all-append (put same xs y) ys zs
 
-  -- the whole is the front and what comes behind it
+  -- the whole is the prefix and what comes behind it
   whole : (xs ys : List A) (n : ℕ) → put_all same (put_all same xs (take n ys)) (drop n ys) ≡ put_all same xs ys
   whole xs ys n = sym (put_all-append xs (take n ys) (drop n ys)) ∙ ap (put_all same xs) (take-append-drop n ys)
 

@@ -71,7 +71,7 @@ Took every h past line None reader registry = GoesOn every h past line × IsRead
 Took every h past line (Some end) reader registry = EndsAt every h past line end × Holds reader registry every h past
 
 -- Memory is short at a line that may stand behind these. The registry is that of the history so far, or, at a
--- MOMENT, has taken of the beat that it closes the definitions before one for which there was no memory.
+-- MOMENT, has taken of the beat that it closes the definitions before one for which memory ran out.
 abbrev pub Leaves : ℕ → List Beat → List Line → Line → Registry → Type 0
 Leaves every h past (Moment moment) after =
     (after ≡ registry_of (history_at every h past)) ⊎ IsFirstRefused (registry_of (history_at every h past)) (beat every past) after Memory

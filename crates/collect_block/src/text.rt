@@ -47,7 +47,7 @@ pub struct ReadText {
     pub end: End,
 }
 
-/// Why a registry did not take the beat of lines that may stand where they do: there was no memory.
+/// Why a registry did not take the beat of lines that may stand where they do: memory ran out.
 fn untaken(fault: RegistryFault) -> AllocError
     requires { fault ≡ registry_fault.Memory }
 {

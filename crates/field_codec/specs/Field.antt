@@ -19,7 +19,7 @@ IsBytes bytes = (place : ℕ) → slice_index bytes place < 256
 
 -- A kind of field: the values that have a spelling, the spelling, and what bytes read as. A spelling
 -- reads as its value, whatever follows. What is read of bytes has a spelling, and they begin with it. So
--- two values never share a spelling, and none is the front of another.
+-- two values never share a spelling, and none is the prefix of another.
 pub record IsField {X : Type 0} (HasSpelling : X → Type 0) (spelling : X → List ℕ) (read : List ℕ → ReadOf X) : Type 0 where
   pub reads_back : (value : X) (rest : List ℕ) → HasSpelling value → read (spelling value ++ rest) ≡ Ok (value, rest)
   pub has_spelling : (bytes : List ℕ) (value : X) (rest : List ℕ) → IsBytes bytes → read bytes ≡ Ok (value, rest) → HasSpelling value

@@ -6,7 +6,7 @@ ghost use Rattle.field_codec.specs.Reading.{read_u8, read_u16, read_u32, read_u6
 ghost use Rattle.field_codec.specs.Spelling.{u8_bytes, u16_bytes, u32_bytes, u64_bytes, i32_bytes, i64_bytes, i128_bytes, flag_bytes, text_bytes, sized_bytes};
 
 /// The law of each kind of field: a spelling reads as its value, whatever follows, and what is read of
-/// bytes is what they begin with. So two values never share a spelling, and none is the front of another.
+/// bytes is what they begin with. So two values never share a spelling, and none is the prefix of another.
 pub fn every_field()
     ensures u8 { IsField (λ n. n < 2 ^ 8) u8_bytes read_u8 }
     ensures u16 { IsField (λ n. n < 2 ^ 16) u16_bytes read_u16 }

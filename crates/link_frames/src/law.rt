@@ -12,7 +12,7 @@ ghost use Rattle.link_frames.specs.DataForm.{IsData};
 ghost use Rattle.link_frames.specs.Frames.{body_bytes, body_limit, frame_bytes, HasSpelling};
 ghost use Rattle.link_frames.specs.Stream.{Feeds, HandsOut, HasNoFrame, IsBad, IsOpen, IsTooLong};
 
-/// The laws of spellings: no two frames share one, and none is the front of another. It does nothing.
+/// The laws of spellings: no two frames share one, and none is the prefix of another. It does nothing.
 pub fn every_frame()
     ensures one_frame { (a b : Frame) → HasSpelling a → HasSpelling b
         → frame_bytes a ≡ frame_bytes b → a ≡ b }

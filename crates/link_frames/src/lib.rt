@@ -1,12 +1,12 @@
 //! Frames: what a child and its parent say to each other over a link, as bytes.
 //!
 //! A `Frame` is the length of its body and the body. What `write_frame` writes is the frame's one spelling. No two
-//! frames share a spelling, and none is the front of another (`every_frame`).
+//! frames share a spelling, and none is the prefix of another (`every_frame`).
 //!
 //! A `FrameReader` is fed the bytes of a link piece by piece and hands out the frames that stand in them. These are
 //! the frames of the bytes so far, however they are cut into pieces (`any_cut`, `any_pieces`). It stops at a length above 2^24
 //! once its four bytes are there, and at a body that no frame has once it is whole, each time after the frames
-//! before it. Where memory is short it is a front of these frames, and the reader reads no more. Between two pieces
+//! before it. Where memory is short it is a prefix of these frames, and the reader reads no more. Between two pieces
 //! it keeps fewer than 2^24 + 4 bytes (`any_cut`). Nothing is reserved by a length or a count; what is read of a
 //! body takes some times the bytes of the body. No contract says so.
 //!

@@ -45,7 +45,7 @@ impl FrameReader {
     /// Takes the next piece of the bytes, and adds the frames that end in it to `frames`.
     ///
     /// `FrameTooLong` comes once the four bytes of a length above 2^24 are there, and `BadFrame` once a body is
-    /// there that no frame has; the frames before it have been added then. At `Memory` a front of the frames has.
+    /// there that no frame has; the frames before it have been added then. At `Memory` a prefix of the frames has.
     /// From then on the reader answers that refusal, and holds and changes nothing.
     pub fn feed(
         &mut self,

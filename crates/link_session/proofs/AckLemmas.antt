@@ -50,7 +50,7 @@ acked-weaker m n text up all = λ k d within j small is. omega (arith, up, all k
 pub closed-more : (made text : List ℕ) → rest made ≡ [] → rest text ≡ [] → rest (made ++ text) ≡ []
 closed-more made text closed ends = rest-append made text ∙ ap (λ (r : List ℕ). rest (r ++ text)) closed ∙ ends
 
--- a front of what was told since
+-- a prefix of what was told since
 pub acked-since : (n : ℕ) (before made text more : List ℕ) → text ++ more ≡ before ++ made → IsAckedUpTo n made → IsAckedUpTo n (drop (length before) text)
 acked-since n before made text more whole acked =
     ⊎_elim
@@ -60,7 +60,7 @@ acked-since n before made text more whole acked =
     acked-front n (drop (length before) text) more (subst (IsAckedUpTo n) since acked))
     (cases_lt (length text) (length before))
 
--- what may have been told by then is a front of all that was told
+-- what may have been told by then is a prefix of all that was told
 pub record IsFront (text all : List ℕ) : Type 0 where
   pub more : List ℕ
   pub whole : text ++ more ≡ all

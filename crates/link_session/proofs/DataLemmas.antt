@@ -334,7 +334,7 @@ module _ (honest : Type 0) (host : Seen) (agent : AgentState) (message : Data) (
       goes-on-with : IsAgentOf new.past agent' set (onto h more) → (r : Result Flow SessionFault) → HasGoneOn (keeps_all (result_of r)) new.past agent' set h0 (onto h more)
       goes-on-with is_of r = gone-on new.past agent' set h0 (onto h more) at-middle.since is_of (keeps_all (result_of r))
 
-      -- a front of the text was told
+      -- a prefix of the text was told
       torn-agent : MayAdd (λ (n : ℕ). Told (take n course.told)) middle.past new.past → IsAgentOf new.past agent' set (onto h more)
       torn-agent (inl same) = subst (λ (p : List Event). IsAgentOf p agent' set (onto h more)) (sym same) at-middle.agent_of
       torn-agent (inr (n, added)) = subst (λ (p : List Event). IsAgentOf p agent' set (onto h more)) (sym added) (agent-told (take n course.told) middle.past agent' set (onto h more) at-middle.agent_of)

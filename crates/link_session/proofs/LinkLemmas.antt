@@ -20,7 +20,7 @@ sends-both (Some sent) b c x y first second = second ∙ ap (option_map (λ (sen
 pub silent-front : (all : Bool) (sent : Option (List ℕ)) → SaysFront all [] sent sent
 silent-front all sent = record { said = []; unsaid = []; whole = refl; sends = sends-nothing sent; complete = λ _. refl }
 
--- behind frames that were said, a front of others was
+-- behind frames that were said, a prefix of others was
 pub joined-front : (all : Bool) (first more : List Frame) (a b c : Option (List ℕ)) → Sends a (flat_map frame_bytes first) b → SaysFront all more b c → SaysFront all (first ++ more) a c
 joined-front all first more a b c said front = record {
   said = flat_map frame_bytes first ++ front.said;
@@ -35,7 +35,7 @@ pub all-said : (all : Bool) (frames : List Frame) (a b : Option (List ℕ)) → 
 all-said all frames a b front is =
     subst (λ (bytes : List ℕ). Sends a bytes b) (sym (front.whole ∙ ap (λ (bytes : List ℕ). front.said ++ bytes) (front.complete is) ∙ append-nil front.said)) front.sends
 
--- a front of their bytes was sent
+-- a prefix of their bytes was sent
 pub front-sends : (all : Bool) (frames : List Frame) (a b : Option (List ℕ)) → SaysFront all frames a b → SendsFront a (flat_map frame_bytes frames) b
 front-sends all frames a b front =
     (length front.said, subst (λ (bytes : List ℕ). Sends a bytes b) (sym (ap (take (length front.said)) front.whole ∙ take-append_seam front.said front.unsaid)) front.sends)

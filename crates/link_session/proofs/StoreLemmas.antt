@@ -99,7 +99,7 @@ module _ (past : List Event) (agent : AgentState) (set : Settings) (h0 h : List 
     silent-front text = record { said = made; unsaid = text; whole = refl; tells = silent ∙ at.tells; complete = λ e. cc }
 
   module _ (text : List ℕ) (acked : IsAckedUpTo (length h) text) where
-    -- a front of the text was told
+    -- a prefix of the text was told
     front-stop : (sent left : List ℕ) → sent ++ left ≡ text → EveryStop (Keeps set h0 h (told start)) (Told sent ∷ past)
     front-stop sent left whole disk said images by_then =
         let front : said ++ (drop by_then.0 sent ++ left) ≡ told start ++ (made ++ text) =

@@ -19,7 +19,7 @@ stored_line n = codes "STORED " ++ decimal n
 abbrev pub IsAckedUpTo : ℕ → List ℕ → Type 0
 IsAckedUpTo n text = All (λ (said : List ℕ). (m : ℕ) → m < 2 ^ 64 → said ≡ stored_line m → m ≤ n) (lines text)
 
--- The disk holds this history with a front of the new beats, and every beat that was acknowledged since. `before` is
+-- The disk holds this history with a prefix of the new beats, and every beat that was acknowledged since. `before` is
 -- what had been told before.
 pub record Keeps (set : Settings) (h0 whole : List Beat) (before : List ℕ) (disk : File → List ℕ) (text : List ℕ) : Type 0 where
   pub stored : List Beat

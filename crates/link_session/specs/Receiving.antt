@@ -44,7 +44,7 @@ keeps_all (Err TellFault) = false
 keeps_all (Err Memory) = false
 keeps_all result = true
 
--- a front of this was told since, and all of it where `all` says so
+-- a prefix of this was told since, and all of it where `all` says so
 pub record TellsFront (all : Bool) (text : List ℕ) (old new : List Event) : Type 0 where
   pub said : List ℕ
   pub unsaid : List ℕ
@@ -106,7 +106,7 @@ pub record StoresAt (past : List Event) (agent : AgentState) (set : Settings) (h
   pub acked : IsAckedUpTo (length h) made
   pub stops : Throughout (EveryStop (Keeps set h0 h (told start))) start past
 
--- The agent is of a history with a front of the new beats, or it was before a call with more of them failed. It is of the
+-- The agent is of a history with a prefix of the new beats, or it was before a call with more of them failed. It is of the
 -- whole where `all` says so.
 pub record HasGoneOn (all : Bool) (past : List Event) (agent : AgentState) (set : Settings) (h0 whole : List Beat) : Type 0 where
   pub stored : List Beat
@@ -173,7 +173,7 @@ pub record ReceivesHistory (honest : Type 0) (host : Seen) (agent : AgentState) 
 abbrev pub IsCutShort : SessionFault → (honest : Type 0) → (text : List ℕ) → (old new : List Event) → Type 0
 IsCutShort fault honest text old new = ((fault ≡ TellFault) × (honest → MayAdd (λ (n : ℕ). Told (take n text)) old new)) ⊎ ((fault ≡ Memory) × (honest → new ≡ old))
 
--- the text was told and the Have was said, or a front of both, in this order
+-- the text was told and the Have was said, or a prefix of both, in this order
 abbrev pub SaysHave : (honest : Type 0) → (text : List ℕ) → (last : ℕ) → Result Flow SessionFault → (old new : List Event) → (sent sent' : Option (List ℕ)) → Type 0
 SaysHave honest text last result old new sent sent' =
     ((fault : SessionFault) × (result ≡ Err fault) × IsCutShort fault honest text old new × (sent' ≡ sent))

@@ -42,7 +42,7 @@ says_all (Err Memory) = false
 says_all (Err (Agent fault)) = is_refusal fault
 says_all result = true
 
--- a front of the bytes of these frames was sent, and all of them where `all` says so
+-- a prefix of the bytes of these frames was sent, and all of them where `all` says so
 pub record SaysFront (all : Bool) (frames : List Frame) (sent sent' : Option (List ℕ)) : Type 0 where
   pub said : List ℕ
   pub unsaid : List ℕ
@@ -121,14 +121,14 @@ pub record DoesSo {S : Type 0} (course : Course S) (now : S) (result : Result Fl
   pub closes : ClosesSo result course.ended
   pub now_is : OnOk result (course.now ≡ now)
 
--- the frame was said, or a front of it
+-- the frame was said, or a prefix of it
 abbrev pub Says : Frame → SessionResult → (sent sent' : Option (List ℕ)) → Type 0
 Says f (Ok done) sent sent' = Sends sent (frame_bytes f) sent'
 Says f (Err LinkFault) sent sent' = SendsFront sent (frame_bytes f) sent'
 Says f (Err Memory) sent sent' = sent' ≡ sent
 Says f (Err fault) sent sent' = ⊥
 
--- the frame was said, and the session goes on or is done so, or a front of the frame was
+-- the frame was said, and the session goes on or is done so, or a prefix of the frame was
 abbrev pub SaysThen : Frame → Flow → Result Flow SessionFault → (sent sent' : Option (List ℕ)) → Type 0
 SaysThen f flow (Ok became) sent sent' = (became ≡ flow) × Sends sent (frame_bytes f) sent'
 SaysThen f flow (Err fault) sent sent' = Says f (Err fault) sent sent'
@@ -140,7 +140,7 @@ IsRefusing (PeerRefused fault) = Unit {0}
 IsRefusing Memory = Unit {0}
 IsRefusing fault = ⊥
 
--- An end goes for this reason: it said so, and this fault is how the session ends, or it said a front of that.
+-- An end goes for this reason: it said so, and this fault is how the session ends, or it said a prefix of that.
 abbrev pub Leaves : ℕ → PeerFault → SessionFault → (sent sent' : Option (List ℕ)) → Type 0
 Leaves reason fault (PeerRefused other) sent sent' = (other ≡ fault) × Sends sent (frame_bytes (frame.Bye reason)) sent'
 Leaves reason fault ended sent sent' = Says (frame.Bye reason) (Err ended) sent sent'

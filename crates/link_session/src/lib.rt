@@ -2,7 +2,7 @@
 //!
 //! What an end does with each frame that comes is a definition (`specs/Child.antt` and `specs/Parent.antt`), and a
 //! session is the fold of it over the frames in the bytes of the link (`specs/Exchange.antt`). `send` and `receive`
-//! are proved to do just that over every link and host, also silent ones: what was sent is a front of what the
+//! are proved to do just that over every link and host, also silent ones: what was sent is a prefix of what the
 //! exchange says, and all of it but where something failed; why a session ended is how the exchange ends, or where
 //! the bytes end, break or are too many. What they take of the link, at most 2^40 bytes, and what that says of why a
 //! session ended, is proved over every host (`specs/Taking.antt`). `send` writes and tells nothing. Whatever a crash

@@ -40,7 +40,7 @@ pub record Reads (new : Reader) (past : List Line) (answer : Result Line Refusal
   pub has : IsReaderOf new (said ∷ past)
   pub added : out' ≡ out ++ told_at past said
 
--- why a line with this answer was not read: it is refused, it ends the text, or there was no memory. A
+-- why a line with this answer was not read: it is refused, it ends the text, or memory ran out. A
 -- reader has read the line that ends the text.
 abbrev pub StopsFor : Reader → List Line → Result Line Refusal → Stop → (out out' : List ℕ) → Type 0
 StopsFor new past answer (stop.Refused why) out out' = (answer ≡ Err why) × (out' ≡ out)

@@ -39,7 +39,7 @@ pub(crate) fn block_stop(fault: BlockFault) -> Stop
     }
 }
 
-/// Why the beat of lines that may stand where they do was not taken: there was no memory.
+/// Why the beat of lines that may stand where they do was not taken: memory ran out.
 pub(crate) fn registry_stop(fault: RegistryFault) -> Stop
     requires { fault ≡ registry.Memory }
     ensures { result ≡ Memory }

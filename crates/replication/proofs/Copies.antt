@@ -10,11 +10,11 @@ use Rattle.list_lemmas.proofs.Every.{all-append}
 use Rattle.replication.specs.declared.gap.Gap.{Gap}
 use Rattle.replication.specs.Copies.{is_in, is_outside, EndsBy, had_floor, Message, gap_of, first_gaps, first_beats, RisesFrom, latest, last_with, up_to, above, between, IsCopy, IsTrueOf}
 
--- some front of the list
+-- some prefix of the list
 abbrev pub IsFrontOf : {B : Type 0} → List B → List B → Type 0
 IsFrontOf front all = (n : ℕ) × (front ≡ take n all)
 
--- a front of a front is a front
+-- a prefix of a prefix is a prefix
 take-of-front : {B : Type 0} (m : ℕ) (front all : List B) → IsFrontOf front all → IsFrontOf (take m front) all
 take-of-front m front all (n, is) =
     elim (cases_lt m n) [
@@ -146,7 +146,7 @@ module _ {B : Type 0} (moment : B → ℕ) where
   latest-take-le low (suc m) [] rises = omega arith
   latest-take-le low (suc m) (x ∷ xs) rises = latest-take-le (moment x) m xs rises.1
 
-  -- the front of a child whose beats all pass is what lies up to its last moment
+  -- the prefix of a child whose beats all pass is what lies up to its last moment
   up_to-front : (test : ℕ → Bool) (low m : ℕ) (xs : List B) → ((n : ℕ) → low < n → test n ≡ true) → RisesFrom moment low xs → up_to moment test (latest moment low (take m xs)) xs ≡ take m xs
   up_to-front test low zero xs passes rises = up_to-none test low low xs rises (omega arith)
   up_to-front test low (suc m) [] passes rises = refl
@@ -200,7 +200,7 @@ module _ {B : Type 0} (moment : B → ℕ) where
             (suc rest.0, takes-in test last x xs le (passes (moment x) rises.0) ∙ ap (λ more. x ∷ more) rest.1)
       ]
 
-  -- what lies between two moments is a front of what lies above the first
+  -- what lies between two moments is a prefix of what lies above the first
   between-is_front : (low from upto : ℕ) (child : List B) → RisesFrom moment low child → IsFrontOf (between moment from upto child) (above moment from child)
   between-is_front low from upto [] rises = (0, refl)
   between-is_front low from upto (x ∷ xs) rises =
@@ -211,7 +211,7 @@ module _ {B : Type 0} (moment : B → ℕ) where
             (rest.0, leaves-out (ltb from) upto x xs (le-ltb _ _ le) ∙ rest.1 ∙ ap (take rest.0) (sym (above-out from x xs le)))
       ]
 
-  -- a front of the beats of a true message is a front of what lies above its begin
+  -- a prefix of the beats of a true message is a prefix of what lies above its begin
   message-front : (low m : ℕ) (floors : List ℕ) (child : List B) (message : Message B) → RisesFrom moment low child → IsTrueOf moment floors child message → IsFrontOf (take m message.beats) (above moment message.from child)
   message-front low m floors child message rises truth =
       take-of-front m message.beats (above moment message.from child)
@@ -385,7 +385,7 @@ module _ {B : Type 0} (moment : B → ℕ) where
   latest-none before (y ∷ ys) is = absurd (get-some (y ∷ ys) (length (y ∷ ys) - 1) (omega arith) is)
 
   -- ---- answers
-  -- a front of the beats above a moment is a true message, if it has a beat
+  -- a prefix of the beats above a moment is a true message, if it has a beat
   pub front-true : (low prev floor n : ℕ) (floors : List ℕ) (child : List B) (x : B) (xs : List B) → RisesFrom moment low child → had_floor floors floor ≡ true
       → x ∷ xs ≡ take n (above moment (max prev (floor - 1)) child)
       → IsTrueOf moment floors child (record { prev = prev; from = max prev (floor - 1); upto = latest moment (max prev (floor - 1)) (x ∷ xs); floor = floor; beats = x ∷ xs })

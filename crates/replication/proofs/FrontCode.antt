@@ -1,4 +1,4 @@
--- What the count of a front comes to.
+-- What the count of a prefix comes to.
 use Rattle.std.proofs.Common.{◌≡◌, ℕ, ◌+◌, ◌*◌, ◌<◌, ◌≤◌, true, max, List, [], ◌∷◌, ◌++◌, length, take, drop, get_or, inl, inr, sym, ap, subst, ◌∙◌, arith}
 use Rattle.std.proofs.lemmas.Bool.{le-leb, lt-leb}
 use Rattle.std.proofs.lemmas.List.{append-nil, take-append-drop, take-take, take_more, length-take, length-take-le}
@@ -33,7 +33,7 @@ counted-fits : (child floor prev : ℕ) (names : Names) (later : List Beat) (cou
 counted-fits child floor prev names later count room le size =
     le-leb (length (data_bytes (data_with child floor prev names (take count later)))) 1048576 (omega (arith, length-data_with child floor prev names (take count later), length-take-le count later le))
 
--- where the next beat has no room, or there is none, the front is what was counted
+-- where the next beat has no room, or there is none, the prefix is what was counted
 pub front-stops : (child floor prev : ℕ) (names : Names) (later : List Beat) (count room : ℕ) (x : Beat) → count < length later → count ≤ 64 → x ≡ get_or later count x
     → room + (37 + words_size names (words_of (take count later)) + 8 * count) ≡ 1048576
     → room + words_size names (words_of (take count later)) < 8 + words_size names (words_of (take count later) ++ x.words)

@@ -53,7 +53,7 @@ longest-stop make beats (suc n) count long =
     within (inl lt) now = absurd (false≢true (sym (long (suc n) lt (omega arith)) ∙ now))
     within (inr ge) now = ge
 
--- the front is the first `count` beats, where these fit and no more do, or there are no more
+-- the prefix is the first `count` beats, where these fit and no more do, or there are no more
 pub front-is : (make : List Beat → Data) (beats : List Beat) (count : ℕ) → count ≤ 64 → ((count ≡ 0) ⊎ (fits make beats count ≡ true))
     → ((length beats ≤ count) ⊎ ((k : ℕ) → count < k → k ≤ 64 → fits make beats k ≡ false)) → take (max count 1) beats ≡ front make beats
 front-is make beats count le fit ends =

@@ -118,7 +118,7 @@ front-says child floor prev n names beats floors x xs rises had is =
     λ i. record { prev = prev; from = from; upto = ends i; floor = floor; beats = sym means i } in
     subst (IsTrueOf named_moment floors (named_beats names beats)) same truth
 
--- the front of a list that has a beat has one
+-- the prefix of a list that has a beat has one
 front-some : (make : List Beat → Data) (x : Beat) (xs : List Beat) → (m : ℕ) × (front make (x ∷ xs) ≡ x ∷ take m xs)
 front-some make x xs =
     let n = longest make (x ∷ xs) 64 in

@@ -36,7 +36,7 @@ longest make beats (suc n) = if nat_le (length (data_bytes (make (take (suc n) b
 abbrev pub front : (List Beat → Data) → List Beat → List Beat
 front make beats = take (max 1 (longest make beats 64)) beats
 
--- the Data with that front, if there is a beat
+-- the Data with that prefix, if there is a beat
 abbrev pub with_front : (List Beat → Data) → List Beat → Option Data
 with_front make [] = None
 with_front make (beat ∷ beats) = Some (make (front make (beat ∷ beats)))

@@ -64,7 +64,7 @@ pub fn every_answer()
 {}
 
 /// A copy that takes on the first things of a true message which begins where it ends is a copy still, and its
-/// gaps end where it ends: for every child, and however many of these things a stop leaves. The call does
+/// gaps end where it ends: for every child, and however many of these things a crash leaves. The call does
 /// nothing.
 pub fn every_delivery()
     ensures copy { (low : ℕ) (floors : List ℕ) (child held : List NamedBeat) (gaps : List Gap)

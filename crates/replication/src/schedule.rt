@@ -173,7 +173,7 @@ fn stores(parent: &mut Parent, message: &Data) -> bool
     }
 }
 
-/// The parent that begins again after a stop, with what it has kept.
+/// The parent that begins again after a crash, with what it has kept.
 fn begin_again(world: &World) -> Parent
     ensures { IsEndOf world.now result }
 {

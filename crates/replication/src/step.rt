@@ -28,7 +28,7 @@ pub enum Step {
         floor: u32,
         /// The points of the beat.
         points: NamedPointList,
-        /// Whether the beat is kept: a stop loses it where this is false.
+        /// Whether the beat is kept: a crash loses it where this is false.
         kept: bool,
     },
     /// The parent asks for what comes after its last moment.
@@ -43,7 +43,7 @@ pub enum Step {
         /// The place of the message, from 0.
         message: u64,
         /// None where nothing stops. Else the number of stored things, the gap first and then the beats,
-        /// that outlive a stop.
+        /// that outlive a crash.
         keep: Option<u64>,
     },
 }

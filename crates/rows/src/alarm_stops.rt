@@ -1,4 +1,4 @@
-//! What a stop leaves of a configuration, its alarms and their log, with each call on the host refused in turn. What
+//! What a crash leaves of a configuration, its alarms and their log, with each call on the host refused in turn. What
 //! is there is what a host that never failed has after as many beats, and it goes on as that one.
 
 use crate::run::{Ending, host_of, run_over};
@@ -21,10 +21,10 @@ static BEATS: [(u32, &str); 5] = [
     (90, "EVENT 4 5 test.one high CLEAR WARNING 90 5\n"),
 ];
 
-/// How many of them are given before the stop.
+/// How many of them are given before the crash.
 const BEFORE: usize = 4;
 
-/// More calls on the host than the commands before the stop make.
+/// More calls on the host than the commands before the crash make.
 const CALLS: u64 = 64;
 
 /// A history: whether the alarm is configured, and how many of the beats are there.
@@ -97,7 +97,7 @@ fn beats_of(alloc: Global, told: &str) -> Result<Option<usize>, AllocError> {
     Ok(None)
 }
 
-/// What was told before a stop.
+/// What was told before a crash.
 #[derive(Debug, Drop)]
 struct Told {
     new: Status,
@@ -114,7 +114,7 @@ fn before_stop(alloc: Global, host: &mut MemoryHost) -> Result<Told, Fail> {
     Ok(Told { new, health, run })
 }
 
-/// What was told after a stop.
+/// What was told after a crash.
 #[derive(Debug, Drop)]
 struct Found {
     log: Ending,
@@ -170,7 +170,7 @@ fn is_configured(history: History, told: &str) -> bool {
     told == "" || (told == "STORED 1\n" && history.has_alarm)
 }
 
-/// Whether the commands before the stop ended as they may.
+/// Whether the commands before the crash ended as they may.
 fn is_ending(new: Status, health: Status, run: Status) -> bool {
     match (new, health, run) {
         (Status::Ok, Status::Ok, Status::Ok | Status::DiskFault | Status::TellFault) => true,
@@ -181,7 +181,7 @@ fn is_ending(new: Status, health: Status, run: Status) -> bool {
     }
 }
 
-/// Whether a stop left what it may.
+/// Whether a crash left what it may.
 fn is_sound(alloc: Global, told: &Told, found: &Found) -> Result<bool, AllocError> {
     if !is_ending(told.new, told.health.status, told.run.status) {
         return Ok(false);
@@ -203,7 +203,7 @@ fn is_sound_at(alloc: Global, fails: u64, keep: Keep) -> Result<bool, Fail> {
     Ok(is_sound(alloc, &told, &found)?)
 }
 
-/// The first of the calls whose refusal and a stop leave what they may not.
+/// The first of the calls whose refusal and a crash leave what they may not.
 fn first_unsound(alloc: Global, keep: Keep) -> Result<Option<u64>, Fail> {
     for fails in 0..CALLS {
         if !is_sound_at(alloc, fails, keep)? {
@@ -231,7 +231,7 @@ fn alarms_after_a_stop_that_fills(rt: HostRuntime) -> Result<(), Fail> {
     Ok(())
 }
 
-/// How the commands before the stop end where this call is refused.
+/// How the commands before the crash end where this call is refused.
 fn ending_at(alloc: Global, fails: u64) -> Result<(Status, Status, Status), Fail> {
     let mut host = host_of(alloc, &[fails])?;
     let told = before_stop(alloc, &mut host)?;

@@ -1,4 +1,4 @@
-//! What a stop leaves of a second configuration, which takes an alarm away, with each call on the host refused in
+//! What a crash leaves of a second configuration, which takes an alarm away, with each call on the host refused in
 //! turn: the alarm and its log as they were, or the alarm gone and its event in the log.
 
 use crate::run::{Ending, host_of, run_over};
@@ -56,7 +56,7 @@ fn left(alloc: Global, host: &mut MemoryHost) -> Result<(bool, bool), Fail> {
     Ok((seen == STAYED, seen == GONE))
 }
 
-/// How the second configuration ended, and whether what a stop left fits to what it told.
+/// How the second configuration ended, and whether what a crash left fits to what it told.
 fn seen_at(alloc: Global, fails: u64, keep: Keep) -> Result<Option<(Status, bool)>, Fail> {
     let mut host = host_of(alloc, &[fails])?;
     let Some(health) = replaced(alloc, &mut host)? else {
@@ -72,7 +72,7 @@ fn seen_at(alloc: Global, fails: u64, keep: Keep) -> Result<Option<(Status, bool
 }
 
 /// At how many calls the second configuration ends well, with a fault of the disk and with one of the telling. None
-/// where a stop leaves what it may not.
+/// where a crash leaves what it may not.
 fn ends(alloc: Global, keep: Keep) -> Result<Option<(u64, u64, u64)>, Fail> {
     let (mut well, mut disk, mut told) = (0u64, 0u64, 0u64);
     for fails in 0..CALLS {

@@ -270,12 +270,12 @@ struct Found {
     new: Status,
     run: Status,
     told: Option<u64>,
-    /// How a run without beats ended after the stop, and how many beats were there.
+    /// How a run without beats ended after the crash, and how many beats were there.
     opened: Status,
     count: Option<u64>,
 }
 
-/// Makes the database and stores the four beats. What is found after a stop is left open.
+/// Makes the database and stores the four beats. What is found after a crash is left open.
 fn before_stop(alloc: Global, host: &mut MemoryHost) -> Result<Found, Fail> {
     let (new, _) = step(alloc, host, &MAKE)?;
     let (run, told) = store_four(alloc, host)?;
@@ -288,7 +288,7 @@ fn before_stop(alloc: Global, host: &mut MemoryHost) -> Result<Found, Fail> {
     })
 }
 
-/// Adds what is found after a stop.
+/// Adds what is found after a crash.
 fn after_stop(alloc: Global, host: &mut MemoryHost, found: Found) -> Result<Found, Fail> {
     let (opened, _) = step(alloc, host, &(RUN, "", "", Status::Ok))?;
     let count = store_rest(alloc, host)?;
@@ -306,7 +306,7 @@ fn found_after(alloc: Global, fails: u64, keep: Keep) -> Result<Found, Fail> {
     after_stop(alloc, &mut host, found)
 }
 
-/// Whether the commands before the stop ended as they may.
+/// Whether the commands before the crash ended as they may.
 fn is_ending(new: Status, run: Status) -> bool {
     match (new, run) {
         (Status::Ok, Status::Ok | Status::DiskFault | Status::TellFault) => true,
@@ -329,7 +329,7 @@ impl Found {
     }
 }
 
-/// The first of the calls whose refusal and a stop lose a beat, and what was found.
+/// The first of the calls whose refusal and a crash lose a beat, and what was found.
 fn first_unsound(alloc: Global, keep: Keep) -> Result<Option<(u64, Found)>, Fail> {
     for fails in 0..80 {
         let found = found_after(alloc, fails, keep)?;

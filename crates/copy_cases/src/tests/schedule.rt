@@ -189,7 +189,7 @@ impl Schedule {
         })
     }
 
-    /// What comes of what the child said: most of the time all, now and then the front, and now and
+    /// What comes of what the child said: most of the time all, now and then the prefix, and now and
     /// then what it has said before as well.
     fn pass(&self, draws: &mut Draws, said: &[u8]) -> Result<Way, AllocError> {
         match draws.below(6) {

@@ -112,7 +112,7 @@ fn is_far_enough(left: Left, told: &str, said: usize) -> bool {
 /// How many bytes an Ask has.
 const ASK_SIZE: usize = 17;
 
-/// What is wrong with what a session and a stop left.
+/// What is wrong with what a session and a crash left.
 fn first_wrong(
     alloc: Global,
     parent: &mut MemoryHost,
@@ -151,7 +151,7 @@ fn wrong_at(alloc: Global, fails: u64, keep: Keep) -> Result<Option<&'static str
     first_wrong(alloc, &mut parent, &end)
 }
 
-/// The first of the calls whose refusal and a stop leave what they may not.
+/// The first of the calls whose refusal and a crash leave what they may not.
 fn first_unsound(alloc: Global, keep: Keep) -> Result<Option<(u64, &'static str)>, Fail> {
     for fails in 0..CALLS {
         if let Some(wrong) = wrong_at(alloc, fails, keep)? {

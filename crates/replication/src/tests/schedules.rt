@@ -94,7 +94,7 @@ pub(super) fn beat(alloc: Global, moment: u32, floor: u32) -> Result<Step, Fail>
     })
 }
 
-/// A beat that a stop loses.
+/// A beat that a crash loses.
 pub(super) fn lost_beat(alloc: Global, moment: u32) -> Result<Step, Fail> {
     let mut points = NamedPointList::new(alloc);
     points.push(point(alloc, "test.one", "a", 0x0100_0000)?)?;
@@ -128,7 +128,7 @@ pub(super) fn moments_are(beats: &[NamedBeat], wanted: &[u32]) -> bool {
             .all(|(beat, moment)| beat.moment == *moment)
 }
 
-/// A child that lost what came before 9 while the parent had 3, and a stop after the gap was kept.
+/// A child that lost what came before 9 while the parent had 3, and a crash after the gap was kept.
 fn stopped(alloc: Global, later_floor: u32) -> Result<StepList, Fail> {
     let mut steps = StepList::new(alloc);
     steps.push(beat(alloc, 1, 0)?)?;
