@@ -1,8 +1,9 @@
-use Rattle.std.proofs.Common.{rules, ◌≡◌, List, None, Some, true, false, Bool, subst, sym, ap, ◌∙◌, if◌then◌else◌}
+use Rattle.std.proofs.Common.{rules, ◌≡◌, ◌+◌, List, length, None, Some, true, false, Bool, subst, sym, ap, ◌∙◌, if◌then◌else◌}
 use Rattle.host_model.specs.Disks.{EveryDisk}
 use Rattle.host_model.specs.Moments.{Throughout}
 use Rattle.history.specs.History.{Beat as HistoryBeat}
 use Rattle.replication.specs.Verdict.{is_stored}
+use Rattle.store_core.specs.Store.{counted}
 use Rattle.agent_core.specs.Agent.{AgentState, IsAgentOf}
 use Rattle.agent_core.specs.Calls.{agent_adds, agent_verdict}
 use Rattle.agent_core.specs.Copying.{copy_refusal, events_onto}
@@ -49,6 +50,15 @@ returns-in-Ok-clause-done g c true_host set h is_of =
     = ap (λ (a : AgentState). copy_refusal a.registry a.role message) (sym c.self.view_is) ∙ sym c.copy_refusal.ensures ∙ c.in_default-copy_refusal.is in
     subst (λ (more : List HistoryBeat). IsAgentOf (g.H.Host.seen c.add_copies.new.host).past c.add_copies.new.self set (onto h more))
     (stored-adds agent message stored free) (c.in-Ok.ensures.done true_host set h is_of)
+
+pub returns-in-Ok-clause-counts : goal.returns-in-Ok-clause-counts
+returns-in-Ok-clause-counts g c =
+    let agent = c.args.self.now in
+    let message = c.args.message.now in
+    let stored : is_stored (agent_verdict agent message) ≡ true = search rules in
+    let free : copy_refusal agent.registry agent.role message ≡ None
+    = ap (λ (a : AgentState). copy_refusal a.registry a.role message) (sym c.self.view_is) ∙ sym c.copy_refusal.ensures ∙ c.in_default-copy_refusal.is in
+    c.in-Ok.ensures.counts ∙ ap (λ (more : List HistoryBeat). counted (agent.count + length more)) (stored-adds agent message stored free)
 
 pub returns-in-Ok-clause-events : goal.returns-in-Ok-clause-events
 returns-in-Ok-clause-events g c true_host set h is_of =
