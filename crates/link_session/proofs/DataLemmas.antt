@@ -36,6 +36,7 @@ use Rattle.agent_core.specs.Replies.{event_lines, reply_text, stored_line}
 use Rattle.agent_core.specs.Roles.{role_of}
 use Rattle.agent_core.proofs.KeptLemmas.{agent-kept, child-is}
 use Rattle.agent_core.proofs.StoredLemmas.{WereKept}
+use Rattle.agent_core.proofs.KeptLemmas.{agent-told}
 use Rattle.link_session.specs.declared.fault.SessionFault.{SessionFault}
 use Rattle.link_session.specs.declared.fault.SessionFault.TheVariants.{LinkFault, Agent, PeerRefused, Ended, InputLimit, TellFault, Memory}
 use Rattle.link_session.specs.declared.flow.Flow.{Flow}
@@ -52,7 +53,7 @@ use Rattle.link_session.proofs.ExtendsLemmas.{extends-onto}
 use Rattle.link_session.proofs.ParentLemmas.{no-cause, still-copies, takes-still, IsStill}
 use Rattle.link_session.proofs.SendingLemmas.{spent-none}
 use Rattle.link_session.proofs.StepLemmas.{failed-does, said-does, said-unsaid, silent-does}
-use Rattle.link_session.proofs.StoreLemmas.{agent-told, all-stored, beats-stored, front-stops, gone-on, silent-front, still-stored, stored-since, tells-all, text-told, torn-front, torn-stops, torn-stored}
+use Rattle.link_session.proofs.StoreLemmas.{all-stored, beats-stored, front-stops, gone-on, silent-front, still-stored, stored-since, tells-all, text-told, torn-front, torn-stops, torn-stored}
 
 -- ---- what the agent says of it is what its history does
 module _ (past : List Event) (agent : AgentState) (set : Settings) (h : List Beat) (is_of : IsAgentOf past agent set h) (message : Data) where

@@ -22,7 +22,7 @@ use Rattle.link_session.specs.Receiving.{GoesSo, IsCutShort, SaysHave}
 use Rattle.link_session.specs.Session.{result_of, HearsNoMore, IsBrokenBy, IsSilentFor, Leaves, LinkSeen, SaysThen}
 use Rattle.link_session.specs.Taking.{ChildEndsAt, EndsOnlyAt, IsBadToChild, IsEndOver, ParentEndsAt, ParentEndsAtLater, ParentEndsBy, TakesLink}
 use Rattle.link_session.proofs.ExchangeLemmas.{front-handed}
-use Rattle.link_session.proofs.LinkLemmas.{takes-nothing}
+use Rattle.line_stream.proofs.RunLemmas.{Takes-none as takes-nothing}
 
 -- ---- at a frame
 module _ (May : SessionResult → Type 0) where

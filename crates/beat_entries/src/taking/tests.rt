@@ -1,6 +1,9 @@
 ghost use Rattle.std.specs.Prelude.{◌≡◌, ◌<◌, true, All, IfOk};
 ghost use Rattle.history.specs.Limits.{chart_keeps_limits, dimension_keeps_limits};
 ghost use Rattle.history.specs.Looking.{same_value};
+ghost use Rattle.history.specs.Registry.{same_chart, same_dimension};
+ghost use Rattle.history.specs.Regular.{AreApart, same_row};
+ghost use Rattle.beat_entries.specs.Rules.{IsOpenBeat};
 
 use super::*;
 use fixed_num::Text;
