@@ -19,7 +19,7 @@ every: 1m
 warn: $this > 90
 END
 
-cat >disk.txt <<'END'
+cat >disk.txt <<'TEXT'
 CHART disk_space.root '' 'Space of the root disk' GiB disk disk.space
 DIMENSION avail
 DIMENSION used
@@ -33,7 +33,7 @@ SET avail = 8
 SET used = 92
 END
 MOMENT 1700000100
-END
+TEXT
 
 "$root/nda" new 7
 "$root/nda" health <full.conf

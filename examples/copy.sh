@@ -10,7 +10,7 @@ set -eu
 
 root=$(cd "$(dirname "$0")/.." && pwd)
 address=127.0.0.1:${1:-19999}
-"$root/nda" --version
+"$root/nda" --version >/dev/null
 work=$(mktemp -d "$PWD/copy.XXXXXX")
 mkdir "$work/child" "$work/parent"
 
