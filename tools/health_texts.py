@@ -12,7 +12,7 @@ import sys
 
 ROOT = os.path.dirname(os.path.dirname(os.path.abspath(__file__)))
 EXAMPLES = os.path.join(ROOT, "examples", "health")
-COPIES = ["crates/health_config/src/tests/examples.rt", "crates/rows/src/health_examples/files.rt"]
+COPIES = ["crates/config_cases/src/configurations/examples.rt", "crates/rows/src/health_examples/files.rt"]
 
 
 def constants(path):

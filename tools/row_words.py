@@ -1,9 +1,9 @@
 #!/usr/bin/env python3
-"""Writes crates/algorithms/src/tests/table.rt: rows of a chart, and the words that their values give,
+"""Writes crates/value_cases/src/row_words/table.rt: rows of a chart, and the words that their values give,
 computed with exact fractions and nothing of the program.
 
-    python3 tools/row_words.py > crates/algorithms/src/tests/table.rt
-    (cd crates/algorithms && rt fmt)
+    python3 tools/row_words.py > crates/value_cases/src/row_words/table.rt
+    (cd crates/value_cases && rt fmt)
 """
 from fractions import Fraction
 

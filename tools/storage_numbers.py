@@ -1,9 +1,9 @@
 #!/usr/bin/env python3
-"""Writes crates/storage_number/src/table.rt: fractions, the words that they pack to and the values
+"""Writes crates/value_cases/src/storage_words/table.rt: fractions, the words that they pack to and the values
 that those words read as, computed with exact fractions and nothing of the program.
 
-    python3 tools/storage_numbers.py > crates/storage_number/src/table.rt
-    (cd crates/storage_number && rt fmt)
+    python3 tools/storage_numbers.py > crates/value_cases/src/storage_words/table.rt
+    (cd crates/value_cases && rt fmt)
 """
 from fractions import Fraction
 

@@ -32,12 +32,12 @@ use Rattle.agent_app.specs.declared.running.Running.{Running}
 use Rattle.agent_app.specs.Collect.{ends_a_collect, halt_status, Collects, CollectsAll, HasCollectCause, HasHeard, HasMadeAll, IsDisabling, Outside}
 use Rattle.agent_app.specs.Reading.{Ending}
 use Rattle.agent_app.specs.Run.{ends_a_run, finds_none, is_whole, run_reading, HasRunCause, Stores}
-use Rattle.agent_app.specs.Running.{opening_status, DiskRose, TellRose}
+use Rattle.agent_app.specs.Running.{opening_status, run_acts, DiskRose, TellRose}
 use Rattle.agent_app.proofs.CauseLemmas.{cause-as, stayed}
 use Rattle.agent_app.proofs.ChildrenLemmas.{ends-as-children}
 use Rattle.agent_app.proofs.MadeLemmas.{made-all}
 use Rattle.agent_app.proofs.OpeningLemmas.{by-fault, disk-failed, failed_by, fault-is, found-finds, ran-since, unopened-finds, unopened-host, unopened-stores, untold-yet, Since}
-use Rattle.agent_app.proofs.RunLemmas.{is-by-end, run_acts, Over}
+use Rattle.agent_app.proofs.RunLemmas.{is-by-end, Over}
 
 -- ---- the database was not opened
 

@@ -1,12 +1,12 @@
 -- A run that tells the points of a text, as a whole.
-use Rattle.std.proofs.Common.{◌≡◌, ℕ, ◌-◌, ◌<◌, ◌≤◌, Bool, true, false, nat_lt, List, [], ◌∷◌, ◌++◌, length, take, Option, Some, None, IfSome, ◌⊎◌, inl, inr, refl, ap, sym, subst, ◌∙◌, append_assoc, append-nil, string_bytes, OnOk, arith, if◌then◌else◌}
+use Rattle.std.proofs.Common.{◌≡◌, ℕ, ◌-◌, ◌<◌, ◌≤◌, Bool, true, false, nat_lt, List, [], ◌∷◌, ◌++◌, length, take, Option, Some, None, IfSome, ◌⊎◌, inl, inr, refl, ap, sym, subst, ◌∙◌, append_assoc, append-nil, string_bytes, arith, if◌then◌else◌}
 use Rattle.std.proofs.lemmas.List.Elements.{All-pop}
 use Rattle.host_model.specs.Cause.{HasCause, Rose}
 use Rattle.host_model.specs.Past.{Event, told}
 use Rattle.host_model.specs.Source.{Takes as TakesBytes}
 use Rattle.host_model.specs.declared.status.Status.{Status}
 use Rattle.host_model.specs.declared.status.Status.TheVariants.{Ok as Done, Refused, Limit, ReadFault, TellFault, InputLimit, Memory}
-use Rattle.line_stream.specs.Chain.{Acts, acts_of, Chain, begins, goes_on, pauses, HasPaused, not_begun, after_pause}
+use Rattle.line_stream.specs.Chain.{Chain, begins, goes_on, pauses, HasPaused, not_begun, after_pause}
 use Rattle.line_stream.specs.Run.{input_limit, Ended, at_line, at_pause, at_long_line, at_end, at_fault, at_limit, at_want, TookAll}
 use Rattle.line_stream.proofs.RunLemmas.{rose-later}
 use Rattle.plugin_text.specs.Lines.{fits, lines, parts, rest, HasNoLongLine}
@@ -17,7 +17,7 @@ use Rattle.point_lines.specs.Judged.{refusal_number}
 use Rattle.agent_app.specs.declared.converting.Converting.{Converting}
 use Rattle.host_model.specs.Seen.{Seen}
 use Rattle.agent_app.specs.Convert.{all_told, converted, ending_status, is_limit, output_of, point_rules, status_of, status_within, tells_all, Converts, EndsAsText, HasStatusCause, IsUnasked, LeavesDisk, TellsOutput}
-use Rattle.agent_app.specs.Converting.{Ends, EndsAs, EndsIn, HasConverted, HasRun, IsFinal, Overflows, Pauses, Takes, TellsLast}
+use Rattle.agent_app.specs.Converting.{converting_acts, Ends, EndsAs, EndsIn, HasConverted, HasRun, IsFinal, TellsLast}
 use Rattle.agent_app.specs.Reading.{Ending, Ends as IsOver, GoesOn, RefusedAt, Reading, reading}
 use Rattle.agent_app.proofs.CauseLemmas.{apart, cause-as, ending-inside, is_outside, stayed, stayed-before, stayed-behind}
 use Rattle.agent_app.proofs.LeavesLemmas.{leaves-both, leaves-none}
@@ -227,23 +227,15 @@ parts-onward text front left behind whole =
     )
 
 module _ {H : Type 0} (honest : Type 0) (seen : H → Seen) where
-  -- what each call does
-  abbrev pub converting_acts : Acts Converting H
-  converting_acts = acts_of (λ old host number line result new host'. Takes honest number line result old new (seen host).past (seen host').past (seen host).tell_faults (seen host').tell_faults × (host' ≡ host))
-      (λ old host result new host'. Pauses honest result old new (seen host).past (seen host').past (seen host).tell_faults (seen host').tell_faults × LeavesDisk honest (seen host) (seen host')
-      × OnOk result (string_bytes new.out ≡ []))
-      (λ old host lines rest status new host'. Ends honest lines rest status old new (seen host).past (seen host').past (seen host).tell_faults (seen host').tell_faults × (host' ≡ host))
-      (λ old host number status new host'. Overflows honest number status old new (seen host).past (seen host').past (seen host).tell_faults (seen host').tell_faults × (host' ≡ host))
-
   module _ (start : Converting) (begin : H) (fresh : HasConverted start honest [] (seen begin).past (seen begin).past (seen begin).tell_faults (seen begin).tell_faults)
       (none : string_bytes start.out ≡ []) where
     -- behind a pause nothing waits
-    paused-out : (converting : Converting) (host : H) → HasPaused converting_acts start begin converting host → string_bytes converting.out ≡ []
+    paused-out : (converting : Converting) (host : H) → HasPaused (converting_acts honest seen) start begin converting host → string_bytes converting.out ≡ []
     paused-out converting host not_begun = none
     paused-out converting host (after_pause old new host' host'' paused) = paused.2
 
     -- all lines of a chain were taken
-    chain-converted : (front : List (List ℕ)) (converting : Converting) (host : H) → Chain converting_acts start begin front converting host
+    chain-converted : (front : List (List ℕ)) (converting : Converting) (host : H) → Chain (converting_acts honest seen) start begin front converting host
         → HasConverted converting honest front (seen begin).past (seen host).past (seen begin).tell_faults (seen host).tell_faults
     chain-converted front converting host begins = fresh
     chain-converted front converting host (goes_on before line old new host' host'' chain takes) =
@@ -279,7 +271,7 @@ module _ {H : Type 0} (honest : Type 0) (seen : H → Seen) where
           subst (λ (all : List (List ℕ)). EndsIn status honest (string_bytes converting.out) (reading point_rules ended [] all) (seen begin).past (seen host).past (seen begin).tell_faults (seen host).tell_faults) (sym stop.1) stop.2)
 
       -- all lines were taken, and the text may go on
-      run-open : TookAll converting_acts start begin text converting host → ((status ≡ ReadFault) × Rose sf sf') ⊎ ((status ≡ InputLimit) × (length text ≡ input_limit))
+      run-open : TookAll (converting_acts honest seen) start begin text converting host → ((status ≡ ReadFault) × Rose sf sf') ⊎ ((status ≡ InputLimit) × (length text ≡ input_limit))
           → (status ≡ ReadFault → (length text < input_limit) × (string_bytes converting.out ≡ []))
           → HasRun status honest (string_bytes converting.out) left left' (seen begin).past (seen host).past sf sf' (seen begin).tell_faults (seen host).tell_faults
       run-open took why read =
@@ -304,7 +296,7 @@ module _ {H : Type 0} (honest : Type 0) (seen : H → Seen) where
           }
 
       -- the text has ended
-      run-ended : (old : Converting) (host' : H) → length text < input_limit → IfSome left' (λ bytes. bytes ≡ []) → TookAll converting_acts start begin text old host'
+      run-ended : (old : Converting) (host' : H) → length text < input_limit → IfSome left' (λ bytes. bytes ≡ []) → TookAll (converting_acts honest seen) start begin text old host'
           → Ends honest (length (lines text)) (rest text) status old converting (seen host').past (seen host).past (seen host').tell_faults (seen host).tell_faults
           → HasRun status honest (string_bytes converting.out) left left' (seen begin).past (seen host).past sf sf' (seen begin).tell_faults (seen host).tell_faults
       run-ended old host' short nothing took ends =
@@ -328,7 +320,7 @@ module _ {H : Type 0} (honest : Type 0) (seen : H → Seen) where
                 (ended-status status (converted true text).ending (Rose (seen begin).tell_faults (seen host).tell_faults) here.cause tell);
           }
 
-      pub run-by : Ended converting_acts status start begin text converting host left' (Rose sf sf')
+      pub run-by : Ended (converting_acts honest seen) status start begin text converting host left' (Rose sf sf')
           → HasRun status honest (string_bytes converting.out) left left' (seen begin).past (seen host).past sf sf' (seen begin).tell_faults (seen host).tell_faults
       run-by (at_line front line next more old host' whole short fit chain takes) = run-stopped_at (λ ended behind.
           let on = line-onward text front line next more whole behind in
@@ -350,7 +342,7 @@ module _ {H : Type 0} (honest : Type 0) (seen : H → Seen) where
   -- ---- the disk
 
   -- at no moment of a chain anything happened to a file
-  chain-leaves : (start : Converting) (begin : H) (front : List (List ℕ)) (converting : Converting) (host : H) → Chain converting_acts start begin front converting host → LeavesDisk honest (seen begin) (seen host)
+  chain-leaves : (start : Converting) (begin : H) (front : List (List ℕ)) (converting : Converting) (host : H) → Chain (converting_acts honest seen) start begin front converting host → LeavesDisk honest (seen begin) (seen host)
   chain-leaves start begin front converting host begins = leaves-none honest (seen begin)
   chain-leaves start begin front converting host (goes_on before line old new host' host'' chain takes) =
       subst (λ (h : H). LeavesDisk honest (seen begin) (seen h)) (sym takes.1) (chain-leaves start begin before old host' chain)
@@ -359,7 +351,7 @@ module _ {H : Type 0} (honest : Type 0) (seen : H → Seen) where
 
   -- nor of a whole run
   pub run-leaves : (status : Status) (start : Converting) (begin : H) (text : List ℕ) (converting : Converting) (host : H) (left' : Option (List ℕ)) (source_rose : Type 0)
-      → Ended converting_acts status start begin text converting host left' source_rose → LeavesDisk honest (seen begin) (seen host)
+      → Ended (converting_acts honest seen) status start begin text converting host left' source_rose → LeavesDisk honest (seen begin) (seen host)
   run-leaves status start begin text converting host left' source_rose (at_line front line next more old host' whole short fit chain takes) =
       subst (λ (h : H). LeavesDisk honest (seen begin) (seen h)) (sym takes.1) (chain-leaves start begin front old host' chain)
   run-leaves status start begin text converting host left' source_rose (at_pause old host' took takes) =

@@ -29,12 +29,12 @@ use Rattle.link_session.proofs.StoreLemmas.{stands-all}
 use Rattle.agent_app.specs.declared.running.Running.{Running}
 use Rattle.agent_app.specs.Convert.{LeavesFiles}
 use Rattle.agent_app.specs.Run.{ends_a_run, finds_none, history_with_text, is_opened, Finds, is_whole, IsAsFound, IsHostAsFound, LeavesOthers, run_every, run_output, run_reading, run_rules, run_status, HasRunCause, Resumes, Runs, RunsAll, Stores}
-use Rattle.agent_app.specs.Running.{opening_status, Counts, DiskRose, IsRunning, TellRose}
+use Rattle.agent_app.specs.Running.{opening_status, run_acts, Counts, DiskRose, IsRunning, TellRose}
 use Rattle.agent_app.proofs.CauseLemmas.{both-counts, cause-as, stayed}
 use Rattle.agent_core.proofs.StoredLemmas.{were_kept}
 use Rattle.agent_core.proofs.Within.{within-of}
 use Rattle.agent_app.proofs.HasReadLemmas.{read-start}
-use Rattle.agent_app.proofs.RunLemmas.{EndsFor, Over, both-others, is-by-end, run-for, run-over, run-quiet, run_acts, stops-wider}
+use Rattle.agent_app.proofs.RunLemmas.{EndsFor, Over, both-others, is-by-end, run-for, run-over, run-quiet, stops-wider}
 
 -- at each moment of the opening a crash leaves the history
 pub opening-stops : (set : Settings) (h0 : List Beat) (old new : List Event) → EveryDisk (StandsForHistory set h0) old → told new ≡ told old → Throughout (EveryDisk (IsDisk old)) old new → Throughout (EveryStop (Keeps set h0 h0 (told old))) old new

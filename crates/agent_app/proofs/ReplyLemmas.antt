@@ -97,13 +97,13 @@ closed-reply set h beats are text =
     let is = is-reply set h (one-line-ids h beats are) (query_read (registry_of h) text) in
     ap last_part is.whole ∙ last_part-append is.lines [] []
 
--- ---- a question has an answer: no refusal of it is want of memory
+-- ---- a question has an answer: no refusal of it is out of memory
 abbrev is_memory : {A : Type 0} → Result A QueryFault → Bool
 is_memory (Ok a) = false
 is_memory (Err fault.Memory) = true
 is_memory (Err why) = false
 
--- it is no want of memory
+-- it is not out of memory
 record IsTold {A : Type 0} (r : Result A QueryFault) : Type 0 where
   pub told : is_memory r ≡ false
 

@@ -14,7 +14,7 @@ use Rattle.plugin_text.proofs.LongLemmas.{IsLongAfter-append}
 use Rattle.plugin_text.proofs.PartsLemmas.{parts_whole}
 use Rattle.point_lines.specs.declared.refusal.Refusal.{Refusal}
 use Rattle.tier_settings.specs.declared.settings.Settings.{Settings}
-use Rattle.line_stream.specs.Chain.{Acts, acts_of, Chain, begins, goes_on, pauses}
+use Rattle.line_stream.specs.Chain.{Acts, Chain, begins, goes_on, pauses}
 use Rattle.line_stream.specs.Run.{input_limit, Ended, at_line, at_pause, at_long_line, at_end, at_fault, at_limit, at_want}
 use Rattle.line_stream.proofs.RunLemmas.{rose-later}
 use Rattle.host_model.specs.Seen.{Seen}
@@ -22,7 +22,7 @@ use Rattle.agent_app.specs.declared.running.Running.{Running}
 use Rattle.agent_app.specs.Convert.{all_told, ending_status, LeavesFiles}
 use Rattle.agent_app.specs.Reading.{Ending, GoesOn, Reading}
 use Rattle.agent_app.specs.Run.{ends_a_run, history_with_text, run_reading, run_rules, run_status, HasRunCause, LeavesOthers}
-use Rattle.agent_app.specs.Running.{Counts, DiskRose, EndsRun, IsRunning, IsTakers, Overflows, Pauses, StopsIn, TakesLine, TellRose}
+use Rattle.agent_app.specs.Running.{run_acts, Counts, DiskRose, IsRunning, IsTakers, StopsIn, TellRose}
 use Rattle.agent_app.proofs.CauseLemmas.{both-counts, counts-none, gone-counts, same-counts, status-counts}
 use Rattle.agent_app.proofs.ExtendsLemmas.{extends-text}
 use Rattle.agent_app.proofs.HasReadLemmas.{line-onward, read-open, says-all, take-append_past}
@@ -171,21 +171,14 @@ is-by-end acts s taker host text taker'' host'' left source_rose other = false
 
 -- ---- a run
 module _ {H : Type 0} (honest : Type 0) (seen : H → Seen) where
-  abbrev pub run_acts : Acts Running H
-  run_acts = acts_of
-      (λ running host number bytes result running' host'. TakesLine honest running (seen host) number bytes result running' (seen host'))
-      Pauses
-      (λ running host count left s running' host'. EndsRun honest running (seen host) count left s (seen host'))
-      (λ running host number s running' host'. Overflows honest running (seen host) number s (seen host'))
-
-  pub chain-counts : (running : Running) (host : H) (front : List (List ℕ)) (running' : Running) (host' : H) → Chain run_acts running host front running' host' → Counts (seen host) (seen host') ⊥ ⊥
+  pub chain-counts : (running : Running) (host : H) (front : List (List ℕ)) (running' : Running) (host' : H) → Chain (run_acts honest seen) running host front running' host' → Counts (seen host) (seen host') ⊥ ⊥
   chain-counts running host front running' host' begins = same-counts (seen host) ⊥ ⊥ (λ never. never) (λ never. never)
   chain-counts running host front running' host' (goes_on lines line between running'' middle host'' before step) =
       both-counts (seen host) (seen middle) (seen host') ⊥ ⊥ (chain-counts running host lines between middle before) (gone-counts (seen middle) (seen host') step.counts)
   chain-counts running host front running' host' (pauses lines between running'' middle host'' before step) =
       subst (λ (m : H). Counts (seen host) (seen m) ⊥ ⊥) (sym step.2) (chain-counts running host lines between middle before)
 
-  pub chain-others : (running : Running) (host : H) (front : List (List ℕ)) (running' : Running) (host' : H) → Chain run_acts running host front running' host' → LeavesOthers honest (seen host) (seen host')
+  pub chain-others : (running : Running) (host : H) (front : List (List ℕ)) (running' : Running) (host' : H) → Chain (run_acts honest seen) running host front running' host' → LeavesOthers honest (seen host) (seen host')
   chain-others running host front running' host' begins = λ h file other. refl
   chain-others running host front running' host' (goes_on lines line between running'' middle host'' before step) =
       both-others honest (seen host) (seen middle) (seen host') (chain-others running host lines between middle before) step.others
@@ -193,7 +186,7 @@ module _ {H : Type 0} (honest : Type 0) (seen : H → Seen) where
       subst (λ (m : H). LeavesOthers honest (seen host) (seen m)) (sym step.2) (chain-others running host lines between middle before)
 
   module _ (h : honest) (every : ℕ) (set : Settings) (h0 : List Beat) (start : List Event) where
-    pub chain-runs : (running : Running) (host : H) → IsRunning (seen host).past running every set h0 [] start → (front : List (List ℕ)) (running' : Running) (host' : H) → Chain run_acts running host front running' host'
+    pub chain-runs : (running : Running) (host : H) → IsRunning (seen host).past running every set h0 [] start → (front : List (List ℕ)) (running' : Running) (host' : H) → Chain (run_acts honest seen) running host front running' host'
         → IsRunning (seen host').past running' every set h0 front start
     chain-runs running host first front running' host' begins = first
     chain-runs running host first front running' host' (goes_on lines line between running'' middle host'' before step) =
@@ -204,7 +197,7 @@ module _ {H : Type 0} (honest : Type 0) (seen : H → Seen) where
 
     -- where the text closes no beat, nothing happens to any file
     module _ (text : List ℕ) (none : history_with_text every h0 text ≡ h0) where
-      chain-quiet : (running : Running) (host : H) → IsRunning (seen host).past running every set h0 [] start → (front : List (List ℕ)) (running' : Running) (host' : H) → Chain run_acts running host front running' host'
+      chain-quiet : (running : Running) (host : H) → IsRunning (seen host).past running every set h0 [] start → (front : List (List ℕ)) (running' : Running) (host' : H) → Chain (run_acts honest seen) running host front running' host'
           → (next : List ℕ) (more : List (List ℕ)) → parts text ≡ front ++ next ∷ more → LeavesFiles (seen host).past (seen host').past
       chain-quiet running host first front running' host' begins next more whole = leaves-nothing (seen host).past
       chain-quiet running host first front running' host' (goes_on lines line between running'' middle host'' before step) next more whole =
@@ -216,10 +209,10 @@ module _ {H : Type 0} (honest : Type 0) (seen : H → Seen) where
 
       module _ (s : Status) (running : Running) (host : H) (first : IsRunning (seen host).past running every set h0 [] start) (left : Option (List ℕ)) (source_rose : Type 0) where
         -- all of its lines were taken
-        lines-quiet : (running' : Running) (middle : H) → Chain run_acts running host (lines text) running' middle → LeavesFiles (seen host).past (seen middle).past
+        lines-quiet : (running' : Running) (middle : H) → Chain (run_acts honest seen) running host (lines text) running' middle → LeavesFiles (seen host).past (seen middle).past
         lines-quiet running' middle chain = chain-quiet running host first (lines text) running' middle chain (rest text) [] (parts_whole text)
 
-        pub run-quiet : (running'' : Running) (host'' : H) → Ended run_acts s running host text running'' host'' left source_rose → LeavesFiles (seen host).past (seen host'').past
+        pub run-quiet : (running'' : Running) (host'' : H) → Ended (run_acts honest seen) s running host text running'' host'' left source_rose → LeavesFiles (seen host).past (seen host'').past
         run-quiet running'' host'' (at_line front line next more running' middle whole short_front short chain step) =
             leaves-further (seen host).past (seen middle).past (seen host'').past (chain-quiet running host first front running' middle chain line (next ∷ more) whole)
             (step.quiet h every set h0 front start (chain-runs running host first front running' middle chain) text next more whole none)
@@ -297,8 +290,8 @@ module _ {H : Type 0} (honest : Type 0) (seen : H → Seen) where
           }
 
       module _ (running : Running) (first : IsRunning (seen host).past running every set h0 [] start) where
-        pub run-over : (running'' : Running) (host'' : H) → (how : Ended run_acts s running host text running'' host'' left source_rose)
-            → Over s (is-by-end run_acts s running host text running'' host'' left source_rose how) text left (seen host'').past source_rose (TellRose (seen host) (seen host'')) (DiskRose (seen host) (seen host''))
+        pub run-over : (running'' : Running) (host'' : H) → (how : Ended (run_acts honest seen) s running host text running'' host'' left source_rose)
+            → Over s (is-by-end (run_acts honest seen) s running host text running'' host'' left source_rose how) text left (seen host'').past source_rose (TellRose (seen host) (seen host'')) (DiskRose (seen host) (seen host''))
         run-over running'' host'' (at_line front line next more running' middle whole short_front short chain step) =
             let going = chain-runs running host first front running' middle chain in
             over-onward middle host'' _ _ (chain-counts running host front running' middle chain) step.counts
@@ -352,14 +345,14 @@ module _ {H : Type 0} (honest : Type 0) (seen : H → Seen) where
     EndsSo host'' = EndsFor honest s text source_rose (seen host) (seen host'')
 
     -- a step behind these lines ended it
-    step-for : (front : List (List ℕ)) (running' : Running) (middle host'' : H) → Chain run_acts running host front running' middle → IsTakers s
+    step-for : (front : List (List ℕ)) (running' : Running) (middle host'' : H) → Chain (run_acts honest seen) running host front running' middle → IsTakers s
         → Counts (seen middle) (seen host'') (s ≡ status.TellFault) (s ≡ status.DiskFault) → LeavesOthers honest (seen middle) (seen host'') → EndsSo host''
     step-for front running' middle host'' chain takers counts others =
         takers-for honest s text source_rose (seen host) (seen host'')
         (both-others honest (seen host) (seen middle) (seen host'') (chain-others running host front running' middle chain) others) takers
         (both-counts (seen host) (seen middle) (seen host'') (s ≡ status.TellFault) (s ≡ status.DiskFault) (chain-counts running host front running' middle chain) counts)
 
-    pub run-for : (running'' : Running) (host'' : H) (left : Option (List ℕ)) → Ended run_acts s running host text running'' host'' left source_rose → EndsSo host''
+    pub run-for : (running'' : Running) (host'' : H) (left : Option (List ℕ)) → Ended (run_acts honest seen) s running host text running'' host'' left source_rose → EndsSo host''
     run-for running'' host'' left (at_line front line next more running' middle whole short_front short chain step) =
         step-for front running' middle host'' chain step.statuses (status-counts (seen middle) (seen host'') s step.counts) step.others
     run-for running'' host'' left (at_pause running' middle took step) = absurd (not-ok s (Err s) refl step.0)

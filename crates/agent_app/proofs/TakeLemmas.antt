@@ -217,7 +217,7 @@ module _ (honest : Type 0) (running : Running) (host : Seen) (number : ℕ) (byt
 
     module _ (h : honest) (every : ℕ) (set : Settings) (h0 : List Beat) (start : List Event) (read : List Line) (made : List ℕ) (at : RunsAt host.past running every set h0 start read made) where
       reason-is : reason every read ≡ refusal_at every h0 read said
-      reason-is = (λ i. line_refusal (at.agent.holds.registry_is i) (copies-child host.past running.agent set (history_at every h0 read) at.agent i) (at.agent.last_is i) every read said) ∙ text-line every h0 at.within read said at.accepted
+      reason-is = (λ i. line_refusal (at.agent.left_by.registry_is i) (copies-child host.past running.agent set (history_at every h0 read) at.agent i) (at.agent.last_is i) every read said) ∙ text-line every h0 at.within read said at.accepted
 
       refused-by : RefusedBy (reason every read) result
       refused-by = lined.refused at.agent.going every read at.feed (counts-at running.feed running.agent.registry said at.counts)

@@ -1,7 +1,8 @@
 -- How a text whose points are told goes from line to line.
-use Rattle.std.specs.Prelude.{◌≡◌, ℕ, ◌+◌, ◌<◌, ◌≤◌, Bool, true, false, List, [], ◌∷◌, ◌++◌, length, ◌⊎◌, Option, Some, IfSome, string_bytes, Result, MatchResult}
+use Rattle.std.specs.Prelude.{◌≡◌, ℕ, ◌+◌, ◌<◌, ◌≤◌, Bool, true, false, List, [], ◌∷◌, ◌++◌, length, ◌⊎◌, Option, Some, IfSome, string_bytes, Result, MatchResult, OnOk}
 use Rattle.host_model.specs.Cause.{HasCause, Rose}
 use Rattle.host_model.specs.Past.{Event, told}
+use Rattle.host_model.specs.Seen.{Seen}
 use Rattle.host_model.specs.Source.{Takes as TakesBytes}
 use Rattle.host_model.specs.declared.status.Status.{Status}
 use Rattle.host_model.specs.declared.status.Status.TheVariants.{ReadFault, TellFault, Memory}
@@ -9,9 +10,10 @@ use Rattle.history.specs.declared.line.Line.{Line}
 use Rattle.plugin_text.specs.Lines.{fits}
 use Rattle.point_lines.specs.declared.refusal.Refusal.{Refusal}
 use Rattle.point_lines.specs.Reader.{IsReaderOf}
+use Rattle.line_stream.specs.Chain.{Acts}
 use Rattle.line_stream.specs.Run.{input_limit}
 use Rattle.agent_app.specs.declared.converting.Converting.{Converting}
-use Rattle.agent_app.specs.Convert.{all_told, converted, ending_status, output_of, point_rules, status_of, tells_all, HasStatusCause, IsUnasked, TellsOutput}
+use Rattle.agent_app.specs.Convert.{all_told, converted, ending_status, output_of, point_rules, status_of, tells_all, HasStatusCause, IsUnasked, LeavesDisk, TellsOutput}
 use Rattle.agent_app.specs.Reading.{Ending, GoesOn, Ends as IsOver, RefusedAt, HasRead, Reading, reading}
 
 -- a prefix of the bytes was told
@@ -107,6 +109,16 @@ Overflows honest number status old new past past' tell_faults tell_faults' =
     (begin : List Event) (faults : ℕ) (front : List (List ℕ)) → HasConverted old honest front begin past faults tell_faults → number ≡ length front + 1 →
     (ended : Bool) (long : List ℕ) (more : List (List ℕ)) → fits long ≡ false →
     EndsIn status honest (string_bytes new.out) (reading point_rules ended [] (front ++ long ∷ more)) begin past' faults tell_faults'
+
+-- what each call of the taker does
+abbrev pub converting_acts : {H : Type 0} → (honest : Type 0) → (H → Seen) → Acts Converting H
+converting_acts honest seen = record {
+  takes = λ old host number line result new host'. Takes honest number line result old new (seen host).past (seen host').past (seen host).tell_faults (seen host').tell_faults × (host' ≡ host);
+  pauses = λ old host result new host'.
+      Pauses honest result old new (seen host).past (seen host').past (seen host).tell_faults (seen host').tell_faults × LeavesDisk honest (seen host) (seen host') × OnOk result (string_bytes new.out ≡ []);
+  ends = λ old host lines rest status new host'. Ends honest lines rest status old new (seen host).past (seen host').past (seen host).tell_faults (seen host').tell_faults × (host' ≡ host);
+  overflows = λ old host number status new host'. Overflows honest number status old new (seen host).past (seen host').past (seen host).tell_faults (seen host').tell_faults × (host' ≡ host);
+}
 
 -- ---- a run that has ended, before the last that waits is told
 

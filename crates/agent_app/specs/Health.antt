@@ -104,7 +104,7 @@ pub record StopsAt (status : Status) (set : Settings) (h0 : List Beat) (ended : 
   pub output : TellsRun status (health_output set h0 ended taken) old new
   -- no failure of the output ends it where nothing is to be told
   pub told_for : status ≡ TellFault → health_output set h0 ended taken ≡ [] → ⊥
-  -- the disk fails, and memory is short, before anything is told
+  -- the disk fails, and memory runs out, before anything is told
   pub unspent : (status ≡ DiskFault) ⊎ (status ≡ Memory) → told new ≡ told old
   pub cause : HasHealthCause status ended taken source_rose tell_rose disk_rose
 
@@ -122,7 +122,7 @@ pub record Configures (status : Status) (set : Settings) (h0 : List Beat) (left 
 pub record ConfiguresFrom (status : Status) (set : Settings) (h0 : List Beat) (left left' : Option (List ℕ)) (read new : List Event) (source_rose tell_rose disk_rose : Type 0) : Type 0 where
   pub stands : EveryDisk (StandsForHistory set h0) read
   pub configures : Configures status set h0 left left' read new source_rose tell_rose disk_rose
-  -- where the history stays, as for a text that is refused, nothing is written, unless memory was short
+  -- where the history stays, as for a text that is refused, nothing is written, unless memory ran out
   pub quiet : history_with_health h0 configures.ended configures.taken ≡ h0 → (status ≡ Memory → ⊥) → LeavesFiles read new
   -- the disk fails only for a text that has ended and that nothing refuses
   pub stored_for : status ≡ DiskFault → (configures.ended ≡ true) × (health_refusal configures.taken ≡ None)
@@ -158,7 +158,7 @@ pub record ConfiguresAll (honest : Type 0) (status : Status) (left left' : Optio
   -- where the images differ, that history counts which the files read as
   pub resumes : honest → (set : Settings) (h0 : List Beat) → StandsForHistory set h0 (reads_as host.past)
       → ConfiguresOn status set h0 left left' host.past host'.past (Rose source_faults source_faults') (TellRose host host') (DiskRose host host')
-  -- where no call on the outside fails, the status is that of the text, or memory was short
+  -- where no call on the outside fails, the status is that of the text, or memory ran out
   pub complete : honest → (set : Settings) (h0 : List Beat) → EveryDisk (StandsForHistory set h0) host.past
       → IfSome left (λ text. (Rose source_faults source_faults' → ⊥) → (TellRose host host' → ⊥) → (DiskRose host host' → ⊥) → (status ≡ health_status text) ⊎ (status ≡ Memory))
   pub finds : Finds honest status host
@@ -183,7 +183,7 @@ TellsFault status honest why old new tell_rose =
 -- an agent was handed a text that has ended
 pub record StoresHealth (honest : Type 0) (agent : AgentState) (text : List ℕ) (status : Status) (host host' : Seen) : Type 0 where
   pub at : honest → (set : Settings) (h0 : List Beat) → IsAgentOf host.past agent set h0 → StopsAt status set h0 true text host.past host'.past ⊥ (TellRose host host') (DiskRose host host')
-  -- for a text that is refused nothing is written, unless memory was short
+  -- for a text that is refused nothing is written, unless memory ran out
   pub quiet : honest → (why : ConfigFault) → health_refusal text ≡ Some why → (status ≡ Memory → ⊥) → LeavesFiles host.past host'.past
   pub stored_for : status ≡ DiskFault → health_refusal text ≡ None
   pub statuses : IsTakers status

@@ -24,7 +24,7 @@ pub record Makes (honest : Type 0) (set : Settings) (status : Status) (host host
   pub none : status ≡ Done → honest → is_made (reads_as host.past) ≡ false
   -- where memory ran out nothing has happened
   pub memory : status ≡ Memory → honest → host'.past ≡ host.past
-  -- exactly where there is a database it is refused, or the disk failed, or memory was short, and nothing has happened
+  -- exactly where there is a database it is refused, or the disk failed, or memory ran out, and nothing has happened
   pub exists : status ≡ Exists → honest → is_made (reads_as host.past) ≡ true
   pub made : honest → is_made (reads_as host.past) ≡ true → ((status ≡ Exists) ⊎ (status ≡ DiskFault) ⊎ (status ≡ Memory)) × (host'.past ≡ host.past)
   pub statuses : IsNewStatus status

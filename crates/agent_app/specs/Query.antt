@@ -40,7 +40,7 @@ IsAnswerStatus status = (status ≡ Done) ⊎ (status ≡ TellFault) ⊎ (status
 pub record Answering (honest : Type 0) (agent : AgentState) (answer : Settings → List Beat → List ℕ) (status : Status) (host host' : Seen) : Type 0 where
   pub answered : honest → (set : Settings) (h : List Beat) → IsAgentOf host.past agent set h → TellsRun status (answer set h) host.past host'.past
   pub leaves : honest → LeavesFiles host.past host'.past
-  -- a failure of the disk and want of memory come before anything is told
+  -- a failure of the disk and out of memory come before anything is told
   pub unspent : honest → (status ≡ DiskFault) ⊎ (status ≡ Memory) → told host'.past ≡ told host.past
   pub statuses : IsAnswerStatus status
   pub tell_cause : HasCause host.tell_faults host'.tell_faults (status ≡ TellFault)
@@ -71,8 +71,9 @@ pub record Asks (honest : Type 0) (answer : Settings → List Beat → List ℕ)
   pub settled : honest → (set : Settings) (h : List Beat) → StandsForHistory set h (reads_as host.past) → Throughout (EveryStop (IsSettled set h (told host.past))) host.past host'.past
   pub done : honest → (set : Settings) (h : List Beat) → StandsForHistory set h (reads_as host.past) → status ≡ Done → EveryDisk (StandsForHistory set h) host'.past
   pub others : LeavesOthers honest host host'
-  -- a failure of the disk and want of memory come before anything is told, and where no database is opened nothing is told
+  -- a failure of the disk and out of memory come before anything is told
   pub unspent : honest → (status ≡ DiskFault) ⊎ (status ≡ Memory) → told host'.past ≡ told host.past
+  -- where no database can be opened nothing is told
   pub silent : honest → (HasNotes true (reads_as host.past) → ⊥) → told host'.past ≡ told host.past
   pub finds : Finds honest status host
   pub statuses : IsAskStatus status

@@ -9,6 +9,7 @@ use Rattle.host_model.specs.Disks.{EveryDisk, reads_as}
 use Rattle.host_model.specs.Moments.{Throughout, EveryStop}
 use Rattle.host_model.specs.Past.{Event, of, told, IsDisk}
 use Rattle.host_model.specs.Source.{Takes}
+use Rattle.history.specs.declared.chart.TheConstants.{USUAL_UPDATE_EVERY}
 use Rattle.history.specs.declared.fault.BlockFault.{BlockFault}
 use Rattle.history.specs.declared.fault.BlockFault.TheVariants.{Unfinished}
 use Rattle.history.specs.declared.line.Line.{Line}
@@ -86,7 +87,7 @@ run_status every set h0 text = ending_status (run_reading every set h0 (nat_lt (
 
 -- the update_every with which `run` reads, in seconds
 abbrev pub run_every : ℕ
-run_every = 1
+run_every = USUAL_UPDATE_EVERY
 
 -- at all other statuses all beats were stored and the whole output was told
 abbrev pub is_whole : Status → Bool

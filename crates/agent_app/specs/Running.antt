@@ -1,4 +1,4 @@
--- A run under way: of which front of its text it is, and what its steps promise.
+-- A run under way: of which prefix of its text it is, and what its steps promise.
 use Rattle.std.specs.Prelude.{◌≡◌, ℕ, ◌+◌, Bool, true, false, List, [], ◌∷◌, ◌++◌, length, take, ◌⊎◌, Result, Ok, MatchResult, IfErr, IsErrOf}
 use Rattle.host_model.specs.declared.status.Status.{Status}
 use Rattle.host_model.specs.declared.status.Status.TheVariants.{Ok as Done, Refused, Limit, TellFault, DiskFault, NotADatabase, Damaged, Memory}
@@ -18,6 +18,7 @@ use Rattle.agent_core.specs.declared.fault.AgentFault.TheVariants as agent_fault
 use Rattle.agent_core.specs.Agent.{IsAgentOf, AgentIsReady}
 use Rattle.host_model.specs.Seen.{Seen}
 use Rattle.agent_core.specs.Fed.{IsFed}
+use Rattle.line_stream.specs.Chain.{Acts}
 use Rattle.link_session.specs.Keeps.{IsAckedUpTo, Keeps}
 use Rattle.agent_app.specs.declared.running.Running.{Running}
 use Rattle.agent_app.specs.Convert.{refusal_line, refusal_status, LeavesFiles}
@@ -125,6 +126,15 @@ pub record Overflows (honest : Type 0) (running : Running) (host : Seen) (number
   pub statuses : IsTakers status
   pub counts : Counts host host' (status ≡ TellFault) (status ≡ DiskFault)
   pub others : LeavesOthers honest host host'
+
+-- what each call of the taker does
+abbrev pub run_acts : {H : Type 0} → (honest : Type 0) → (H → Seen) → Acts Running H
+run_acts honest seen = record {
+  takes = λ running host number bytes result running' host'. TakesLine honest running (seen host) number bytes result running' (seen host');
+  pauses = Pauses;
+  ends = λ running host count left status running' host'. EndsRun honest running (seen host) count left status (seen host');
+  overflows = λ running host number status running' host'. Overflows honest running (seen host) number status (seen host');
+}
 
 -- the status of a run whose database was not opened
 abbrev pub opening_status : AgentFault → Status

@@ -36,7 +36,7 @@ pub record Sends (status : Status) (set : Settings) (h : List Beat) (link link' 
   -- It did what a child does with the frames in the bytes that it took. A prefix of what that says was sent, and all of it
   -- unless the link or memory failed; and that is why it ended.
   pub exchanges : Exchanges (child_does set.id (data_of_history set h)) (child_begins set.id) result link link'
-  -- before a byte was sent of that history, it was all that a crash leaves, and so it stayed
+  -- at the end that history is all that a crash leaves
   pub stands : EveryDisk (StandsForHistory set h) new
 
 -- `send` ended with this status, and left the link and the host so

@@ -69,7 +69,7 @@ pub enum Command {
 }
 
 impl Command {
-    /// The command that the words give, or `None` where they are in no form. The error is want of
+    /// The command that the words give, or `None` where they are in no form. The error is out of
     /// memory.
     pub fn read(alloc: Global, words: &WordsList) -> Result<Option<Command>, AllocError>
         ensures command { IfOk result (λ command. command ≡ command_of words.now) }

@@ -6,7 +6,7 @@ ghost use Rattle.history.specs.declared.line.Line.{Line};
 ghost use Rattle.point_lines.specs.Reader.{IsReaderOf};
 ghost use Rattle.point_lines.specs.Told.{told_at_end};
 ghost use Rattle.agent_app.specs.Convert.{ending_line, LeavesDisk};
-ghost use Rattle.agent_app.specs.Converting.{AddsEnding, Ends, IsAt, Overflows, Pauses, Takes, TellsFront};
+ghost use Rattle.agent_app.specs.Converting.{converting_acts, AddsEnding, IsAt, TellsFront};
 ghost use Rattle.agent_app.specs.Reading.{Ends as IsOver, RefusedAt};
 
 use crate::refusals::{push_refusal, refusal_status};
@@ -84,26 +84,7 @@ impl Converting {
 impl<H: Host> Taker<H> for Converting {
     ghost ready = { λ converting host number. IsAt converting number };
 
-    ghost takes = { λ old host number line result new host'.
-        Takes H.honest number line result old new (H.seen host).past (H.seen host').past
-        (H.seen host).tell_faults (H.seen host').tell_faults
-        × (host' ≡ host) };
-
-    ghost pauses = { λ old host result new host'.
-        Pauses H.honest result old new (H.seen host).past (H.seen host').past
-        (H.seen host).tell_faults (H.seen host').tell_faults
-        × LeavesDisk H.honest (H.seen host) (H.seen host')
-        × OnOk result (string_bytes new.out ≡ []) };
-
-    ghost ends = { λ old host lines rest status new host'.
-        Ends H.honest lines rest status old new (H.seen host).past (H.seen host').past
-        (H.seen host).tell_faults (H.seen host').tell_faults
-        × (host' ≡ host) };
-
-    ghost overflows = { λ old host number status new host'.
-        Overflows H.honest number status old new (H.seen host).past (H.seen host').past
-        (H.seen host).tell_faults (H.seen host').tell_faults
-        × (host' ≡ host) };
+    ghost acts = { converting_acts H.honest H.seen };
 
     fn take_line(&mut self, _host: &mut H, number: u64, line: &[u8]) -> Result<(), Status> {
         match self.reader.take_line(line, &mut self.out) {

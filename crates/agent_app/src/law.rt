@@ -27,7 +27,7 @@ use host_model::Host;
 /// a prefix of what it took, and by all of it unless it ended with 4, 5 or 15: the beats of its text, the
 /// configuration, or the gaps and the beats of the Data that came over its link. Every beat that it acknowledged is
 /// there. It does nothing.
-pub fn any_course<H: Host>()
+pub fn crashes_leave_what_was_stored<H: Host>()
     ensures kept { H.honest → (starts : List (Option Database)) (tried : List ASettings)
         (runs : List OneRun) (host : H)
         → Course H.honest H.seen starts tried runs host
@@ -55,8 +55,8 @@ pub fn any_course<H: Host>()
           text = drop (length (told (H.seen host).past)) text;
         } ∷ runs) disk))
         (H.seen host).past (H.seen host').past }
-    ensures configures_moments { H.honest → (starts : List (Option Database)) (tried : List ASettings)
-        (runs : List OneRun) (host host' : H)
+    ensures configures_moments { H.honest → (starts : List (Option Database))
+        (tried : List ASettings) (runs : List OneRun) (host host' : H)
         (status : AStatus) (left left' : Option (List ℕ)) (source_faults source_faults' : ℕ)
         → Course H.honest H.seen starts tried runs host
         → ConfiguresAll H.honest status left left' source_faults source_faults' (H.seen host)

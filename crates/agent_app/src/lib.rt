@@ -60,7 +60,7 @@ mod running;
 mod send;
 mod sessions;
 
-pub use law::any_course;
+pub use law::crashes_leave_what_was_stored;
 
 /// Does what the words of a command line ask for, and says how it ended.
 ///

@@ -69,7 +69,7 @@ pub(crate) fn tell_reply<H: Host>(host: &mut H, text: &str) -> Status
     }
 }
 
-/// How a command ends whose agent, which was still of use, could not do what it was asked: memory was short.
+/// How a command ends whose agent, which was still of use, could not do what it was asked: memory ran out.
 pub(crate) fn memory_status(fault: AgentFault) -> Status
     requires { fault ≡ AgentFault.Memory }
     ensures { result ≡ Status.Memory }

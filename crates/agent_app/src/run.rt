@@ -5,12 +5,10 @@ ghost use Rattle.agent_app.specs.Running.{opening_status};
 
 use crate::running::Running;
 use agent_core::{Agent, AgentFault};
+use history::USUAL_UPDATE_EVERY;
 use host_model::{Host, Source, Status};
 use line_stream::take_text;
 use std::alloc::Global;
-
-/// The update_every of the charts whose line leaves it open, in seconds.
-const EVERY: u32 = 1;
 
 /// The status of a run whose database was not opened.
 pub(crate) fn opening_status(fault: AgentFault) -> Status
@@ -36,7 +34,7 @@ pub fn run<S: Source, H: Host>(alloc: Global, source: &mut S, host: &mut H) -> S
 {
     match Agent::open(alloc, host) {
         Ok(agent) => {
-            let mut running = Running::new(alloc, agent, EVERY);
+            let mut running = Running::new(alloc, agent, USUAL_UPDATE_EVERY);
             take_text(alloc, &mut running, source, host)
         }
         Err(fault) => opening_status(fault),

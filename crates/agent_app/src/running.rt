@@ -11,7 +11,7 @@ ghost use Rattle.history.specs.Registry.{Registry};
 ghost use Rattle.collect_block.specs.Feed.{CountsFor, IsFeedOf};
 ghost use Rattle.agent_core.specs.Fed.{IsFed};
 ghost use Rattle.agent_core.specs.Replies.{reply_text};
-ghost use Rattle.agent_app.specs.Running.{IsCutShort, IsFit, TellsRefusal, TakesLine, Pauses, EndsRun, Overflows};
+ghost use Rattle.agent_app.specs.Running.{run_acts, IsCutShort, IsFit, TellsRefusal, TakesLine};
 
 use crate::refusals::{push_refusal, refusal_status};
 use agent_core::{Agent, AgentFault, Reply, Said, write_reply};
@@ -158,16 +158,7 @@ impl Running {
 impl<H: Host> Taker<H> for Running {
     ghost ready = { λ running host number. IsFit H.honest running (H.seen host) };
 
-    ghost takes = { λ running host number bytes result running' host'.
-        TakesLine H.honest running (H.seen host) number bytes result running' (H.seen host') };
-
-    ghost pauses = { Pauses };
-
-    ghost ends = { λ running host count left status running' host'.
-        EndsRun H.honest running (H.seen host) count left status (H.seen host') };
-
-    ghost overflows = { λ running host number status running' host'.
-        Overflows H.honest running (H.seen host) number status (H.seen host') };
+    ghost acts = { run_acts H.honest H.seen };
 
     fn take_line(&mut self, host: &mut H, number: u64, line: &[u8]) -> Result<(), Status> {
         match read_line(self.alloc, line) {

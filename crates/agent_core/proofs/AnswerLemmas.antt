@@ -1,19 +1,17 @@
--- What is stored for a history gives the answers of the history.
-use Rattle.std.proofs.Common.{◌≡◌, ℕ, nat_eq, Bool, true, false, cond, List, [], ◌∷◌, map, reverse, Option, Some, None, Result, Ok, Err, refl, sym, ap, ◌∙◌}
+-- What a store has applied for a history gives the answers of the history.
+use Rattle.std.proofs.Common.{◌≡◌, ℕ, nat_eq, Bool, true, false, cond, List, [], ◌∷◌, map, reverse, Option, Some, None, Result, Ok, Err, refl, sym, ap, subst, ◌∙◌}
 use Rattle.std.specs.List.{cons_option, find}
 use Rattle.std.specs.Option.{option_map, option_map_or, unwrap_or}
 use Rattle.std.proofs.lemmas.Option.{none-some}
 use Rattle.algorithms.specs.Words.{packed}
+use Rattle.host_model.specs.Past.{Event}
 use Rattle.history.specs.History.{Beat, collected, copied, health, missing, registry_of}
 use Rattle.history.specs.Points.{points, Point as HistoryPoint}
 use Rattle.history.specs.Registry.{Registry}
 use Rattle.beat_points.specs.Points.{beat_points}
 use Rattle.beat_points.proofs.LawLemmas.{points-of_beat}
 use Rattle.beat_tiers.specs.declared.item.BeatPoint.{BeatPoint}
-use Rattle.beat_tiers.specs.declared.kept.Kept.{Kept}
 use Rattle.beat_tiers.specs.Beats.{TierBeat, is_series, series_points}
-use Rattle.beat_tiers.specs.Floors.{beats_before, floor_of, kept_beats}
-use Rattle.beat_tiers.specs.Kept.{kept_beat_of}
 use Rattle.tier_rollup.specs.declared.point.Point.{Point}
 use Rattle.query_engine.specs.declared.request.Request.{Request}
 use Rattle.query_engine.specs.Windows.{table_of}
@@ -24,13 +22,13 @@ use Rattle.query_text.specs.Fault.{IsFaultFor}
 use Rattle.query_text.specs.Told.{fault_text, table_text}
 use Rattle.tier_settings.specs.declared.settings.Settings.{Settings}
 use Rattle.store_core.specs.declared.beat.Beat.{Beat as StoreBeat}
+use Rattle.store_core.specs.Store.{HasApplied, IsStoreAt, StoreState}
 use Rattle.store_core.specs.Stored.{Stored}
 use Rattle.store_core.specs.Tiers.{floor_at, kept_of, seen}
 use Rattle.store_core.specs.View.{points_of}
 use Rattle.tier_settings.specs.Limits.{widths}
-use Rattle.tier_settings.specs.Settings.{first_tier, tier_with}
 use Rattle.agent_core.specs.Answers.{floor_of_history, kept_of_history, points_of_history, reply_of, reply_to, tier_beat, tier_beats, told_point}
-use Rattle.agent_core.specs.Kept.{copied_point, point_of, AreBeatsOf, IsBeatOf, IsStoredOf}
+use Rattle.agent_core.specs.Kept.{copied_point, point_of, AreBeatsOf, HoldsHistory, IsBeatOf, IsStoredOf}
 
 -- ---- the points of a series
 find-map : {A B : Type 0} (f : A → B) (p : B → Bool) (xs : List A) → find p (map f xs) ≡ option_map f (find (λ x. p (f x)) xs)
@@ -86,31 +84,37 @@ unfolding points_of_history
 told-points h series = ap reverse (tier-points h series)
 
 -- tiers see of the beats that a store keeps for a history just what they see of the history
-seen-beats : (h : List Beat) (beats : List StoreBeat) → AreBeatsOf h beats → map seen beats ≡ tier_beats h
+pub seen-beats : (h : List Beat) (beats : List StoreBeat) → AreBeatsOf h beats → map seen beats ≡ tier_beats h
 seen-beats [] [] are = refl
 seen-beats [] (kept ∷ beats) are = absurd are
 seen-beats (beat ∷ h) [] are = absurd are
 seen-beats (beat ∷ h) (kept ∷ beats) are = λ i. seen-beat h beat kept are.0 i ∷ seen-beats h beats are.1 i
 
-module _ (set : Settings) (h : List Beat) (stored : Stored) (are : IsStoredOf h stored) where
-  pub told-is : points_of stored ≡ points_of_history h
-  told-is = λ i series. (ap (λ (all : List TierBeat). reverse (series_points all series)) (seen-beats h stored.after are.after) ∙ told-points h series) i
+-- a store of what is stored for a history has applied what tiers see of it
+pub applied-at : (past : List Event) (store : StoreState) (set : Settings) (h : List Beat) (stored : Stored) (rest : List StoreBeat) → IsStoredOf h stored → IsStoreAt past store set stored rest
+    → HasApplied set (tier_beats h) store
+applied-at past store set h stored rest are is_at = subst (λ (beats : List TierBeat). HasApplied set beats store) (seen-beats h stored.after are.after) is_at.applied
 
-  pub floor-is : (tier : ℕ) → floor_at set stored tier ≡ floor_of_history set h tier
+pub applied-all : (past : List Event) (store : StoreState) (set : Settings) (h : List Beat) → HoldsHistory past store set h → HasApplied set (tier_beats h) store
+applied-all past store set h holds = applied-at past store set h holds.stored [] holds.are holds.store_of
+
+module _ (set : Settings) (h : List Beat) where
+  pub told-is : points_of (tier_beats h) ≡ points_of_history h
+  told-is = λ i series. told-points h series i
+
+  pub floor-is : (tier : ℕ) → floor_at set (tier_beats h) tier ≡ floor_of_history set h tier
   unfolding floor_of_history
-  floor-is tier = ap (λ (all : List TierBeat). floor_of tier (tier_with set tier) all) (seen-beats h stored.after are.after)
+  floor-is tier = refl
 
   -- the answer of the store is that of the history
   pub table-is : (registry : Registry) (request : Request) → registry ≡ registry_of h
-      → table_text registry request (table_of widths (floor_at set stored) (points_of stored) request) ≡ reply_to set h (Ok request)
+      → table_text registry request (table_of widths (floor_at set (tier_beats h)) (points_of (tier_beats h)) request) ≡ reply_to set h (Ok request)
   unfolding reply_to
   table-is registry request same = λ i. table_text (same i) request (table_of widths (λ tier. floor-is tier i) (told-is i) request)
 
-  pub kept-is : kept_of set stored ≡ kept_of_history set h
+  pub kept-is : kept_of set (tier_beats h) ≡ kept_of_history set h
   unfolding kept_of_history
-  kept-is =
-      let kept : List TierBeat → Kept = λ all. record { before = beats_before (first_tier set) all; beats = map kept_beat_of (kept_beats (first_tier set) all) } in
-      ap kept (seen-beats h stored.after are.after)
+  kept-is = refl
 
 -- ---- the reply to what was read of a query
 -- the line of the refusal

@@ -41,16 +41,15 @@ use Rattle.link_frames.proofs.AnswerLaw.{answer-spells}
 use Rattle.link_frames.proofs.PlacesLaw.{of-all}
 use Rattle.store_core.specs.declared.beat.Beat.{Beat as StoreBeat}
 use Rattle.store_core.specs.Beats.{is_point, is_timed, series_of, InForm}
-use Rattle.store_core.specs.Store.{IsStoreOf, StoreState}
-use Rattle.store_core.specs.Stored.{Stored}
+use Rattle.store_core.specs.Store.{StoreState}
 use Rattle.store_core.specs.Tiers.{floor_at, kept_of, seen}
 use Rattle.tier_settings.specs.Settings.{first_tier}
-use Rattle.agent_core.specs.Answers.{floor_of_history, kept_of_history}
+use Rattle.agent_core.specs.Answers.{floor_of_history, kept_of_history, tier_beats}
 use Rattle.agent_core.specs.Asking.{AreInUtf8, HaveCharts, IsSendable}
 use Rattle.agent_core.specs.Copies.{data_of_history, names_of, sent_beat, word_of_point}
-use Rattle.agent_core.specs.Kept.{copied_point, point_of, AreBeatsOf, IsStoredOf}
+use Rattle.agent_core.specs.Kept.{copied_point, point_of, AreBeatsOf, HoldsHistory}
 use Rattle.agent_core.specs.Rules.{HasLimits}
-use Rattle.agent_core.proofs.AnswerLemmas.{floor-is, kept-is}
+use Rattle.agent_core.proofs.AnswerLemmas.{floor-is, kept-is, seen-beats}
 use Rattle.agent_core.proofs.AnswerTruth.{points-below, sent-rises}
 use Rattle.agent_core.proofs.NamedLemmas.{grows-same, grows-with}
 use Rattle.agent_core.proofs.SentNames.{names-sent}
@@ -186,46 +185,49 @@ module _ (series : ℕ) where
   MaySend beat = IsSendable series (sent_beat beat)
 
   -- the kept beats may all be sent
-  kept-sendable : (set : Settings) (stored : Stored) → AllByRecursion InForm stored.after → AllByRecursion (AreBelow series) stored.after → AllByRecursion MaySend (kept_of set stored).beats
-  kept-sendable set stored forms below =
-      let test = is_kept (floor_of 0 (first_tier set) (map seen stored.after)) in
-      let some = filter (λ (beat : TierBeat). has_points beat && test beat) (map seen stored.after) in
-      all-of-map MaySend kept_beat_of (reverse some) (all-reverse Sends some (filter-sendable test stored.after forms below))
+  kept-sendable : (set : Settings) (beats : List StoreBeat) → AllByRecursion InForm beats → AllByRecursion (AreBelow series) beats → AllByRecursion MaySend (kept_of set (map seen beats)).beats
+  kept-sendable set beats forms below =
+      let test = is_kept (floor_of 0 (first_tier set) (map seen beats)) in
+      let some = filter (λ (beat : TierBeat). has_points beat && test beat) (map seen beats) in
+      all-of-map MaySend kept_beat_of (reverse some) (all-reverse Sends some (filter-sendable test beats forms below))
 
 -- ---- the answer
-module _ (past : List Event) (store : StoreState) (set : Settings) (h : List Beat) (stored : Stored) (are : IsStoredOf h stored) (store_of : IsStoreOf past store set stored) (ask : Ask) where
+module _ (past : List Event) (store : StoreState) (set : Settings) (h : List Beat) (holds : HoldsHistory past store set h) (ask : Ask) where
   -- another history is asked
   pub not-asked : (ask.child ≡ store.settings.id → ⊥) → None ≡ data_of_history set h ask
   unfolding data_of_history
   not-asked other =
-      let child : store.settings.id ≡ set.id = ap (λ (set : Settings). set.id) store_of.settings in
+      let child : store.settings.id ≡ set.id = ap (λ (set : Settings). set.id) holds.store_of.settings in
       sym (cond-false (set.id == ask.child) _ _ (ne_eqb set.id ask.child (λ e. other (sym e ∙ sym child))))
 
-  module _ (registry : Registry) (registry_is : registry ≡ registry_of h) (floor : ℕ) (floor_is : floor ≡ floor_at set stored 0)
-      (found : List KeptBeat) (found_is : found ≡ take 64 (filter (is_above (from_of floor ask.last)) (kept_of set stored).beats)) where
+  module _ (registry : Registry) (registry_is : registry ≡ registry_of h) (floor : ℕ) (floor_is : floor ≡ floor_at set (tier_beats h) 0)
+      (found : List KeptBeat) (found_is : found ≡ take 64 (filter (is_above (from_of floor ask.last)) (kept_of set (tier_beats h)).beats)) where
     pub found-sendable : AllByRecursion (IsSendable (length registry.dimensions)) (map sent_beat found)
     found-sendable =
         let series = length registry.dimensions in
         let least : length (registry_of h).dimensions ≤ series = omega (arith, ap (λ (r : Registry). length r.dimensions) registry_is) in
-        let kept = kept-sendable series set stored store_of.beats_are.forms (all-below h stored.after are.after series least) in
+        let beats = holds.stored.after in
+        let are = holds.are.after in
+        let whole = (kept_of set (tier_beats h)).beats in
+        let kept = subst (λ (all : List TierBeat). AllByRecursion (MaySend series) (kept_of set all).beats) (seen-beats h beats are) (kept-sendable series set beats holds.store_of.beats_are.forms (all-below h beats are series least)) in
         let from = from_of floor ask.last in
         all-of-map (IsSendable series) sent_beat found
         (subst (AllByRecursion (MaySend series)) (sym found_is)
-        (all-take (MaySend series) 64 (filter (is_above from) (kept_of set stored).beats) (all-filter (MaySend series) (is_above from) (kept_of set stored).beats kept)))
+        (all-take (MaySend series) 64 (filter (is_above from) whole) (all-filter (MaySend series) (is_above from) whole kept)))
 
     pub answer-is : (answer : Option Data) → answer ≡ data_of store.settings.id floor (names_of registry) (map sent_beat found) ask → answer ≡ data_of_history set h ask
     unfolding data_of_history
     answer-is answer is =
         let from = from_of floor ask.last in
-        let kept = (kept_of set stored).beats in
+        let kept = (kept_of set (tier_beats h)).beats in
         let whole = (kept_of_history set h).beats in
-        let whole_is : kept ≡ whole = λ i. (kept-is set h stored are i).beats in
-        let floor_now : floor ≡ floor_of_history set h 0 = floor_is ∙ floor-is set h stored are 0 in
-        let id : store.settings.id ≡ set.id = ap (λ (set : Settings). set.id) store_of.settings in
+        let whole_is : kept ≡ whole = λ i. (kept-is set h i).beats in
+        let floor_now : floor ≡ floor_of_history set h 0 = floor_is ∙ floor-is set h 0 in
+        let id : store.settings.id ≡ set.id = ap (λ (set : Settings). set.id) holds.store_of.settings in
         let front : map sent_beat found ≡ take 64 (above beat_moment from (map sent_beat whole)) =
         ap (map sent_beat) found_is ∙ sym (take-map sent_beat 64 (filter (is_above from) kept))
         ∙ ap (take 64) (ap (λ (kept : List KeptBeat). map sent_beat (filter (is_above from) kept)) whole_is ∙ sym (above-map (λ (beat : KeptBeat). beat.moment) beat_moment sent_beat (λ beat. refl) from whole)) in
         is
         ∙ ap (λ (beats : List SentBeat). data_of store.settings.id floor (names_of registry) beats ask) front
-        ∙ data_of-take store.settings.id floor (names_of registry) (map sent_beat whole) ask (let all = were_kept h stored are in sent-rises set h all.beats all.are ask)
+        ∙ data_of-take store.settings.id floor (names_of registry) (map sent_beat whole) ask (let all = were_kept h holds.stored holds.are in sent-rises set h all.beats all.are ask)
         ∙ (λ i. data_of (id i) (floor_now i) (names_of (registry_is i)) (map sent_beat whole) ask)

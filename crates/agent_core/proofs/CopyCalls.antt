@@ -1,5 +1,5 @@
 -- What an agent adds of the message of a child, and what a call of it leaves.
-use Rattle.std.proofs.Common.{◌≡◌, ℕ, ◌+◌, ◌<◌, Bool, true, false, not, ◌&&◌, List, [], length, None, is_none, sym, ap, ◌∙◌, arith, if◌then◌else◌}
+use Rattle.std.proofs.Common.{◌≡◌, ℕ, ◌+◌, Bool, true, false, not, ◌&&◌, List, [], length, None, is_none, sym, ap, ◌∙◌, arith, if◌then◌else◌}
 use Rattle.host_model.specs.Past.{Event}
 use Rattle.host_model.specs.Disks.{EveryDisk}
 use Rattle.host_model.specs.Moments.{begins, Throughout}
@@ -8,31 +8,29 @@ use Rattle.history.specs.declared.fault.BlockFault.TheVariants.{MixedRoles}
 use Rattle.history.specs.History.{Beat}
 use Rattle.history.specs.Registry.{Registry}
 use Rattle.chart_registry.proofs.AcceptedLemmas.{passed}
-use Rattle.alarm_core.specs.Course.{held}
+use Rattle.alarm_events.specs.declared.event.Event.{Event as AlarmEvent}
 use Rattle.replication.specs.declared.message.Data.{Data}
 use Rattle.replication.specs.Verdict.{is_stored, verdict_by}
 use Rattle.tier_settings.specs.declared.settings.Settings.{Settings}
 use Rattle.store_core.specs.Store.{counted}
-use Rattle.agent_core.specs.Agent.{AgentState, IsAgentOf}
+use Rattle.agent_core.specs.Agent.{left_in, AgentState, IsAgentOf}
 use Rattle.agent_core.specs.Calls.{agent_adds, agent_verdict}
 use Rattle.agent_core.specs.Copying.{added_by, added_to, beats_of, copy_refusal, definitions_in, events_onto, names_refusal}
 use Rattle.agent_core.specs.Kept.{onto, StandsForFront}
 use Rattle.agent_core.specs.declared.left.Role.{Role}
-use Rattle.agent_core.specs.declared.left.Role.TheVariants.{Copies}
 use Rattle.agent_core.specs.Roles.{may_copy}
-use Rattle.agent_core.specs.Storing.{ArePartsAt}
-use Rattle.agent_core.proofs.FrontLemmas.{message-role, onto-length}
-use Rattle.agent_core.proofs.KeptLemmas.{child-is, stays}
-use Rattle.agent_core.proofs.StoringLemmas.{store-last}
+use Rattle.agent_core.specs.Storing.{HasAdded}
+use Rattle.agent_core.proofs.FrontLemmas.{onto-length}
+use Rattle.agent_core.proofs.KeptLemmas.{child-is, stays, store-last}
 
 -- what an agent adds, its history adds
 pub adds-are : (past : List Event) (agent : AgentState) (set : Settings) (h : List Beat) → IsAgentOf past agent set h → (message : Data) → agent_adds agent message ≡ added_to h message
 adds-are past agent set h is_of message =
-    λ i. added_by (verdict_by (child-is past agent set h is_of i) (is_of.last_is i) message.child message.prev) (is_of.holds.registry_is i) (is_of.role i) message
+    λ i. added_by (verdict_by (child-is past agent set h is_of i) (is_of.last_is i) message.child message.prev) (is_of.left_by.registry_is i) (is_of.left_by.role_is i) message
 
 -- before anything has happened
 pub none-added : (past : List Event) (agent : AgentState) (set : Settings) (h : List Beat) → IsAgentOf past agent set h → (more : List Beat) → Throughout (EveryDisk (StandsForFront set h more)) past past
-none-added past agent set h is_of more = begins (λ disk images. (0, stays past agent.store agent.registry agent.last_rows agent.latest set h is_of.holds disk images))
+none-added past agent set h is_of more = begins (λ disk images. (0, stays past agent.store set h is_of.holds disk images))
 
 -- ---- a message that is left
 module _ (agent : AgentState) (message : Data) (left : is_stored (agent_verdict agent message) ≡ false) where
@@ -54,24 +52,19 @@ pub stored-adds : (agent : AgentState) (message : Data) → is_stored (agent_ver
 stored-adds agent message stored free =
     λ i. if sym stored i && is_none (sym free i) then beats_of agent.registry message else []
 
--- an agent has the parts of its history
-pub agent-parts : (past : List Event) (agent : AgentState) (set : Settings) (h : List Beat) → IsAgentOf past agent set h → ArePartsAt past agent.store agent.registry agent.last_rows agent.latest (held agent.alarms) set h
-agent-parts past agent set h is_of = record { holds = is_of.holds; held_is = is_of.alarms }
-
 counted-by : (n more : ℕ) → counted (counted n + more) ≡ counted (n + more)
 counted-by n more = omega arith
 
--- and is of the history with a message once its parts are
-pub agent-copied : (past new : List Event) (agent agent' : AgentState) (set : Settings) (h : List Beat) (message : Data) → IsAgentOf past agent set h → 0 < length message.beats
-    → ArePartsAt new agent'.store agent'.registry agent'.last_rows agent'.latest (held agent'.alarms) set (onto h (beats_of agent.registry message)) → agent'.last ≡ agent'.store.last
-    → agent'.count ≡ counted (agent.count + length (beats_of agent.registry message)) → agent'.role ≡ Copies message.child → agent'.fault ≡ None → IsAgentOf new agent' set (onto h (beats_of agent.registry message))
-agent-copied past new agent agent' set h message is_of some parts last_is count role going =
+-- an agent with a message on its history is of that
+pub agent-copied : (past new : List Event) (agent agent' : AgentState) (set : Settings) (h : List Beat) (message : Data) (events : List AlarmEvent) → IsAgentOf past agent set h
+    → HasAdded new agent'.store (left_in agent') set h (beats_of agent.registry message) events → agent'.last ≡ agent'.store.last → agent'.count ≡ counted (agent.count + length (beats_of agent.registry message))
+    → agent'.fault ≡ None → IsAgentOf new agent' set (onto h (beats_of agent.registry message))
+agent-copied past new agent agent' set h message events is_of added last_is count going =
     let more = beats_of agent.registry message in
     record {
-      holds = parts.holds;
-      last_is = last_is ∙ store-last new agent'.store agent'.registry agent'.last_rows agent'.latest set (onto h more) parts.holds;
+      holds = added.holds;
+      left_by = added.left_by;
+      last_is = last_is ∙ store-last new agent'.store set (onto h more) added.holds;
       count = count ∙ ap (λ (n : ℕ). counted (n + length more)) is_of.count ∙ counted-by (length h) (length more) ∙ ap counted (sym (onto-length h more));
-      role = role ∙ sym (message-role agent.registry message h some);
-      alarms = parts.held_is;
       going = going;
     }

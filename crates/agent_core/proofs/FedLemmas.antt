@@ -1,26 +1,20 @@
 -- The beats that a feed closes may be handed in, and what a feed is after one line more.
-use Rattle.std.proofs.Common.{◌≡◌, ℕ, ◌==◌, ◌≤◌, Bool, true, false, not, nat_le, ◌&&◌, List, [], ◌∷◌, ◌++◌, Option, Some, None, is_some, ℤ, refl, sym, ap, ◌∙◌, subst, if◌then◌else◌}
+use Rattle.std.proofs.Common.{◌≡◌, ℕ, Bool, true, false, not, List, [], ◌∷◌, ◌++◌, Option, Some, None, is_some, ℤ, refl, sym, ap, ◌∙◌, subst}
 use Rattle.std.specs.List.{list_any, AllByRecursion}
 use Rattle.std.specs.Option.{option_map_or}
 use Rattle.std.specs.Str.{bytes_eq}
-use Rattle.std.proofs.lemmas.Bool.{and_parts, le-leb}
 use Rattle.std.proofs.lemmas.List.{append-nil}
 use Rattle.std.proofs.lemmas.List.Elements.{All-from_recursion, recursion_from_All}
 use Rattle.std.proofs.lemmas.Option.{none-some, same_Some}
-use Rattle.history.specs.declared.beat.OpenDim.{OpenDim}
 use Rattle.history.specs.declared.beat.OpenRow.{OpenRow}
 use Rattle.history.specs.declared.beat.OpenValue.{OpenValue}
-use Rattle.history.specs.declared.chart.ChartDef.{ChartDef}
-use Rattle.history.specs.declared.dimension.DimDef.{DimDef}
 use Rattle.history.specs.declared.fault.BlockFault.TheVariants as fault
-use Rattle.history.specs.declared.limits.TheConstants.{UPDATE_EVERY_LIMIT}
 use Rattle.history.specs.declared.line.Line.{Line}
 use Rattle.history.specs.declared.line.Line.TheVariants as line
-use Rattle.history.specs.Limits.{chart_keeps_limits, dimension_keeps_limits, has_short_texts, is_chart_id, keeps_limits}
-use Rattle.history.specs.Looking.{beat, charts, dimensions, is_value, last_chart, open_block, rows, same_value, set_value, values, with_grid}
-use Rattle.history.specs.Put.{put}
+use Rattle.history.specs.Limits.{keeps_limits}
+use Rattle.history.specs.Looking.{beat, is_value, open_block, rows, same_value, set_value, values}
 use Rattle.history.specs.Refusal.{has_chart, has_row, refusal}
-use Rattle.history.specs.Registry.{Registry, same_chart, same_dimension}
+use Rattle.history.specs.Registry.{Registry}
 use Rattle.chart_registry.proofs.OpenLemmas.{charts-apart, dimensions-apart}
 use Rattle.chart_registry.proofs.RowsLemmas.{same_text, bytes_eq_same}
 use Rattle.history.specs.Regular.{AreApart, same_row}
@@ -32,52 +26,10 @@ use Rattle.agent_core.specs.Fed.{OpenEachFirst, OpensFirst, IsFed}
 use Rattle.agent_core.specs.Rules.{IsOpenBeat}
 use Rattle.agent_core.specs.Steps.{IsOpenStep}
 use Rattle.chart_registry.proofs.AcceptedLemmas.{passed, same_row-left}
-use Rattle.chart_registry.proofs.Applying.{all-put}
-use Rattle.collect_block.proofs.OpenLemmas.{grids}
+use Rattle.collect_block.proofs.OpenLemmas.{charts-limits, dimensions-limits, grids}
 
--- ---- the charts and dimensions of the open beat
 abbrev KeepsLimits : Line → Type 0
 KeepsLimits line = keeps_limits line ≡ true
-
-abbrev IsLimitedChart : ChartDef → Type 0
-IsLimitedChart def = chart_keeps_limits def ≡ true
-
-limits-of : (every : ℕ) (def : ChartDef) → every ≤ UPDATE_EVERY_LIMIT → IsLimitedChart def → IsLimitedChart (with_grid every def)
-limits-of every def low limits = by (def.update_every == 0)
-  where
-    by : (b : Bool) → IsLimitedChart (if b then record def { update_every = every } else def)
-    by true =
-        let texts = (and_parts (is_chart_id def.id && has_short_texts def) (nat_le def.update_every UPDATE_EVERY_LIMIT) limits).0 in
-        λ i. texts i && le-leb every UPDATE_EVERY_LIMIT low i
-    by false = limits
-
-charts-limits : (every : ℕ) (past : List Line) → every ≤ UPDATE_EVERY_LIMIT → AllByRecursion KeepsLimits past → AllByRecursion IsLimitedChart (charts every past)
-charts-limits every [] low limits = tt
-charts-limits every (line.Moment moment ∷ past) low limits = tt
-charts-limits every (line.Chart def ∷ past) low limits =
-    all-put same_chart IsLimitedChart (charts every past) (with_grid every def) (charts-limits every past low limits.1) (limits-of every def low limits.0)
-charts-limits every (line ∷ past) low limits = charts-limits every past low limits.1
-
-abbrev with_dimension : DimDef → List OpenDim → Option (List ℕ) → List OpenDim
-with_dimension def ds chart = option_map_or (λ chart. put same_dimension ds (record { chart = chart; def = def })) chart ds
-
-module _ (P : DimDef → Type 0) where
-  abbrev OfDimension : OpenDim → Type 0
-  OfDimension dimension = P dimension.def
-
-  -- what holds of a definition and of those before it, holds of all
-  dimension-also : (def : DimDef) (ds : List OpenDim) (chart : Option (List ℕ)) → P def → AllByRecursion OfDimension ds → AllByRecursion OfDimension (with_dimension def ds chart)
-  dimension-also def ds None here all = all
-  dimension-also def ds (Some chart) here all = all-put same_dimension OfDimension ds (record { chart = chart; def = def }) all here
-
-abbrev IsLimited : DimDef → Type 0
-IsLimited def = dimension_keeps_limits def ≡ true
-
-dimensions-limits : (past : List Line) → AllByRecursion KeepsLimits past → AllByRecursion (OfDimension IsLimited) (dimensions past)
-dimensions-limits [] limits = tt
-dimensions-limits (line.Dimension def ∷ past) limits = dimension-also IsLimited def (dimensions past) (last_chart past) limits.0 (dimensions-limits past limits.1)
-dimensions-limits (line.Moment moment ∷ past) limits = tt
-dimensions-limits (line ∷ past) limits = dimensions-limits past limits.1
 
 -- ---- its rows
 set-apart : (vs : List OpenValue) (id : List ℕ) (value : Option ℤ) (anomalous : Bool) → AreApart same_value vs → AreApart same_value (set_value vs id value anomalous)
@@ -139,14 +91,14 @@ fed-beat : (feed : Feed) (fed : IsFed feed) → IsOpenBeat (beat fed.every fed.p
 fed-beat feed fed =
     let every = fed.every in
     let past = fed.past in
-    let limits : AllByRecursion KeepsLimits past = recursion_from_All KeepsLimits past fed.limits in record {
+    record {
       apart_charts = charts-apart every past;
       apart_dimensions = dimensions-apart past;
       apart_rows = rows-apart every past fed.blocks;
       apart_values = All-from_recursion IsApartRow (rows past) (rows-values past);
       grids = grids every past fed.feed_of.grid;
-      chart_limits = All-from_recursion IsLimitedChart (charts every past) (charts-limits every past fed.grid_limit limits);
-      dimension_limits = All-from_recursion (OfDimension IsLimited) (dimensions past) (dimensions-limits past limits);
+      chart_limits = charts-limits every past fed.grid_limit fed.limits;
+      dimension_limits = dimensions-limits past fed.limits;
     }
 
 -- what a feed gives

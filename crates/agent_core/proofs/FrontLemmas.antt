@@ -1,5 +1,5 @@
 -- The prefixes of the beats that follow a history.
-use Rattle.std.proofs.Common.{◌≡◌, ℕ, zero, suc, ◌+◌, ◌<◌, ◌≤◌, ◌⊎◌, inl, inr, Bool, true, not, List, [], ◌∷◌, ◌++◌, length, take, slice_get, Option, Some, None, refl, sym, ap, ◌∙◌, subst, append_assoc, append-nil, arith, length-append, if◌then◌else◌}
+use Rattle.std.proofs.Common.{◌≡◌, ℕ, zero, suc, ◌+◌, ◌<◌, ◌≤◌, ◌⊎◌, inl, inr, Bool, true, not, List, [], ◌∷◌, ◌++◌, length, take, slice_get, Some, None, refl, sym, ap, ◌∙◌, subst, append_assoc, append-nil, arith, length-append, if◌then◌else◌}
 use Rattle.std.specs.List.{enumerate_from, filter_map, list_all, list_any}
 use Rattle.std.specs.Option.{option_map}
 use Rattle.std.proofs.Math.Seq.{take-append-add, take-length}
@@ -12,7 +12,6 @@ use Rattle.host_model.specs.Disks.{EveryDisk}
 use Rattle.host_model.specs.Moments.{begins, Throughout}
 use Rattle.host_model.proofs.DiskLemmas.{disks_weaker}
 use Rattle.host_model.proofs.MomentLemmas.{joined}
-use Rattle.algorithms.specs.declared.last.Last.{Last}
 use Rattle.history.specs.declared.beat.OpenDim.{OpenDim}
 use Rattle.history.specs.declared.chart.ChartDef.{ChartDef}
 use Rattle.history.specs.declared.numbered.NumberedBeat.{NumberedBeat}
@@ -22,8 +21,7 @@ use Rattle.history.specs.History.{Beat, copied, last, missing, registry_of, Copy
 use Rattle.history.specs.Numbered.{numbered_charts, numbered_dimension, numbered_dimensions}
 use Rattle.history.specs.Registry.{Registry, is_chart, is_dimension}
 use Rattle.chart_registry.specs.Accepted.{IsWithin}
-use Rattle.alarm_core.specs.declared.latest.Latest.{Latest}
-use Rattle.alarm_core.specs.Course.{Held}
+use Rattle.alarm_core.specs.Course.{Outcome}
 use Rattle.alarm_events.specs.declared.event.Event.{Event as AlarmEvent}
 use Rattle.tier_settings.specs.declared.settings.Settings.{Settings}
 use Rattle.replication.specs.declared.beats.Beat.{Beat as SentBeat}
@@ -32,13 +30,14 @@ use Rattle.replication.specs.Copies.{latest as latest_of, RisesFrom}
 use Rattle.replication.specs.Names.{beat_moment, named_beat, named_beats}
 use Rattle.link_frames.specs.DataForm.{IsData}
 use Rattle.store_core.specs.Store.{StoreState}
-use Rattle.agent_core.specs.Alarms.{alarms_at, events_at}
+use Rattle.agent_core.specs.Alarms.{events_at}
 use Rattle.agent_core.specs.Copying.{beats_of, copied_of, copy_refusal, definitions_in, events_onto, names_refusal, nothing_defined}
-use Rattle.agent_core.specs.Kept.{onto, StandsForFront, StandsForHistory}
-use Rattle.agent_core.specs.declared.left.Role.TheVariants.{Copies}
+use Rattle.agent_core.specs.Kept.{onto, HoldsHistory, StandsForFront, StandsForHistory}
+use Rattle.agent_core.specs.declared.left.Left.{Left}
+use Rattle.agent_core.specs.Left.{IsLeftBy}
 use Rattle.agent_core.specs.Roles.{may_copy, role_of}
-use Rattle.agent_core.specs.Storing.{gap_beats, later_copies, sent_copies, sent_words, with_names, ArePartsAt, IsSentAs, MayTake, MayTakeAll}
-use Rattle.agent_core.proofs.AlarmLemmas.{none-followed}
+use Rattle.agent_core.specs.Storing.{gap_beats, later_copies, sent_copies, sent_words, with_names, HasAdded, IsSentAs, MayTake, MayTakeAll}
+use Rattle.agent_core.proofs.AlarmLemmas.{gap-outcome}
 use Rattle.agent_core.proofs.KeptLemmas.{stays}
 use Rattle.agent_core.proofs.StoringLemmas.{gap-none, gap-some}
 use Rattle.agent_core.proofs.TakenLemmas.{all-follow}
@@ -50,13 +49,13 @@ module _ (set : Settings) where
   onto-next h (first ∷ more) zero beat at = ap (λ (b : Beat). b ∷ h) (same_Some first beat at)
   onto-next h (first ∷ more) (suc i) beat at = onto-next (first ∷ h) more i beat at
 
-  events-next : (h more : List Beat) (i : ℕ) (beat : Beat) → slice_get more i ≡ Some beat → events_onto set h (take (suc i) more) ≡ events_onto set h (take i more) ++ events_at set (beat ∷ onto h (take i more))
+  events-next : (h more : List Beat) (i : ℕ) (beat : Beat) → slice_get more i ≡ Some beat → events_onto set h (take (suc i) more) ≡ events_onto set h (take i more) ++ events_onto set (onto h (take i more)) (beat ∷ [])
   unfolding events_onto
   events-next h [] i beat at = absurd (none-some beat at)
-  events-next h (first ∷ more) zero beat at = append-nil (events_at set (first ∷ h)) ∙ ap (λ (b : Beat). events_at set (b ∷ h)) (same_Some first beat at)
+  events-next h (first ∷ more) zero beat at = ap (λ (b : Beat). events_onto set h (b ∷ [])) (same_Some first beat at)
   events-next h (first ∷ more) (suc i) beat at =
       ap (λ (rest : List AlarmEvent). events_at set (first ∷ h) ++ rest) (events-next (first ∷ h) more i beat at)
-      ∙ sym (append_assoc (events_at set (first ∷ h)) (events_onto set (first ∷ h) (take i more)) (events_at set (beat ∷ onto (first ∷ h) (take i more))))
+      ∙ sym (append_assoc (events_at set (first ∷ h)) (events_onto set (first ∷ h) (take i more)) (events_onto set (onto (first ∷ h) (take i more)) (beat ∷ [])))
 
 pub takes-next : (h more : List Beat) (i : ℕ) (beat : Beat) → slice_get more i ≡ Some beat → MayTakeAll h more → MayTake (onto h (take i more)) beat
 takes-next h [] i beat at all = absurd (none-some beat at)
@@ -65,23 +64,26 @@ takes-next h (first ∷ more) (suc i) beat at all = takes-next (first ∷ h) mor
 
 -- ---- what was stored so far
 
--- the first n of these beats are stored on a history: so the parts of an agent are, and these events were told
-pub record HaveStored (old now : List Event) (set : Settings) (h more : List Beat) (n : ℕ) (store : StoreState) (registry : Registry) (lasts : List (Option Last)) (latest : Latest) (held : Held) (events : List AlarmEvent) : Type 0 where
+-- the first n of these beats are stored on a history, and these events were told
+pub record HaveStored (old now : List Event) (set : Settings) (h more : List Beat) (n : ℕ) (store : StoreState) (left : Left) (events : List AlarmEvent) : Type 0 where
   pub moments : Throughout (EveryDisk (StandsForFront set h more)) old now
-  pub parts : ArePartsAt now store registry lasts latest held set (onto h (take n more))
-  pub events_are : events ≡ events_onto set h (take n more)
+  pub added : HasAdded now store left set h (take n more) events
 
-pub stored-none : (past : List Event) (set : Settings) (h more : List Beat) (store : StoreState) (registry : Registry) (lasts : List (Option Last)) (latest : Latest) (held : Held)
-    → ArePartsAt past store registry lasts latest held set h → HaveStored past past set h more 0 store registry lasts latest held []
+pub stored-none : (past : List Event) (set : Settings) (h more : List Beat) (store : StoreState) (left : Left) → HoldsHistory past store set h → IsLeftBy set h left → HaveStored past past set h more 0 store left []
 unfolding events_onto
-stored-none past set h more store registry lasts latest held parts = record {
-  moments = begins (λ disk images. (0, stays past store registry lasts latest set h parts.holds disk images));
-  parts = parts;
-  events_are = refl;
+stored-none past set h more store left holds by = record {
+  moments = begins (λ disk images. (0, stays past store set h holds disk images));
+  added = record { holds = holds; left_by = by; events_are = refl };
 }
 
-module _ (old now new : List Event) (set : Settings) (h more : List Beat) (n : ℕ) (store : StoreState) (registry : Registry) (lasts : List (Option Last)) (latest : Latest) (held : Held) (events : List AlarmEvent)
-    (stored : HaveStored old now set h more n store registry lasts latest held events) (beat : Beat) (at : slice_get more n ≡ Some beat)
+-- one beat on a history, with the events of its alarms
+pub added-one : (past : List Event) (store : StoreState) (left : Left) (set : Settings) (h : List Beat) (beat : Beat) (events : List AlarmEvent) → HoldsHistory past store set (beat ∷ h) → IsLeftBy set (beat ∷ h) left
+    → events ≡ events_at set (beat ∷ h) → HasAdded past store left set h (beat ∷ []) events
+unfolding events_onto
+added-one past store left set h beat events holds by told = record { holds = holds; left_by = by; events_are = told ∙ sym (append-nil (events_at set (beat ∷ h))) }
+
+module _ (old now new : List Event) (set : Settings) (h more : List Beat) (n : ℕ) (store : StoreState) (left : Left) (events : List AlarmEvent)
+    (stored : HaveStored old now set h more n store left events) (beat : Beat) (at : slice_get more n ≡ Some beat)
     (moments : Throughout (EveryDisk (λ disk. StandsForHistory set (onto h (take n more)) disk ⊎ StandsForHistory set (beat ∷ onto h (take n more)) disk)) now new) where
   pub stored-moments : Throughout (EveryDisk (StandsForFront set h more)) old new
   stored-moments = joined stored.moments (disks_weaker by moments)
@@ -90,12 +92,15 @@ module _ (old now new : List Event) (set : Settings) (h more : List Beat) (n : �
       by disk (inl stands) = (n, stands)
       by disk (inr stands) = (suc n, subst (λ (g : List Beat). StandsForHistory set g disk) (sym (onto-next set h more n beat at)) stands)
 
-  pub stored-more : (store' : StoreState) (lasts' : List (Option Last)) (latest' : Latest) (held' : Held) (told events' : List AlarmEvent) → ArePartsAt new store' registry lasts' latest' held' set (beat ∷ onto h (take n more))
-      → told ≡ events_at set (beat ∷ onto h (take n more)) → events' ≡ events ++ told → HaveStored old new set h more (suc n) store' registry lasts' latest' held' events'
-  stored-more store' lasts' latest' held' told events' parts told_is added = record {
+  pub stored-more : (store' : StoreState) (left' : Left) (told events' : List AlarmEvent) → HasAdded new store' left' set (onto h (take n more)) (beat ∷ []) told → events' ≡ events ++ told
+      → HaveStored old new set h more (suc n) store' left' events'
+  stored-more store' left' told events' did added = record {
     moments = stored-moments;
-    parts = subst (ArePartsAt new store' registry lasts' latest' held' set) (sym (onto-next set h more n beat at)) parts;
-    events_are = added ∙ (λ i. stored.events_are i ++ told_is i) ∙ sym (events-next set h more n beat at);
+    added = record {
+      holds = subst (HoldsHistory new store' set) (sym (onto-next set h more n beat at)) did.holds;
+      left_by = subst (λ (g : List Beat). IsLeftBy set g left') (sym (onto-next set h more n beat at)) did.left_by;
+      events_are = added ∙ (λ i. stored.added.events_are i ++ did.events_are i) ∙ sym (events-next set h more n beat at);
+    };
   }
 
 -- ---- the beats of a Data
@@ -135,14 +140,14 @@ later-at registry message beats i beat at =
     slice_get-map (copied_of message.child registry nothing_defined) (named_beats message.names beats) i
     ∙ ap (option_map (copied_of message.child registry nothing_defined)) (slice_get-map (named_beat message.names) beats i ∙ ap (option_map (named_beat message.names)) at)
 
-pub sent-later : (registry : Registry) (message : Data) (defines : NumberedBeat) (beat : SentBeat) (g : List Beat) → defines.charts ≡ [] → defines.dimensions ≡ [] → registry ≡ registry_of g
-    → MayTake g (copied (later_copy registry message beat)) → IsSentAs registry message defines beat g (later_copy registry message beat)
-sent-later registry message defines beat g charts dimensions is follows = record {
+pub sent-later : (now registry : Registry) (message : Data) (defines : NumberedBeat) (beat : SentBeat) (g : List Beat) → defines.charts ≡ [] → defines.dimensions ≡ [] → now ≡ registry → now ≡ registry_of g
+    → MayTake g (copied (later_copy registry message beat)) → IsSentAs now message defines beat g (later_copy registry message beat)
+sent-later now registry message defines beat g charts dimensions same is follows = record {
   child = refl;
   moment = refl;
-  words = refl;
-  charts = charts ∙ no-charts registry.charts 0;
-  dimensions = dimensions ∙ no-dimensions registry registry.dimensions 0;
+  words = ap (λ (r : Registry). sent_words r message beat) (sym same);
+  charts = charts ∙ no-charts now.charts 0;
+  dimensions = dimensions ∙ no-dimensions now now.dimensions 0;
   follows = follows;
   registry_is = is;
 }
@@ -168,10 +173,6 @@ module _ (set : Settings) (h : List Beat) (beat : Beat) (more : List Beat) (old 
     where
       by : (disk : File → List ℕ) → StandsForFront set (beat ∷ h) more disk → StandsForFront set h (beat ∷ more) disk
       by disk stands = (suc stands.0, stands.1)
-
-pub events-first : (set : Settings) (h : List Beat) (beat : Beat) (more : List Beat) → events_at set (beat ∷ h) ++ events_onto set (beat ∷ h) more ≡ events_onto set h (beat ∷ more)
-unfolding events_onto
-events-first set h beat more = refl
 
 -- ---- the definitions of a Data
 abbrev pub first_copy : Registry → Data → SentBeat → Copy
@@ -211,6 +212,15 @@ events-append set h [] ys = refl
 events-append set h (x ∷ xs) ys =
     append_assoc (events_at set (x ∷ h)) (events_onto set (x ∷ h) xs) (events_onto set (onto (x ∷ h) xs) ys) ∙ ap (λ (rest : List AlarmEvent). events_at set (x ∷ h) ++ rest) (events-append set (x ∷ h) xs ys)
 
+-- beats on a history that has others already
+pub added-behind : (past : List Event) (store : StoreState) (left : Left) (set : Settings) (h xs ys : List Beat) (first more events : List AlarmEvent) → first ≡ events_onto set h xs → HasAdded past store left set (onto h xs) ys more
+    → events ≡ first ++ more → HasAdded past store left set h (xs ++ ys) events
+added-behind past store left set h xs ys first more events before did added = record {
+  holds = subst (HoldsHistory past store set) (sym (onto-append h xs ys)) did.holds;
+  left_by = subst (λ (g : List Beat). IsLeftBy set g left) (sym (onto-append h xs ys)) did.left_by;
+  events_are = added ∙ (λ i. before i ++ did.events_are i) ∙ events-append set h xs ys;
+}
+
 pub takes-behind : (h xs ys : List Beat) → MayTakeAll h (xs ++ ys) → MayTakeAll (onto h xs) ys
 takes-behind h [] ys all = all
 takes-behind h (x ∷ xs) ys all = takes-behind (x ∷ h) xs ys all.1
@@ -237,20 +247,16 @@ module _ (set : Settings) (h xs ys : List Beat) (old new : List Event) where
           (length xs + stands.0, subst (λ (g : List Beat). StandsForHistory set g disk) (sym (ap (onto h) (take-append-add xs ys stands.0) ∙ onto-append h xs (take stands.0 ys))) stands.1)
 
 -- ---- a message
--- a gap tells no event, and leaves the alarms
-pub record IsQuiet (set : Settings) (h more : List Beat) : Type 0 where
-  pub alarms : alarms_at set h ≡ alarms_at set (onto h more)
-  pub events : [] ≡ events_onto set h more
-
-pub gap-quiet : (set : Settings) (h : List Beat) (message : Data) → IsQuiet set h (gap_beats message)
+-- a gap tells no event
+gap-quiet : (set : Settings) (h : List Beat) (message : Data) → [] ≡ events_onto set h (gap_beats message)
 unfolding events_onto
 gap-quiet set h message =
     elim (cases_lt message.prev message.from) [
       | inl less ↦
           let gap : Gap = record { child = message.child; from = message.prev; to = message.from } in
-          let told = none-followed set h (missing gap) (alarms_at set h) refl tt in
-          subst (IsQuiet set h) (gap-some message less) (record { alarms = told.held_is; events = told.events_are ∙ sym (append-nil (events_at set (missing gap ∷ h))) })
-      | inr none ↦ subst (IsQuiet set h) (gap-none message none) (record { alarms = refl; events = refl })
+          let told = ap (λ (o : Outcome). o.events) (gap-outcome set h gap) in
+          subst (λ (more : List Beat). [] ≡ events_onto set h more) (gap-some message less) (told ∙ sym (append-nil (events_at set (missing gap ∷ h))))
+      | inr none ↦ subst (λ (more : List Beat). [] ≡ events_onto set h more) (gap-none message none) refl
     ]
 
 beats-are-all : (registry : Registry) (message : Data) → beats_of registry message ≡ gap_beats message ++ sent_copies (with_names registry message) message message.beats
@@ -267,13 +273,9 @@ module _ (set : Settings) (h : List Beat) (registry : Registry) (message : Data)
   pub message-behind : (old new : List Event) → Throughout (EveryDisk (StandsForFront set (onto h (gap_beats message)) copies)) old new → Throughout (EveryDisk (StandsForFront set h (beats_of registry message))) old new
   message-behind old new moments = subst (λ (more : List Beat). Throughout (EveryDisk (StandsForFront set h more)) old new) (sym (beats-are-all registry message)) (moments-behind set h (gap_beats message) copies old new moments)
 
-  pub message-onto : onto (onto h (gap_beats message)) copies ≡ onto h (beats_of registry message)
-  message-onto = sym (onto-append h (gap_beats message) copies) ∙ ap (onto h) (sym (beats-are-all registry message))
-
-  pub message-events : events_onto set (onto h (gap_beats message)) copies ≡ events_onto set h (beats_of registry message)
-  message-events =
-      ap (λ (first : List AlarmEvent). first ++ events_onto set (onto h (gap_beats message)) copies) (gap-quiet set h message).events
-      ∙ events-append set h (gap_beats message) copies ∙ ap (events_onto set h) (sym (beats-are-all registry message))
+  pub message-added : (past : List Event) (store : StoreState) (left : Left) (events : List AlarmEvent) → HasAdded past store left set (onto h (gap_beats message)) copies events → HasAdded past store left set h (beats_of registry message) events
+  message-added past store left events did =
+      subst (λ (more : List Beat). HasAdded past store left set h more events) (sym (beats-are-all registry message)) (added-behind past store left set h (gap_beats message) copies [] events events (gap-quiet set h message) did refl)
 
   -- its beats may follow the gap
   pub message-takes : IsData message → IsWithin (registry_of h) → registry ≡ registry_of h → may_copy (role_of h) ≡ true → names_refusal registry (definitions_in message.names) ≡ None → message.prev ≡ last h
@@ -284,7 +286,7 @@ module _ (set : Settings) (h : List Beat) (registry : Registry) (message : Data)
       let all = all-follow h message within form refused prev in
       takes-behind h (gap_beats message) copies (subst (MayTakeAll h) (ap (λ (r : Registry). beats_of r message) (sym is) ∙ beats-are-all registry message) all)
 
--- ---- how many there are, and what the history then does
+-- ---- how many there are
 pub onto-length : (h more : List Beat) → length (onto h more) ≡ length h + length more
 onto-length h [] = omega arith
 onto-length h (beat ∷ more) = omega (arith, onto-length (beat ∷ h) more)
@@ -302,16 +304,3 @@ pub length-none : (registry : Registry) (message : Data) → message.from ≤ me
 length-none registry message less =
     let gap = ap length (gap-none message less) in
     omega (arith, ap length (beats-are-all registry message), length-append (gap_beats message) (sent_copies (with_names registry message) message message.beats), gap, copies-length (with_names registry message) message message.beats)
-
-later-role : (registry : Registry) (message : Data) (beats : List SentBeat) (g : List Beat) → role_of g ≡ Copies message.child → role_of (onto g (later_copies registry message beats)) ≡ Copies message.child
-later-role registry message [] g role = role
-later-role registry message (beat ∷ beats) g role = later-role registry message beats (copied (later_copy registry message beat) ∷ g) refl
-
-copies-role : (registry : Registry) (message : Data) (beats : List SentBeat) (g : List Beat) → 0 < length beats → role_of (onto g (sent_copies registry message beats)) ≡ Copies message.child
-copies-role registry message [] g some = absurd (omega (arith, some))
-copies-role registry message (beat ∷ beats) g some = later-role registry message beats (copied (first_copy registry message beat) ∷ g) refl
-
-pub message-role : (registry : Registry) (message : Data) (h : List Beat) → 0 < length message.beats → role_of (onto h (beats_of registry message)) ≡ Copies message.child
-message-role registry message h some =
-    ap role_of (ap (onto h) (beats-are-all registry message) ∙ onto-append h (gap_beats message) (sent_copies (with_names registry message) message message.beats))
-    ∙ copies-role (with_names registry message) message message.beats (onto h (gap_beats message)) some

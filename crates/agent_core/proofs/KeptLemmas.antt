@@ -1,4 +1,5 @@
 -- What is kept of a beat, and what a crash leaves of a history.
+use Rattle.std.proofs.lemmas.Option.{same_Some}
 use Rattle.std.proofs.Common.{◌≡◌, ℕ, ◌+◌, ◌⊎◌, inl, inr, List, [], ◌∷◌, length, map, Option, Some, None, is_some, refl, sym, ap, ◌∙◌, subst, arith}
 use Rattle.host_model.specs.declared.file.File.{File}
 use Rattle.host_model.specs.Past.{Event, Told}
@@ -9,7 +10,7 @@ use Rattle.algorithms.specs.declared.last.Last.{Last}
 use Rattle.history.specs.declared.beat.OpenBeat.{OpenBeat}
 use Rattle.history.specs.declared.fault.BlockFault.{BlockFault}
 use Rattle.history.specs.declared.numbered.NumberedBeat.{NumberedBeat}
-use Rattle.history.specs.History.{Beat, child, collected, health, last, registry_of}
+use Rattle.history.specs.History.{Beat, child, collected, copied, health, missing, last, registry_of, Copy, Gap}
 use Rattle.history.specs.Registry.{Registry, with_definitions}
 use Rattle.beat_points.specs.declared.series_word.SeriesWord.{SeriesWord}
 use Rattle.beat_points.specs.LastRows.{AreLastOf}
@@ -17,7 +18,7 @@ use Rattle.beat_points.specs.Points.{beat_points, IsNext}
 use Rattle.history.specs.Numbered.{numbered_beat}
 use Rattle.history.specs.Regular.{IsRegular}
 use Rattle.entry_codec.specs.declared.entry.Entry.TheVariants as entry
-use Rattle.alarm_core.specs.Course.{held}
+use Rattle.alarm_core.specs.Course.{held, Outcome}
 use Rattle.tier_settings.specs.declared.settings.Settings.{Settings}
 use Rattle.entry_codec.specs.Entries.{entry_bytes, HasSpelling}
 use Rattle.store_core.specs.declared.beat.Beat.{Beat as StoreBeat}
@@ -27,19 +28,20 @@ use Rattle.store_core.specs.Store.{counted, raised, IsStoreOf, StoreState}
 use Rattle.store_core.specs.Stored.{stored_with}
 use Rattle.store_core.proofs.StoreLemmas.{every_image_of, store_told}
 use Rattle.alarm_core.specs.declared.latest.Latest.{Latest}
-use Rattle.agent_core.specs.Agent.{AgentState, Holds, IsAgentOf}
-use Rattle.alarm_events.specs.declared.event.Event.{Event as AlarmEvent}
-use Rattle.agent_core.specs.Alarms.{alarms_at, HaveFollowed}
+use Rattle.agent_core.specs.Agent.{left_in, AgentState, IsAgentOf}
 use Rattle.agent_core.specs.LastSeen.{IsLatestOf}
-use Rattle.agent_core.specs.Kept.{kept_of, note_of, point_of, stored_points, AreBeatsOf, Follows, IsBeatOf, StandsForHealth, StandsForHistory, StandsForOneOf, IsTakenBeat}
-use Rattle.agent_core.specs.Replay.{HasSeenBeat, HasTakenRows}
-use Rattle.agent_core.specs.declared.left.Role.{Role}
-use Rattle.agent_core.specs.Roles.{child_in, copies, role_of}
+use Rattle.agent_core.specs.Kept.{copied_point, kept_of, note_of, point_of, stored_points, AreBeatsOf, Follows, HoldsHistory, IsBeatOf, IsCopyOf, StandsForHealth, StandsForHistory, StandsForOneOf, IsTakenBeat}
+use Rattle.agent_core.specs.Left.{AwaitsAlarms, IsLeftBy}
+use Rattle.agent_core.specs.Replay.{HasRoom, HasSeenBeat, HasSeenCopy, HasTakenRows}
+use Rattle.agent_core.specs.declared.left.Left.{Left}
+use Rattle.agent_core.specs.declared.left.Role.TheVariants.{Collects, Copies}
+use Rattle.agent_core.specs.Roles.{child_in, copies}
 use Rattle.agent_core.specs.Rules.{beat_refusal, IsOpenBeat}
 use Rattle.agent_core.specs.Health.{health_refusal}
 use Rattle.agent_core.proofs.HistoryLemmas.{before-of, child-of, copies-of, follows-passed}
-use Rattle.agent_core.proofs.LastSeenLemmas.{latest-health}
-use Rattle.agent_core.proofs.StoredLemmas.{stored_more, were_kept, WereKept}
+use Rattle.agent_core.proofs.AlarmLemmas.{gap-outcome}
+use Rattle.agent_core.proofs.LastSeenLemmas.{latest-missing}
+use Rattle.agent_core.proofs.StoredLemmas.{answers, stored_more, were_kept, WereKept}
 
 -- what is kept is put together of its parts
 pub kept-is : (registry : Registry) (lasts : List (Option Last)) (h : List Beat) (moment : ℕ) (beat : OpenBeat) (words : List SeriesWord) (points : List BeatPoint) (note : List ℕ) → IsNext registry lasts h moment beat
@@ -76,96 +78,113 @@ seen-taken registry latest latest' h moment beat numbered kept same seen beats l
     let points : kept.points ≡ stored_points registry h moment beat = ap (λ (k : StoreBeat). k.points) is_kept ∙ ap (λ (r : Registry). stored_points r h moment beat) (sym is) in
     subst (λ (n : NumberedBeat). HasSeenBeat registry latest latest' n kept.points) same seen h beats lasts beat are last was is regular refl points
 
--- ---- the parts of an agent
-module _ (past : List Event) (store : StoreState) (registry : Registry) (lasts : List (Option Last)) (latest : Latest) (set : Settings) (h : List Beat) (holds : Holds past store registry lasts latest set h) where
+-- ---- a store that holds a history
+module _ (past : List Event) (store : StoreState) (set : Settings) (h : List Beat) (holds : HoldsHistory past store set h) where
   -- whatever a crash leaves, the disk holds the history
   pub stays : EveryDisk (StandsForHistory set h) past
   stays disk images = record { stored = holds.stored; are = holds.are; stands = every_image_of past store set holds.stored holds.store_of disk images }
 
-  -- the moments of the store are those of the agent
-  pub climbs : (beat : Beat) (kept : StoreBeat) → IsBeatOf h beat kept → (new : List Event) → Throughout (EveryDisk (StandsAround set holds.stored kept)) past new
-      → Throughout (EveryDisk (λ disk. StandsForHistory set h disk ⊎ StandsForHistory set (beat ∷ h) disk)) past new
-  climbs beat kept of new moments = disks_weaker around moments
-    where
-      around : (disk : File → List ℕ) → StandsAround set holds.stored kept disk → StandsForHistory set h disk ⊎ StandsForHistory set (beat ∷ h) disk
-      around disk (inl stands) = inl (record { stored = holds.stored; are = holds.are; stands = stands })
-      around disk (inr stands) = inr (record { stored = stored_with holds.stored kept; are = stored_more h holds.stored beat kept holds.are of; stands = stands })
+  -- the last moment of the store is that of the history
+  pub store-last : store.last ≡ last h
+  store-last = holds.store_of.last ∙ (answers h holds.stored holds.are).last_is
 
-  module _ (moment : ℕ) (beat : OpenBeat) (follows : Follows h moment beat) where
-    pub is_next : IsNext (with_definitions registry beat.charts beat.dimensions) lasts h moment beat
-    is_next =
+  module _ (beat : Beat) (kept : StoreBeat) (of : IsBeatOf h beat kept) where
+    -- at every moment of the store the history stands, or that with the beat
+    pub climbs : (new : List Event) → Throughout (EveryDisk (StandsAround set holds.stored kept)) past new
+        → Throughout (EveryDisk (λ disk. StandsForHistory set h disk ⊎ StandsForHistory set (beat ∷ h) disk)) past new
+    climbs new moments = disks_weaker around moments
+      where
+        around : (disk : File → List ℕ) → StandsAround set holds.stored kept disk → StandsForHistory set h disk ⊎ StandsForHistory set (beat ∷ h) disk
+        around disk (inl stands) = inl (record { stored = holds.stored; are = holds.are; stands = stands })
+        around disk (inr stands) = inr (record { stored = stored_with holds.stored kept; are = stored_more h holds.stored beat kept holds.are of; stands = stands })
+
+    -- and then the store holds that
+    pub holds-beat : (new : List Event) (store' : StoreState) → IsStoreOf new store' set (stored_with holds.stored kept) → HoldsHistory new store' set (beat ∷ h)
+    holds-beat new store' store_of = record { stored = stored_with holds.stored kept; are = stored_more h holds.stored beat kept holds.are of; store_of = store_of }
+
+  -- ---- a beat that was collected, and that the registry has taken
+  module _ (before : Registry) (left : Left) (was : IsLeftBy set h (record left { registry = before })) (moment : ℕ) (beat : OpenBeat) (follows : Follows h moment beat)
+      (numbered : NumberedBeat) (taken : IsTakenBeat before moment beat left.registry numbered) where
+    is-next : IsNext left.registry left.last_rows h moment beat
+    is-next =
         let kept = were_kept h holds.stored holds.are in
-        let same : with_definitions registry beat.charts beat.dimensions ≡ registry_of (collected moment beat ∷ h)
-        = ap (λ (r : Registry). with_definitions r beat.charts beat.dimensions) holds.registry_is in
         record {
-          registry_is = same;
-          lasts_are = holds.last_rows_are;
+          registry_is = taken.applied ∙ ap (λ (r : Registry). with_definitions r beat.charts beat.dimensions) was.registry_is;
+          lasts_are = was.last_rows_are;
           before = before-of h kept.beats kept.are moment (follows-passed h moment beat follows).later;
         }
 
-    pub next-after : (registry' : Registry) → registry' ≡ with_definitions registry beat.charts beat.dimensions → IsNext registry' lasts h moment beat
-    next-after registry' applied = subst (λ (r : Registry). IsNext r lasts h moment beat) (sym applied) is_next
+    module _ (kept : StoreBeat)
+        (says : (g : List Beat) → IsNext left.registry left.last_rows g numbered.moment beat → numbered ≡ numbered_beat left.registry numbered.moment beat → kept ≡ kept_of g numbered.moment beat) where
+      -- what the code kept is what is kept
+      is-kept : kept ≡ kept_of h moment beat
+      is-kept =
+          says h (same-next left.registry left.last_rows h moment beat numbered taken.numbered_is is-next) (numbered-at before moment beat left.registry numbered taken)
+          ∙ ap (λ (m : ℕ). kept_of h m beat) (ap (λ (n : NumberedBeat). n.moment) taken.numbered_is)
 
-    -- what the code kept is what is kept
-    pub kept-after : (kept : StoreBeat) (registry' : Registry) → registry' ≡ with_definitions registry beat.charts beat.dimensions
-        → ((g : List Beat) → IsNext registry' lasts g moment beat → kept ≡ kept_of g moment beat) → kept ≡ kept_of h moment beat
-    kept-after kept registry' applied says = says h (next-after registry' applied)
+      pub collected-of : HasSpelling (entry.Collected numbered) → IsBeatOf h (collected moment beat) kept
+      collected-of spelt = record {
+        follows = follows;
+        is_kept = is-kept;
+        spelt = subst (λ (r : Registry). HasSpelling (entry.Collected (numbered_beat r moment beat))) is-next.registry_is (subst (λ (n : NumberedBeat). HasSpelling (entry.Collected n)) taken.numbered_is spelt);
+      }
 
-    -- the entry is spelt by the registry with the beat's definitions
-    pub spelt-after : (registry' : Registry) → registry' ≡ with_definitions registry beat.charts beat.dimensions
-        → HasSpelling (entry.Collected (numbered_beat registry' moment beat)) → HasSpelling (entry.Collected (numbered_beat (registry_of (collected moment beat ∷ h)) moment beat))
-    spelt-after registry' applied spelt = subst (λ (r : Registry). HasSpelling (entry.Collected (numbered_beat r moment beat))) (applied ∙ is_next.registry_is) spelt
+      -- all but the alarms has taken it
+      pub collected-awaits : (lasts' : List (Option Last)) (seen : Left) → seen ≡ record left { last_rows = lasts'; latest = seen.latest } → HasTakenRows left.registry left.last_rows lasts' numbered
+          → HasSeenBeat left.registry left.latest seen.latest numbered kept.points → seen.latest.before ≡ store.last → AwaitsAlarms set h (collected moment beat) (record seen { role = Collects })
+      collected-awaits lasts' seen only rows points at =
+          let all = were_kept h holds.stored holds.are in
+          record {
+            registry_is = ap (λ (l : Left). l.registry) only ∙ is-next.registry_is;
+            role_is = refl;
+            last_rows_are = subst (λ (l : Left). AreLastOf l.last_rows (collected moment beat ∷ h)) (sym only)
+                (rows-taken left.registry left.last_rows lasts' h moment beat numbered taken.numbered_is rows is-next taken.regular);
+            latest_is = seen-taken left.registry left.latest seen.latest h moment beat numbered kept taken.numbered_is points all.beats left.last_rows all.are was.last_rows_are was.latest_is is-next.registry_is taken.regular is-kept;
+            before = at ∙ store-last;
+            alarms_are = ap (λ (l : Left). held l.alarms) only ∙ was.alarms_are;
+          }
 
-    module _ (kept : StoreBeat) (is_kept : kept ≡ kept_of h moment beat) (spelt : HasSpelling (entry.Collected (numbered_beat (registry_of (collected moment beat ∷ h)) moment beat))) where
-      kept-follows : IsBeatOf h (collected moment beat) kept
-      kept-follows = record { follows = follows; is_kept = is_kept; spelt = spelt }
-
-      -- at every moment of the store the history stands, or that with the beat
-      pub collected-climbs : (new : List Event) → Throughout (EveryDisk (StandsAround set holds.stored kept)) past new
-          → Throughout (EveryDisk (λ disk. StandsForHistory set h disk ⊎ StandsForHistory set (collected moment beat ∷ h) disk)) past new
-      collected-climbs new moments = climbs (collected moment beat) kept kept-follows new moments
-
-      pub holds-more : (new : List Event) (store' : StoreState) (registry' : Registry) (lasts' : List (Option Last)) (latest' : Latest) → IsStoreOf new store' set (stored_with holds.stored kept)
-          → registry' ≡ with_definitions registry beat.charts beat.dimensions → AreLastOf lasts' (collected moment beat ∷ h) → IsLatestOf latest' (collected moment beat ∷ h)
-          → Holds new store' registry' lasts' latest' set (collected moment beat ∷ h)
-      holds-more new store' registry' lasts' latest' store_of registry_is last_rows_are latest_is = record {
-        stored = stored_with holds.stored kept;
-        are = stored_more h holds.stored (collected moment beat) kept holds.are kept-follows;
-        store_of = store_of;
-        registry_is = registry_is ∙ is_next.registry_is;
-        last_rows_are = last_rows_are;
-        latest_is = latest_is;
+  -- ---- a copied beat, whose definitions the registry has
+  pub copy-awaits : (before : Registry) (left : Left) → IsLeftBy set h (record left { registry = before }) → (copy : Copy) (kept : StoreBeat) (moment : ℕ) → IsCopyOf h copy kept
+      → left.registry ≡ registry_of (copied copy ∷ h) → kept.moment ≡ Some moment → (lasts' : List (Option Last)) (seen : Left) → seen ≡ record left { last_rows = lasts'; latest = seen.latest }
+      → HasRoom left.registry left.last_rows lasts' → HasSeenCopy left.registry left.latest seen.latest moment kept.points → seen.latest.before ≡ store.last
+      → AwaitsAlarms set h (copied copy) (record seen { role = Copies copy.child })
+  copy-awaits before left was copy kept moment of is at lasts' seen only room points before_is =
+      let all = were_kept h holds.stored holds.are in
+      let moment_is : moment ≡ copy.moment = same_Some moment copy.moment (sym at ∙ ap (λ (k : StoreBeat). k.moment) of.is_kept) in
+      let points_are : kept.points ≡ map (copied_point left.registry) copy.words = ap (λ (k : StoreBeat). k.points) of.is_kept ∙ ap (λ (r : Registry). map (copied_point r) copy.words) (sym is) in
+      record {
+        registry_is = ap (λ (l : Left). l.registry) only ∙ is;
+        role_is = refl;
+        last_rows_are = subst (λ (l : Left). AreLastOf l.last_rows (copied copy ∷ h)) (sym only) (room h copy was.last_rows_are is);
+        latest_is = points h all.beats left.last_rows copy all.are was.last_rows_are was.latest_is is moment_is points_are;
+        before = before_is ∙ store-last;
+        alarms_are = ap (λ (l : Left). held l.alarms) only ∙ was.alarms_are;
       }
 
   -- ---- a configuration
-  module _ (text : List ℕ) (accepted : health_refusal text ≡ None) (kept : StoreBeat) (is_kept : kept ≡ record { moment = None; points = []; note = entry_bytes (entry.Health text) }) (spelt : HasSpelling (entry.Health text)) where
-    health-follows : IsBeatOf h (health text) kept
-    health-follows = record { accepted = accepted; is_kept = is_kept; spelt = spelt }
+  pub health-of : (text : List ℕ) (kept : StoreBeat) → health_refusal text ≡ None → kept ≡ record { moment = None; points = []; note = entry_bytes (entry.Health text) } → HasSpelling (entry.Health text) → IsBeatOf h (health text) kept
+  health-of text kept accepted is_kept spelt = record { accepted = accepted; is_kept = is_kept; spelt = spelt }
 
-    pub health-climbs : (new : List Event) → Throughout (EveryDisk (StandsAround set holds.stored kept)) past new
-        → Throughout (EveryDisk (λ disk. StandsForHistory set h disk ⊎ StandsForHistory set (health text ∷ h) disk)) past new
-    health-climbs new moments = climbs (health text) kept health-follows new moments
+-- the moment before it is the last one
+pub health-awaits : (set : Settings) (h : List Beat) (left : Left) (text : List ℕ) (before : ℕ) → IsLeftBy set h left → before ≡ last h → AwaitsAlarms set h (health text) (record left { latest = record left.latest { before = before } })
+health-awaits set h left text before was at = record {
+  registry_is = was.registry_is;
+  role_is = was.role_is;
+  last_rows_are = record { rows = was.last_rows_are.rows; within = was.last_rows_are.within };
+  latest_is = record { charts = was.latest_is.charts; points = was.latest_is.points; raws = was.latest_is.raws };
+  before = at;
+  alarms_are = was.alarms_are;
+}
 
-    pub holds-health : (new : List Event) (store' : StoreState) → IsStoreOf new store' set (stored_with holds.stored kept) → Holds new store' registry lasts latest set (health text ∷ h)
-    holds-health new store' store_of = record {
-      stored = stored_with holds.stored kept;
-      are = stored_more h holds.stored (health text) kept holds.are health-follows;
-      store_of = store_of;
-      registry_is = holds.registry_is;
-      last_rows_are = record { rows = holds.last_rows_are.rows; within = holds.last_rows_are.within };
-      latest_is = latest-health latest h text holds.latest_is;
-    }
-
--- whatever moment came before
-pub holds-before : (past : List Event) (store : StoreState) (registry : Registry) (lasts : List (Option Last)) (latest : Latest) (set : Settings) (h : List Beat) (before : ℕ) → Holds past store registry lasts latest set h
-    → Holds past store registry lasts (record latest { before = before }) set h
-holds-before past store registry lasts latest set h before holds = record {
-  stored = holds.stored;
-  are = holds.are;
-  store_of = holds.store_of;
-  registry_is = holds.registry_is;
-  last_rows_are = holds.last_rows_are;
-  latest_is = record { charts = holds.latest_is.charts; points = holds.latest_is.points; raws = holds.latest_is.raws };
+-- ---- a gap
+pub left-gap : (set : Settings) (h : List Beat) (gap : Gap) (left : Left) → IsLeftBy set h left → IsLeftBy set (missing gap ∷ h) (record left { role = Copies gap.child })
+left-gap set h gap left was = record {
+  registry_is = was.registry_is;
+  role_is = refl;
+  last_rows_are = record { rows = was.last_rows_are.rows; within = was.last_rows_are.within };
+  latest_is = latest-missing left.latest h gap was.latest_is;
+  alarms_are = was.alarms_are ∙ ap (λ (o : Outcome). o.held) (gap-outcome set h gap);
 }
 
 -- ---- the agent
@@ -179,18 +198,10 @@ agent-kept past agent set h is_of = were_kept h is_of.holds.stored is_of.holds.a
 -- telling changes nothing of it
 pub agent-told : (sent : List ℕ) (past : List Event) (agent : AgentState) (set : Settings) (h : List Beat) → IsAgentOf past agent set h → IsAgentOf (Told sent ∷ past) agent set h
 agent-told sent past agent set h is_of = record {
-  holds = record {
-    stored = is_of.holds.stored;
-    are = is_of.holds.are;
-    store_of = store_told sent past agent.store set is_of.holds.stored [] is_of.holds.store_of;
-    registry_is = is_of.holds.registry_is;
-    last_rows_are = is_of.holds.last_rows_are;
-    latest_is = is_of.holds.latest_is;
-  };
+  holds = record { stored = is_of.holds.stored; are = is_of.holds.are; store_of = store_told sent past agent.store set is_of.holds.stored [] is_of.holds.store_of };
+  left_by = is_of.left_by;
   last_is = is_of.last_is;
   count = is_of.count;
-  role = is_of.role;
-  alarms = is_of.alarms;
   going = is_of.going;
 }
 
@@ -198,13 +209,13 @@ agent-told sent past agent set h is_of = record {
 pub copies-child : (past : List Event) (agent : AgentState) (set : Settings) (h : List Beat) → IsAgentOf past agent set h → copies agent.role ≡ is_some (child h)
 copies-child past agent set h is_of =
     let kept = agent-kept past agent set h is_of in
-    ap copies is_of.role ∙ sym (copies-of h kept.beats kept.are)
+    ap copies is_of.left_by.role_is ∙ sym (copies-of h kept.beats kept.are)
 
 -- and it copies that child
 pub child-is : (past : List Event) (agent : AgentState) (set : Settings) (h : List Beat) → IsAgentOf past agent set h → child_in agent.role ≡ child h
 child-is past agent set h is_of =
     let kept = agent-kept past agent set h is_of in
-    ap child_in is_of.role ∙ child-of h kept.beats kept.are
+    ap child_in is_of.left_by.role_is ∙ child-of h kept.beats kept.are
 
 module _ (past : List Event) (agent : AgentState) (set : Settings) (h : List Beat) (is_of : IsAgentOf past agent set h) where
   abbrev refusal : ℕ → OpenBeat → Option BlockFault
@@ -213,12 +224,12 @@ module _ (past : List Event) (agent : AgentState) (set : Settings) (h : List Bea
   pub follows-of : (moment : ℕ) (beat : OpenBeat) → IsOpenBeat beat → refusal moment beat ≡ None → Follows h moment beat
   follows-of moment beat is_open free = record {
     is_open = is_open;
-    accepted = sym (λ i. beat_refusal (is_of.holds.registry_is i) (copies-child past agent set h is_of i) (is_of.last_is i) moment beat) ∙ free;
+    accepted = sym (λ i. beat_refusal (is_of.left_by.registry_is i) (copies-child past agent set h is_of i) (is_of.last_is i) moment beat) ∙ free;
   }
 
   -- nothing has happened yet
   pub nothing_done : (reason : Option BlockFault) (more : List Beat) → EveryDisk (StandsForOneOf set h reason more) past
-  nothing_done reason more disk images = inl (stays past agent.store agent.registry agent.last_rows agent.latest set h is_of.holds disk images)
+  nothing_done reason more disk images = inl (stays past agent.store set h is_of.holds disk images)
 
   pub one_of : (reason : Option BlockFault) (more : List Beat) (new : List Event) → reason ≡ None
       → Throughout (EveryDisk (λ disk. StandsForHistory set h disk ⊎ StandsForHistory set more disk)) past new
@@ -229,42 +240,33 @@ module _ (past : List Event) (agent : AgentState) (set : Settings) (h : List Bea
       either reason more free disk (inl stands) = inl stands
       either reason more free disk (inr stands) = inr (free, stands)
 
-  pub one_more : (new : List Event) (agent' : AgentState) (beat : Beat) → Holds new agent'.store agent'.registry agent'.last_rows agent'.latest set (beat ∷ h)
-      → agent'.last ≡ last (beat ∷ h) → agent'.count ≡ raised agent.count → agent'.role ≡ role_of (beat ∷ h) → held agent'.alarms ≡ alarms_at set (beat ∷ h) → agent'.fault ≡ None
-      → IsAgentOf new agent' set (beat ∷ h)
-  one_more new agent' beat holds last_is count role alarms going = record {
-    holds = holds;
-    last_is = last_is;
-    count = count ∙ ap raised is_of.count ∙ counted-more (length h) ∙ ap counted (omega arith);
-    role = role;
-    alarms = alarms;
-    going = going;
-  }
-
--- an agent whose parts are of the history with a beat, and whose alarms have followed it
-pub agent-more : (past new : List Event) (agent parts agent' : AgentState) (set : Settings) (h : List Beat) (beat : Beat) (moment : ℕ) (role : Role) (events : List AlarmEvent) → IsAgentOf past agent set h
-    → Holds new parts.store parts.registry parts.last_rows parts.latest set (beat ∷ h) → parts.count ≡ agent.count → parts.fault ≡ None
-    → agent' ≡ record parts { alarms = agent'.alarms; last = moment; role = role; count = raised parts.count } → moment ≡ last (beat ∷ h) → role ≡ role_of (beat ∷ h)
-    → HaveFollowed set (beat ∷ h) (held agent'.alarms) events → IsAgentOf new agent' set (beat ∷ h)
-agent-more past new agent parts agent' set h beat moment role events is_of holds count going is at does followed =
-    subst (λ (a : AgentState). IsAgentOf new a set (beat ∷ h)) (sym is)
-    (one_more past agent set h is_of new (record parts { alarms = agent'.alarms; last = moment; role = role; count = raised parts.count }) beat holds at (ap raised count) does followed.held_is going)
+-- an agent whose store holds the history with a beat, which left what it has
+pub agent-more : (past new : List Event) (agent parts agent' : AgentState) (set : Settings) (h : List Beat) (beat : Beat) (moment : ℕ) → IsAgentOf past agent set h → HoldsHistory new parts.store set (beat ∷ h)
+    → parts.count ≡ agent.count → parts.fault ≡ None → agent' ≡ record parts { alarms = agent'.alarms; last = moment; count = raised parts.count } → moment ≡ last (beat ∷ h) → IsLeftBy set (beat ∷ h) (left_in agent')
+    → IsAgentOf new agent' set (beat ∷ h)
+agent-more past new agent parts agent' set h beat moment is_of holds count going is at left = record {
+  holds = subst (λ (a : AgentState). HoldsHistory new a.store set (beat ∷ h)) (sym is) holds;
+  left_by = left;
+  last_is = ap (λ (a : AgentState). a.last) is ∙ at;
+  count = ap (λ (a : AgentState). a.count) is ∙ ap raised (count ∙ is_of.count) ∙ counted-more (length h) ∙ ap counted (omega arith);
+  going = ap (λ (a : AgentState). a.fault) is ∙ going;
+}
 
 -- the moments of a beat that nothing refuses; `inside` is what the agent is made of
 pub beat_moments : (past new : List Event) (agent inside : AgentState) (set : Settings) (h : List Beat) (moment : ℕ) (beat : OpenBeat) → inside ≡ agent → IsOpenBeat beat
     → beat_refusal inside.registry (copies inside.role) inside.last moment beat ≡ None → IsAgentOf past agent set h
-    → (Holds past inside.store inside.registry inside.last_rows inside.latest set h → Follows h moment beat
+    → (HoldsHistory past inside.store set h → IsLeftBy set h (left_in inside) → Follows h moment beat
     → Throughout (EveryDisk (λ disk. StandsForHistory set h disk ⊎ StandsForHistory set (collected moment beat ∷ h) disk)) past new)
     → Throughout (EveryDisk (StandsForOneOf set h (beat_refusal agent.registry (copies agent.role) agent.last moment beat) (collected moment beat ∷ h))) past new
 beat_moments past new agent inside set h moment beat view is_open free is_of moments =
     let free' : beat_refusal agent.registry (copies agent.role) agent.last moment beat ≡ None
     = ap (λ (a : AgentState). beat_refusal a.registry (copies a.role) a.last moment beat) (sym view) ∙ free in
     one_of past agent set h is_of (beat_refusal agent.registry (copies agent.role) agent.last moment beat) (collected moment beat ∷ h) new free'
-    (moments (subst (λ (a : AgentState). Holds past a.store a.registry a.last_rows a.latest set h) (sym view) is_of.holds) (follows-of past agent set h is_of moment beat is_open free'))
+    (moments (subst (λ (a : AgentState). HoldsHistory past a.store set h) (sym view) is_of.holds) (subst (λ (a : AgentState). IsLeftBy set h (left_in a)) (sym view) is_of.left_by) (follows-of past agent set h is_of moment beat is_open free'))
 
 -- ---- a configuration that nothing refuses
 pub health-nothing : (past : List Event) (agent : AgentState) (set : Settings) (h : List Beat) (text : List ℕ) → IsAgentOf past agent set h → EveryDisk (StandsForHealth set h text) past
-health-nothing past agent set h text is_of disk images = inl (stays past agent.store agent.registry agent.last_rows agent.latest set h is_of.holds disk images)
+health-nothing past agent set h text is_of disk images = inl (stays past agent.store set h is_of.holds disk images)
 
 pub health-moments : (past new : List Event) (set : Settings) (h : List Beat) (text : List ℕ) → health_refusal text ≡ None
     → Throughout (EveryDisk (λ disk. StandsForHistory set h disk ⊎ StandsForHistory set (health text ∷ h) disk)) past new → Throughout (EveryDisk (StandsForHealth set h text)) past new

@@ -34,10 +34,7 @@ latest-is latest h is = λ i. record { before = latest.before; charts = is.chart
 pub latest-none : (latest : Latest) → latest.charts ≡ [] → latest.points ≡ [] → latest.raws ≡ [] → IsLatestOf latest []
 latest-none latest charts points raws = record { charts = charts; points = points; raws = raws }
 
--- a configuration and a gap leave what was seen
-pub latest-health : (latest : Latest) (h : List Beat) (text : List ℕ) → IsLatestOf latest h → IsLatestOf latest (health text ∷ h)
-latest-health latest h text is = record { charts = is.charts; points = is.points; raws = is.raws }
-
+-- a gap leaves what was seen
 pub latest-missing : (latest : Latest) (h : List Beat) (gap : Gap) → IsLatestOf latest h → IsLatestOf latest (missing gap ∷ h)
 latest-missing latest h gap is = record { charts = is.charts; points = is.points; raws = is.raws }
 

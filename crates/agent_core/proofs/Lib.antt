@@ -20,6 +20,7 @@ pub mod LimitLemmas
 pub mod Lists
 pub mod NamedLemmas
 pub mod NewLemmas
+pub mod NewNames
 pub mod NoteLemmas
 pub mod OpenFaults
 pub mod OpeningLemmas

@@ -28,8 +28,7 @@ use Rattle.entry_codec.specs.declared.entry.Entry.TheVariants as entry
 use Rattle.beat_entries.proofs.EntryLemmas.{any-find}
 use Rattle.beat_entries.specs.Copied.{copied_goes_on, defined_by, names_word}
 use Rattle.beat_entries.specs.Next.{all_taken, dimension_back, goes_on, is_number, takes_chart, takes_dimension, takes_row, with_chart, with_charts, with_dimension, with_dimensions, with_numbered}
-use Rattle.agent_core.specs.declared.left.Left.{Left}
-use Rattle.agent_core.specs.Notes.{entry_goes_on, with_entry}
+use Rattle.agent_core.specs.Notes.{entry_goes_on, with_entry, Noted}
 use Rattle.agent_core.specs.Roles.{may_collect, may_copy}
 use Rattle.agent_core.specs.Rules.{too_many_charts, too_many_dimensions, HasLimits, IsOpenBeat}
 use Rattle.agent_core.proofs.Lists.{all-put_all}
@@ -167,8 +166,8 @@ numbered-limits registry beat goes limits =
     let parts = and_parts (all_taken takes_chart with_chart registry beat.charts) (defined && rows) goes in
     dimensions-limits charts beat.dimensions (charts-limits registry beat.charts limits parts.0) (and_parts defined rows parts.1).0
 
-pub entry-limits : (left left' : Left) (found : Entry) → left' ≡ with_entry left found → entry_goes_on left found ≡ true → HasLimits left.registry → HasLimits left'.registry
-entry-limits left left' found made goes limits = subst (λ (l : Left). HasLimits l.registry) (sym made) (by found goes)
+pub entry-limits : (left left' : Noted) (found : Entry) → left' ≡ with_entry left found → entry_goes_on left found ≡ true → HasLimits left.registry → HasLimits left'.registry
+entry-limits left left' found made goes limits = subst (λ (l : Noted). HasLimits l.registry) (sym made) (by found goes)
   where
     by : (found : Entry) → entry_goes_on left found ≡ true → HasLimits (with_entry left found).registry
     by (entry.Settings set) goes = limits

@@ -2,18 +2,11 @@
 use Rattle.std.proofs.Common.{◌≡◌, ℕ, ◌+◌, ◌≤◌, Bool, true, false, not, ◌||◌, List, [], ◌∷◌, length, map, Option, Some, None, refl, sym, ap, ◌∙◌, arith}
 use Rattle.std.specs.List.{cons_option, count_by, filter_map, list_any, AllByRecursion}
 use Rattle.std.specs.Option.{option_map_or}
-use Rattle.std.proofs.lemmas.Bool.{not-false}
 use Rattle.std.proofs.lemmas.List.Sums.{count_by-le-length}
 use Rattle.history.specs.Put.{put, put_all}
 use Rattle.chart_registry.proofs.Applying.{all-put}
 use Rattle.chart_registry.proofs.FewLemmas.{count-cons}
 use Rattle.chart_registry.proofs.Finding.{one_if}
-use Rattle.chart_registry.proofs.RegistryLemmas.{or_false}
-
--- a list none of whose things fails a test
-pub none-fails : {A : Type 0} (q : A → Bool) (xs : List A) → list_any (λ x. not (q x)) xs ≡ false → AllByRecursion (λ x. q x ≡ true) xs
-none-fails q [] e = tt
-none-fails q (x ∷ xs) e = let parts = or_false (not (q x)) (list_any (λ x. not (q x)) xs) e in (not-false (q x) parts.0, none-fails q xs parts.1)
 
 module _ {A : Type 0} (same : A → A → Bool) (P : A → Type 0) where
   pub all-put_all : (xs ys : List A) → AllByRecursion P xs → AllByRecursion P ys → AllByRecursion P (put_all same xs ys)

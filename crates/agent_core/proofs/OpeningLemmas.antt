@@ -1,26 +1,21 @@
 -- An agent that replays the beats of its store: where it begins, each step, and where it ends.
-use Rattle.std.proofs.Common.{◌≡◌, ℕ, List, [], ◌∷◌, Option, Some, None, refl, sym, ap, ◌∙◌, subst}
+use Rattle.std.proofs.Common.{◌≡◌, ℕ, List, [], ◌∷◌, Some, None, refl, sym, ap, ◌∙◌, subst}
 use Rattle.host_model.specs.declared.file.File.{File}
 use Rattle.host_model.specs.Past.{Event}
 use Rattle.host_model.specs.Disks.{EveryDisk}
-use Rattle.algorithms.specs.declared.last.Last.{Last}
 use Rattle.history.specs.History.{Beat, last}
-use Rattle.beat_points.specs.LastRows.{AreLastOf}
-use Rattle.alarm_core.specs.declared.latest.Latest.{Latest}
-use Rattle.alarm_core.specs.Course.{held, nothing, Held}
 use Rattle.tier_settings.specs.declared.settings.Settings.{Settings}
 use Rattle.store_core.specs.declared.beat.Beat.{Beat as StoreBeat}
 use Rattle.store_core.specs.Stands.{Stands}
-use Rattle.store_core.specs.Store.{counted, IsReplayed, IsStoreAt, IsStoreOf, OpensAt, Replays, StoreState}
+use Rattle.store_core.specs.Store.{counted, HasApplied, IsReplayed, IsStoreAt, OpensAt, Replays, StoreState}
 use Rattle.store_core.specs.Stored.{base_of, stored_with, stored_with_all, Stored}
 use Rattle.agent_core.specs.declared.left.Left.{Left}
-use Rattle.agent_core.specs.Agent.{AgentState, IsAgentOf}
-use Rattle.agent_core.specs.Alarms.{alarms_at}
-use Rattle.agent_core.specs.Kept.{onto, AreBeatsOf, IsBeatOf, IsStoredOf, StandsForHistory}
-use Rattle.agent_core.specs.LastSeen.{IsLatestOf}
-use Rattle.agent_core.specs.Notes.{left_of_history}
-use Rattle.agent_core.specs.Replay.{AreNextOf, ArePartsOf, IsOpenedFor, IsReplaying}
-use Rattle.agent_core.proofs.AlarmLemmas.{none-yet}
+use Rattle.agent_core.specs.Agent.{left_in, AgentState, IsAgentOf}
+use Rattle.agent_core.specs.Answers.{tier_beats}
+use Rattle.agent_core.specs.Kept.{onto, AreBeatsOf, HoldsHistory, IsBeatOf, IsStoredOf, StandsForHistory}
+use Rattle.agent_core.specs.Left.{IsLeftBy}
+use Rattle.agent_core.specs.Replay.{AreNextOf, IsAtPrefix, IsOpenedFor, IsReplaying}
+use Rattle.agent_core.proofs.AnswerLemmas.{applied-at}
 use Rattle.agent_core.proofs.StoredLemmas.{answers, none_stored, stored_less, stored_more, were_kept}
 
 -- ---- the beginning
@@ -52,14 +47,12 @@ cut h stored (kept ∷ rest) are =
     let later = cut h (stored_with stored kept) rest are in
     earlier h kept stored rest later.front later.more later.whole later.are later.next
 
-pub replaying-begins : (past : List Event) (store : StoreState) (left : Left) (lasts : List (Option Last)) (latest : Latest) (held : Held) (set : Settings) (h : List Beat) → IsOpenedFor past store set h
-    → left ≡ left_of_history [] → AreLastOf lasts [] → IsLatestOf latest [] → held ≡ nothing → IsReplaying past store left lasts latest held set h
-replaying-begins past store left lasts latest held set h opened is_empty none unseen no_alarms =
+-- a store that was opened for a history has replayed none of it
+pub opened-at : (past : List Event) (store : StoreState) (set : Settings) (h : List Beat) → IsOpenedFor past store set h → IsAtPrefix past store set [] h
+opened-at past store set h opened =
     let opens = opened.opens in
     let found = cut h (base_of opened.stored) opens.rest (subst (IsStoredOf h) (sym opens.whole) opened.are) in
-    let start : found.front ≡ [] = none_stored found.front found.are in
-    record {
-      front = found.front;
+    subst (λ (g : List Beat). IsAtPrefix past store set g h) (none_stored found.front found.are) (record {
       more = found.more;
       stored = base_of opened.stored;
       rest = opens.rest;
@@ -67,9 +60,7 @@ replaying-begins past store left lasts latest held set h opened is_empty none un
       are = found.are;
       next = found.next;
       is_at = opens.is_at;
-      parts = subst (ArePartsOf left lasts latest) (sym start) (record { left_is = is_empty; last_rows_are = none; latest_is = unseen });
-      held_is = no_alarms ∙ none-yet set ∙ ap (alarms_at set) (sym start);
-    }
+    })
 
 -- ---- a step
 
@@ -102,62 +93,48 @@ module _ (past : List Event) (store : StoreState) (set : Settings) (h : List Bea
   none-of stored [] replays = replays
   none-of stored (first ∷ rest) replays = absurd replays
 
--- the next beat of a history that is replayed
-pub next-of : (past : List Event) (store store' : StoreState) (left : Left) (lasts : List (Option Last)) (latest : Latest) (held : Held) (set : Settings) (h : List Beat) (kept : StoreBeat)
-    → (was : IsReplaying past store left lasts latest held set h) → Replays past store' set was.stored was.rest (Some kept) → IsNextBeat past store' set h was.front was.stored kept
-next-of past store store' left lasts latest held set h kept was replays =
-    step-of past store' set h was.front was.more was.stored was.rest kept was.whole was.next replays
+module _ (past : List Event) (store store' : StoreState) (left : Left) (set : Settings) (h : List Beat) (was : IsReplaying past store left set h) where
+  module _ (kept : StoreBeat) (replays : (stored : Stored) (rest : List StoreBeat) → IsStoreAt past store set stored rest → Replays past store' set stored rest (Some kept)) where
+    -- the next beat of the history
+    next-of : IsNextBeat past store' set h was.prefix was.at.stored kept
+    next-of = step-of past store' set h was.prefix was.at.more was.at.stored was.at.rest kept was.at.whole was.at.next (replays was.at.stored was.at.rest was.at.is_at)
 
-pub replaying-more : (past : List Event) (store store' : StoreState) (left left' : Left) (lasts lasts' : List (Option Last)) (latest latest' : Latest) (held held' : Held) (set : Settings) (h : List Beat) (kept : StoreBeat)
-    → IsReplaying past store left lasts latest held set h
-    → ((stored : Stored) (rest : List StoreBeat) → IsStoreAt past store set stored rest → Replays past store' set stored rest (Some kept))
-    → ((g : List Beat) (beats : List StoreBeat) (beat : Beat) → AreBeatsOf g beats → IsBeatOf g beat kept → ArePartsOf left lasts latest g → ArePartsOf left' lasts' latest' (beat ∷ g))
-    → ((g : List Beat) (stored : Stored) (rest : List StoreBeat) (beat : Beat) → IsBeatOf g beat kept → IsStoredOf (beat ∷ g) (stored_with stored kept) → IsStoreAt past store' set (stored_with stored kept) rest → ArePartsOf left' lasts' latest' (beat ∷ g)
-    → store.last ≡ last g → held ≡ alarms_at set g → held' ≡ alarms_at set (beat ∷ g))
-    → IsReplaying past store' left' lasts' latest' held' set h
-replaying-more past store store' left left' lasts lasts' latest latest' held held' set h kept was replays taken followed =
-    let step = next-of past store store' left lasts latest held set h kept was (replays was.stored was.rest was.is_at) in
-    let parts : ArePartsOf left' lasts' latest' (step.beat ∷ was.front) = (let all = were_kept was.front was.stored was.are in taken was.front all.beats step.beat all.are step.of was.parts) in
-    let before : store.last ≡ last was.front = was.is_at.last ∙ (answers was.front was.stored was.are).last_is in
-    record {
-      front = step.beat ∷ was.front;
-      more = step.more;
-      stored = stored_with was.stored kept;
-      rest = step.rest;
-      whole = step.whole;
-      are = stored_more was.front was.stored step.beat kept was.are step.of;
-      next = step.next;
-      is_at = step.is_at;
-      parts = parts;
-      held_is = followed was.front was.stored step.rest step.beat step.of (stored_more was.front was.stored step.beat kept was.are step.of) step.is_at parts before was.held_is;
-    }
+    pub replaying-more : (left' : Left)
+        → ((g : List Beat) (beats : List StoreBeat) (beat : Beat) → AreBeatsOf g beats → IsBeatOf g beat kept → HasApplied set (tier_beats (beat ∷ g)) store' → store.last ≡ last g → IsLeftBy set g left → IsLeftBy set (beat ∷ g) left')
+        → IsReplaying past store' left' set h
+    replaying-more left' followed =
+        let step = next-of in
+        let all = were_kept was.prefix was.at.stored was.at.are in
+        let more = stored_more was.prefix was.at.stored step.beat kept was.at.are step.of in
+        let applied = applied-at past store' set (step.beat ∷ was.prefix) (stored_with was.at.stored kept) step.rest more step.is_at in
+        let before : store.last ≡ last was.prefix = was.at.is_at.last ∙ (answers was.prefix was.at.stored was.at.are).last_is in
+        record {
+          prefix = step.beat ∷ was.prefix;
+          at = record { more = step.more; stored = stored_with was.at.stored kept; rest = step.rest; whole = step.whole; are = more; next = step.next; is_at = step.is_at };
+          left_by = followed was.prefix all.beats step.beat all.are step.of applied before was.left_by;
+        }
 
--- the step is not refused for what is kept
-pub replaying-stands : {P : Type 0} (past : List Event) (store store' : StoreState) (left : Left) (lasts : List (Option Last)) (latest : Latest) (held : Held) (set : Settings) (h : List Beat) (kept : StoreBeat)
-    → IsReplaying past store left lasts latest held set h
-    → ((stored : Stored) (rest : List StoreBeat) → IsStoreAt past store set stored rest → Replays past store' set stored rest (Some kept))
-    → ((g : List Beat) (beats : List StoreBeat) (beat : Beat) → AreBeatsOf g beats → IsBeatOf g beat kept → ArePartsOf left lasts latest g → P) → P
-replaying-stands past store store' left lasts latest held set h kept was replays stands =
-    let step = next-of past store store' left lasts latest held set h kept was (replays was.stored was.rest was.is_at) in
-    let all = were_kept was.front was.stored was.are in
-    stands was.front all.beats step.beat all.are step.of was.parts
+    -- the step is not refused for what is kept
+    pub replaying-stands : {P : Type 0} → ((g : List Beat) (beats : List StoreBeat) (beat : Beat) → AreBeatsOf g beats → IsBeatOf g beat kept → IsLeftBy set g left → P) → P
+    replaying-stands stands =
+        let step = next-of in
+        let all = were_kept was.prefix was.at.stored was.at.are in
+        stands was.prefix all.beats step.beat all.are step.of was.left_by
 
-pub replaying-same : (past : List Event) (store store' : StoreState) (left : Left) (lasts : List (Option Last)) (latest : Latest) (held : Held) (set : Settings) (h : List Beat)
-    → IsReplaying past store left lasts latest held set h
-    → ((stored : Stored) (rest : List StoreBeat) → IsStoreAt past store set stored rest → Replays past store' set stored rest None)
-    → IsReplaying past store' left lasts latest held set h
-replaying-same past store store' left lasts latest held set h was replays = record {
-  front = was.front;
-  more = was.more;
-  stored = was.stored;
-  rest = was.rest;
-  whole = was.whole;
-  are = was.are;
-  next = was.next;
-  is_at = none-of past store' set h was.stored was.rest (replays was.stored was.rest was.is_at);
-  parts = was.parts;
-  held_is = was.held_is;
-}
+  pub replaying-same : ((stored : Stored) (rest : List StoreBeat) → IsStoreAt past store set stored rest → Replays past store' set stored rest None) → IsReplaying past store' left set h
+  replaying-same replays = record {
+    prefix = was.prefix;
+    at = record {
+      more = was.at.more;
+      stored = was.at.stored;
+      rest = was.at.rest;
+      whole = was.at.whole;
+      are = was.at.are;
+      next = was.at.next;
+      is_at = none-of past store' set h was.at.stored was.at.rest (replays was.at.stored was.at.rest was.at.is_at);
+    };
+    left_by = was.left_by;
+  }
 
 -- ---- the end
 
@@ -165,30 +142,36 @@ no-more : (front more : List Beat) → AreNextOf front more [] → more ≡ []
 no-more front [] next = refl
 no-more front (beat ∷ more) next = absurd next
 
-pub replayed-is_of : (past : List Event) (agent : AgentState) (left : Left) (set : Settings) (h : List Beat) → IsReplaying past agent.store left agent.last_rows agent.latest (held agent.alarms) set h → IsReplayed agent.store
-    → agent.registry ≡ left.registry → agent.last ≡ agent.store.last → agent.count ≡ agent.store.count → agent.role ≡ left.role → agent.fault ≡ None
-    → IsAgentOf past agent set h
-replayed-is_of past agent left set h was done registry last_is count role going =
-    let none : was.rest ≡ [] = sym was.is_at.waiting ∙ done in
-    let store_of : IsStoreOf past agent.store set was.stored = subst (λ (rest : List StoreBeat). IsStoreAt past agent.store set was.stored rest) none was.is_at in
-    let end : was.more ≡ [] = no-more was.front was.more (subst (AreNextOf was.front was.more) none was.next) in
-    let all : was.front ≡ h = sym (ap (onto was.front) end) ∙ was.whole in
-    let said = answers was.front was.stored was.are in
-    subst (IsAgentOf past agent set) all (record {
-      holds = record {
-        stored = was.stored;
-        are = was.are;
-        store_of = store_of;
-        registry_is = registry ∙ ap (λ (l : Left). l.registry) was.parts.left_is;
-        last_rows_are = was.parts.last_rows_are;
-        latest_is = was.parts.latest_is;
-      };
-      last_is = last_is ∙ was.is_at.last ∙ said.last_is;
-      count = count ∙ was.is_at.count ∙ ap counted said.count;
-      role = role ∙ ap (λ (l : Left). l.role) was.parts.left_is;
-      alarms = was.held_is;
+-- a store that has replayed all holds the history, whose beats left what is left
+module _ (past : List Event) (store : StoreState) (left : Left) (set : Settings) (h : List Beat) (was : IsReplaying past store left set h) (done : IsReplayed store) where
+  none : was.at.rest ≡ []
+  none = sym was.at.is_at.waiting ∙ done
+
+  all : was.prefix ≡ h
+  all = sym (ap (onto was.prefix) (no-more was.prefix was.at.more (subst (AreNextOf was.prefix was.at.more) none was.at.next))) ∙ was.at.whole
+
+  pub replayed-holds : HoldsHistory past store set h
+  replayed-holds = record {
+    stored = was.at.stored;
+    are = subst (λ (g : List Beat). IsStoredOf g was.at.stored) all was.at.are;
+    store_of = subst (λ (rest : List StoreBeat). IsStoreAt past store set was.at.stored rest) none was.at.is_at;
+  }
+
+  pub replayed-left : IsLeftBy set h left
+  replayed-left = subst (λ (g : List Beat). IsLeftBy set g left) all was.left_by
+
+-- an agent of such a store is of the history
+pub replayed-is_of : (past : List Event) (agent : AgentState) (set : Settings) (h : List Beat) → HoldsHistory past agent.store set h → IsLeftBy set h (left_in agent) → agent.last ≡ agent.store.last
+    → agent.count ≡ agent.store.count → agent.fault ≡ None → IsAgentOf past agent set h
+replayed-is_of past agent set h holds left last_is count going =
+    let said = answers h holds.stored holds.are in
+    record {
+      holds = holds;
+      left_by = left;
+      last_is = last_is ∙ holds.store_of.last ∙ said.last_is;
+      count = count ∙ holds.store_of.count ∙ ap counted said.count;
       going = going;
-    })
+    }
 
 -- ---- an agent that was opened
 

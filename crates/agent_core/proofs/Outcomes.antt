@@ -1,5 +1,5 @@
 -- What holds where a call was done, or was not.
-use Rattle.std.proofs.Common.{◌≡◌, ◌⊎◌, inl, inr, ℕ, ◌≤◌, Option, None, Result, Ok, Err, IfErr, IsErrOf, OnOk, OnErr, refl, sym, subst, ◌∙◌, le_refl}
+use Rattle.std.proofs.Common.{◌≡◌, ◌⊎◌, inl, inr, ℕ, ◌≤◌, Option, None, Result, Ok, Err, IfErr, IfOk, IsErrOf, OnOk, OnErr, refl, sym, subst, ◌∙◌, le_refl}
 use Rattle.std.proofs.lemmas.Option.{none-some}
 use Rattle.host_model.specs.Cause.{HasCause}
 use Rattle.store_core.specs.declared.fault.Why.{Why}
@@ -14,6 +14,16 @@ always P (Err fault) holds = tt
 pub on_ok : {T E : Type 0} (P Q : Type 0) (result : Result T E) → OnOk result P → (P → Q) → OnOk result Q
 on_ok P Q (Ok value) holds shows = shows holds
 on_ok P Q (Err fault) holds shows = tt
+
+-- two things that hold where it was done
+pub on_both : {T E : Type 0} (P Q R : Type 0) (result : Result T E) → OnOk result P → OnOk result Q → (P → Q → R) → OnOk result R
+on_both P Q R (Ok value) first second shows = shows first second
+on_both P Q R (Err fault) first second shows = tt
+
+-- and of which one speaks of its value
+pub if_both : {T E : Type 0} (result : Result T E) (Q : Type 0) (P R : T → Type 0) → OnOk result Q → IfOk result P → ((value : T) → Q → P value → R value) → IfOk result R
+if_both (Ok value) Q P R on if shows = shows value on if
+if_both (Err fault) Q P R on if shows = tt
 
 pub on_err : {T E : Type 0} (P Q : Type 0) (result : Result T E) → OnErr result P → (P → Q) → OnErr result Q
 on_err P Q (Ok value) holds shows = tt

@@ -4,12 +4,13 @@ use Rattle.std.proofs.lemmas.Bool.{not-false}
 use Rattle.std.proofs.lemmas.List.Elements.{recursion_from_All}
 use Rattle.std.proofs.lemmas.Option.{same_Some}
 use Rattle.algorithms.specs.declared.last.Last.{Last}
-use Rattle.history.specs.History.{Beat, collected, copied, health, missing, registry_of, Word}
+use Rattle.history.specs.History.{Beat, collected, copied, health, missing, last, registry_of, Word}
 use Rattle.history.specs.Registry.{Registry, same_chart, same_dimension}
 use Rattle.beat_points.specs.LastRows.{AreLastOf}
 use Rattle.history.specs.Regular.{AreApart}
 use Rattle.history.specs.declared.numbered.NumberedBeat.{NumberedBeat}
 use Rattle.alarm_core.specs.declared.latest.Latest.{Latest}
+use Rattle.alarm_core.specs.Course.{held}
 use Rattle.entry_codec.specs.declared.entry.Entry.{Entry}
 use Rattle.entry_codec.specs.declared.entry.Entry.TheVariants as entry
 use Rattle.entry_codec.specs.Entries.{entry_bytes, read_entry, HasSpelling}
@@ -21,20 +22,22 @@ use Rattle.beat_entries.proofs.CopiedLemmas.{all-mapped, copied-next, copied-reg
 use Rattle.beat_entries.proofs.DefinedLemmas.{chart-alike, chart-itself, dimension-alike, dimension-itself}
 use Rattle.beat_entries.proofs.FollowLemmas.{beat-goes-on, last-is}
 use Rattle.beat_entries.proofs.PutLemmas.{apart-put_all}
+use Rattle.tier_settings.specs.declared.settings.Settings.{Settings}
 use Rattle.store_core.specs.declared.beat.Beat.{Beat as StoreBeat}
-use Rattle.store_core.specs.Stored.{stored_with, Stored}
+use Rattle.store_core.specs.Stored.{Stored}
 use Rattle.beat_tiers.specs.declared.item.BeatPoint.{BeatPoint}
 use Rattle.agent_core.specs.declared.fault.AgentFault.{AgentFault}
 use Rattle.agent_core.specs.declared.fault.AgentFault.TheVariants.{Damaged, Memory}
 use Rattle.agent_core.specs.declared.left.Left.{Left}
 use Rattle.agent_core.specs.declared.left.Role.TheVariants.{Collects, Copies}
 use Rattle.agent_core.specs.Kept.{copied_entry, copied_point, gap_entry, AreBeatsOf, IsBeatOf, IsStoredOf}
-use Rattle.agent_core.specs.Notes.{entry_goes_on, entry_in, left_by, left_of_history, moment_of, names_series, notes_go_on, takes_note, with_entry, with_note}
+use Rattle.agent_core.specs.Left.{AwaitsAlarms, IsLeftBy}
+use Rattle.agent_core.specs.Notes.{beats_go_on, entry_goes_on, entry_in, left_after, moment_of, names_series, nothing_noted, noted_in, noted_of, notes_go_on, takes_note, with_entry, with_note, Noted}
 use Rattle.agent_core.specs.declared.alarming.Stepping.{Stepping}
 use Rattle.agent_core.specs.declared.alarming.Stepping.TheVariants as stepping
 use Rattle.agent_core.specs.Alarms.{IsSteppingOf}
 use Rattle.agent_core.specs.LastSeen.{IsLatestOf}
-use Rattle.agent_core.specs.Replay.{ArePartsOf, HasRows, HasSeen, HasSeenNone, IsDoneBy}
+use Rattle.agent_core.specs.Replay.{HasRows, HasSeen, HasSeenNone, IsDoneBy}
 use Rattle.agent_core.specs.Roles.{may_collect, role_of}
 use Rattle.agent_core.proofs.FollowLemmas.{follows-may, follows-owned, follows-regular}
 use Rattle.agent_core.proofs.HistoryLemmas.{copies-of, follows-alone}
@@ -65,7 +68,7 @@ note-is g (missing gap) kept of =
 
 -- ---- the entry goes on
 module _ (g : List Beat) (beats : List StoreBeat) (are : AreBeatsOf g beats) where
-  pub entry-goes : (beat : Beat) (kept : StoreBeat) → IsBeatOf g beat kept → entry_goes_on (left_of_history g) (entry_for g beat) ≡ true
+  pub entry-goes : (beat : Beat) (kept : StoreBeat) → IsBeatOf g beat kept → entry_goes_on (noted_of g) (entry_for g beat) ≡ true
   entry-goes (collected moment beat) kept of =
       let may = not-false (may_collect (role_of g)) (sym (copies-of g beats are) ∙ follows-alone g moment beat of.follows) in
       let goes = beat-goes-on g moment beat (follows-owned g moment beat of.follows) (follows-may g moment beat of.follows (within-of g beats are)) (follows-regular g moment beat of.follows) in
@@ -75,7 +78,7 @@ module _ (g : List Beat) (beats : List StoreBeat) (are : AreBeatsOf g beats) whe
   entry-goes (missing gap) kept of = of.role
 
   -- it leaves what the beat leaves
-  left-after : (beat : Beat) (kept : StoreBeat) → IsBeatOf g beat kept → left_of_history (beat ∷ g) ≡ with_entry (left_of_history g) (entry_for g beat)
+  left-after : (beat : Beat) (kept : StoreBeat) → IsBeatOf g beat kept → noted_of (beat ∷ g) ≡ with_entry (noted_of g) (entry_for g beat)
   left-after (collected moment beat) kept of =
       let same = last-is g moment beat (follows-owned g moment beat of.follows) in
       λ i. record { registry = same i; role = Collects }
@@ -95,33 +98,32 @@ module _ (g : List Beat) (beats : List StoreBeat) (are : AreBeatsOf g beats) whe
   points-there (missing gap) kept of = ap (λ (k : StoreBeat). names_series (registry_of g) k.points) of.is_kept
 
   module _ (beat : Beat) (kept : StoreBeat) (of : IsBeatOf g beat kept) where
-    pub beat-takes : (left : Left) → left ≡ left_of_history g → takes_note left kept ≡ true
+    pub beat-takes : (left : Noted) → left ≡ noted_of g → takes_note left kept ≡ true
     beat-takes left is =
-        ap (λ (l : Left). takes_note l kept) is
-        ∙ note-takes (left_of_history g) kept (entry_for g beat) (note-is g beat kept of) true (left_of_history (beat ∷ g)) (entry-goes beat kept of) (left-after beat kept of) (points-there beat kept of)
+        ap (λ (l : Noted). takes_note l kept) is
+        ∙ note-takes (noted_of g) kept (entry_for g beat) (note-is g beat kept of) true (noted_of (beat ∷ g)) (entry-goes beat kept of) (left-after beat kept of) (points-there beat kept of)
 
-    pub beat-leaves : (left left' : Left) → left ≡ left_of_history g → left' ≡ with_note left kept → left' ≡ left_of_history (beat ∷ g)
+    pub beat-leaves : (left left' : Noted) → left ≡ noted_of g → left' ≡ with_note left kept → left' ≡ noted_of (beat ∷ g)
     beat-leaves left left' is made =
-        made ∙ ap (λ (l : Left). with_note l kept) is
-        ∙ sym (note-left (left_of_history g) kept (entry_for g beat) (note-is g beat kept of) (left_of_history (beat ∷ g)) (left-after beat kept of))
+        made ∙ ap (λ (l : Noted). with_note l kept) is
+        ∙ sym (note-left (noted_of g) kept (entry_for g beat) (note-is g beat kept of) (noted_of (beat ∷ g)) (left-after beat kept of))
 
 -- what is stored for a history goes on, and leaves what it leaves
-record Leaves (h : List Beat) (stored : Stored) : Type 0 where
-  left : left_by stored ≡ left_of_history h
-  go_on : notes_go_on stored ≡ true
+record Leaves (h : List Beat) (beats : List StoreBeat) : Type 0 where
+  left : left_after nothing_noted beats ≡ noted_of h
+  go_on : beats_go_on nothing_noted beats ≡ true
 
-history-leaves : (h : List Beat) (beats : List StoreBeat) → AreBeatsOf h beats → Leaves h (record { after = beats })
-history-leaves [] [] are = record { left = left-none; go_on = go-on-none }
+history-leaves : (h : List Beat) (beats : List StoreBeat) → AreBeatsOf h beats → Leaves h beats
+history-leaves [] [] are = record { left = left-none nothing_noted; go_on = go-on-none nothing_noted }
 history-leaves [] (kept ∷ beats) are = absurd are
 history-leaves (beat ∷ h) [] are = absurd are
 history-leaves (beat ∷ h) (kept ∷ beats) are =
     let before = history-leaves h beats are.1 in
-    let stored : Stored = record { after = beats } in
-    let now : with_note (left_of_history h) kept ≡ left_by (stored_with stored kept)
-    = left-more (left_of_history h) (with_note (left_of_history h) kept) stored kept (sym before.left) refl in
+    let now : with_note (noted_of h) kept ≡ left_after nothing_noted (kept ∷ beats)
+    = left-more nothing_noted (noted_of h) (with_note (noted_of h) kept) beats kept (sym before.left) refl in
     record {
-      left = sym now ∙ beat-leaves h beats are.1 beat kept are.0 (left_of_history h) (with_note (left_of_history h) kept) refl refl;
-      go_on = go-on-more (left_of_history h) stored kept true before.go_on (sym before.left) (beat-takes h beats are.1 beat kept are.0 (left_of_history h) refl);
+      left = sym now ∙ beat-leaves h beats are.1 beat kept are.0 (noted_of h) (with_note (noted_of h) kept) refl refl;
+      go_on = go-on-more nothing_noted (noted_of h) beats kept true before.go_on (sym before.left) (beat-takes h beats are.1 beat kept are.0 (noted_of h) refl);
     }
 
 pub history-goes : (h : List Beat) (stored : Stored) → IsStoredOf h stored → notes_go_on stored ≡ true
@@ -161,21 +163,30 @@ latest-after g beats lasts (health text) kept latest latest' are last of was see
 latest-after g beats lasts (missing gap) kept latest latest' are last of was seen =
     none-seen latest latest' g (missing gap ∷ g) seen (λ was. record { charts = was.charts; points = was.points; raws = was.raws }) was
 
--- the parts of an agent are those of the history with the beat
-pub parts-after : (g : List Beat) (beats : List StoreBeat) (beat : Beat) (kept : StoreBeat) (left left' : Left) (lasts lasts' : List (Option Last)) (latest latest' : Latest) (found : Entry)
-    → AreBeatsOf g beats → IsBeatOf g beat kept → ArePartsOf left lasts latest g → entry_in kept ≡ Some found → left' ≡ with_note left kept
-    → HasRows left'.registry lasts lasts' found → HasSeen left'.registry latest latest' found kept.points → ArePartsOf left' lasts' latest' (beat ∷ g)
-parts-after g beats beat kept left left' lasts lasts' latest latest' found are of parts has made rows seen =
-    let is : left' ≡ left_of_history (beat ∷ g) = beat-leaves g beats are beat kept of left left' parts.left_is made in
+-- what was left has the registry and the role of its history
+pub noted-is : (set : Settings) (g : List Beat) (left : Left) → IsLeftBy set g left → noted_in left ≡ noted_of g
+noted-is set g left was = λ i. record { registry = was.registry_is i; role = was.role_is i }
+
+-- all but the alarms has taken the beat
+pub beat-taken : (set : Settings) (g : List Beat) (beats : List StoreBeat) (beat : Beat) (kept : StoreBeat) (left left' : Left) (found : Entry)
+    → AreBeatsOf g beats → IsBeatOf g beat kept → IsLeftBy set g left → entry_in kept ≡ Some found → noted_in left' ≡ with_note (noted_in left) kept
+    → HasRows left'.registry left.last_rows left'.last_rows found → HasSeen left'.registry left.latest left'.latest found kept.points → left'.latest.before ≡ last g → left'.alarms ≡ left.alarms
+    → AwaitsAlarms set g beat left'
+beat-taken set g beats beat kept left left' found are of was has made rows seen before alarms =
+    let is : noted_in left' ≡ noted_of (beat ∷ g) = beat-leaves g beats are beat kept of (noted_in left) (noted_in left') (noted-is set g left was) made in
+    let registry : left'.registry ≡ registry_of (beat ∷ g) = ap (λ (n : Noted). n.registry) is in
     let same : found ≡ entry_for g beat = same_Some found (entry_for g beat) (sym has ∙ note-is g beat kept of) in
-    let now : HasRows (registry_of (beat ∷ g)) lasts lasts' (entry_for g beat)
-    = subst (λ (l : Left). HasRows l.registry lasts lasts' (entry_for g beat)) is (subst (λ (e : Entry). HasRows left'.registry lasts lasts' e) same rows) in
-    let seen_now : HasSeen (registry_of (beat ∷ g)) latest latest' (entry_for g beat) kept.points
-    = subst (λ (l : Left). HasSeen l.registry latest latest' (entry_for g beat) kept.points) is (subst (λ (e : Entry). HasSeen left'.registry latest latest' e kept.points) same seen) in
+    let now : HasRows (registry_of (beat ∷ g)) left.last_rows left'.last_rows (entry_for g beat)
+    = subst (λ (r : Registry). HasRows r left.last_rows left'.last_rows (entry_for g beat)) registry (subst (λ (e : Entry). HasRows left'.registry left.last_rows left'.last_rows e) same rows) in
+    let seen_now : HasSeen (registry_of (beat ∷ g)) left.latest left'.latest (entry_for g beat) kept.points
+    = subst (λ (r : Registry). HasSeen r left.latest left'.latest (entry_for g beat) kept.points) registry (subst (λ (e : Entry). HasSeen left'.registry left.latest left'.latest e kept.points) same seen) in
     record {
-      left_is = is;
-      last_rows_are = last-after g beat kept lasts lasts' of parts.last_rows_are now;
-      latest_is = latest-after g beats lasts beat kept latest latest' are parts.last_rows_are of parts.latest_is seen_now;
+      registry_is = registry;
+      role_is = ap (λ (n : Noted). n.role) is;
+      last_rows_are = last-after g beat kept left.last_rows left'.last_rows of was.last_rows_are now;
+      latest_is = latest-after g beats left.last_rows beat kept left.latest left'.latest are was.last_rows_are of was.latest_is seen_now;
+      before = before;
+      alarms_are = ap held alarms ∙ was.alarms_are;
     }
 
 -- what its entry does to alarms, it does
@@ -210,25 +221,25 @@ once-after registry registry' found made charts dimensions =
           (apart-put_all same_dimension dimension-itself dimension-alike registry.dimensions (map (dimension_back middle) found.dimensions) dimensions),
     )
 
-same-once : (left left' : Left) → left'.registry ≡ left.registry → AreApart same_chart left.registry.charts → AreApart same_dimension left.registry.dimensions
+same-once : (left left' : Noted) → left'.registry ≡ left.registry → AreApart same_chart left.registry.charts → AreApart same_dimension left.registry.dimensions
     → AreApart same_chart left'.registry.charts × AreApart same_dimension left'.registry.dimensions
 same-once left left' same charts dimensions =
     (subst (λ (r : Registry). AreApart same_chart r.charts) (sym same) charts, subst (λ (r : Registry). AreApart same_dimension r.dimensions) (sym same) dimensions)
 
-pub entry-once : (left left' : Left) (found : Entry) → left' ≡ with_entry left found
+pub entry-once : (left left' : Noted) (found : Entry) → left' ≡ with_entry left found
     → AreApart same_chart left.registry.charts → AreApart same_dimension left.registry.dimensions → AreApart same_chart left'.registry.charts × AreApart same_dimension left'.registry.dimensions
-entry-once left left' (entry.Settings set) made charts dimensions = same-once left left' (ap (λ (l : Left). l.registry) made) charts dimensions
-entry-once left left' (entry.Collected found) made charts dimensions = once-after left.registry left'.registry found (ap (λ (l : Left). l.registry) made) charts dimensions
-entry-once left left' (entry.Copied found) made charts dimensions = once-after left.registry left'.registry (defined_by found) (ap (λ (l : Left). l.registry) made) charts dimensions
-entry-once left left' (entry.Health text) made charts dimensions = same-once left left' (ap (λ (l : Left). l.registry) made) charts dimensions
-entry-once left left' (entry.Gap gap) made charts dimensions = same-once left left' (ap (λ (l : Left). l.registry) made) charts dimensions
+entry-once left left' (entry.Settings set) made charts dimensions = same-once left left' (ap (λ (l : Noted). l.registry) made) charts dimensions
+entry-once left left' (entry.Collected found) made charts dimensions = once-after left.registry left'.registry found (ap (λ (l : Noted). l.registry) made) charts dimensions
+entry-once left left' (entry.Copied found) made charts dimensions = once-after left.registry left'.registry (defined_by found) (ap (λ (l : Noted). l.registry) made) charts dimensions
+entry-once left left' (entry.Health text) made charts dimensions = same-once left left' (ap (λ (l : Noted). l.registry) made) charts dimensions
+entry-once left left' (entry.Gap gap) made charts dimensions = same-once left left' (ap (λ (l : Noted). l.registry) made) charts dimensions
 
 -- ---- the faults
 
 -- a beat of a history is taken
-pub never-broken : (g : List Beat) (beats : List StoreBeat) (beat : Beat) (kept : StoreBeat) (left : Left) (lasts : List (Option Last)) (latest : Latest) → AreBeatsOf g beats → IsBeatOf g beat kept
-    → ArePartsOf left lasts latest g → takes_note left kept ≡ false → ⊥
-never-broken g beats beat kept left lasts latest are of parts broken = true≢false (sym (beat-takes g beats are beat kept of left parts.left_is) ∙ broken)
+pub never-broken : (set : Settings) (g : List Beat) (beats : List StoreBeat) (beat : Beat) (kept : StoreBeat) (left : Left) → AreBeatsOf g beats → IsBeatOf g beat kept → IsLeftBy set g left
+    → takes_note (noted_in left) kept ≡ false → ⊥
+never-broken set g beats beat kept left are of was broken = true≢false (sym (beat-takes g beats are beat kept of (noted_in left) (noted-is set g left was)) ∙ broken)
 
 pub only-memory : (fault : AgentFault) → (fault ≡ Memory) ⊎ (fault ≡ Damaged 5) → (fault ≡ Damaged 5 → ⊥) → fault ≡ Memory
 only-memory fault (inl memory) never = memory

@@ -232,7 +232,7 @@ module _ (honest : Type 0) (host : Seen) (agent : AgentState) (host' : Seen) (ag
   -- nothing happened to the disk, so that a crash leaves the history
   read-left : IsAgentOf host.past agent set h → host'.past ≡ host.past → EveryDisk (StandsForFront set h []) host'.past
   read-left is_of quiet =
-      subst (EveryDisk (StandsForFront set h [])) (sym quiet) (λ disk images. none-first set h [] disk (stays host.past agent.store agent.registry agent.last_rows agent.latest set h is_of.holds disk images))
+      subst (EveryDisk (StandsForFront set h [])) (sym quiet) (λ disk images. none-first set h [] disk (stays host.past agent.store set h is_of.holds disk images))
 
   module _ (T : Type 0) where
     abbrev unread : AgentFault → Result T AgentFault

@@ -1,21 +1,18 @@
--- The parts of an agent once a gap or a copied beat is stored.
-use Rattle.std.proofs.Common.{◌≡◌, ℕ, ◌+◌, ◌<◌, ◌≤◌, ◌^◌, true, List, [], ◌∷◌, length, map, Option, Some, refl, sym, ap, ◌∙◌, subst, arith, length-append, lt-ltb}
+-- What a store keeps of a gap and of a copied beat.
+use Rattle.std.proofs.Common.{◌≡◌, ℕ, ◌+◌, ◌<◌, ◌≤◌, ◌^◌, true, List, [], ◌∷◌, length, map, Some, refl, sym, ap, ◌∙◌, subst, arith, length-append, lt-ltb}
 use Rattle.std.specs.List.{enumerate_from, filter_map, find}
 use Rattle.std.specs.Option.{option_map}
 use Rattle.std.specs.Str.{bytes_eq}
 use Rattle.std.proofs.lemmas.Bool.{cond-false, cond-true, le-ltb}
-use Rattle.std.proofs.lemmas.Option.{same_Some}
 use Rattle.host_model.specs.Past.{Event}
-use Rattle.algorithms.specs.declared.last.Last.{Last}
 use Rattle.history.specs.declared.beat.OpenBeat.{OpenBeat}
 use Rattle.history.specs.declared.beat.OpenRow.{OpenRow}
 use Rattle.history.specs.declared.chart.ChartDef.{ChartDef}
 use Rattle.history.specs.declared.row.Row.{Row}
 use Rattle.history.specs.declared.numbered.NumberedBeat.{NumberedBeat}
-use Rattle.history.specs.History.{Beat, copied, missing, last, registry_of, Copy, Gap}
+use Rattle.history.specs.History.{Beat, copied, missing, registry_of, Copy, Gap}
 use Rattle.history.specs.Numbered.{numbered_charts, numbered_dimensions, numbered_rows, numbered_values, IsThere}
 use Rattle.history.specs.Registry.{Registry}
-use Rattle.alarm_core.specs.declared.latest.Latest.{Latest}
 use Rattle.entry_codec.specs.declared.entry.Entry.TheVariants as entry
 use Rattle.tier_settings.specs.declared.settings.Settings.{Settings}
 use Rattle.entry_codec.specs.Entries.{entry_bytes, gap_bytes, is_canonical, HasSpelling}
@@ -26,16 +23,13 @@ use Rattle.replication.specs.declared.beats.Beat.{Beat as SentBeat}
 use Rattle.replication.specs.declared.message.Data.{Data}
 use Rattle.store_core.specs.declared.beat.Beat.{Beat as StoreBeat}
 use Rattle.store_core.specs.Beats.{beat_bytes, InForm}
-use Rattle.store_core.specs.Store.{IsStoreOf, StoreState}
-use Rattle.store_core.specs.Stored.{stored_with}
+use Rattle.store_core.specs.Store.{StoreState}
 use Rattle.store_core.proofs.BeatLaw.{beat_size}
-use Rattle.agent_core.specs.Agent.{Holds}
 use Rattle.agent_core.specs.Copying.{gap_beat}
-use Rattle.agent_core.specs.Kept.{copied_entry, copied_point, gap_entry, IsCopyOf, IsGapOf}
-use Rattle.agent_core.specs.Replay.{HasRoom, HasSeenCopy}
+use Rattle.agent_core.specs.Kept.{copied_entry, copied_point, gap_entry, HoldsHistory, IsCopyOf, IsGapOf}
 use Rattle.agent_core.specs.Roles.{may_copy, role_of}
 use Rattle.agent_core.specs.Storing.{gap_beats, sent_entry, sent_kept, IsSentAs}
-use Rattle.agent_core.proofs.StoredLemmas.{answers, stored_more, were_kept}
+use Rattle.agent_core.proofs.KeptLemmas.{store-last}
 
 -- ---- a gap
 gap-length : (gap : Gap) → length (entry_bytes (gap_entry gap)) ≡ 17
@@ -61,41 +55,12 @@ pub gap-spelt : (gap : Gap) → gap.child < 2 ^ 64 → gap.from < 2 ^ 32 → gap
 unfolding is_canonical
 gap-spelt gap child from to = record { short = record { child = child; from = from; to = to }; canonical = refl }
 
-module _ (past : List Event) (store : StoreState) (registry : Registry) (lasts : List (Option Last)) (latest : Latest) (set : Settings) (h : List Beat) (holds : Holds past store registry lasts latest set h) where
-  -- the last moment of the store is that of the history
-  pub store-last : store.last ≡ last h
-  store-last = holds.store_of.last ∙ (answers h holds.stored holds.are).last_is
+-- what is kept of a gap that may follow the history
+pub gap-of : (past : List Event) (store : StoreState) (set : Settings) (h : List Beat) → HoldsHistory past store set h → (gap : Gap) (kept : StoreBeat) → kept ≡ record { moment = Some gap.to; points = []; note = entry_bytes (gap_entry gap) }
+    → HasSpelling (gap_entry gap) → may_copy (role_of h) ≡ true → store.last < gap.to → IsGapOf h gap kept
+gap-of past store set h holds gap kept is_kept spelt role later = record { role = role; later = omega (arith, store-last past store set h holds, later); is_kept = is_kept; spelt = spelt }
 
-  module _ (gap : Gap) (kept : StoreBeat) (is_kept : kept ≡ record { moment = Some gap.to; points = []; note = entry_bytes (gap_entry gap) }) (spelt : HasSpelling (gap_entry gap)) where
-    pub gap-of : may_copy (role_of h) ≡ true → store.last < gap.to → IsGapOf h gap kept
-    gap-of role later = record { role = role; later = omega (arith, store-last, later); is_kept = is_kept; spelt = spelt }
-
-    pub holds-gap : IsGapOf h gap kept → (new : List Event) (store' : StoreState) → IsStoreOf new store' set (stored_with holds.stored kept) → Holds new store' registry lasts latest set (missing gap ∷ h)
-    holds-gap of new store' store_of = record {
-      stored = stored_with holds.stored kept;
-      are = stored_more h holds.stored (missing gap) kept holds.are of;
-      store_of = store_of;
-      registry_is = holds.registry_is;
-      last_rows_are = record { rows = holds.last_rows_are.rows; within = holds.last_rows_are.within };
-      latest_is = record { charts = holds.latest_is.charts; points = holds.latest_is.points; raws = holds.latest_is.raws };
-    }
-
-  -- ---- a copied beat
-  pub holds-copy : (registry' : Registry) (copy : Copy) (kept : StoreBeat) (moment : ℕ) → IsCopyOf h copy kept → registry' ≡ registry_of (copied copy ∷ h) → kept.moment ≡ Some moment → (new : List Event) (store' : StoreState)
-      → IsStoreOf new store' set (stored_with holds.stored kept) → (lasts' : List (Option Last)) → HasRoom registry' lasts lasts' → (latest' : Latest) → HasSeenCopy registry' latest latest' moment kept.points
-      → Holds new store' registry' lasts' latest' set (copied copy ∷ h)
-  holds-copy registry' copy kept moment of is at new store' store_of lasts' room latest' seen =
-      let all = were_kept h holds.stored holds.are in
-      let moment_is : moment ≡ copy.moment = same_Some moment copy.moment (sym at ∙ ap (λ (k : StoreBeat). k.moment) of.is_kept) in
-      let points : kept.points ≡ map (copied_point registry') copy.words = ap (λ (k : StoreBeat). k.points) of.is_kept ∙ ap (λ (r : Registry). map (copied_point r) copy.words) (sym is) in
-      record {
-        stored = stored_with holds.stored kept;
-        are = stored_more h holds.stored (copied copy) kept holds.are of;
-        store_of = store_of;
-        registry_is = is;
-        last_rows_are = room h copy holds.last_rows_are is;
-        latest_is = seen h all.beats lasts copy all.are holds.last_rows_are holds.latest_is is moment_is points;
-      }
+-- ---- a copied beat
 
 module _ (registry : Registry) (message : Data) (defines : NumberedBeat) (beat : SentBeat) (g : List Beat) (copy : Copy) (sent : IsSentAs registry message defines beat g copy) where
   entry-same : entry.Copied (sent_entry registry message defines beat) ≡ copied_entry g copy

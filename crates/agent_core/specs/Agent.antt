@@ -3,24 +3,21 @@ use Rattle.std.specs.Prelude.{◌≡◌, ◌⊎◌, ℕ, List, length, Option, S
 use Rattle.host_model.specs.Past.{Event}
 use Rattle.host_model.specs.Disks.{EveryDisk}
 use Rattle.algorithms.specs.declared.last.Last.{Last}
-use Rattle.history.specs.History.{Beat, last, registry_of}
+use Rattle.history.specs.History.{Beat, last}
 use Rattle.history.specs.Registry.{Registry, same_chart, same_dimension}
-use Rattle.beat_points.specs.LastRows.{AreLastOf}
 use Rattle.history.specs.Regular.{AreApart}
 use Rattle.alarm_core.specs.declared.latest.Latest.{Latest}
 use Rattle.alarm_core.specs.declared.alarms.Alarms.{Alarms}
-use Rattle.alarm_core.specs.Course.{held}
 use Rattle.alarm_core.specs.UpTo.{IsUpTo}
 use Rattle.tier_settings.specs.declared.settings.Settings.{Settings}
 use Rattle.store_core.specs.declared.fault.Why.{Why}
-use Rattle.store_core.specs.Store.{counted, IsReady, IsReplayed, IsStoreOf, StoreState}
+use Rattle.store_core.specs.Store.{counted, IsReady, IsReplayed, StoreState}
 use Rattle.store_core.specs.Stored.{Stored}
-use Rattle.agent_core.specs.Alarms.{alarms_at}
+use Rattle.agent_core.specs.declared.left.Left.{Left}
 use Rattle.agent_core.specs.declared.left.Role.{Role}
-use Rattle.agent_core.specs.Kept.{IsStoredOf, StandsForFront}
-use Rattle.agent_core.specs.LastSeen.{IsLatestOf}
+use Rattle.agent_core.specs.Kept.{HoldsHistory, StandsForFront}
+use Rattle.agent_core.specs.Left.{IsLeftBy}
 use Rattle.agent_core.specs.Notes.{left_by}
-use Rattle.agent_core.specs.Roles.{role_of}
 use Rattle.agent_core.specs.Rules.{HasLimits}
 
 pub record AgentState : Type 0 where
@@ -46,22 +43,22 @@ pub record AgentState : Type 0 where
 abbrev pub id_of : AgentState → ℕ
 id_of agent = agent.store.settings.id
 
--- these parts of an agent are of this history
-pub record Holds (past : List Event) (store : StoreState) (registry : Registry) (last_rows : List (Option Last)) (latest : Latest) (set : Settings) (h : List Beat) : Type 0 where
-  pub stored : Stored
-  pub are : IsStoredOf h stored
-  pub store_of : IsStoreOf past store set stored
-  pub registry_is : registry ≡ registry_of h
-  pub last_rows_are : AreLastOf last_rows h
-  pub latest_is : IsLatestOf latest h
+-- what beats left an agent
+abbrev pub left_in : AgentState → Left
+left_in agent = record {
+  registry = agent.registry;
+  role = agent.role;
+  last_rows = agent.last_rows;
+  latest = agent.latest;
+  alarms = agent.alarms;
+}
 
 -- the agent is of this history
 pub record IsAgentOf (past : List Event) (agent : AgentState) (set : Settings) (h : List Beat) : Type 0 where
-  pub holds : Holds past agent.store agent.registry agent.last_rows agent.latest set h
+  pub holds : HoldsHistory past agent.store set h
+  pub left_by : IsLeftBy set h (left_in agent)
   pub last_is : agent.last ≡ last h
   pub count : agent.count ≡ counted (length h)
-  pub role : agent.role ≡ role_of h
-  pub alarms : held agent.alarms ≡ alarms_at set h
   pub going : agent.fault ≡ None
 
 -- the parts of an agent fit each other, whatever history it is of

@@ -72,8 +72,3 @@ abbrev pub DefinesNothing : Stepping → Type 0
 DefinesNothing (stepping.Beat at defines) = defines ≡ false
 DefinesNothing (stepping.Configuration config) = ⊥
 DefinesNothing stepping.Nothing = Unit {0}
-
--- the alarms have followed a history, and told these events of its last beat
-pub record HaveFollowed (set : Settings) (h : List Beat) (held : Held) (events : List Event) : Type 0 where
-  pub held_is : held ≡ alarms_at set h
-  pub events_are : events ≡ events_at set h

@@ -6,8 +6,6 @@ use Rattle.history.specs.History.{Beat, collected, copied, health, missing, regi
 use Rattle.history.specs.Points.{points, Point as HistoryPoint}
 use Rattle.beat_tiers.specs.declared.kept.Kept.{Kept}
 use Rattle.beat_tiers.specs.Beats.{TierBeat}
-use Rattle.beat_tiers.specs.Floors.{beats_before, floor_of, kept_beats}
-use Rattle.beat_tiers.specs.Kept.{kept_beat_of}
 use Rattle.tier_rollup.specs.declared.point.Point.{Point}
 use Rattle.query_engine.specs.declared.request.Request.{Request}
 use Rattle.query_engine.specs.Windows.{table_of}
@@ -16,7 +14,7 @@ use Rattle.query_text.specs.Asked.{query_read}
 use Rattle.query_text.specs.Told.{fault_text, table_text}
 use Rattle.tier_settings.specs.declared.settings.Settings.{Settings}
 use Rattle.tier_settings.specs.Limits.{widths}
-use Rattle.tier_settings.specs.Settings.{first_tier, tier_with}
+use Rattle.store_core.specs.Tiers.{floor_at, kept_of}
 use Rattle.agent_core.specs.Kept.{copied_point, stored_points}
 
 -- ---- what tiers see of a history
@@ -35,7 +33,7 @@ tier_beats (beat ∷ h) = tier_beat h beat ∷ tier_beats h
 
 -- the floor of a tier: nothing below it is answered
 unfoldable pub floor_of_history : Settings → List Beat → ℕ → ℕ
-floor_of_history set h tier = floor_of tier (tier_with set tier) (tier_beats h)
+floor_of_history set h tier = floor_at set (tier_beats h) tier
 
 -- ---- the points of a series
 
@@ -60,7 +58,4 @@ reply_of set h text = reply_to set h (query_read (registry_of h) text)
 
 -- the beats with points at or above the floor of tier 0, and how many with points lie below it
 unfoldable pub kept_of_history : Settings → List Beat → Kept
-kept_of_history set h = record {
-  before = beats_before (first_tier set) (tier_beats h);
-  beats = map kept_beat_of (kept_beats (first_tier set) (tier_beats h));
-}
+kept_of_history set h = kept_of set (tier_beats h)

@@ -122,7 +122,7 @@ pub record Creates (honest : Type 0) (host : Seen) (set : Settings) (result : Re
   pub created : IfOk result (λ agent. honest → IsAgentOf host'.past agent set [])
   pub ready : IfOk result (AgentIsReady honest host'.past)
   pub new : IfOk result (IsNewAgent set)
-  -- where there is a database it is refused, or the disk failed, or memory was short, and nothing has happened
+  -- where there is a database it is refused, or the disk failed, or memory ran out, and nothing has happened
   pub exists : IsErrOf result Exists → honest → is_made (reads_as host.past) ≡ true
   pub none : OnOk result (honest → is_made (reads_as host.past) ≡ false)
   pub made : honest → is_made (reads_as host.past) ≡ true → (IsErrOf result Exists ⊎ (IsErrOf result DiskFault ⊎ IsErrOf result Memory)) × (host'.past ≡ host.past)
@@ -142,7 +142,7 @@ pub record Opens (honest : Type 0) (host : Seen) (result : Result AgentState Age
   pub going : IfOk result (λ agent. agent.fault ≡ None)
   -- whatever history that is: its registry is what the notes leave, and it copies where they do
   pub left : IfOk result (λ agent. honest → (set : Settings) (stored : Stored) → Stands set stored (reads_as host.past) → HasLeft stored agent)
-  -- what a crash leaves at any moment is what it may have left before, and all files read as before
+  -- at every moment a crash leaves what it might have left before, and all files read as before
   pub any_moment : honest → Throughout (EveryDisk (IsDisk host.past)) host.past host'.past
   pub same : honest → (file : File) → reads_as host'.past file ≡ reads_as host.past file
   -- at Ok a crash leaves the history from then on

@@ -53,7 +53,7 @@ abbrev pub Reopens : {T : Type 0} → Option Why → Result T AgentFault → Typ
 Reopens before (Ok value) = before ≡ None
 Reopens before (Err fault) = ReopensWith before fault
 
--- A call is refused with this fault for this reason. The disk fails, and memory is short, only where
+-- A call is refused with this fault for this reason. The disk fails, and memory runs out, only where
 -- nothing stands against the call.
 abbrev pub IsRefusal : Option BlockFault → AgentFault → Type 0
 IsRefusal reason (Refused fault) = reason ≡ Some fault

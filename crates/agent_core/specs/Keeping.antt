@@ -15,7 +15,7 @@ pub record KeepsStore {T : Type 0} (honest : Type 0) (host : Seen) (store : Stor
   pub replayed : IsReplayed store'
   pub going : OnOk result (store'.fault ≡ None)
   pub settings : store'.settings ≡ store.settings
-  -- the disk failed, or memory was short
+  -- the disk failed, or memory ran out
   pub faults : IfErr result IsSpending
   -- the disk fails exactly where the host counted a failure
   pub cause : HasCause host.disk_faults host'.disk_faults (IsErrOf result DiskFault)

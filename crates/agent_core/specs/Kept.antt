@@ -3,6 +3,7 @@
 use Rattle.std.specs.Prelude.{◌≡◌, ◌⊎◌, ℕ, ◌<◌, true, List, [], ◌∷◌, map, find, slice_get, take, false, Option, Some, None, is_some}
 use Rattle.std.specs.Option.{option_map_or, option_and_then}
 use Rattle.host_model.specs.declared.file.File.{File}
+use Rattle.host_model.specs.Past.{Event}
 use Rattle.history.specs.declared.beat.OpenBeat.{OpenBeat}
 use Rattle.history.specs.declared.beat.OpenDim.{OpenDim}
 use Rattle.history.specs.declared.chart.ChartDef.{ChartDef}
@@ -22,6 +23,7 @@ use Rattle.history.specs.Numbered.{numbered_beat}
 use Rattle.store_core.specs.declared.beat.Beat.{Beat as StoreBeat}
 use Rattle.beat_tiers.specs.declared.item.BeatPoint.{BeatPoint}
 use Rattle.store_core.specs.Stands.{is_made, Stands}
+use Rattle.store_core.specs.Store.{IsStoreOf, StoreState}
 use Rattle.store_core.specs.Stored.{Stored}
 use Rattle.agent_core.specs.Health.{health_refusal}
 use Rattle.agent_core.specs.Roles.{may_copy, role_of}
@@ -129,6 +131,12 @@ AreBeatsOf h beats = ⊥
 -- a store has stored this for this history
 pub record IsStoredOf (h : List Beat) (stored : Stored) : Type 0 where
   pub after : AreBeatsOf h stored.after
+
+-- the store is that of these settings, and holds this history: none of its beats waits
+pub record HoldsHistory (past : List Event) (store : StoreState) (set : Settings) (h : List Beat) : Type 0 where
+  pub stored : Stored
+  pub are : IsStoredOf h stored
+  pub store_of : IsStoreOf past store set stored
 
 -- the disk holds the database with these settings and this history
 pub record StandsForHistory (set : Settings) (h : List Beat) (disk : File → List ℕ) : Type 0 where

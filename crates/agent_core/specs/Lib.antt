@@ -11,6 +11,8 @@ pub mod Health
 pub mod Keeping
 pub mod Kept
 pub mod LastSeen
+pub mod Left
+pub mod NewNames
 pub mod Notes
 pub mod Replay
 pub mod Replies

@@ -18,6 +18,7 @@ use Rattle.beat_tiers.specs.declared.item.BeatPoint.{BeatPoint}
 use Rattle.store_core.specs.Stands.{Stands}
 use Rattle.store_core.specs.Stored.{Stored}
 use Rattle.agent_core.specs.declared.left.Left.{Left}
+use Rattle.agent_core.specs.declared.left.Role.{Role}
 use Rattle.agent_core.specs.declared.left.Role.TheVariants.{Undecided, Collects, Copies}
 use Rattle.agent_core.specs.Health.{health_refusal}
 use Rattle.agent_core.specs.Roles.{may_collect, may_copy, role_of}
@@ -47,10 +48,19 @@ entry_in kept = entry_at kept.moment (read_entry kept.note)
 
 -- ---- what an entry goes on from, and what it leaves
 
+-- what notes leave: the charts and dimensions by number, and what the history does
+pub record Noted : Type 0 where
+  pub registry : Registry
+  pub role : Role
+
+-- as much of what beats left
+abbrev pub noted_in : Left → Noted
+noted_in left = record { registry = left.registry; role = left.role }
+
 -- Whether an entry goes on: settings are no beat; collected beats do not mix with copies and gaps; and what is
 -- defined goes on from what the registry has. Nothing refuses the text of a configuration. A gap's child and
 -- beginning are compared with nothing.
-abbrev pub entry_goes_on : Left → Entry → Bool
+abbrev pub entry_goes_on : Noted → Entry → Bool
 entry_goes_on left (entry.Settings set) = false
 entry_goes_on left (entry.Collected found) = may_collect left.role && goes_on left.registry found
 entry_goes_on left (entry.Copied found) = may_copy left.role && copied_goes_on left.registry found
@@ -58,7 +68,7 @@ entry_goes_on left (entry.Health text) = is_none (health_refusal text)
 entry_goes_on left (entry.Gap gap) = may_copy left.role
 
 -- what is left once it is taken
-abbrev pub with_entry : Left → Entry → Left
+abbrev pub with_entry : Noted → Entry → Noted
 with_entry left (entry.Settings set) = left
 with_entry left (entry.Collected found) = record { registry = with_numbered left.registry found; role = Collects }
 with_entry left (entry.Copied found) = record { registry = with_numbered left.registry (defined_by found); role = Copies found.child }
@@ -66,7 +76,7 @@ with_entry left (entry.Health text) = left
 with_entry left (entry.Gap gap) = record { registry = left.registry; role = Copies gap.child }
 
 -- what is left once the note of a kept beat is taken, if it has such an entry
-abbrev pub with_note : Left → StoreBeat → Left
+abbrev pub with_note : Noted → StoreBeat → Noted
 with_note left kept = option_map_or (with_entry left) (entry_in kept) left
 
 -- each point is of a series that the registry has
@@ -74,32 +84,37 @@ abbrev pub names_series : Registry → List BeatPoint → Bool
 names_series registry points = list_all (λ (point : BeatPoint). nat_lt point.series (length registry.dimensions)) points
 
 -- there is such an entry, it goes on, and the points are of series that are there then
-abbrev pub takes_note : Left → StoreBeat → Bool
+abbrev pub takes_note : Noted → StoreBeat → Bool
 takes_note left kept = option_map_or (entry_goes_on left) (entry_in kept) false && names_series (with_note left kept).registry kept.points
 
 -- ---- the beats of a store
 
--- what a history leaves
-abbrev pub left_of_history : List Beat → Left
-left_of_history h = record { registry = registry_of h; role = role_of h }
+-- what the notes of a history leave
+abbrev pub noted_of : List Beat → Noted
+noted_of h = record { registry = registry_of h; role = role_of h }
 
--- what the entries of kept beats leave
-unfoldable pub left_of : List StoreBeat → Left
-left_of [] = record { registry = empty; role = Undecided }
-left_of (kept ∷ beats) = with_note (left_of beats) kept
+-- what the notes of no beats leave
+abbrev pub nothing_noted : Noted
+nothing_noted = record { registry = empty; role = Undecided }
+
+-- what the entries of kept beats leave, on top of what those before them left
+unfoldable pub left_after : Noted → List StoreBeat → Noted
+left_after start [] = start
+left_after start (kept ∷ beats) = with_note (left_after start beats) kept
 
 -- what the entries of all that is stored leave
-abbrev pub left_by : Stored → Left
-left_by stored = left_of stored.after
+abbrev pub left_by : Stored → Noted
+left_by stored = left_after nothing_noted stored.after
 
--- the beats go on: each has an entry that goes on from what those before it leave, and points of series that are there
-unfoldable pub beats_go_on : List StoreBeat → Bool
-beats_go_on [] = true
-beats_go_on (kept ∷ beats) = beats_go_on beats && takes_note (left_of beats) kept
+-- the beats go on from this: each has an entry that goes on from what those before it leave, and points of series that
+-- are there
+unfoldable pub beats_go_on : Noted → List StoreBeat → Bool
+beats_go_on start [] = true
+beats_go_on start (kept ∷ beats) = beats_go_on start beats && takes_note (left_after start beats) kept
 
--- the same of all that is stored
+-- all that is stored goes on, from nothing
 abbrev pub notes_go_on : Stored → Bool
-notes_go_on stored = beats_go_on stored.after
+notes_go_on stored = beats_go_on nothing_noted stored.after
 
 -- the disk holds a database of settings and of what is stored, and whether the notes of this go on
 pub record HasNotes (goes : Bool) (disk : File → List ℕ) : Type 0 where

@@ -10,7 +10,6 @@ use Rattle.beat_points.specs.LastRows.{AreLastOf}
 use Rattle.history.specs.Regular.{AreApart, IsRegular}
 use Rattle.history.specs.declared.numbered.NumberedBeat.{NumberedBeat}
 use Rattle.alarm_core.specs.declared.latest.Latest.{Latest}
-use Rattle.alarm_core.specs.Course.{Held}
 use Rattle.alarm_core.specs.UpTo.{IsUpTo}
 use Rattle.entry_codec.specs.declared.entry.Entry.{Entry}
 use Rattle.entry_codec.specs.declared.entry.Entry.TheVariants as entry
@@ -23,10 +22,11 @@ use Rattle.agent_core.specs.declared.left.Left.{Left}
 use Rattle.agent_core.specs.Agent.{AgentState}
 use Rattle.agent_core.specs.declared.alarming.Stepping.{Stepping}
 use Rattle.agent_core.specs.declared.alarming.Stepping.TheVariants as stepping
-use Rattle.agent_core.specs.Alarms.{alarms_at, IsReadOf}
+use Rattle.agent_core.specs.Alarms.{IsReadOf}
 use Rattle.agent_core.specs.Kept.{copied_point, onto, stored_points, AreBeatsOf, IsBeatOf, IsStoredOf}
 use Rattle.agent_core.specs.LastSeen.{IsLatestOf}
-use Rattle.agent_core.specs.Notes.{left_by, left_of_history, notes_go_on}
+use Rattle.agent_core.specs.Left.{IsLeftBy}
+use Rattle.agent_core.specs.Notes.{beats_go_on, left_after, noted_in, Noted}
 use Rattle.agent_core.specs.Rules.{HasLimits}
 
 -- ---- the parts that an entry leaves
@@ -97,33 +97,30 @@ AreNextOf g [] [] = Unit {0}
 AreNextOf g (beat ∷ more) (kept ∷ rest) = IsBeatOf g beat kept × AreNextOf (beat ∷ g) more rest
 AreNextOf g more rest = ⊥
 
--- what is left, the last rows and what was last seen are those of a history
-pub record ArePartsOf (left : Left) (lasts : List (Option Last)) (latest : Latest) (g : List Beat) : Type 0 where
-  pub left_is : left ≡ left_of_history g
-  pub last_rows_are : AreLastOf lasts g
-  pub latest_is : IsLatestOf latest g
-
--- the store has replayed a prefix of the history, and the other parts are those of that prefix
-pub record IsReplaying (past : List Event) (store : StoreState) (left : Left) (lasts : List (Option Last)) (latest : Latest) (held : Held) (set : Settings) (h : List Beat) : Type 0 where
-  pub front : List Beat
+-- the store has replayed a prefix of the history, and the beats that wait are those of the history after it
+pub record IsAtPrefix (past : List Event) (store : StoreState) (set : Settings) (prefix h : List Beat) : Type 0 where
   pub more : List Beat
   pub stored : Stored
   pub rest : List StoreBeat
-  pub whole : onto front more ≡ h
-  pub are : IsStoredOf front stored
-  pub next : AreNextOf front more rest
+  pub whole : onto prefix more ≡ h
+  pub are : IsStoredOf prefix stored
+  pub next : AreNextOf prefix more rest
   pub is_at : IsStoreAt past store set stored rest
-  pub parts : ArePartsOf left lasts latest front
-  pub held_is : held ≡ alarms_at set front
 
--- the store has replayed a prefix of what is stored, whose notes go on, and this is what they leave
-pub record HasTaken (past : List Event) (store : StoreState) (left : Left) (set : Settings) (stored : Stored) : Type 0 where
+-- the store has replayed a prefix of the history, and the beats of this left this
+pub record IsReplaying (past : List Event) (store : StoreState) (left : Left) (set : Settings) (h : List Beat) : Type 0 where
+  pub prefix : List Beat
+  pub at : IsAtPrefix past store set prefix h
+  pub left_by : IsLeftBy set prefix left
+
+-- the store has replayed a prefix of what is stored, whose notes go on from a start, and this is what they leave
+pub record HasTaken (start : Noted) (past : List Event) (store : StoreState) (left : Left) (set : Settings) (stored : Stored) : Type 0 where
   pub applied : Stored
   pub rest : List StoreBeat
   pub whole : stored_with_all applied rest ≡ stored
   pub is_at : IsStoreAt past store set applied rest
-  pub go_on : notes_go_on applied ≡ true
-  pub left_is : left ≡ left_by applied
+  pub go_on : beats_go_on start applied.after ≡ true
+  pub left_is : noted_in left ≡ left_after start applied.after
 
 -- the store was opened, with what it has stored for this history
 pub record IsOpenedFor (past : List Event) (store : StoreState) (set : Settings) (h : List Beat) : Type 0 where

@@ -3,7 +3,6 @@ use Rattle.std.specs.Prelude.{◌≡◌, ℕ, ◌<◌, true, List, [], ◌∷◌
 use Rattle.std.specs.List.{list_all}
 use Rattle.std.specs.Option.{option_map}
 use Rattle.host_model.specs.Past.{Event}
-use Rattle.algorithms.specs.declared.last.Last.{Last}
 use Rattle.history.specs.declared.numbered.NumberedBeat.{NumberedBeat}
 use Rattle.history.specs.History.{Beat, collected, copied, health, missing, last, registry_of, Copy, Word}
 use Rattle.history.specs.Numbered.{numbered_charts, numbered_dimensions}
@@ -15,8 +14,7 @@ use Rattle.entry_codec.specs.declared.words.CopiedWord.{CopiedWord}
 use Rattle.entry_codec.specs.Entries.{entry_bytes}
 use Rattle.tier_settings.specs.declared.settings.Settings.{Settings}
 use Rattle.beat_entries.specs.Copied.{definitions_of, told_chart, told_dimension, told_word}
-use Rattle.alarm_core.specs.declared.latest.Latest.{Latest}
-use Rattle.alarm_core.specs.Course.{Held}
+use Rattle.alarm_events.specs.declared.event.Event.{Event as AlarmEvent}
 use Rattle.replication.specs.declared.beats.Beat.{Beat as SentBeat}
 use Rattle.replication.specs.declared.message.Data.{Data}
 use Rattle.replication.specs.declared.named.NamedPoint.{NamedPoint}
@@ -25,10 +23,10 @@ use Rattle.replication.specs.Names.{beat_moment, named_beat, named_beats}
 use Rattle.link_frames.specs.DataForm.{has_rising_places, has_storage_numbers, AreApart}
 use Rattle.store_core.specs.declared.beat.Beat.{Beat as StoreBeat}
 use Rattle.store_core.specs.Store.{StoreState}
-use Rattle.agent_core.specs.Agent.{Holds}
-use Rattle.agent_core.specs.Alarms.{alarms_at}
-use Rattle.agent_core.specs.Copying.{copied_beats, copied_of, definitions_in, gap_beat, nothing_defined, numbered_words}
-use Rattle.agent_core.specs.Kept.{copied_point, CopyFollows}
+use Rattle.agent_core.specs.declared.left.Left.{Left}
+use Rattle.agent_core.specs.Copying.{copied_beats, copied_of, definitions_in, events_onto, gap_beat, nothing_defined, numbered_words}
+use Rattle.agent_core.specs.Kept.{copied_point, onto, CopyFollows, HoldsHistory}
+use Rattle.agent_core.specs.Left.{IsLeftBy}
 use Rattle.agent_core.specs.Roles.{may_copy, role_of}
 
 -- a point by name as the word of its series, if the registry has that
@@ -76,13 +74,6 @@ pub record IsSentAs (registry : Registry) (message : Data) (defines : NumberedBe
   pub follows : CopyFollows g copy
   pub registry_is : registry ≡ registry_of (copied copy ∷ g)
 
--- ---- the parts of an agent
-
--- these parts of an agent are of this history, and so are its alarms
-pub record ArePartsAt (past : List Event) (store : StoreState) (registry : Registry) (lasts : List (Option Last)) (latest : Latest) (held : Held) (set : Settings) (h : List Beat) : Type 0 where
-  pub holds : Holds past store registry lasts latest set h
-  pub held_is : held ≡ alarms_at set h
-
 -- ---- one beat after the other
 
 -- a copied beat or a gap may follow the history
@@ -119,3 +110,12 @@ sent_copies registry message beats = copied_beats message.child registry (defini
 -- a registry with what the names of a Data define
 abbrev pub with_names : Registry → Data → Registry
 with_names registry message = let defines = definitions_in message.names in with_definitions registry defines.charts defines.dimensions
+
+-- ---- what was added
+
+-- The store holds the history with these beats, the oldest first, on top of it; they left this, and these are the events
+-- of all of them.
+pub record HasAdded (past : List Event) (store : StoreState) (left : Left) (set : Settings) (h more : List Beat) (events : List AlarmEvent) : Type 0 where
+  pub holds : HoldsHistory past store set (onto h more)
+  pub left_by : IsLeftBy set (onto h more) left
+  pub events_are : events ≡ events_onto set h more

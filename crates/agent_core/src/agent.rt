@@ -4,7 +4,7 @@ ghost use Rattle.host_model.specs.Past.{Event, IsDisk};
 ghost use Rattle.host_model.specs.Disks.{EveryDisk, reads_as};
 ghost use Rattle.host_model.specs.Cause.{HasCause};
 ghost use Rattle.host_model.specs.Moments.{Throughout};
-ghost use Rattle.history.specs.History.{Beat as HistoryBeat, collected, health, last as last_of};
+ghost use Rattle.history.specs.History.{Beat as HistoryBeat, collected, health};
 ghost use Rattle.history.specs.Limits.{keeps_limits};
 ghost use Rattle.tier_settings.specs.declared.settings.Settings.{Settings as ASettings};
 ghost use Rattle.tier_settings.specs.Limits.{InLimits};
@@ -13,15 +13,15 @@ ghost use Rattle.store_core.specs.Stands.{is_made, IsDamaged, Stands};
 ghost use Rattle.store_core.specs.Store.{raised, OpensAt};
 ghost use Rattle.store_core.specs.Stored.{Stored as AStored};
 ghost use Rattle.agent_core.specs.Answers.{floor_of_history, kept_of_history, reply_of};
-ghost use Rattle.agent_core.specs.Agent.{Holds};
-ghost use Rattle.alarm_core.specs.Course.{held};
+ghost use Rattle.agent_core.specs.Agent.{left_in};
 ghost use Rattle.alarm_core.specs.UpTo.{IsUpTo};
-ghost use Rattle.agent_core.specs.Alarms.{alarms_at, events_at, DefinesNothing, HaveFollowed, IsSteppingOf};
+ghost use Rattle.agent_core.specs.Alarms.{events_at, DefinesNothing, IsSteppingOf};
 ghost use Rattle.agent_core.specs.Calls.{Beats, Creates, Keeps, Lines, Logs, Opens, Queries, SetsHealth};
 ghost use Rattle.agent_core.specs.Fed.{IsFed};
 ghost use Rattle.agent_core.specs.Faults.{fault_after, HealthRefusedBy, IsCreating, IsOpening, IsReading, LeavesAll, RefusedBy, Reopens};
 ghost use Rattle.agent_core.specs.Health.{health_refusal};
-ghost use Rattle.agent_core.specs.Kept.{StandsForHealth, StandsForHistory, StandsForNew, StandsForOneOf};
+ghost use Rattle.agent_core.specs.Kept.{HoldsHistory, StandsForHealth, StandsForHistory, StandsForNew, StandsForOneOf};
+ghost use Rattle.agent_core.specs.Left.{AwaitsAlarms, IsLeftBy};
 ghost use Rattle.agent_core.specs.Notes.{notes_go_on, HasNotes};
 ghost use Rattle.agent_core.specs.Replay.{HasReplayed, IsOpenedFor};
 ghost use Rattle.agent_core.specs.Roles.{copies};
@@ -34,13 +34,11 @@ use crate::alarming::{Stepping, follow};
 use crate::answering;
 use crate::fault::{AgentFault, store_fault};
 use crate::keeping::{add, add_health, defines_some};
-use crate::last_seen::nothing_seen;
-use crate::left::{Left, Role};
+use crate::left::Left;
 use crate::replaying::{open_store, replay_all};
 use crate::reply::{Reply, Said};
-use alarm_core::{Alarms, Latest, Log};
+use alarm_core::Log;
 use beat_entries::{BeatFault, take_beat};
-use beat_points::LastRows;
 use chart_registry::Registry;
 use collect_block::{Feed, Step};
 use fixed_num::Text;
@@ -58,16 +56,12 @@ use tier_settings::Settings;
 pub struct Agent {
     alloc: Global,
     store: Store,
-    registry: Registry,
-    last_rows: LastRows,
-    latest: Latest,
-    alarms: Alarms,
+    /// What its beats left.
+    left: Left,
     /// The last moment, or 0.
     last: u32,
     /// How many beats there are.
     count: u64,
-    /// What the history does: it collects, or it copies a child.
-    role: Role,
     /// The first cause for which the agent must be opened again.
     fault: Option<Why>,
 }
@@ -83,13 +77,13 @@ impl Model for Agent {
 
     ghost view = { λ agent. record {
       store = agent.store;
-      registry = agent.registry;
-      last_rows = agent.last_rows;
-      latest = agent.latest;
-      alarms = agent.alarms;
+      registry = agent.left.registry;
+      last_rows = agent.left.last_rows;
+      latest = agent.left.latest;
+      alarms = agent.left.alarms;
       last = agent.last;
       count = agent.count;
-      role = agent.role;
+      role = agent.left.role;
       fault = agent.fault;
     } };
 }
@@ -145,23 +139,14 @@ impl Agent {
             → OnlyOwn (H.seen host.old).past (H.seen host.new).past }
         ensures tells { (H.seen host.new).tell_faults ≡ (H.seen host.old).tell_faults }
     {
-        let Ok(alarms) = Alarms::new(alloc) else {
-            return Err(AgentFault::Memory);
-        };
-        let registry = Registry::new(alloc);
-        let last_rows = LastRows::new(alloc);
-        let latest = nothing_seen(alloc);
+        let left = Left::new(alloc)?;
         match Store::create(alloc, host, settings) {
             Ok(store) => Ok(Agent {
                 alloc,
                 store,
-                registry,
-                last_rows,
-                latest,
-                alarms,
+                left,
                 last: 0,
                 count: 0,
-                role: Role::Undecided,
                 fault: None,
             }),
             Err(fault) => Err(store_fault(fault)),
@@ -177,8 +162,9 @@ impl Agent {
     /// configuration whose text is refused. A point is bad where it names a series that is not there. The words
     /// and steps of points are not compared with their definition, and a gap's child and beginning are compared
     /// with nothing. The alarms are those of that history: each beat steps them as it did when it was stored.
-    /// At `Ok` the agent is of just the history that the disk stands for, if it stands for one. The disk is only
-    /// read and synced.
+    /// At `Ok` the agent is of just the history that the disk stands for, if it stands for one, and that is all
+    /// that a crash leaves from then on. At every moment a crash leaves what it might have left before, and each
+    /// file reads as before: the disk is only read and synced.
     pub fn open<H: Host>(alloc: Global, host: &mut H) -> Result<Agent, AgentFault>
         ensures { Opens H.honest (H.seen host.old)
             result (H.seen host.new) }
@@ -255,35 +241,14 @@ impl Agent {
         ensures faults { IfErr result
             (λ fault. (fault ≡ AgentFault.Memory) ⊎ (fault ≡ AgentFault.Damaged 5)) }
     {
-        let Ok(mut alarms) = Alarms::new(alloc) else {
-            return Err(AgentFault::Memory);
-        };
-        let registry = Registry::new(alloc);
-        let mut left = Left {
-            registry,
-            role: Role::Undecided,
-        };
-        let mut last_rows = LastRows::new(alloc);
-        let mut latest = nothing_seen(alloc);
-        replay_all(
-            alloc,
-            &mut store,
-            host,
-            &mut left,
-            &mut last_rows,
-            &mut latest,
-            &mut alarms,
-        )?;
+        let mut left = Left::new(alloc)?;
+        replay_all(alloc, &mut store, host, &mut left)?;
         Ok(Agent {
             alloc,
             last: store.last(),
             count: store.count(),
             store,
-            registry: left.registry,
-            last_rows,
-            latest,
-            alarms,
-            role: left.role,
+            left,
             fault: None,
         })
     }
@@ -312,7 +277,8 @@ impl Agent {
         if let Some(earlier) = self.fault {
             return Err(AgentFault::Reopen(earlier));
         }
-        match feed.line(&self.registry, self.last, self.role.copies(), line) {
+        let copies = self.left.role.copies();
+        match feed.line(&self.left.registry, self.last, copies, line) {
             Ok(step) => self.take_step(host, step),
             Err(fault) => match fault {
                 BlockFault::Memory => {
@@ -340,7 +306,8 @@ impl Agent {
         if let Some(earlier) = self.fault {
             return Err(AgentFault::Reopen(earlier));
         }
-        match feed.take_line(&self.registry, self.last, self.role.copies(), line) {
+        let copies = self.left.role.copies();
+        match feed.take_line(&self.left.registry, self.last, copies, line) {
             Ok(step) => self.take_step(host, step),
             Err(fault) => match fault {
                 BlockFault::Memory => {
@@ -418,7 +385,8 @@ impl Agent {
         ensures last { OnOk result (self.new.last ≡ moment) }
         ensures refused { self.old.fault ≡ None
             → RefusedBy
-            (beat_refusal self.old.registry (copies self.old.role) self.old.last moment beat.now) result }
+            (beat_refusal self.old.registry (copies self.old.role) self.old.last moment beat.now)
+            result }
         ensures unchanged { IfErr result
             (λ fault. LeavesAll fault → (self.new ≡ self.old) × (host.new ≡ host.old)) }
         ensures fault { self.new.fault ≡ fault_after self.old.fault result }
@@ -438,8 +406,8 @@ impl Agent {
         }
         let taken = take_beat(
             self.alloc,
-            &mut self.registry,
-            self.role.copies(),
+            &mut self.left.registry,
+            self.left.role.copies(),
             self.last,
             moment,
             beat,
@@ -452,18 +420,10 @@ impl Agent {
                 return Err(AgentFault::Memory);
             }
         };
-        match add(
-            self.alloc,
-            &mut self.store,
-            &self.registry,
-            &mut self.last_rows,
-            &mut self.latest,
-            host,
-            &numbered,
-        ) {
+        match add(self.alloc, &mut self.store, &mut self.left, host, &numbered) {
             Ok(()) => {
                 let stepping = Stepping::Beat(moment, defines_some(beat));
-                self.tell(host, stepping, moment, Role::Collects)
+                self.tell(host, stepping, moment)
             }
             Err(fault) => {
                 self.fault = fault.cause();
@@ -472,29 +432,30 @@ impl Agent {
         }
     }
 
-    /// Has the alarms follow a beat that is stored, and counts it. The last moment and the role are then these.
+    /// Has the alarms follow a beat that is stored, and counts it. This is then the last moment.
     fn tell<H: Host>(
         &mut self,
         host: &mut H,
         stepping: Stepping,
         last: u32,
-        role: Role,
     ) -> Result<Reply, AgentFault>
         requires going { self.old.fault ≡ None }
         requires store_going { self.old.store.fault ≡ None }
         requires same { DefinesNothing stepping → IsUpTo self.old.alarms self.old.registry }
-        ensures followed { IfOk result (λ reply. (past : List Event) (set : ASettings)
+        ensures left_by { OnOk result ((past : List Event) (set : ASettings)
             (h : List HistoryBeat) (beat : HistoryBeat)
-            → Holds past self.old.store self.old.registry self.old.last_rows self.old.latest set
-            (beat ∷ h)
-            → self.old.latest.before ≡ last_of h → held self.old.alarms ≡ alarms_at set h
-            → IsSteppingOf beat stepping
-            → HaveFollowed set (beat ∷ h) (held self.new.alarms) reply.events) }
+            → HoldsHistory past self.old.store set (beat ∷ h)
+            → AwaitsAlarms set h beat (left_in self.old) → IsSteppingOf beat stepping
+            → IsLeftBy set (beat ∷ h) (left_in self.new)) }
+        ensures events { IfOk result (λ reply. (past : List Event) (set : ASettings)
+            (h : List HistoryBeat) (beat : HistoryBeat)
+            → HoldsHistory past self.old.store set (beat ∷ h)
+            → AwaitsAlarms set h beat (left_in self.old) → IsSteppingOf beat stepping
+            → reply.events ≡ events_at set (beat ∷ h)) }
         ensures number { IfOk result (λ reply. reply.count ≡ self.new.count) }
         ensures told { OnOk result (self.new ≡ record self.old {
           alarms = self.new.alarms;
           last = last;
-          role = role;
           count = raised self.old.count;
         }) }
         ensures up_to { OnOk result (IsUpTo self.new.alarms self.new.registry) }
@@ -506,19 +467,9 @@ impl Agent {
         ensures memory { IfErr result (λ fault. fault ≡ AgentFault.Memory) }
         ensures host { H.seen host.new ≡ H.seen host.old }
     {
-        let followed = follow(
-            self.alloc,
-            &mut self.alarms,
-            &mut self.store,
-            host,
-            &self.registry,
-            &self.latest,
-            stepping,
-        );
-        match followed {
+        match follow(self.alloc, &mut self.left, &mut self.store, host, stepping) {
             Ok(events) => {
                 self.last = last;
-                self.role = role;
                 self.count = raised(self.count);
                 Ok(Reply {
                     count: self.count,
@@ -592,9 +543,8 @@ impl Agent {
         match add_health(self.alloc, &mut self.store, host, text) {
             Ok(()) => {
                 let last = self.last;
-                let role = self.role;
-                self.latest.before = last;
-                self.tell(host, Stepping::Configuration(config), last, role)
+                self.left.latest.before = last;
+                self.tell(host, Stepping::Configuration(config), last)
             }
             Err(fault) => {
                 self.fault = fault.cause();
@@ -612,7 +562,7 @@ impl Agent {
         if let Some(cause) = self.fault {
             return Err(AgentFault::Reopen(cause));
         }
-        match self.alarms.log() {
+        match self.left.alarms.log() {
             Ok(log) => Ok(log),
             Err(_) => Err(AgentFault::Memory),
         }
@@ -649,7 +599,7 @@ impl Agent {
         if let Some(cause) = self.fault {
             return Err(AgentFault::Reopen(cause));
         }
-        match answering::reply(self.alloc, &mut self.store, &self.registry, host, text) {
+        match answering::reply(self.alloc, &mut self.store, &self.left.registry, host, text) {
             Ok(reply) => Ok(reply),
             Err(fault) => {
                 self.fault = fault.cause();
@@ -730,6 +680,6 @@ impl Agent {
     pub fn registry(&self) -> &Registry
         ensures { result.now ≡ self.now.registry }
     {
-        &self.registry
+        &self.left.registry
     }
 }

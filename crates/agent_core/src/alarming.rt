@@ -3,23 +3,22 @@
 ghost use Rattle.std.specs.Prelude.{◌≡◌, ◌⊎◌, ℕ, ◌∷◌, List, map, false, None, IfOk, IfErr, IsErrOf, OnOk};
 ghost use Rattle.health_config.specs.ConfigOf.{entities_of, text_of};
 ghost use Rattle.health_config.specs.Entity.{alarm_of};
-ghost use Rattle.host_model.specs.Past.{Event as AnEvent};
-ghost use Rattle.history.specs.History.{Beat as HistoryBeat, last, registry_of};
+ghost use Rattle.history.specs.History.{Beat as HistoryBeat};
 ghost use Rattle.alarm_core.specs.Course.{configured, held, stepped_by};
 ghost use Rattle.alarm_core.specs.UpTo.{IsUpTo};
 ghost use Rattle.host_model.specs.Cause.{HasCause};
 ghost use Rattle.tier_rollup.specs.declared.point.Point.{Point as APoint};
+ghost use Rattle.beat_tiers.specs.Beats.{TierBeat};
 ghost use Rattle.tier_settings.specs.declared.settings.Settings.{Settings as ASettings};
-ghost use Rattle.store_core.specs.declared.beat.Beat.{Beat as StoreBeat};
-ghost use Rattle.store_core.specs.Store.{IsStoreAt};
-ghost use Rattle.store_core.specs.Stored.{Stored as AStored};
+ghost use Rattle.store_core.specs.Store.{HasApplied};
 ghost use Rattle.store_core.specs.Tiers.{floor_at};
 ghost use Rattle.store_core.specs.View.{points_of};
-ghost use Rattle.agent_core.specs.Alarms.{alarms_at, DefinesNothing, HaveFollowed, IsSteppingOf};
-ghost use Rattle.agent_core.specs.Kept.{IsStoredOf};
-ghost use Rattle.agent_core.specs.LastSeen.{IsLatestOf};
+ghost use Rattle.agent_core.specs.Alarms.{events_at, DefinesNothing, IsSteppingOf};
+ghost use Rattle.agent_core.specs.Answers.{tier_beats};
+ghost use Rattle.agent_core.specs.Left.{AwaitsAlarms, IsLeftBy};
 
 use crate::fault::AgentFault;
+use crate::left::Left;
 use alarm_core::{AlarmFault, Alarms, EventList, Latest};
 use chart_registry::Registry;
 use health_config::Config;
@@ -93,25 +92,23 @@ fn step<H: Host>(
 ) -> Result<EventList, AgentFault>
     requires going { store.old.fault ≡ None }
     requires same { defines ≡ false → IsUpTo alarms.old registry.now }
-    ensures held { OnOk result
-        ((past : List AnEvent) (set : ASettings) (stored : AStored) (rest : List StoreBeat)
-        → IsStoreAt past store.old set stored rest → held alarms.new
+    ensures held { OnOk result ((set : ASettings) (beats : List TierBeat)
+        → HasApplied set beats store.old → held alarms.new
         ≡ (stepped_by (held alarms.old) (record {
           moment = moment;
           registry = registry.now;
           latest = latest.now;
-          floor = floor_at set stored 0;
-          told = points_of stored;
+          floor = floor_at set beats 0;
+          told = points_of beats;
         })).held) }
-    ensures events { IfOk result
-        (λ events. (past : List AnEvent) (set : ASettings) (stored : AStored)
-        (rest : List StoreBeat) → IsStoreAt past store.old set stored rest → events
+    ensures events { IfOk result (λ events. (set : ASettings) (beats : List TierBeat)
+        → HasApplied set beats store.old → events
         ≡ (stepped_by (held alarms.old) (record {
           moment = moment;
           registry = registry.now;
           latest = latest.now;
-          floor = floor_at set stored 0;
-          told = points_of stored;
+          floor = floor_at set beats 0;
+          told = points_of beats;
         })).events) }
     ensures up_to { OnOk result (IsUpTo alarms.new registry.now) }
     ensures store { store.new ≡ store.old }
@@ -149,38 +146,46 @@ fn configure(
     }
 }
 
-/// Has the alarms follow a beat that is stored, and gives the events that it tells. Registry and latest are
-/// those of the history with the beat, and `latest` has the last moment of the history before it. After an
-/// `Err` nothing is known of the alarms.
+/// Has the alarms follow a beat that is stored, which all else has taken, and gives the events that it tells. After
+/// an `Err` nothing is known of the alarms.
 pub(crate) fn follow<H: Host>(
     alloc: Global,
-    alarms: &mut Alarms,
+    left: &mut Left,
     store: &mut Store,
     host: &mut H,
-    registry: &Registry,
-    latest: &Latest,
     stepping: Stepping,
 ) -> Result<EventList, AgentFault>
     requires going { store.old.fault ≡ None }
-    requires same { DefinesNothing stepping → IsUpTo alarms.old registry.now }
-    ensures followed { IfOk result
-        (λ events. (past : List AnEvent) (set : ASettings) (h : List HistoryBeat)
-        (beat : HistoryBeat) (stored : AStored) (rest : List StoreBeat)
-        → IsStoredOf (beat ∷ h) stored → IsStoreAt past store.old set stored rest
-        → registry.now ≡ registry_of (beat ∷ h)
-        → IsLatestOf latest.now (beat ∷ h) → latest.now.before ≡ last h
-        → held alarms.old ≡ alarms_at set h → IsSteppingOf beat stepping
-        → HaveFollowed set (beat ∷ h) (held alarms.new) events) }
-    ensures up_to { OnOk result (IsUpTo alarms.new registry.now) }
+    requires same { DefinesNothing stepping → IsUpTo left.old.alarms left.old.registry }
+    ensures left_by { OnOk result ((set : ASettings) (h : List HistoryBeat) (beat : HistoryBeat)
+        → HasApplied set (tier_beats (beat ∷ h)) store.old
+        → AwaitsAlarms set h beat left.old → IsSteppingOf beat stepping
+        → IsLeftBy set (beat ∷ h) left.new) }
+    ensures events { IfOk result
+        (λ events. (set : ASettings) (h : List HistoryBeat) (beat : HistoryBeat)
+        → HasApplied set (tier_beats (beat ∷ h)) store.old
+        → AwaitsAlarms set h beat left.old → IsSteppingOf beat stepping
+        → events ≡ events_at set (beat ∷ h)) }
+    ensures up_to { OnOk result (IsUpTo left.new.alarms left.new.registry) }
+    ensures only { left.new ≡ record left.old { alarms = left.new.alarms } }
     ensures store { store.new ≡ store.old }
     ensures host { H.seen host.new ≡ H.seen host.old }
     ensures memory { IfErr result (λ fault. fault ≡ AgentFault.Memory) }
 {
     match stepping {
-        Stepping::Beat(moment, defines) => {
-            step(alarms, store, host, registry, latest, moment, defines)
+        Stepping::Beat(moment, defines) => step(
+            &mut left.alarms,
+            store,
+            host,
+            &left.registry,
+            &left.latest,
+            moment,
+            defines,
+        ),
+        Stepping::Configuration(config) => {
+            let before = left.latest.before;
+            configure(&mut left.alarms, config, &left.registry, before)
         }
-        Stepping::Configuration(config) => configure(alarms, config, registry, latest.before),
         Stepping::Nothing => Ok(EventList::new(alloc)),
     }
 }

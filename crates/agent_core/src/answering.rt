@@ -1,18 +1,16 @@
 //! Answers from the points that the store of an agent keeps.
 
 ghost use Rattle.std.specs.Prelude.{◌≡◌, ◌<◌, List, length, All, None, Some, Ok, IfOk, IfErr};
-ghost use Rattle.host_model.specs.Past.{Event};
+ghost use Rattle.beat_tiers.specs.Beats.{TierBeat};
 ghost use Rattle.history.specs.History.{Beat as HistoryBeat, registry_of};
 ghost use Rattle.query_engine.specs.Windows.{table_of};
 ghost use Rattle.query_text.specs.Told.{fault_text};
 ghost use Rattle.tier_settings.specs.declared.settings.Settings.{Settings as ASettings};
-ghost use Rattle.store_core.specs.Store.{IsStoreOf};
-ghost use Rattle.store_core.specs.Stored.{Stored as AStored};
-ghost use Rattle.store_core.specs.Tiers.{floor_at, kept_of};
+ghost use Rattle.store_core.specs.Store.{HasApplied};
+ghost use Rattle.store_core.specs.Tiers.{floor_at};
 ghost use Rattle.store_core.specs.View.{points_of};
 ghost use Rattle.tier_settings.specs.Limits.{widths};
-ghost use Rattle.agent_core.specs.Answers.{reply_of, reply_to};
-ghost use Rattle.agent_core.specs.Kept.{IsStoredOf};
+ghost use Rattle.agent_core.specs.Answers.{kept_of_history, reply_of, reply_to, tier_beats};
 
 use crate::fault::{AgentFault, store_fault};
 use chart_registry::Registry;
@@ -31,10 +29,9 @@ fn table_of<H: Host>(
     request: &Request,
 ) -> Result<Table, AgentFault>
     requires { store.old.fault ≡ None }
-    ensures answered { IfOk result
-        (λ table. (past : List Event) (set : ASettings) (stored : AStored)
-        → IsStoreOf past store.old set stored
-        → table ≡ table_of widths (floor_at set stored) (points_of stored) request.now) }
+    ensures answered { IfOk result (λ table. (set : ASettings) (beats : List TierBeat)
+        → HasApplied set beats store.old
+        → table ≡ table_of widths (floor_at set beats) (points_of beats) request.now) }
     ensures store { store.new ≡ store.old }
     ensures host { H.seen host.new ≡ H.seen host.old }
     ensures memory { IfErr result (λ fault. fault ≡ AgentFault.Memory) }
@@ -56,10 +53,9 @@ fn reply_to<H: Host>(
 ) -> Result<Text, AgentFault>
     requires going { store.old.fault ≡ None }
     requires within { All (λ series. series < length registry.now.dimensions) request.now.series }
-    ensures answered { IfOk result
-        (λ reply. (past : List Event) (set : ASettings) (h : List HistoryBeat)
-        (stored : AStored) → IsStoredOf h stored → IsStoreOf past store.old set stored
-        → registry.now ≡ registry_of h → reply ≡ reply_to set h (Ok request.now)) }
+    ensures answered { IfOk result (λ reply. (set : ASettings) (h : List HistoryBeat)
+        → HasApplied set (tier_beats h) store.old → registry.now ≡ registry_of h
+        → reply ≡ reply_to set h (Ok request.now)) }
     ensures store { store.new ≡ store.old }
     ensures host { H.seen host.new ≡ H.seen host.old }
     ensures memory { IfErr result (λ fault. fault ≡ AgentFault.Memory) }
@@ -93,10 +89,9 @@ pub(crate) fn reply<H: Host>(
     text: &str,
 ) -> Result<Text, AgentFault>
     requires { store.old.fault ≡ None }
-    ensures answered { IfOk result
-        (λ reply. (past : List Event) (set : ASettings) (h : List HistoryBeat)
-        (stored : AStored) → IsStoredOf h stored → IsStoreOf past store.old set stored
-        → registry.now ≡ registry_of h → reply ≡ reply_of set h text.now) }
+    ensures answered { IfOk result (λ reply. (set : ASettings) (h : List HistoryBeat)
+        → HasApplied set (tier_beats h) store.old → registry.now ≡ registry_of h
+        → reply ≡ reply_of set h text.now) }
     ensures store { store.new ≡ store.old }
     ensures host { H.seen host.new ≡ H.seen host.old }
     ensures memory { IfErr result (λ fault. fault ≡ AgentFault.Memory) }
@@ -110,9 +105,8 @@ pub(crate) fn reply<H: Host>(
 /// The kept beats of a store that was not refused.
 pub(crate) fn kept<H: Host>(store: &mut Store, host: &mut H) -> Result<Kept, AgentFault>
     requires { store.old.fault ≡ None }
-    ensures answered { IfOk result
-        (λ kept. (past : List Event) (set : ASettings) (stored : AStored)
-        → IsStoreOf past store.old set stored → kept ≡ kept_of set stored) }
+    ensures answered { IfOk result (λ kept. (set : ASettings) (h : List HistoryBeat)
+        → HasApplied set (tier_beats h) store.old → kept ≡ kept_of_history set h) }
     ensures store { store.new ≡ store.old }
     ensures host { H.seen host.new ≡ H.seen host.old }
     ensures memory { IfErr result (λ fault. fault ≡ AgentFault.Memory) }

@@ -20,11 +20,9 @@ ghost use Rattle.link_frames.specs.declared.frame.Frame.TheVariants as frame;
 ghost use Rattle.link_frames.specs.Children.{KeepsRules};
 ghost use Rattle.link_frames.specs.Fields.{FitsBeat, FitsWord};
 ghost use Rattle.link_frames.specs.Frames.{HasSpelling};
-ghost use Rattle.store_core.specs.Store.{IsStoreOf};
-ghost use Rattle.store_core.specs.Stored.{Stored as AStored};
 ghost use Rattle.agent_core.specs.Asking.{beat_with, AreInUtf8, AreSendable, HasChart, HaveCharts, IsChartInUtf8, IsDimensionInUtf8, IsSendable};
 ghost use Rattle.agent_core.specs.Copies.{chart_name, data_of_history, dimension_name, names_of, sent_beat, sent_word};
-ghost use Rattle.agent_core.specs.Kept.{IsStoredOf};
+ghost use Rattle.agent_core.specs.Kept.{HoldsHistory};
 ghost use Rattle.agent_core.specs.Rules.{HasLimits};
 
 use crate::fault::{AgentFault, store_fault};
@@ -238,8 +236,8 @@ pub(crate) fn answer<H: Host>(
     requires limits { HasLimits registry.now }
     ensures answered { IfOk result
         (λ answer. (past : List Event) (set : ASettings) (h : List HistoryBeat)
-        (stored : AStored) → IsStoredOf h stored → IsStoreOf past store.old set stored
-        → registry.now ≡ registry_of h → answer ≡ data_of_history set h ask.now) }
+        → HoldsHistory past store.old set h → registry.now ≡ registry_of h
+        → answer ≡ data_of_history set h ask.now) }
 
     // Whatever database it is of, it is a frame, of this history, that begins where it was asked.
     ensures form { IfOk result

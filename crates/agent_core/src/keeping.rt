@@ -1,8 +1,6 @@
 //! What a store keeps of a beat, and how it is added to a history.
 
-ghost use Rattle.std.specs.Prelude.{◌≡◌, ◌↔◌, ◌<◌, ◌≤◌, ◌^◌, [], ◌∷◌, ◌⊎◌, ℕ, List, Option, Some, None, true, false, length, All, IfOk, IfErr, IfSome, OnOk};
-ghost use Rattle.algorithms.specs.declared.last.Last.{Last as ALast};
-ghost use Rattle.alarm_core.specs.declared.latest.Latest.{Latest as ALatest};
+ghost use Rattle.std.specs.Prelude.{◌≡◌, ◌↔◌, ◌<◌, ◌≤◌, ◌^◌, [], ◌∷◌, ◌⊎◌, ℕ, List, Option, Some, None, true, false, length, IfOk, IfErr, IfSome, OnOk};
 ghost use Rattle.host_model.specs.Disks.{EveryDisk};
 ghost use Rattle.host_model.specs.Moments.{Throughout};
 ghost use Rattle.history.specs.declared.beat.OpenBeat.{OpenBeat as AnOpenBeat};
@@ -19,26 +17,26 @@ ghost use Rattle.store_core.specs.Records.{last_after};
 ghost use Rattle.store_core.specs.Stands.{StandsAround};
 ghost use Rattle.store_core.specs.Store.{IsReady, IsReplayed, IsStoreOf};
 ghost use Rattle.store_core.specs.Stored.{Stored as AStored, stored_with};
-ghost use Rattle.agent_core.specs.Agent.{Holds};
 ghost use Rattle.agent_core.specs.Keeping.{KeepsStore};
-ghost use Rattle.agent_core.specs.Kept.{kept_of, Follows, IsTakenBeat, StandsForHistory};
+ghost use Rattle.agent_core.specs.Kept.{kept_of, Follows, HoldsHistory, IsTakenBeat, StandsForHistory};
+ghost use Rattle.agent_core.specs.Left.{AwaitsAlarms, IsLeftBy};
 ghost use Rattle.agent_core.specs.Health.{health_refusal};
 ghost use Rattle.agent_core.specs.Notes.{names_series};
-ghost use Rattle.agent_core.specs.Replay.{HasRoom, HasSeenBeat, HasTakenRows};
+ghost use Rattle.agent_core.specs.Replay.{HasRoom, HasSeenBeat, HasSeenCopy, HasTakenRows};
 ghost use Rattle.chart_registry.specs.declared.fault.RegistryFault.TheVariants as registry_fault;
 ghost use Rattle.agent_core.specs.Rules.{HasLimits};
 
 use crate::fault::{AgentFault, store_fault};
-use crate::last_seen::see_collected;
+use crate::last_seen::{see_collected, see_copied};
+use crate::left::{Left, Role};
 use crate::points::stored_points;
-use alarm_core::Latest;
 use beat_points::LastRows;
 use chart_registry::{Registry, RegistryFault};
 use entry_codec::{Entry, EntryFault, write_collected, write_entry};
 use history::{NumberedBeat, OpenBeat};
 use host_model::Host;
 use std::alloc::{AllocError, Global};
-use store_core::{Beat, BeatPointList, ByteList, Store};
+use store_core::{Beat, BeatPoint, BeatPointList, ByteList, Store};
 
 /// What a store keeps of a numbered beat, whose definitions the registry has.
 fn stored_beat(
@@ -170,18 +168,14 @@ pub(crate) fn add_health<H: Host>(
     requires going { store.old.fault ≡ None }
     requires accepted { health_refusal text.now ≡ None }
     requires short { length text.now ≤ 2 ^ 20 }
-    ensures any_moment { H.honest → (registry : ARegistry) (lasts : List (Option ALast))
-        (latest : ALatest) (set : ASettings) (h : List HistoryBeat)
-        → Holds (H.seen host.old).past store.old registry lasts latest set h
+    ensures any_moment { H.honest → (set : ASettings) (h : List HistoryBeat)
+        → HoldsHistory (H.seen host.old).past store.old set h
         → Throughout (EveryDisk (λ disk. StandsForHistory set h disk
         ⊎ StandsForHistory set (health text.now ∷ h) disk)) (H.seen host.old).past
         (H.seen host.new).past }
-    ensures done { OnOk result
-        (H.honest → (registry : ARegistry) (lasts : List (Option ALast)) (latest : ALatest)
-        (set : ASettings) (h : List HistoryBeat)
-        → Holds (H.seen host.old).past store.old registry lasts latest set h
-        → Holds (H.seen host.new).past store.new registry lasts latest set
-        (health text.now ∷ h)) }
+    ensures done { OnOk result (H.honest → (set : ASettings) (h : List HistoryBeat)
+        → HoldsHistory (H.seen host.old).past store.old set h
+        → HoldsHistory (H.seen host.new).past store.new set (health text.now ∷ h)) }
     ensures keeps { KeepsStore H.honest (H.seen host.old) store.old result (H.seen host.new)
         store.new }
     ensures last { OnOk result (store.new.last ≡ store.old.last) }
@@ -210,24 +204,46 @@ pub(crate) fn take_rows(
     }
 }
 
-/// Takes a numbered beat and its points as what was last seen.
-fn see_beat(
+/// Takes a numbered beat and its points as what was last seen. `before` is the last moment before it.
+pub(crate) fn see_beat(
     alloc: Global,
-    latest: &mut Latest,
-    registry: &Registry,
+    left: &mut Left,
     numbered: &NumberedBeat,
-    kept: &Beat,
+    points: &[BeatPoint],
     before: u32,
 ) -> Result<(), AgentFault>
-    requires there { IsThere registry.now numbered.now }
-    requires named { names_series registry.now kept.now.points ≡ true }
-    ensures seen { OnOk result
-        (HasSeenBeat registry.now latest.old latest.new numbered.now kept.now.points) }
-    ensures before { OnOk result (latest.new.before ≡ before) }
+    requires there { IsThere left.old.registry numbered.now }
+    requires named { names_series left.old.registry points.now ≡ true }
+    ensures seen { OnOk result (HasSeenBeat left.old.registry left.old.latest left.new.latest
+        numbered.now points.now) }
+    ensures before { OnOk result (left.new.latest.before ≡ before) }
+    ensures only { left.new ≡ record left.old { latest = left.new.latest } }
     ensures memory { IfErr result (λ fault. fault ≡ AgentFault.Memory) }
 {
-    let points = kept.points.as_slice();
+    let (latest, registry) = (&mut left.latest, &left.registry);
     match see_collected(alloc, latest, registry, numbered, points, before) {
+        Ok(()) => Ok(()),
+        Err(_) => Err(AgentFault::Memory),
+    }
+}
+
+/// Takes the points of a copied beat at this moment as what was last seen. `before` is the last moment before it.
+pub(crate) fn see_copy(
+    alloc: Global,
+    left: &mut Left,
+    moment: u32,
+    points: &[BeatPoint],
+    before: u32,
+) -> Result<(), AgentFault>
+    requires { names_series left.old.registry points.now ≡ true }
+    ensures seen { OnOk result (HasSeenCopy left.old.registry left.old.latest left.new.latest
+        moment points.now) }
+    ensures before { OnOk result (left.new.latest.before ≡ before) }
+    ensures only { left.new ≡ record left.old { latest = left.new.latest } }
+    ensures memory { IfErr result (λ fault. fault ≡ AgentFault.Memory) }
+{
+    let (latest, registry) = (&mut left.latest, &left.registry);
+    match see_copied(alloc, latest, registry, moment, points, before) {
         Ok(()) => Ok(()),
         Err(_) => Err(AgentFault::Memory),
     }
@@ -240,54 +256,56 @@ pub(crate) fn defines_some(beat: &OpenBeat) -> bool
     !beat.charts.is_empty() || !beat.dimensions.is_empty()
 }
 
-/// Adds a beat that may follow the history to the parts of an agent, by number: the registry has taken it. At every
-/// moment a crash leaves the history with the beat or without it. After an `Err` the parts are of no more use.
+/// Adds a beat that may follow the history, by number: the registry has taken it. The alarms have still to follow
+/// it. At every moment a crash leaves the history with the beat or without it. After an `Err` nothing of the store and
+/// of what was left is of use.
 pub(crate) fn add<H: Host>(
     alloc: Global,
     store: &mut Store,
-    registry: &Registry,
-    last_rows: &mut LastRows,
-    latest: &mut Latest,
+    left: &mut Left,
     host: &mut H,
     numbered: &NumberedBeat,
 ) -> Result<(), AgentFault>
     requires ready { IsReady H.honest (H.seen host.old).past store.old }
     requires replayed { IsReplayed store.old }
     requires going { store.old.fault ≡ None }
-    requires there { IsThere registry.now numbered.now }
+    requires there { IsThere left.old.registry numbered.now }
     requires canonical { is_collected_canonical numbered.now ≡ true }
     requires limits { IsWithinLimits numbered.now }
     requires numbered { (opened : AnOpenBeat)
-        × (numbered.now ≡ numbered_beat registry.now numbered.now.moment opened) }
-    requires charts { AreApart same_chart registry.now.charts }
-    requires registry { HasLimits registry.now }
+        × (numbered.now ≡ numbered_beat left.old.registry numbered.now.moment opened) }
+    requires charts { AreApart same_chart left.old.registry.charts }
+    requires registry { HasLimits left.old.registry }
     requires later { store.old.last < numbered.now.moment }
     ensures any_moment { H.honest → (before : ARegistry) (moment : ℕ) (opened : AnOpenBeat)
         (set : ASettings) (h : List HistoryBeat)
-        → IsTakenBeat before moment opened registry.now numbered.now
-        → Holds (H.seen host.old).past store.old before last_rows.old latest.old set h
-        → Follows h moment opened
+        → IsTakenBeat before moment opened left.old.registry numbered.now
+        → HoldsHistory (H.seen host.old).past store.old set h
+        → IsLeftBy set h (record left.old { registry = before }) → Follows h moment opened
         → Throughout (EveryDisk (λ disk. StandsForHistory set h disk
         ⊎ StandsForHistory set (collected moment opened ∷ h) disk)) (H.seen host.old).past
         (H.seen host.new).past }
     ensures done { OnOk result
         (H.honest → (before : ARegistry) (moment : ℕ) (opened : AnOpenBeat)
         (set : ASettings) (h : List HistoryBeat)
-        → IsTakenBeat before moment opened registry.now numbered.now
-        → Holds (H.seen host.old).past store.old before last_rows.old latest.old set h
-        → Follows h moment opened
-        → Holds (H.seen host.new).past store.new registry.now last_rows.new latest.new set
-        (collected moment opened ∷ h)) }
+        → IsTakenBeat before moment opened left.old.registry numbered.now
+        → HoldsHistory (H.seen host.old).past store.old set h
+        → IsLeftBy set h (record left.old { registry = before }) → Follows h moment opened
+        → HoldsHistory (H.seen host.new).past store.new set (collected moment opened ∷ h)
+        × AwaitsAlarms set h (collected moment opened) left.new) }
+    ensures registry { left.new.registry ≡ left.old.registry }
+    ensures alarms { left.new.alarms ≡ left.old.alarms }
     ensures keeps { KeepsStore H.honest (H.seen host.old) store.old result (H.seen host.new)
         store.new }
     ensures last { OnOk result (store.new.last ≡ numbered.now.moment) }
-    ensures before { OnOk result (latest.new.before ≡ store.old.last) }
 {
-    let Ok(kept) = stored_beat(alloc, registry, last_rows, numbered) else {
+    let Ok(kept) = stored_beat(alloc, &left.registry, &left.last_rows, numbered) else {
         return Err(AgentFault::Memory);
     };
     let before = store.last();
     commit(store, host, &kept)?;
-    take_rows(last_rows, registry, numbered)?;
-    see_beat(alloc, latest, registry, numbered, &kept, before)
+    take_rows(&mut left.last_rows, &left.registry, numbered)?;
+    see_beat(alloc, left, numbered, kept.points.as_slice(), before)?;
+    left.role = Role::Collects;
+    Ok(())
 }

@@ -43,7 +43,7 @@ use host_model::Host;
 /// The laws of a text of accepted lines that follows a history; the charts whose line leaves it open have this
 /// update_every. The beat that a MOMENT closes is not refused once more, so that a line is refused just where
 /// it is refused for where it stands. The history keeps within its limits. It does nothing.
-pub fn any_text()
+pub fn accepted_text_keeps_the_rules()
     ensures closed { (every : ℕ) (h : List Beat) (past : List Line) (moment : ℕ)
         → IsWithin (registry_of h)
         → AreAccepted every h (Moment moment ∷ past)
@@ -61,7 +61,7 @@ pub fn any_text()
 /// The laws of the notes of a disk: where it stands for a history, they go on. Where it holds a database of
 /// settings and beats, these are its only ones, so that its beats do not both go on and not, and the database
 /// is not one of no settings and beats. It does nothing.
-pub fn any_notes()
+pub fn history_notes_go_on()
     ensures history { (set : ASettings) (h : List Beat) (disk : AFile → List ℕ)
         → StandsForHistory set h disk → HasNotes true disk }
     ensures once { (disk : AFile → List ℕ) → HasNotes true disk → HasNotes false disk → ⊥ }
@@ -77,7 +77,7 @@ pub fn any_notes()
 /// promise: at `Ok` by the history with the beat, and else by the same. `set_health` does with the configuration,
 /// and `take` with the gap and the copied beats that it adds. `query`, `kept` and `data`, which have no beat, keep
 /// it so by the same history. They do nothing.
-pub fn any_call<H: Host>()
+pub fn calls_keep_an_agent_sound<H: Host>()
     ensures beat { H.honest → (host host' : Seen) (agent agent' : AgentState) (beat : OpenBeat)
         (moment : ℕ) (result : Result Reply AgentFault) (set : ASettings) (h tried : List Beat)
         → Beats H.honest host agent beat moment result host' agent'
@@ -123,13 +123,13 @@ pub fn any_call<H: Host>()
 
 /// The law of what is answered of a history: the points that its tiers see of a series are its points, so that
 /// answers, floors and kept beats speak of the same points. It does nothing.
-pub fn any_history()
+pub fn tiers_see_the_points()
     ensures { (h : List Beat) (series : ℕ)
         → reverse (series_points (tier_beats h) series) ≡ points_of_history h series }
 {}
 
 /// The law of a history's alarms: their log shows all events of the history, the earliest first. It does nothing.
-pub fn any_log()
+pub fn log_shows_all_events()
     ensures { (set : ASettings) (h : List Beat) → log_at set h ≡ shown (all_events set h) }
 {}
 
@@ -141,7 +141,7 @@ pub fn any_log()
 /// nothing is seen above the moment from which it would answer. As a child goes on, a `Data` that was true of it
 /// stays true, and a copy that is not ahead of it stays a copy. Each copied beat and each gap that is made of a
 /// `Data` which is not refused may follow those before it. It does nothing.
-pub fn any_copy()
+pub fn copy_stays_a_copy()
     ensures rises { (h : List Beat) (beats : List StoreBeat) → AreBeatsOf h beats
         → RisesFrom seen_moment 0 (seen h) }
     ensures within { (h : List Beat) (beats : List StoreBeat) → AreBeatsOf h beats

@@ -1,8 +1,13 @@
-//! What the notes of kept beats leave.
+//! What the beats of a history leave of it.
 
 ghost use Rattle.std.specs.Prelude.{◌≡◌};
 
+use crate::fault::AgentFault;
+use crate::last_seen::nothing_seen;
+use alarm_core::{Alarms, Latest};
+use beat_points::LastRows;
 use chart_registry::Registry;
+use std::alloc::Global;
 
 /// What a history does: it collects, or it copies. A configuration decides nothing.
 #[derive(Clone, Copy, Debug, PartialEq, Eq)]
@@ -56,11 +61,45 @@ impl Role {
     }
 }
 
-/// What the notes of kept beats leave: the charts and dimensions by number, and what the history does.
+/// What the beats of a history leave. An agent keeps nothing else of them, beside how many there are and when the
+/// last of them was.
 #[derive(Drop)]
 pub struct Left {
-    /// The charts and dimensions that the notes define, by number.
+    /// The charts and dimensions, by number.
     pub registry: Registry,
-    /// Whether beats were collected, or copied, or neither yet.
+    /// What the history does: it collects, or it copies a child.
     pub role: Role,
+    /// The last row in which each series was set.
+    pub last_rows: LastRows,
+    /// What was last seen of each chart and each series.
+    pub latest: Latest,
+    /// The alarms of its configuration.
+    pub alarms: Alarms,
+}
+
+impl Left {
+    ghost use Rattle.std.specs.Prelude.{[], IfOk, IfErr};
+    ghost use Rattle.tier_settings.specs.declared.settings.Settings.{Settings as ASettings};
+    ghost use Rattle.agent_core.specs.Left.{IsFit, IsLeftBy};
+
+    /// What a history without beats leaves. Only memory can be short.
+    pub(crate) fn new(alloc: Global) -> Result<Left, AgentFault>
+        ensures left { IfOk result (λ left. (set : ASettings) → IsLeftBy set [] left) }
+        ensures fit { IfOk result IsFit }
+        ensures memory { IfErr result (λ fault. fault ≡ AgentFault.Memory) }
+    {
+        let Ok(alarms) = Alarms::new(alloc) else {
+            return Err(AgentFault::Memory);
+        };
+        let registry = Registry::new(alloc);
+        let last_rows = LastRows::new(alloc);
+        let latest = nothing_seen(alloc);
+        Ok(Left {
+            registry,
+            role: Role::Undecided,
+            last_rows,
+            latest,
+            alarms,
+        })
+    }
 }

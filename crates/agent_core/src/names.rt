@@ -1,12 +1,14 @@
-//! Why a registry does not take what the names of a `Data` define. Nothing is built for it, so that it is told also
-//! where there is no memory.
+//! Why a registry does not take what the names of a `Data` define. It takes no memory, so that it is told also where
+//! there is none. The names are gone through a few times, and none of them is compared with the others.
 
-ghost use Rattle.std.specs.Prelude.{◌≡◌, ◌+◌, false, nat_lt, length, count_by, slice_get};
+ghost use Rattle.std.specs.Prelude.{◌≡◌, ◌+◌, ◌<◌, ◌≤◌, true, false, nat_lt, length, count_by, set, slice_get, slice_index};
 ghost use Rattle.std.specs.List.{list_any};
 ghost use Rattle.std.specs.Option.{option_copied, option_map_or};
-ghost use Rattle.history.specs.Refusal.{is_new_chart, is_new_dimension, is_new_of};
+ghost use Rattle.history.specs.Refusal.{is_new_chart, is_new_dimension};
+ghost use Rattle.link_frames.specs.DataForm.{AreApart, IsData};
 ghost use Rattle.agent_core.specs.Copying.{copy_refusal, defined_chart, defined_dimension, definitions_in, names_refusal};
-ghost use Rattle.agent_core.specs.Rules.{changes_grid, changes_grid_of, dimensions_with, fills_chart, too_many_charts, too_many_dimensions};
+ghost use Rattle.agent_core.specs.NewNames.{CountsMore, HaveRoom, IsOneTooMany};
+ghost use Rattle.agent_core.specs.Rules.{changes_grid, changes_grid_of, fills_chart, too_many_charts, too_many_dimensions};
 
 use crate::left::Role;
 use chart_registry::{
@@ -15,6 +17,9 @@ use chart_registry::{
 };
 use history::BlockFault;
 use replication::{ChartName, Data, DimName, Names};
+
+/// How many charts a message may name that is not refused for them.
+const PLACES: usize = MOST_CHARTS as usize;
 
 /// Whether the registry has the chart with another update_every.
 fn changes_grid_of(registry: &Registry, chart: &ChartName) -> bool
@@ -84,19 +89,6 @@ fn is_new_dimension(registry: &Registry, names: &Names, dimension: &DimName) -> 
     }
 }
 
-/// The same, of this chart.
-fn is_new_of(registry: &Registry, names: &Names, dimension: &DimName, chart: &str) -> bool
-    ensures { result ≡ option_map_or (is_new_of registry.now chart.now)
-        (defined_dimension names.now dimension.now) false }
-{
-    match chart_of(names, dimension) {
-        Some(own) => {
-            chart == own.id.as_str() && !is_known_dimension(registry, chart, dimension.id.as_str())
-        }
-        None => false,
-    }
-}
-
 #[tactic(auto, using(crate::proofs::Lists::count_made))]
 fn new_dimensions(registry: &Registry, names: &Names) -> usize
     ensures { result
@@ -109,51 +101,62 @@ fn new_dimensions(registry: &Registry, names: &Names) -> usize
         .count()
 }
 
-#[tactic(auto, using(crate::proofs::Lists::count_made))]
-fn new_dimensions_of(registry: &Registry, names: &Names, chart: &str) -> usize
-    ensures { result
-        ≡ count_by (is_new_of registry.now chart.now) (definitions_in names.now).dimensions }
+/// Counts one more dimension of the chart at this place, where there is room for it beside those that the registry
+/// has. Whether there is none.
+fn fills(counts: &mut [u16; PLACES], place: usize, known: u32) -> bool
+    requires within { place < 4096 }
+    requires few { known ≤ 1024 }
+    ensures full { result ≡ nat_lt 1024 (known + slice_index counts.old place + 1) }
+    ensures counted { result ≡ false
+        → counts.new ≡ set counts.old place (slice_index counts.old place + 1) }
 {
-    let dimensions = names.dimensions.as_slice();
-    dimensions
-        .iter()
-        .filter(|dimension| is_new_of(registry, names, dimension, chart))
-        .count()
+    let is_full = known + u32::from(counts[place]) >= MOST_DIMENSIONS_OF_CHART;
+    if !is_full {
+        counts[place] += 1;
+    }
+    is_full
 }
 
-/// Whether a chart has too many dimensions with those that are new to it.
-#[tactic(auto, using(crate::proofs::Lists::few_made))]
-fn is_overfull(registry: &Registry, names: &Names, chart: &str) -> bool
-    ensures { result
-        ≡ nat_lt 1024 (dimensions_with registry.now (definitions_in names.now) chart.now) }
-{
-    let room = (MOST_DIMENSIONS_OF_CHART - known_dimensions_of(registry, chart)) as usize;
-    names.dimensions.len() > room && new_dimensions_of(registry, names, chart) > room
-}
-
-/// Whether a dimension is new to a chart that then has too many.
-fn fills_chart(registry: &Registry, names: &Names, dimension: &DimName) -> bool
-    ensures { result ≡ option_map_or (fills_chart registry.now (definitions_in names.now))
-        (defined_dimension names.now dimension.now) false }
+/// Counts a dimension, if it is new, at the place of its chart. Whether that has too many then.
+fn fills_chart(
+    registry: &Registry,
+    names: &Names,
+    dimension: &DimName,
+    counts: &mut [u16; PLACES],
+) -> bool
+    requires { length names.now.charts ≤ 4096 }
+    ensures full { result ≡ true
+        → IsOneTooMany registry.now names.now counts.old dimension.now }
+    ensures counted { result ≡ false
+        → CountsMore registry.now names.now dimension.now counts.old counts.new }
+    ensures room { result ≡ false → HaveRoom registry.now names.now counts.old
+        → HaveRoom registry.now names.now counts.new }
 {
     match chart_of(names, dimension) {
-        Some(chart) => {
-            is_new_dimension(registry, names, dimension)
-                && is_overfull(registry, names, chart.id.as_str())
+        Some(chart) if is_new_dimension(registry, names, dimension) => {
+            let known = known_dimensions_of(registry, chart.id.as_str());
+            fills(counts, dimension.chart as usize, known)
         }
-        None => false,
+        _ => false,
     }
 }
 
+/// Whether a dimension is new to a chart that then has too many. Each dimension is looked for once.
 fn fill_a_chart(registry: &Registry, names: &Names) -> bool
+    requires apart { AreApart names.now }
+    requires few { length names.now.charts ≤ 4096 }
     ensures { result ≡ list_any (λ dimension. option_map_or
         (fills_chart registry.now (definitions_in names.now))
         (defined_dimension names.now dimension) false) names.now.dimensions }
 {
     let dimensions = names.dimensions.as_slice();
-    dimensions
-        .iter()
-        .any(|dimension| fills_chart(registry, names, dimension))
+    let mut counts = [0; PLACES];
+    for dimension in dimensions {
+        if fills_chart(registry, names, dimension, &mut counts) {
+            return true;
+        }
+    }
+    false
 }
 
 #[tactic(auto, using(crate::proofs::Lists::few_made))]
@@ -166,12 +169,15 @@ fn fill_the_registry(registry: &Registry, names: &Names) -> bool
 }
 
 fn too_many_dimensions(registry: &Registry, names: &Names) -> bool
+    requires apart { AreApart names.now }
+    requires few { length names.now.charts ≤ 4096 }
     ensures { result ≡ too_many_dimensions registry.now (definitions_in names.now) }
 {
     fill_the_registry(registry, names) || fill_a_chart(registry, names)
 }
 
 fn names_refusal(registry: &Registry, names: &Names) -> Option<BlockFault>
+    requires { AreApart names.now }
     ensures { result ≡ names_refusal registry.now (definitions_in names.now) }
 {
     if changes_grid(registry, names) {
@@ -187,6 +193,7 @@ fn names_refusal(registry: &Registry, names: &Names) -> Option<BlockFault>
 
 /// Why a history with this registry that does this does not take a `Data` that begins where it ends, if it does not.
 pub(crate) fn copy_refusal(registry: &Registry, role: Role, message: &Data) -> Option<BlockFault>
+    requires { IsData message.now }
     ensures { result ≡ copy_refusal registry.now role message.now }
 {
     if role.may_copy() {

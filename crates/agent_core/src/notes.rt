@@ -1,30 +1,29 @@
 //! What is taken of the note of a kept beat.
 
-ghost use Rattle.std.specs.Prelude.{◌≡◌, ◌↔◌, ◌⊎◌, [], ◌∷◌, List, Some, None, is_none, true, false, IfOk, IfErr, OnOk};
-ghost use Rattle.history.specs.History.{Beat as HistoryBeat};
+ghost use Rattle.std.specs.Prelude.{◌≡◌, ◌↔◌, ◌⊎◌, [], ◌∷◌, List, Some, None, is_none, true, false, IfOk, IfErr, OnOk, OnErr};
+ghost use Rattle.history.specs.History.{Beat as HistoryBeat, last};
 ghost use Rattle.history.specs.Numbered.{IsThere};
 ghost use Rattle.history.specs.Registry.{same_chart, same_dimension};
 ghost use Rattle.history.specs.Regular.{AreApart};
 ghost use Rattle.beat_entries.specs.Copied.{copied_goes_on, defined_by};
 ghost use Rattle.beat_entries.specs.Next.{goes_on, with_numbered};
 ghost use Rattle.beat_entries.specs.declared.refusal.EntryRefusal.TheVariants.{Memory as NoMemory, NotNext};
+ghost use Rattle.tier_settings.specs.declared.settings.Settings.{Settings as ASettings};
 ghost use Rattle.store_core.specs.declared.beat.Beat.{Beat as StoreBeat};
 ghost use Rattle.agent_core.specs.Kept.{AreBeatsOf, IsBeatOf};
-ghost use Rattle.agent_core.specs.Notes.{entry_goes_on, entry_in, moment_of, names_series, takes_note, with_entry, with_note};
+ghost use Rattle.agent_core.specs.Left.{AwaitsAlarms, IsLeftBy};
+ghost use Rattle.agent_core.specs.Notes.{entry_goes_on, entry_in, moment_of, names_series, noted_in, takes_note, with_entry, with_note};
 ghost use Rattle.agent_core.specs.Roles.{may_copy};
 ghost use Rattle.agent_core.specs.Alarms.{DefinesNothing, IsReadOf, IsSteppingOf};
 ghost use Rattle.agent_core.specs.Health.{health_refusal};
-ghost use Rattle.agent_core.specs.Replay.{ArePartsOf, HasRows, HasSeen, IsDoneBy, IsEntryThere};
+ghost use Rattle.agent_core.specs.Replay.{HasRows, HasSeen, IsDoneBy, IsEntryThere};
 ghost use Rattle.agent_core.specs.Rules.{HasLimits};
 
 use crate::alarming::Stepping;
 use crate::fault::AgentFault;
-use crate::keeping::take_rows;
-use crate::last_seen::{see_collected, see_copied};
+use crate::keeping::{see_beat, see_copy, take_rows};
 use crate::left::{Left, Role};
-use alarm_core::Latest;
 use beat_entries::{EntryRefusal, define, define_copied};
-use beat_points::LastRows;
 use chart_registry::Registry;
 use entry_codec::{Copied, Entry, EntryFault, read_entry};
 use health_config::{Config, ConfigFault};
@@ -119,65 +118,64 @@ fn define_copy(
 }
 
 /// Takes a collected beat: its definitions, and its rows as the last ones.
-fn take_collected(
-    left: &mut Left,
-    last_rows: &mut LastRows,
-    entry: &NumberedBeat,
-) -> Result<(), AgentFault>
+fn take_collected(left: &mut Left, entry: &NumberedBeat) -> Result<(), AgentFault>
     ensures there { OnOk result (IsThere left.new.registry entry.now) }
-    ensures left { OnOk result (left.new ≡ with_entry left.old (Entry.Collected entry.now)) }
-    ensures rows { OnOk result
-        (HasRows left.new.registry last_rows.old last_rows.new (Entry.Collected entry.now)) }
-    ensures next { OnOk result (entry_goes_on left.old (Entry.Collected entry.now) ≡ true) }
+    ensures left { OnOk result
+        (noted_in left.new ≡ with_entry (noted_in left.old) (Entry.Collected entry.now)) }
+    ensures rows { OnOk result (HasRows left.new.registry left.old.last_rows left.new.last_rows
+        (Entry.Collected entry.now)) }
+    ensures next { OnOk result
+        (entry_goes_on (noted_in left.old) (Entry.Collected entry.now) ≡ true) }
     ensures broken { IfErr result
         (λ fault. fault ≡ AgentFault.Damaged 5
-        → entry_goes_on left.old (Entry.Collected entry.now) ≡ false) }
+        → entry_goes_on (noted_in left.old) (Entry.Collected entry.now) ≡ false) }
     ensures faults { IfErr result
         (λ fault. (fault ≡ AgentFault.Memory) ⊎ (fault ≡ AgentFault.Damaged 5)) }
+    ensures latest { left.new.latest ≡ left.old.latest }
+    ensures alarms { left.new.alarms ≡ left.old.alarms }
 {
     if !left.role.may_collect() {
         return Err(AgentFault::Damaged(5));
     }
     define_entry(&mut left.registry, entry)?;
-    take_rows(last_rows, &left.registry, entry)?;
+    take_rows(&mut left.last_rows, &left.registry, entry)?;
     left.role = Role::Collects;
     Ok(())
 }
 
 /// Takes a copied beat: its definitions. It has no rows, so the last rows only make room for its series.
-fn take_copied(
-    alloc: Global,
-    left: &mut Left,
-    last_rows: &mut LastRows,
-    entry: &Copied,
-) -> Result<(), AgentFault>
-    ensures left { OnOk result (left.new ≡ with_entry left.old (Entry.Copied entry.now)) }
-    ensures rows { OnOk result
-        (HasRows left.new.registry last_rows.old last_rows.new (Entry.Copied entry.now)) }
-    ensures next { OnOk result (entry_goes_on left.old (Entry.Copied entry.now) ≡ true) }
+fn take_copied(alloc: Global, left: &mut Left, entry: &Copied) -> Result<(), AgentFault>
+    ensures left { OnOk result
+        (noted_in left.new ≡ with_entry (noted_in left.old) (Entry.Copied entry.now)) }
+    ensures rows { OnOk result (HasRows left.new.registry left.old.last_rows left.new.last_rows
+        (Entry.Copied entry.now)) }
+    ensures next { OnOk result
+        (entry_goes_on (noted_in left.old) (Entry.Copied entry.now) ≡ true) }
     ensures broken { IfErr result
         (λ fault. fault ≡ AgentFault.Damaged 5
-        → entry_goes_on left.old (Entry.Copied entry.now) ≡ false) }
+        → entry_goes_on (noted_in left.old) (Entry.Copied entry.now) ≡ false) }
     ensures faults { IfErr result
         (λ fault. (fault ≡ AgentFault.Memory) ⊎ (fault ≡ AgentFault.Damaged 5)) }
+    ensures latest { left.new.latest ≡ left.old.latest }
+    ensures alarms { left.new.alarms ≡ left.old.alarms }
 {
     if !left.role.may_copy() {
         return Err(AgentFault::Damaged(5));
     }
     let defined = define_copy(alloc, &mut left.registry, entry)?;
-    take_rows(last_rows, &left.registry, &defined)?;
+    take_rows(&mut left.last_rows, &left.registry, &defined)?;
     left.role = Role::Copies(entry.child);
     Ok(())
 }
 
 /// Takes a gap, where nothing was collected.
 fn take_gap(left: &mut Left, child: u64) -> Result<(), AgentFault>
-    ensures left { OnOk result
-        (left.new ≡ record { registry = left.old.registry; role = Role.Copies child }) }
+    ensures left { OnOk result (left.new ≡ record left.old { role = Role.Copies child }) }
     ensures next { OnOk result (may_copy left.old.role ≡ true) }
     ensures broken { IfErr result
         (λ fault. fault ≡ AgentFault.Damaged 5 → may_copy left.old.role ≡ false) }
     ensures faults { IfErr result (λ fault. fault ≡ AgentFault.Damaged 5) }
+    ensures refused { OnErr result (left.new ≡ left.old) }
 {
     if left.role.may_copy() {
         left.role = Role::Copies(child);
@@ -218,32 +216,31 @@ fn copy_defines(entry: &Copied) -> bool
 }
 
 /// Takes the entry of a beat, which settings are not, and says what the beat does to alarms.
-fn take_entry(
-    alloc: Global,
-    left: &mut Left,
-    last_rows: &mut LastRows,
-    entry: &Entry,
-) -> Result<Stepping, AgentFault>
+fn take_entry(alloc: Global, left: &mut Left, entry: &Entry) -> Result<Stepping, AgentFault>
     ensures does { IfOk result (IsDoneBy entry.now) }
     ensures there { OnOk result (IsEntryThere left.new.registry entry.now) }
     ensures same { IfOk result
         (λ does. DefinesNothing does → left.new.registry ≡ left.old.registry) }
-    ensures left { OnOk result (left.new ≡ with_entry left.old entry.now) }
-    ensures rows { OnOk result (HasRows left.new.registry last_rows.old last_rows.new entry.now) }
-    ensures next { OnOk result (entry_goes_on left.old entry.now ≡ true) }
+    ensures left { OnOk result (noted_in left.new ≡ with_entry (noted_in left.old) entry.now) }
+    ensures rows { OnOk result
+        (HasRows left.new.registry left.old.last_rows left.new.last_rows entry.now) }
+    ensures next { OnOk result (entry_goes_on (noted_in left.old) entry.now ≡ true) }
     ensures broken { IfErr result
-        (λ fault. fault ≡ AgentFault.Damaged 5 → entry_goes_on left.old entry.now ≡ false) }
+        (λ fault. fault ≡ AgentFault.Damaged 5
+        → entry_goes_on (noted_in left.old) entry.now ≡ false) }
     ensures faults { IfErr result
         (λ fault. (fault ≡ AgentFault.Memory) ⊎ (fault ≡ AgentFault.Damaged 5)) }
+    ensures latest { left.new.latest ≡ left.old.latest }
+    ensures alarms { left.new.alarms ≡ left.old.alarms }
 {
     match entry {
         Entry::Settings(_) => Err(AgentFault::Damaged(5)),
         Entry::Collected(found) => {
-            take_collected(left, last_rows, found)?;
+            take_collected(left, found)?;
             Ok(Stepping::Beat(found.moment, defines_some(found)))
         }
         Entry::Copied(found) => {
-            take_copied(alloc, left, last_rows, found)?;
+            take_copied(alloc, left, found)?;
             Ok(Stepping::Beat(found.moment, copy_defines(found)))
         }
         Entry::Health(text) => {
@@ -260,33 +257,24 @@ fn take_entry(
 /// Takes an entry and the points of its beat as what was last seen.
 fn see_entry(
     alloc: Global,
-    latest: &mut Latest,
-    registry: &Registry,
+    left: &mut Left,
     entry: &Entry,
     points: &[BeatPoint],
     before: u32,
 ) -> Result<(), AgentFault>
-    requires there { IsEntryThere registry.now entry.now }
-    requires named { names_series registry.now points.now ≡ true }
-    ensures seen { OnOk result (HasSeen registry.now latest.old latest.new entry.now points.now) }
-    ensures before { OnOk result (latest.new.before ≡ before) }
+    requires there { IsEntryThere left.old.registry entry.now }
+    requires named { names_series left.old.registry points.now ≡ true }
+    ensures seen { OnOk result
+        (HasSeen left.old.registry left.old.latest left.new.latest entry.now points.now) }
+    ensures before { OnOk result (left.new.latest.before ≡ before) }
+    ensures only { left.new ≡ record left.old { latest = left.new.latest } }
     ensures memory { IfErr result (λ fault. fault ≡ AgentFault.Memory) }
 {
     match entry {
-        Entry::Collected(found) => {
-            match see_collected(alloc, latest, registry, found, points, before) {
-                Ok(()) => Ok(()),
-                Err(_) => Err(AgentFault::Memory),
-            }
-        }
-        Entry::Copied(found) => {
-            match see_copied(alloc, latest, registry, found.moment, points, before) {
-                Ok(()) => Ok(()),
-                Err(_) => Err(AgentFault::Memory),
-            }
-        }
+        Entry::Collected(found) => see_beat(alloc, left, found, points, before),
+        Entry::Copied(found) => see_copy(alloc, left, found.moment, points, before),
         Entry::Settings(_) | Entry::Health(_) | Entry::Gap(_) => {
-            latest.before = before;
+            left.latest.before = before;
             Ok(())
         }
     }
@@ -301,12 +289,11 @@ fn names_series(registry: &Registry, points: &[BeatPoint]) -> bool
         .all(|point| point.series < registry.dimensions())
 }
 
-/// Takes a kept beat by its note, and says what it does to alarms. `before` is the last moment before it.
+/// Takes a kept beat by its note, all but what it does to alarms, and says that. `before` is the last moment before
+/// it.
 pub(crate) fn replay_beat(
     alloc: Global,
     left: &mut Left,
-    last_rows: &mut LastRows,
-    latest: &mut Latest,
     kept: &Beat,
     before: u32,
 ) -> Result<Stepping, AgentFault>
@@ -314,29 +301,28 @@ pub(crate) fn replay_beat(
     requires dimensions { AreApart same_dimension left.old.registry.dimensions }
     requires limits { HasLimits left.old.registry }
     ensures taken { OnOk result
-        ((g : List HistoryBeat) (beats : List StoreBeat) (beat : HistoryBeat) → AreBeatsOf g beats
-        → IsBeatOf g beat kept.now
-        → ArePartsOf left.old last_rows.old latest.old g
-        → ArePartsOf left.new last_rows.new latest.new (beat ∷ g)) }
+        ((set : ASettings) (g : List HistoryBeat) (beats : List StoreBeat) (beat : HistoryBeat)
+        → AreBeatsOf g beats → IsBeatOf g beat kept.now → before ≡ last g
+        → IsLeftBy set g left.old → AwaitsAlarms set g beat left.new) }
     ensures does { IfOk result
         (λ does. (g : List HistoryBeat) (beat : HistoryBeat) → IsBeatOf g beat kept.now
         → IsSteppingOf beat does) }
     ensures same { IfOk result
         (λ does. DefinesNothing does → left.new.registry ≡ left.old.registry) }
-    ensures before { OnOk result (latest.new.before ≡ before) }
+    ensures alarms { left.new.alarms ≡ left.old.alarms }
 
     // Where the beat is kept for one that follows the history, only memory can be short.
     ensures stands { IfErr result
-        (λ fault. (g : List HistoryBeat) (beats : List StoreBeat) (beat : HistoryBeat)
-        → AreBeatsOf g beats → IsBeatOf g beat kept.now
-        → ArePartsOf left.old last_rows.old latest.old g → fault ≡ AgentFault.Memory) }
+        (λ fault. (set : ASettings) (g : List HistoryBeat) (beats : List StoreBeat)
+        (beat : HistoryBeat) → AreBeatsOf g beats → IsBeatOf g beat kept.now
+        → IsLeftBy set g left.old → fault ≡ AgentFault.Memory) }
 
     // Whatever beat it is: its note has an entry that goes on and its points are of series that are there then,
     // or it is damaged.
-    ensures left { OnOk result (left.new ≡ with_note left.old kept.now) }
-    ensures next { OnOk result (takes_note left.old kept.now ≡ true) }
+    ensures left { OnOk result (noted_in left.new ≡ with_note (noted_in left.old) kept.now) }
+    ensures next { OnOk result (takes_note (noted_in left.old) kept.now ≡ true) }
     ensures broken { IfErr result
-        (λ fault. fault ≡ AgentFault.Damaged 5 → takes_note left.old kept.now ≡ false) }
+        (λ fault. fault ≡ AgentFault.Damaged 5 → takes_note (noted_in left.old) kept.now ≡ false) }
     ensures charts { OnOk result (AreApart same_chart left.new.registry.charts) }
     ensures dimensions { OnOk result (AreApart same_dimension left.new.registry.dimensions) }
     ensures limits { OnOk result (HasLimits left.new.registry) }
@@ -344,11 +330,11 @@ pub(crate) fn replay_beat(
         (λ fault. (fault ≡ AgentFault.Memory) ⊎ (fault ≡ AgentFault.Damaged 5)) }
 {
     let entry = entry_in(alloc, kept)?;
-    let does = take_entry(alloc, left, last_rows, &entry)?;
+    let does = take_entry(alloc, left, &entry)?;
     let points = kept.points.as_slice();
     if !names_series(&left.registry, points) {
         return Err(AgentFault::Damaged(5));
     }
-    see_entry(alloc, latest, &left.registry, &entry, points, before)?;
+    see_entry(alloc, left, &entry, points, before)?;
     Ok(does)
 }

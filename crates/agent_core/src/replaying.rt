@@ -1,4 +1,4 @@
-//! The parts of an agent from what a store kept.
+//! What the beats of a history leave, from what a store kept of them.
 
 ghost use Rattle.std.specs.Prelude.{◌≡◌, ◌⊎◌, ◌<◌, ℕ, List, true, false, length, IfOk, IfErr, IsErrOf, OnOk};
 ghost use Rattle.host_model.specs.declared.file.File.{File as AFile};
@@ -7,27 +7,22 @@ ghost use Rattle.host_model.specs.Disks.{EveryDisk, reads_as};
 ghost use Rattle.host_model.specs.Cause.{HasCause};
 ghost use Rattle.host_model.specs.Moments.{Throughout};
 ghost use Rattle.history.specs.History.{Beat as HistoryBeat};
-ghost use Rattle.history.specs.Registry.{same_chart, same_dimension};
-ghost use Rattle.history.specs.Regular.{AreApart};
 ghost use Rattle.tier_settings.specs.declared.settings.Settings.{Settings as ASettings};
 ghost use Rattle.store_core.specs.declared.beat.Beat.{Beat as StoreBeat};
 ghost use Rattle.store_core.specs.Own.{OnlyOwn};
 ghost use Rattle.store_core.specs.Stands.{is_made, IsDamaged, Stands};
 ghost use Rattle.store_core.specs.Store.{IsReady, IsReplayed, IsStoreAt, OpensAt, Replays, TakesFirst};
 ghost use Rattle.store_core.specs.Stored.{Stored as AStored};
-ghost use Rattle.alarm_core.specs.Course.{held};
-ghost use Rattle.alarm_core.specs.UpTo.{IsUpTo};
 ghost use Rattle.agent_core.specs.Faults.{IsOpening};
-ghost use Rattle.agent_core.specs.Notes.{notes_go_on};
-ghost use Rattle.agent_core.specs.Replay.{HasTaken, IsReplaying};
-ghost use Rattle.agent_core.specs.Rules.{HasLimits};
+ghost use Rattle.agent_core.specs.Kept.{HoldsHistory};
+ghost use Rattle.agent_core.specs.Left.{IsFit, IsLeftBy};
+ghost use Rattle.agent_core.specs.Notes.{beats_go_on, left_after, noted_in, Noted};
+ghost use Rattle.agent_core.specs.Replay.{HasTaken, IsAtPrefix, IsReplaying};
 
 use crate::alarming::follow;
 use crate::fault::{AgentFault, store_fault};
 use crate::left::Left;
 use crate::notes::replay_beat;
-use alarm_core::{Alarms, Latest};
-use beat_points::LastRows;
 use host_model::Host;
 use std::alloc::Global;
 use store_core::{Beat, Store};
@@ -100,37 +95,28 @@ fn replay_next<H: Host>(
     store: &mut Store,
     host: &mut H,
     left: &mut Left,
-    last_rows: &mut LastRows,
-    latest: &mut Latest,
-    alarms: &mut Alarms,
 ) -> Result<bool, AgentFault>
     requires going { store.old.fault ≡ None }
-    requires charts { AreApart same_chart left.old.registry.charts }
-    requires dimensions { AreApart same_dimension left.old.registry.dimensions }
-    requires limits { HasLimits left.old.registry }
-    requires up_to { IsUpTo alarms.old left.old.registry }
+    requires fit { IsFit left.old }
     ensures replaying { OnOk result
         ((past : List Event) (set : ASettings) (h : List HistoryBeat)
-        → IsReplaying past store.old left.old last_rows.old latest.old
-        (held alarms.old) set h
-        → IsReplaying past store.new left.new last_rows.new latest.new
-        (held alarms.new) set h) }
+        → IsReplaying past store.old left.old set h → IsReplaying past store.new left.new set h) }
 
     // Where the store is that of a history, only memory can be short.
     ensures stands { IfErr result
         (λ fault. (past : List Event) (set : ASettings) (h : List HistoryBeat)
-        → IsReplaying past store.old left.old last_rows.old latest.old
-        (held alarms.old) set h → fault ≡ AgentFault.Memory) }
+        → IsReplaying past store.old left.old set h → fault ≡ AgentFault.Memory) }
 
     // Whatever beats the store keeps: they go on so far, and where one does not, it is damaged.
     ensures notes { OnOk result
-        ((past : List Event) (set : ASettings) (stored : AStored)
-        → HasTaken past store.old left.old set stored
-        → HasTaken past store.new left.new set stored) }
+        ((start : Noted) (past : List Event) (set : ASettings) (stored : AStored)
+        → HasTaken start past store.old left.old set stored
+        → HasTaken start past store.new left.new set stored) }
     ensures broken { IfErr result
         (λ fault. fault ≡ AgentFault.Damaged 5
-        → (past : List Event) (set : ASettings) (stored : AStored)
-        → HasTaken past store.old left.old set stored → notes_go_on stored ≡ false) }
+        → (start : Noted) (past : List Event) (set : ASettings) (stored : AStored)
+        → HasTaken start past store.old left.old set stored
+        → beats_go_on start stored.after ≡ false) }
 
     // The beats that wait become fewer, until there are none.
     ensures smaller { IfOk result
@@ -138,10 +124,7 @@ fn replay_next<H: Host>(
     ensures done { IfOk result (λ went. went ≡ false → IsReplayed store.new) }
     ensures going { OnOk result (store.new.fault ≡ None) }
     ensures journal { store.new.journal ≡ store.old.journal }
-    ensures charts { OnOk result (AreApart same_chart left.new.registry.charts) }
-    ensures dimensions { OnOk result (AreApart same_dimension left.new.registry.dimensions) }
-    ensures limits { OnOk result (HasLimits left.new.registry) }
-    ensures up_to { OnOk result (IsUpTo alarms.new left.new.registry) }
+    ensures fit { OnOk result (IsFit left.new) }
     ensures host { H.seen host.new ≡ H.seen host.old }
     ensures faults { IfErr result
         (λ fault. (fault ≡ AgentFault.Memory) ⊎ (fault ≡ AgentFault.Damaged 5)) }
@@ -149,64 +132,57 @@ fn replay_next<H: Host>(
     let before = store.last();
     match next_beat(store)? {
         Some(kept) => {
-            let does = replay_beat(alloc, left, last_rows, latest, &kept, before)?;
-            follow(alloc, alarms, store, host, &left.registry, latest, does)?;
+            let does = replay_beat(alloc, left, &kept, before)?;
+            follow(alloc, left, store, host, does)?;
             Ok(true)
         }
         None => Ok(false),
     }
 }
 
-/// Replays all beats that a store still has to replay.
+/// Replays all beats that a store still has to replay, on top of what those before them left.
 pub(crate) fn replay_all<H: Host>(
     alloc: Global,
     store: &mut Store,
     host: &mut H,
     left: &mut Left,
-    last_rows: &mut LastRows,
-    latest: &mut Latest,
-    alarms: &mut Alarms,
 ) -> Result<(), AgentFault>
     requires going { store.old.fault ≡ None }
-    requires charts { AreApart same_chart left.old.registry.charts }
-    requires dimensions { AreApart same_dimension left.old.registry.dimensions }
-    requires limits { HasLimits left.old.registry }
-    requires up_to { IsUpTo alarms.old left.old.registry }
-    ensures replaying { OnOk result
-        ((past : List Event) (set : ASettings) (h : List HistoryBeat)
-        → IsReplaying past store.old left.old last_rows.old latest.old
-        (held alarms.old) set h
-        → IsReplaying past store.new left.new last_rows.new latest.new
-        (held alarms.new) set h) }
+    requires fit { IsFit left.old }
 
-    // Where the store is that of a history, only memory can be short.
-    ensures stands { IfErr result
-        (λ fault. (past : List Event) (set : ASettings) (h : List HistoryBeat)
-        → IsReplaying past store.old left.old last_rows.old latest.old
-        (held alarms.old) set h → fault ≡ AgentFault.Memory) }
+    // After any history g, where those that wait are the beats of h after it.
+    ensures holds { OnOk result ((past : List Event) (set : ASettings) (g h : List HistoryBeat)
+        → IsAtPrefix past store.old set g h → IsLeftBy set g left.old
+        → HoldsHistory past store.new set h) }
+    ensures left_by { OnOk result ((past : List Event) (set : ASettings) (g h : List HistoryBeat)
+        → IsAtPrefix past store.old set g h → IsLeftBy set g left.old
+        → IsLeftBy set h left.new) }
+    ensures stands { IfErr result (λ fault. (past : List Event) (set : ASettings)
+        (g h : List HistoryBeat) → IsAtPrefix past store.old set g h → IsLeftBy set g left.old
+        → fault ≡ AgentFault.Memory) }
 
-    // Whatever beats the store keeps: they go on so far, and where one does not, it is damaged.
-    ensures notes { OnOk result
-        ((past : List Event) (set : ASettings) (stored : AStored)
-        → HasTaken past store.old left.old set stored
-        → HasTaken past store.new left.new set stored) }
+    // Whatever beats the store keeps: their notes go on, or it is damaged.
+    ensures notes { OnOk result ((past : List Event) (set : ASettings) (stored : AStored)
+        → OpensAt past store.old set stored
+        → beats_go_on (noted_in left.old) stored.after ≡ true) }
+    ensures noted { OnOk result ((past : List Event) (set : ASettings) (stored : AStored)
+        → OpensAt past store.old set stored
+        → noted_in left.new ≡ left_after (noted_in left.old) stored.after) }
     ensures broken { IfErr result
         (λ fault. fault ≡ AgentFault.Damaged 5
         → (past : List Event) (set : ASettings) (stored : AStored)
-        → HasTaken past store.old left.old set stored → notes_go_on stored ≡ false) }
+        → OpensAt past store.old set stored
+        → beats_go_on (noted_in left.old) stored.after ≡ false) }
 
     // What holds of any store.
     ensures done { OnOk result (IsReplayed store.new) }
     ensures going { OnOk result (store.new.fault ≡ None) }
     ensures journal { store.new.journal ≡ store.old.journal }
-    ensures charts { OnOk result (AreApart same_chart left.new.registry.charts) }
-    ensures dimensions { OnOk result (AreApart same_dimension left.new.registry.dimensions) }
-    ensures limits { OnOk result (HasLimits left.new.registry) }
-    ensures up_to { OnOk result (IsUpTo alarms.new left.new.registry) }
+    ensures fit { OnOk result (IsFit left.new) }
     ensures host { H.seen host.new ≡ H.seen host.old }
     ensures faults { IfErr result
         (λ fault. (fault ≡ AgentFault.Memory) ⊎ (fault ≡ AgentFault.Damaged 5)) }
 {
-    while replay_next(alloc, store, host, left, last_rows, latest, alarms)? {}
+    while replay_next(alloc, store, host, left)? {}
     Ok(())
 }

@@ -1,10 +1,8 @@
 //! How the gap and the beats of a child's message are added to a history.
 
 ghost use Rattle.std.specs.Prelude.{◌≡◌, ◌<◌, ◌≤◌, ◌^◌, ◌++◌, ◌∷◌, ◌⊎◌, [], ℕ, List, Option, Some, None, true, false, length, IfOk, IfErr, OnOk};
-ghost use Rattle.algorithms.specs.declared.last.Last.{Last as ALast};
-ghost use Rattle.alarm_core.specs.declared.latest.Latest.{Latest as ALatest};
-ghost use Rattle.alarm_core.specs.Course.{held};
 ghost use Rattle.alarm_core.specs.UpTo.{IsUpTo};
+ghost use Rattle.host_model.specs.Past.{Event};
 ghost use Rattle.host_model.specs.Disks.{EveryDisk};
 ghost use Rattle.host_model.specs.Moments.{Throughout};
 ghost use Rattle.history.specs.History.{Beat as HistoryBeat, copied, missing, registry_of, Copy};
@@ -19,25 +17,22 @@ ghost use Rattle.link_frames.specs.DataForm.{has_rising_places, has_storage_numb
 ghost use Rattle.link_frames.specs.DataForm.{AreApart as AreNamesApart};
 ghost use Rattle.store_core.specs.Beats.{beat_bytes, InForm};
 ghost use Rattle.store_core.specs.Store.{IsReady, IsReplayed};
-ghost use Rattle.agent_core.specs.Agent.{Holds};
-ghost use Rattle.agent_core.specs.Alarms.{events_at};
-ghost use Rattle.agent_core.specs.Copying.{beats_of, definitions_in, events_onto, names_refusal};
+ghost use Rattle.agent_core.specs.Copying.{beats_of, definitions_in, names_refusal};
 ghost use Rattle.agent_core.specs.Keeping.{KeepsStore};
-ghost use Rattle.agent_core.specs.Kept.{onto, IsCopyOf, StandsForFront, StandsForHistory};
+ghost use Rattle.agent_core.specs.Kept.{onto, HoldsHistory, IsCopyOf, StandsForFront, StandsForHistory};
+ghost use Rattle.agent_core.specs.Left.{AwaitsAlarms, IsLeftBy};
 ghost use Rattle.agent_core.specs.Notes.{names_series};
-ghost use Rattle.agent_core.specs.Replay.{HasSeenCopy};
 ghost use Rattle.agent_core.specs.Roles.{may_copy, role_of};
 ghost use Rattle.agent_core.specs.Rules.{lacks_chart, HasLimits, IsOpenBeat};
-ghost use Rattle.agent_core.specs.Storing.{gap_beats, later_copies, sent_copies, with_names, ArePartsAt, AreSent, IsSentAs, MayTakeAll};
+ghost use Rattle.agent_core.specs.Storing.{gap_beats, later_copies, sent_copies, with_names, AreSent, HasAdded, IsSentAs, MayTakeAll};
 
 use crate::alarming::{Stepping, follow};
 use crate::copying::{definitions_in, kept_copy, kept_gap};
 use crate::fault::AgentFault;
-use crate::keeping::{commit, take_rows, untaken};
-use crate::last_seen::see_copied;
-use alarm_core::{Alarms, EventList, Latest};
+use crate::keeping::{commit, see_copy, take_rows, untaken};
+use crate::left::{Left, Role};
+use alarm_core::EventList;
 use beat_entries::number_beat;
-use beat_points::LastRows;
 use chart_registry::Registry;
 use fixed_num::ListOf;
 use history::{NumberedBeat, OpenBeat};
@@ -48,7 +43,7 @@ use store_core::{Beat, Store};
 
 /// Adds a gap of a child, the moments above `from` up to `to`, to a store that is still of use. At every moment a
 /// crash leaves the history with the gap or without it.
-pub(crate) fn add_gap<H: Host>(
+fn add_gap<H: Host>(
     alloc: Global,
     store: &mut Store,
     host: &mut H,
@@ -60,19 +55,14 @@ pub(crate) fn add_gap<H: Host>(
     requires replayed { IsReplayed store.old }
     requires going { store.old.fault ≡ None }
     requires later { store.old.last < to }
-    ensures any_moment { H.honest → (registry : ARegistry) (lasts : List (Option ALast))
-        (latest : ALatest) (set : ASettings) (h : List HistoryBeat)
-        → Holds (H.seen host.old).past store.old registry lasts latest set h
-        → may_copy (role_of h) ≡ true
+    ensures any_moment { H.honest → (set : ASettings) (h : List HistoryBeat)
+        → HoldsHistory (H.seen host.old).past store.old set h → may_copy (role_of h) ≡ true
         → let gap = missing (record { child = child; from = from; to = to }) in
         Throughout (EveryDisk (λ disk. StandsForHistory set h disk
         ⊎ StandsForHistory set (gap ∷ h) disk)) (H.seen host.old).past (H.seen host.new).past }
-    ensures done { OnOk result
-        (H.honest → (registry : ARegistry) (lasts : List (Option ALast)) (latest : ALatest)
-        (set : ASettings) (h : List HistoryBeat)
-        → Holds (H.seen host.old).past store.old registry lasts latest set h
-        → may_copy (role_of h) ≡ true
-        → Holds (H.seen host.new).past store.new registry lasts latest set
+    ensures done { OnOk result (H.honest → (set : ASettings) (h : List HistoryBeat)
+        → HoldsHistory (H.seen host.old).past store.old set h → may_copy (role_of h) ≡ true
+        → HoldsHistory (H.seen host.new).past store.new set
         (missing (record { child = child; from = from; to = to }) ∷ h)) }
     ensures keeps { KeepsStore H.honest (H.seen host.old) store.old result (H.seen host.new)
         store.new }
@@ -84,42 +74,13 @@ pub(crate) fn add_gap<H: Host>(
     }
 }
 
-/// Takes the points of a copied beat as what was last seen.
-fn see_copy(
-    alloc: Global,
-    latest: &mut Latest,
-    registry: &Registry,
-    moment: u32,
-    kept: &Beat,
-    before: u32,
-) -> Result<(), AgentFault>
-    requires { names_series registry.now kept.now.points ≡ true }
-    ensures seen { OnOk result
-        (HasSeenCopy registry.now latest.old latest.new moment kept.now.points) }
-    ensures before { OnOk result (latest.new.before ≡ before) }
-    ensures memory { IfErr result (λ fault. fault ≡ AgentFault.Memory) }
-{
-    match see_copied(
-        alloc,
-        latest,
-        registry,
-        moment,
-        kept.points.as_slice(),
-        before,
-    ) {
-        Ok(()) => Ok(()),
-        Err(_) => Err(AgentFault::Memory),
-    }
-}
-
-/// Adds a copied beat, whose definitions the registry has, to the other parts of an agent. At every moment a
-/// crash leaves the history with the beat or without it. After an `Err` the parts are of no more use.
+/// Adds a copied beat, whose definitions the registry has: what is left is the role, and the alarms have still to
+/// follow it. At every moment a crash leaves the history with the beat or without it. After an `Err` nothing of the
+/// store and of what was left is of use.
 fn store_copy<H: Host>(
     alloc: Global,
     store: &mut Store,
-    registry: &Registry,
-    last_rows: &mut LastRows,
-    latest: &mut Latest,
+    left: &mut Left,
     host: &mut H,
     defines: &NumberedBeat,
     kept: &Beat,
@@ -131,43 +92,41 @@ fn store_copy<H: Host>(
     requires later { store.old.last < moment }
     requires moment { kept.now.moment ≡ Some moment }
     requires no_rows { defines.now.rows ≡ [] }
-    requires named { names_series registry.now kept.now.points ≡ true }
+    requires named { names_series left.old.registry kept.now.points ≡ true }
     requires form { InForm kept.now }
     requires size { length (beat_bytes kept.now) ≤ 2 ^ 26 }
-    ensures any_moment { H.honest → (before : ARegistry) (set : ASettings)
-        (g : List HistoryBeat) (copy : Copy)
-        → Holds (H.seen host.old).past store.old before last_rows.old latest.old set g
-        → IsCopyOf g copy kept.now
+    ensures any_moment { H.honest → (set : ASettings) (g : List HistoryBeat) (copy : Copy)
+        → HoldsHistory (H.seen host.old).past store.old set g → IsCopyOf g copy kept.now
         → Throughout (EveryDisk (λ disk. StandsForHistory set g disk
         ⊎ StandsForHistory set (copied copy ∷ g) disk)) (H.seen host.old).past
         (H.seen host.new).past }
-    ensures done { OnOk result
-        (H.honest → (before : ARegistry) (set : ASettings) (g : List HistoryBeat) (copy : Copy)
-        → Holds (H.seen host.old).past store.old before last_rows.old latest.old set g
-        → IsCopyOf g copy kept.now → registry.now ≡ registry_of (copied copy ∷ g)
-        → Holds (H.seen host.new).past store.new registry.now last_rows.new latest.new set
-        (copied copy ∷ g)) }
+    ensures done { OnOk result (H.honest → (set : ASettings) (g : List HistoryBeat) (copy : Copy)
+        → HoldsHistory (H.seen host.old).past store.old set g → IsCopyOf g copy kept.now
+        → HoldsHistory (H.seen host.new).past store.new set (copied copy ∷ g)) }
+    ensures awaits { OnOk result ((past : List Event) (before : ARegistry) (set : ASettings)
+        (g : List HistoryBeat) (copy : Copy) → HoldsHistory past store.old set g
+        → IsLeftBy set g (record left.old { registry = before }) → IsCopyOf g copy kept.now
+        → left.old.registry ≡ registry_of (copied copy ∷ g)
+        → AwaitsAlarms set g (copied copy) (record left.new { role = Role.Copies copy.child })) }
+    ensures registry { left.new.registry ≡ left.old.registry }
+    ensures alarms { left.new.alarms ≡ left.old.alarms }
     ensures keeps { KeepsStore H.honest (H.seen host.old) store.old result (H.seen host.new)
         store.new }
     ensures last { OnOk result (store.new.last ≡ moment) }
-    ensures before { OnOk result (latest.new.before ≡ store.old.last) }
 {
     let before = store.last();
     commit(store, host, kept)?;
-    take_rows(last_rows, registry, defines)?;
-    see_copy(alloc, latest, registry, moment, kept, before)
+    take_rows(&mut left.last_rows, &left.registry, defines)?;
+    see_copy(alloc, left, moment, kept.points.as_slice(), before)
 }
 
-/// Adds a beat of a message, whose definitions the registry has, to the other parts of an agent, and gives the
-/// events that its alarms tell. At every moment a crash leaves the history with the beat or without it. `fresh` says
-/// whether definitions came since the alarms were last stepped. After an `Err` the parts are of no more use.
+/// Adds a beat of a message, whose definitions the registry has, and gives the events that its alarms tell. At every
+/// moment a crash leaves the history with the beat or without it. `fresh` says whether definitions came since the
+/// alarms were last stepped. After an `Err` nothing of the store and of what was left is of use.
 fn add_copy<H: Host>(
     alloc: Global,
     store: &mut Store,
-    registry: &Registry,
-    last_rows: &mut LastRows,
-    latest: &mut Latest,
-    alarms: &mut Alarms,
+    left: &mut Left,
     host: &mut H,
     message: &Data,
     defines: &NumberedBeat,
@@ -178,44 +137,41 @@ fn add_copy<H: Host>(
     requires replayed { IsReplayed store.old }
     requires going { store.old.fault ≡ None }
     requires later { store.old.last < beat.now.moment }
-    requires own { AreApart same_dimension registry.now.dimensions }
-    requires registry { HasLimits registry.now }
+    requires own { AreApart same_dimension left.old.registry.dimensions }
+    requires registry { HasLimits left.old.registry }
     requires names { AreNamesApart message.now.names }
     requires places { has_rising_places beat.now ≡ true }
     requires words { has_storage_numbers beat.now ≡ true }
     requires within { IsWithinLimits defines.now }
     requires canonical { is_collected_canonical defines.now ≡ true }
     requires no_rows { defines.now.rows ≡ [] }
-    requires same { fresh ≡ false → IsUpTo alarms.old registry.now }
-    ensures any_moment { H.honest → (before : ARegistry) (set : ASettings)
-        (g : List HistoryBeat) (copy : Copy)
-        → Holds (H.seen host.old).past store.old before last_rows.old latest.old set g
-        → IsSentAs registry.now message.now defines.now beat.now g copy
+    requires same { fresh ≡ false → IsUpTo left.old.alarms left.old.registry }
+    ensures any_moment { H.honest → (set : ASettings) (g : List HistoryBeat) (copy : Copy)
+        → HoldsHistory (H.seen host.old).past store.old set g
+        → IsSentAs left.old.registry message.now defines.now beat.now g copy
         → Throughout (EveryDisk (λ disk. StandsForHistory set g disk
         ⊎ StandsForHistory set (copied copy ∷ g) disk)) (H.seen host.old).past
         (H.seen host.new).past }
     ensures done { IfOk result
         (λ events. H.honest → (before : ARegistry) (set : ASettings) (g : List HistoryBeat)
-        (copy : Copy)
-        → ArePartsAt (H.seen host.old).past store.old before last_rows.old latest.old
-        (held alarms.old) set g
-        → IsSentAs registry.now message.now defines.now beat.now g copy
-        → ArePartsAt (H.seen host.new).past store.new registry.now last_rows.new latest.new
-        (held alarms.new) set (copied copy ∷ g) × (events ≡ events_at set (copied copy ∷ g))) }
-    ensures up_to { OnOk result (IsUpTo alarms.new registry.now) }
+        (copy : Copy) → HoldsHistory (H.seen host.old).past store.old set g
+        → IsLeftBy set g (record left.old { registry = before })
+        → IsSentAs left.old.registry message.now defines.now beat.now g copy
+        → HasAdded (H.seen host.new).past store.new left.new set g (copied copy ∷ []) events) }
+    ensures registry { left.new.registry ≡ left.old.registry }
+    ensures role { OnOk result (left.new.role ≡ Role.Copies message.now.child) }
+    ensures up_to { OnOk result (IsUpTo left.new.alarms left.new.registry) }
     ensures keeps { KeepsStore H.honest (H.seen host.old) store.old result (H.seen host.new)
         store.new }
     ensures last { OnOk result (store.new.last ≡ beat.now.moment) }
 {
     let moment = beat.moment;
-    let Ok(kept) = kept_copy(alloc, registry, message, defines, beat) else {
+    let Ok(kept) = kept_copy(alloc, &left.registry, message, defines, beat) else {
         return Err(AgentFault::Memory);
     };
-    store_copy(
-        alloc, store, registry, last_rows, latest, host, defines, &kept, moment,
-    )?;
-    let stepping = Stepping::Beat(moment, fresh);
-    follow(alloc, alarms, store, host, registry, latest, stepping)
+    store_copy(alloc, store, left, host, defines, &kept, moment)?;
+    left.role = Role::Copies(message.child);
+    follow(alloc, left, store, host, Stepping::Beat(moment, fresh))
 }
 
 /// A beat that defines nothing and sets nothing.
@@ -248,16 +204,13 @@ fn add_events(events: &mut EventList, more: EventList) -> Result<(), AgentFault>
     Ok(())
 }
 
-/// Adds beats of a message that define nothing, each after those before it, to the parts of an agent, and gives the
-/// events of all of them. At every moment a crash leaves the history with the first of them, with none or with all.
-/// After an `Err` the parts are of no more use.
+/// Adds beats of a message that define nothing, each after those before it, and gives the events of all of them. At
+/// every moment a crash leaves the history with the first of them, with none or with all. After an `Err` nothing of
+/// the store and of what was left is of use.
 fn add_later<H: Host>(
     alloc: Global,
     store: &mut Store,
-    registry: &Registry,
-    last_rows: &mut LastRows,
-    latest: &mut Latest,
-    alarms: &mut Alarms,
+    left: &mut Left,
     host: &mut H,
     message: &Data,
     beats: &[SentBeat],
@@ -265,24 +218,26 @@ fn add_later<H: Host>(
     requires ready { IsReady H.honest (H.seen host.old).past store.old }
     requires replayed { IsReplayed store.old }
     requires going { store.old.fault ≡ None }
-    requires own { AreApart same_dimension registry.now.dimensions }
-    requires registry { HasLimits registry.now }
-    requires up_to { IsUpTo alarms.old registry.now }
+    requires own { AreApart same_dimension left.old.registry.dimensions }
+    requires registry { HasLimits left.old.registry }
+    requires up_to { IsUpTo left.old.alarms left.old.registry }
     requires sent { AreSent store.old.last message.now beats.now }
     ensures any_moment { H.honest → (set : ASettings) (g : List HistoryBeat)
-        → let more = later_copies registry.now message.now beats.now in
-        ArePartsAt (H.seen host.old).past store.old registry.now last_rows.old latest.old
-        (held alarms.old) set g → MayTakeAll g more
+        → let more = later_copies left.old.registry message.now beats.now in
+        HoldsHistory (H.seen host.old).past store.old set g → IsLeftBy set g left.old
+        → MayTakeAll g more
         → Throughout (EveryDisk (StandsForFront set g more)) (H.seen host.old).past
         (H.seen host.new).past }
     ensures done { IfOk result
         (λ events. H.honest → (set : ASettings) (g : List HistoryBeat)
-        → let more = later_copies registry.now message.now beats.now in
-        ArePartsAt (H.seen host.old).past store.old registry.now last_rows.old latest.old
-        (held alarms.old) set g → MayTakeAll g more
-        → ArePartsAt (H.seen host.new).past store.new registry.now last_rows.new latest.new
-        (held alarms.new) set (onto g more) × (events ≡ events_onto set g more)) }
-    ensures up_to { OnOk result (IsUpTo alarms.new registry.now) }
+        → let more = later_copies left.old.registry message.now beats.now in
+        HoldsHistory (H.seen host.old).past store.old set g → IsLeftBy set g left.old
+        → MayTakeAll g more
+        → HasAdded (H.seen host.new).past store.new left.new set g more events) }
+    ensures registry { left.new.registry ≡ left.old.registry }
+    ensures role { OnOk result (left.old.role ≡ Role.Copies message.now.child
+        → left.new.role ≡ Role.Copies message.now.child) }
+    ensures up_to { OnOk result (IsUpTo left.new.alarms left.new.registry) }
     ensures keeps { KeepsStore H.honest (H.seen host.old) store.old result (H.seen host.new)
         store.new }
     ensures last { OnOk result
@@ -291,9 +246,7 @@ fn add_later<H: Host>(
     let defines = nothing_defined(alloc);
     let mut events = EventList::new(alloc);
     for beat in beats {
-        let more = add_copy(
-            alloc, store, registry, last_rows, latest, alarms, host, message, &defines, beat, false,
-        )?;
+        let more = add_copy(alloc, store, left, host, message, &defines, beat, false)?;
         add_events(&mut events, more)?;
     }
     Ok(events)
@@ -301,15 +254,12 @@ fn add_later<H: Host>(
 
 /// Adds the beats of a message, each after those before it, where the registry has the definitions of the message,
 /// of which this is the numbered beat: the first has them. The events are those of all of them. At every moment a
-/// crash leaves the history with the first of them, with none or with all. After an `Err` the parts are of no more
-/// use.
+/// crash leaves the history with the first of them, with none or with all. After an `Err` nothing of the store and of
+/// what was left is of use.
 fn add_beats<H: Host>(
     alloc: Global,
     store: &mut Store,
-    registry: &Registry,
-    last_rows: &mut LastRows,
-    latest: &mut Latest,
-    alarms: &mut Alarms,
+    left: &mut Left,
     host: &mut H,
     message: &Data,
     defines: &NumberedBeat,
@@ -318,33 +268,37 @@ fn add_beats<H: Host>(
     requires ready { IsReady H.honest (H.seen host.old).past store.old }
     requires replayed { IsReplayed store.old }
     requires going { store.old.fault ≡ None }
-    requires own { AreApart same_dimension registry.now.dimensions }
-    requires registry { HasLimits registry.now }
+    requires own { AreApart same_dimension left.old.registry.dimensions }
+    requires registry { HasLimits left.old.registry }
     requires sent { AreSent store.old.last message.now beats.now }
     requires charts { defines.now.charts
-        ≡ numbered_charts registry.now (definitions_in message.now.names) }
+        ≡ numbered_charts left.old.registry (definitions_in message.now.names) }
     requires dimensions { defines.now.dimensions
-        ≡ numbered_dimensions registry.now (definitions_in message.now.names) }
+        ≡ numbered_dimensions left.old.registry (definitions_in message.now.names) }
     requires within { IsWithinLimits defines.now }
     requires canonical { is_collected_canonical defines.now ≡ true }
     requires no_rows { defines.now.rows ≡ [] }
     ensures any_moment { H.honest → (before : ARegistry) (set : ASettings)
         (g : List HistoryBeat)
-        → let more = sent_copies registry.now message.now beats.now in
-        ArePartsAt (H.seen host.old).past store.old before last_rows.old latest.old
-        (held alarms.old) set g → registry.now ≡ with_names before message.now
-        → MayTakeAll g more
+        → let more = sent_copies left.old.registry message.now beats.now in
+        HoldsHistory (H.seen host.old).past store.old set g
+        → IsLeftBy set g (record left.old { registry = before })
+        → left.old.registry ≡ with_names before message.now → MayTakeAll g more
         → Throughout (EveryDisk (StandsForFront set g more)) (H.seen host.old).past
         (H.seen host.new).past }
     ensures done { IfOk result
         (λ events. H.honest → (before : ARegistry) (set : ASettings) (g : List HistoryBeat)
-        → let more = sent_copies registry.now message.now beats.now in
-        ArePartsAt (H.seen host.old).past store.old before last_rows.old latest.old
-        (held alarms.old) set g → registry.now ≡ with_names before message.now
-        → MayTakeAll g more → 0 < length beats.now
-        → ArePartsAt (H.seen host.new).past store.new registry.now last_rows.new latest.new
-        (held alarms.new) set (onto g more) × (events ≡ events_onto set g more)) }
-    ensures up_to { OnOk result (0 < length beats.now → IsUpTo alarms.new registry.now) }
+        → let more = sent_copies left.old.registry message.now beats.now in
+        HoldsHistory (H.seen host.old).past store.old set g
+        → IsLeftBy set g (record left.old { registry = before })
+        → left.old.registry ≡ with_names before message.now → MayTakeAll g more
+        → 0 < length beats.now
+        → HasAdded (H.seen host.new).past store.new left.new set g more events) }
+    ensures registry { left.new.registry ≡ left.old.registry }
+    ensures role { OnOk result
+        (0 < length beats.now → left.new.role ≡ Role.Copies message.now.child) }
+    ensures up_to { OnOk result
+        (0 < length beats.now → IsUpTo left.new.alarms left.new.registry) }
     ensures keeps { KeepsStore H.honest (H.seen host.old) store.old result (H.seen host.new)
         store.new }
     ensures last { OnOk result
@@ -353,20 +307,18 @@ fn add_beats<H: Host>(
     let Some((first, rest)) = beats.split_first() else {
         return Ok(EventList::new(alloc));
     };
-    let mut events = add_copy(
-        alloc, store, registry, last_rows, latest, alarms, host, message, defines, first, true,
-    )?;
-    let more = add_later(
-        alloc, store, registry, last_rows, latest, alarms, host, message, rest,
-    )?;
+    let mut events = add_copy(alloc, store, left, host, message, defines, first, true)?;
+    let more = add_later(alloc, store, left, host, message, rest)?;
     add_events(&mut events, more)?;
     Ok(events)
 }
 
-/// Adds the gap before the beats of a message, if there is one, to a store that is still of use.
+/// Adds the gap before the beats of a message, if there is one. At every moment a crash leaves the history with the
+/// gap or without it.
 fn add_gap_before<H: Host>(
     alloc: Global,
     store: &mut Store,
+    left: &mut Left,
     host: &mut H,
     message: &Data,
 ) -> Result<(), AgentFault>
@@ -375,19 +327,16 @@ fn add_gap_before<H: Host>(
     requires going { store.old.fault ≡ None }
     requires at { message.now.prev ≡ store.old.last }
     requires from { message.now.prev ≤ message.now.from }
-    ensures any_moment { H.honest → (registry : ARegistry) (lasts : List (Option ALast))
-        (latest : ALatest) (set : ASettings) (h : List HistoryBeat)
-        → Holds (H.seen host.old).past store.old registry lasts latest set h
-        → may_copy (role_of h) ≡ true
+    ensures any_moment { H.honest → (set : ASettings) (h : List HistoryBeat)
+        → HoldsHistory (H.seen host.old).past store.old set h → may_copy (role_of h) ≡ true
         → Throughout (EveryDisk (StandsForFront set h (gap_beats message.now)))
         (H.seen host.old).past (H.seen host.new).past }
-    ensures done { OnOk result
-        (H.honest → (registry : ARegistry) (lasts : List (Option ALast)) (latest : ALatest)
-        (set : ASettings) (h : List HistoryBeat)
-        → Holds (H.seen host.old).past store.old registry lasts latest set h
-        → may_copy (role_of h) ≡ true
-        → Holds (H.seen host.new).past store.new registry lasts latest set
-        (onto h (gap_beats message.now))) }
+    ensures done { OnOk result (H.honest → (set : ASettings) (h : List HistoryBeat)
+        → HoldsHistory (H.seen host.old).past store.old set h → may_copy (role_of h) ≡ true
+        → HoldsHistory (H.seen host.new).past store.new set (onto h (gap_beats message.now))) }
+    ensures left_by { OnOk result ((set : ASettings) (h : List HistoryBeat)
+        → IsLeftBy set h left.old → IsLeftBy set (onto h (gap_beats message.now)) left.new) }
+    ensures only { left.new ≡ record left.old { role = left.new.role } }
     ensures keeps { KeepsStore H.honest (H.seen host.old) store.old result (H.seen host.new)
         store.new }
     ensures last { OnOk result (store.new.last ≡ message.now.from) }
@@ -400,14 +349,15 @@ fn add_gap_before<H: Host>(
             message.child,
             message.prev,
             message.from,
-        )
+        )?;
+        left.role = Role::Copies(message.child);
+        Ok(())
     } else {
         Ok(())
     }
 }
 
-/// Takes definitions that a registry was tested for, and gives them by number. After an `Err` it may have taken a part
-/// of them.
+/// Takes definitions that a registry was tested for, and gives them by number. After an `Err` it may have taken them.
 fn define(
     alloc: Global,
     registry: &mut Registry,
@@ -446,16 +396,13 @@ fn define(
     }
 }
 
-/// Adds the gap and the beats of a message that begins where the history ends to the parts of an agent, and gives the
-/// events of all of them; nothing stands against it. At every moment a crash leaves the history with the first of
-/// them, with none or with all. After an `Err` the parts are of no more use.
+/// Adds the gap and the beats of a message that begins where the history ends, and gives the events of all of them;
+/// nothing stands against it. At every moment a crash leaves the history with the first of them, with none or with all.
+/// After an `Err` nothing of the store and of what was left is of use.
 pub(crate) fn add_message<H: Host>(
     alloc: Global,
     store: &mut Store,
-    registry: &mut Registry,
-    last_rows: &mut LastRows,
-    latest: &mut Latest,
-    alarms: &mut Alarms,
+    left: &mut Left,
     host: &mut H,
     message: &Data,
 ) -> Result<EventList, AgentFault>
@@ -464,37 +411,35 @@ pub(crate) fn add_message<H: Host>(
     requires going { store.old.fault ≡ None }
     requires at { message.now.prev ≡ store.old.last }
     requires form { IsData message.now }
-    requires free { names_refusal registry.old (definitions_in message.now.names) ≡ None }
-    requires charts { AreApart same_chart registry.old.charts }
-    requires dimensions { AreApart same_dimension registry.old.dimensions }
-    requires limits { HasLimits registry.old }
+    requires free { names_refusal left.old.registry (definitions_in message.now.names) ≡ None }
+    requires charts { AreApart same_chart left.old.registry.charts }
+    requires dimensions { AreApart same_dimension left.old.registry.dimensions }
+    requires limits { HasLimits left.old.registry }
     ensures any_moment { H.honest → (set : ASettings) (h : List HistoryBeat)
-        → ArePartsAt (H.seen host.old).past store.old registry.old last_rows.old latest.old
-        (held alarms.old) set h → may_copy (role_of h) ≡ true
-        → Throughout (EveryDisk (StandsForFront set h (beats_of registry.old message.now)))
+        → HoldsHistory (H.seen host.old).past store.old set h → IsLeftBy set h left.old
+        → may_copy (role_of h) ≡ true
+        → Throughout (EveryDisk (StandsForFront set h (beats_of left.old.registry message.now)))
         (H.seen host.old).past (H.seen host.new).past }
     ensures done { IfOk result
         (λ events. H.honest → (set : ASettings) (h : List HistoryBeat)
-        → let more = beats_of registry.old message.now in
-        ArePartsAt (H.seen host.old).past store.old registry.old last_rows.old latest.old
-        (held alarms.old) set h → may_copy (role_of h) ≡ true
-        → ArePartsAt (H.seen host.new).past store.new registry.new last_rows.new latest.new
-        (held alarms.new) set (onto h more) × (events ≡ events_onto set h more)) }
-    ensures up_to { OnOk result (IsUpTo alarms.new registry.new) }
+        → let more = beats_of left.old.registry message.now in
+        HoldsHistory (H.seen host.old).past store.old set h → IsLeftBy set h left.old
+        → may_copy (role_of h) ≡ true
+        → HasAdded (H.seen host.new).past store.new left.new set h more events) }
+    ensures role { OnOk result (left.new.role ≡ Role.Copies message.now.child) }
     ensures keeps { KeepsStore H.honest (H.seen host.old) store.old result (H.seen host.new)
         store.new }
     ensures last { OnOk result (store.new.last ≡ message.now.upto) }
-    ensures charts { OnOk result (AreApart same_chart registry.new.charts) }
-    ensures dimensions { OnOk result (AreApart same_dimension registry.new.dimensions) }
-    ensures limits { OnOk result (HasLimits registry.new) }
+    ensures charts { OnOk result (AreApart same_chart left.new.registry.charts) }
+    ensures dimensions { OnOk result (AreApart same_dimension left.new.registry.dimensions) }
+    ensures limits { OnOk result (HasLimits left.new.registry) }
+    ensures up_to { OnOk result (IsUpTo left.new.alarms left.new.registry) }
 {
     let Ok(defs) = definitions_in(alloc, &message.names) else {
         return Err(AgentFault::Memory);
     };
-    add_gap_before(alloc, store, host, message)?;
-    let defines = define(alloc, registry, &defs)?;
+    add_gap_before(alloc, store, left, host, message)?;
+    let defines = define(alloc, &mut left.registry, &defs)?;
     let beats = message.beats.as_slice();
-    add_beats(
-        alloc, store, registry, last_rows, latest, alarms, host, message, &defines, beats,
-    )
+    add_beats(alloc, store, left, host, message, &defines, beats)
 }

@@ -12,6 +12,7 @@ use Rattle.health_expr.specs.Value.{fixed, is_zero}
 use Rattle.health_config.specs.declared.lookup.Lookup.{Lookup}
 use Rattle.health_config.specs.declared.lookup.Method.{Method}
 use Rattle.health_config.specs.declared.lookup.Method.TheVariants as method
+use Rattle.health_config.specs.declared.number.TheConstants.{LONGEST_DURATION}
 use Rattle.history.specs.declared.dimension.DimDef.{DimDef}
 use Rattle.history.specs.Registry.{Registry}
 use Rattle.tier_rollup.specs.Buckets.{Added, record_of}
@@ -24,9 +25,9 @@ use Rattle.alarm_core.specs.Series.{series_of_chart}
 
 -- ---- the window
 
--- the most seconds of a window
+-- the most seconds of a window: no configuration says more
 abbrev pub longest_window : ℕ
-longest_window = 2592000
+longest_window = LONGEST_DURATION
 
 -- the moment behind a window's last, which lies so many seconds before now
 abbrev pub stop_of : Lookup → ℕ → ℕ

@@ -8,6 +8,7 @@ use Rattle.fixed_num.specs.UnitsText.{is_dot}
 use Rattle.health_config.specs.Entity.{Alarm}
 use Rattle.history.specs.declared.chart.ChartDef.{ChartDef}
 use Rattle.alarm_core.specs.declared.pairs.Pair.{Pair}
+use Rattle.alarm_core.specs.declared.pairs.TheConstants.{MOST_PAIRS}
 
 -- ---- an alarm and a chart
 
@@ -60,7 +61,7 @@ pairs_of entities charts e =
 
 -- at most so many are computed
 abbrev pub most_pairs : ℕ
-most_pairs = 65536
+most_pairs = MOST_PAIRS
 
 unfoldable pub first_pairs : List Pair → List Pair
 first_pairs pairs = take most_pairs pairs

@@ -17,7 +17,7 @@ ghost use Rattle.alarm_core.specs.Whole.{IsTextOf, IsWhole};
 /// the same fields, with expressions as trees. Without a call alarms are whole with any charts. Behind a
 /// configuration that was read, and behind each beat after it, they are whole with the charts of that call;
 /// and whole alarms that have bytes are read again from them. The call does nothing.
-pub fn any_alarms()
+pub fn alarms_stay_whole()
     ensures log { (calls : List Call)
         → (held_after nothing calls).log ≡ shown (events_of nothing calls) }
     ensures ids { (calls : List Call) → let events = events_of nothing calls in
@@ -41,7 +41,8 @@ pub fn short_alarms()
     ensures nothing { IsShort (kept nothing) }
     ensures configured { (held : Held) (text : List ℕ) (alarms : List Alarm) (registry : Registry)
         (moment : ℕ) → IsShort (kept held) → length text < 2 ^ 32 → HaveShortNames alarms
-        → HaveShortIds registry → IsShort (kept (configured held text alarms registry moment).held) }
+        → HaveShortIds registry
+        → IsShort (kept (configured held text alarms registry moment).held) }
     ensures stepped { (held : Held) (beat : Beat) → IsShort (kept held)
         → HaveShortNames held.alarms → HaveShortIds beat.registry
         → IsShort (kept (stepped_by held beat).held) }

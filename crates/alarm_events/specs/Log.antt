@@ -2,10 +2,11 @@
 use Rattle.std.specs.Prelude.{ℕ, ◌+◌, ◌-◌, ◌^◌, min, List, [], ◌∷◌, ◌++◌, length}
 use Rattle.circular_buffer.specs.Buffer.{keep_last}
 use Rattle.alarm_events.specs.declared.event.Event.{Event}
+use Rattle.alarm_events.specs.declared.log.TheConstants.{SHOWN}
 
 -- how many events are shown
 abbrev pub most_shown : ℕ
-most_shown = 1000
+most_shown = SHOWN
 
 -- a count that stands still at the end of its type
 abbrev pub counted : ℕ → ℕ

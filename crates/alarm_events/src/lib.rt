@@ -46,6 +46,3 @@ pub use short::is_short;
 pub use state::{KeptState, KeptStateList};
 pub use status::Status;
 pub use writing::{put_alarms, write_alarms};
-
-#[cfg(test)]
-mod tests;

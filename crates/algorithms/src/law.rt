@@ -9,7 +9,7 @@ ghost use Rattle.algorithms.specs.Cells.{before_of, cell_of, last_of, numbered};
 
 /// The laws of the last row of a dimension: what stands before a value is what the history says. It
 /// does nothing.
-pub fn any_last()
+pub fn last_rows_follow_the_history()
     ensures earlier { (chart : ChartDef) (moment : ℕ) (last : Collected) → last.moment < moment
         → before_of chart.update_every chart.store_first moment (Some (last_of last))
         ≡ before_at chart moment (Some last) }
@@ -22,8 +22,9 @@ pub fn any_last()
 
 /// The law of a value of a history: with the last row that the history has, its cell is what the history
 /// says. It does nothing.
-pub fn any_cell()
-    ensures { (h : List Beat) (chart : ChartDef) (moment series : ℕ) (value : OpenValue) (dimension : OpenDim)
+pub fn cells_follow_the_history()
+    ensures { (h : List Beat) (chart : ChartDef) (moment series : ℕ) (value : OpenValue)
+        (dimension : OpenDim)
         → IfSome (last_set h dimension.chart dimension.def.id) (λ last. last.moment < moment)
         → history_cell h chart moment dimension value
         ≡ cell_of chart.update_every chart.store_first moment (numbered series value)

@@ -19,13 +19,11 @@ mod last;
 mod law;
 mod row;
 mod sample;
-#[cfg(test)]
-mod tests;
 mod total;
 mod word;
 
 pub use fault::AlgoFault;
 pub use last::{Last, LastList};
-pub use law::{any_cell, any_last};
+pub use law::{cells_follow_the_history, last_rows_follow_the_history};
 pub use row::{DimList, ROW_LIMIT, WordList, row_points, sample_words};
 pub use sample::{Earlier, Sample, sample_of};

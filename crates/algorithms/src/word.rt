@@ -58,8 +58,9 @@ fn packed(num: i128, den: i128, anomalous: bool, reset: bool) -> u32
 
 /// The word of a value as it is: at most 2^63 times 2^31, over at most 2^31.
 fn absolute(sample: &Sample) -> u32
-    ensures { result
-        ≡ packed (ratio (sample.now.value *ℤ sample.now.multiplier) sample.now.divisor) sample.now.anomalous false }
+    ensures { result ≡ packed
+        (ratio (sample.now.value *ℤ sample.now.multiplier) sample.now.divisor)
+        sample.now.anomalous false }
 {
     let num = times(i128::from(sample.value), sample.multiplier);
     packed(num, i128::from(sample.divisor), sample.anomalous, false)
@@ -68,7 +69,8 @@ fn absolute(sample: &Sample) -> u32
 /// The word of a value's rise in a second: at most 2^64 times 2^31, over at most 2^63.
 fn rate(sample: &Sample, before: Earlier, reset: bool) -> u32
     ensures { result ≡ packed
-        (ratio (rise before.value sample.now.value *ℤ sample.now.multiplier) (sample.now.divisor *ℤ pos before.seconds))
+        (ratio (rise before.value sample.now.value *ℤ sample.now.multiplier)
+        (sample.now.divisor *ℤ pos before.seconds))
         sample.now.anomalous reset }
 {
     let num = times(sample::rise(before.value, sample.value), sample.multiplier);

@@ -3,6 +3,7 @@ use Rattle.std.proofs.Common.{◌≡◌, ℕ, ◌+◌, ◌≤◌, Bool, true, fa
 use Rattle.std.specs.List.{find, list_any, AllByRecursion}
 use Rattle.std.proofs.lemmas.Bool.{ltb-false, not-false}
 use Rattle.std.proofs.lemmas.List.Elements.{All-from_recursion, All-weaker}
+use Rattle.list_lemmas.proofs.Every.{none-fails}
 use Rattle.history.specs.declared.beat.OpenBeat.{OpenBeat}
 use Rattle.history.specs.declared.beat.OpenDim.{OpenDim}
 use Rattle.history.specs.declared.beat.OpenRow.{OpenRow}
@@ -21,11 +22,6 @@ use Rattle.beat_entries.proofs.DefinedLemmas.{chart-alike, chart-itself, dimensi
 use Rattle.beat_entries.proofs.PutLemmas.{apart-put_all, put-found}
 use Rattle.beat_entries.proofs.Slots.{none-all}
 use Rattle.beat_entries.specs.Rules.{fills_chart, is_too_long, lacks_chart, lacks_dimension, row_lacks_dimension, too_many_dimensions, IsOpenBeat}
-
--- a list none of whose things fails a test
-none-fails : {A : Type 0} (q : A → Bool) (xs : List A) → list_any (λ x. not (q x)) xs ≡ false → AllByRecursion (λ x. q x ≡ true) xs
-none-fails q [] e = tt
-none-fails q (x ∷ xs) e = let parts = or_false (not (q x)) (list_any (λ x. not (q x)) xs) e in (not-false (q x) parts.0, none-fails q xs parts.1)
 
 module _ (registry : Registry) (beat : OpenBeat) where
   abbrev after : Registry

@@ -5,6 +5,7 @@ use Rattle.std.specs.Option.{option_and_then, option_map, option_map_or}
 use Rattle.std.specs.Str.{bytes_eq}
 use Rattle.std.proofs.lemmas.Bool.{and_parts, eqb-true, not-false}
 use Rattle.std.proofs.lemmas.List.{append-nil, map-append}
+use Rattle.list_lemmas.proofs.Searches.{none-from}
 use Rattle.history.specs.declared.beat.OpenBeat.{OpenBeat}
 use Rattle.history.specs.declared.beat.OpenDim.{OpenDim}
 use Rattle.history.specs.declared.chart.ChartDef.{ChartDef}
@@ -35,14 +36,6 @@ or-none false = refl
 pub or-yes : (b : Bool) → (b || true) ≡ true
 or-yes true = refl
 or-yes false = refl
-
-pub some-map : {A B : Type 0} (f : A → B) (found : Option A) → is_some (option_map f found) ≡ is_some found
-some-map f None = refl
-some-map f (Some a) = refl
-
-none-from : {A : Type 0} (found : Option A) → is_some found ≡ false → found ≡ None
-none-from None e = refl
-none-from (Some a) e = absurd (true≢false e)
 
 none-and : {A : Type 0} (p g : A → Bool) (xs : List A) → list_any p xs ≡ false → list_any (λ x. p x && g x) xs ≡ false
 none-and p g [] none = refl

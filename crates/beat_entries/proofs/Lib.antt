@@ -1,5 +1,6 @@
 pub mod AfterLemmas
 pub mod Ascending
+pub mod ClosedLemmas
 pub mod ComingLemmas
 pub mod CopiedLemmas
 pub mod DefinedLemmas

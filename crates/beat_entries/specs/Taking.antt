@@ -4,12 +4,7 @@ use Rattle.history.specs.declared.fault.BlockFault.{BlockFault}
 use Rattle.beat_entries.specs.declared.beat_fault.BeatFault.{BeatFault}
 use Rattle.beat_entries.specs.declared.beat_fault.BeatFault.TheVariants.{Refused, Memory}
 
--- The beat is not taken for this reason. Memory is short only where nothing stands against the beat.
+-- The beat is not taken for this reason. Memory runs out only where nothing stands against the beat.
 abbrev pub IsFaultOf : Option BlockFault → BeatFault → Type 0
 IsFaultOf reason (Refused why) = reason ≡ Some why
 IsFaultOf reason Memory = reason ≡ None
-
--- the fault is a refusal
-abbrev pub IsRefusal : BeatFault → Type 0
-IsRefusal (Refused why) = Unit {0}
-IsRefusal Memory = ⊥

@@ -122,7 +122,8 @@ impl<'a> Coming<'a> {
             → option_map (λ place. place.number) result
             ≡ chart_of (with_beat self.now.registry.now self.now.beat.now) id.now }
         ensures grid { option_map (λ place. place.update_every) result
-            ≡ option_map (λ def. def.update_every) (find (is_chart id.now) self.now.beat.now.charts) }
+            ≡ option_map (λ def. def.update_every)
+            (find (is_chart id.now) self.now.beat.now.charts) }
     {
         match &self.fresh {
             Some(fresh) => match fresh.charts.place_of(id) {
@@ -150,7 +151,8 @@ impl<'a> Coming<'a> {
         ensures found { is_some result
             ≡ has_dimension self.now.registry.now self.now.beat.now chart.now id.now }
         ensures series { CanNumber self.now
-            → result ≡ series_of (with_beat self.now.registry.now self.now.beat.now) chart.now id.now }
+            → result
+            ≡ series_of (with_beat self.now.registry.now self.now.beat.now) chart.now id.now }
     {
         match known_series(self.registry, known, id) {
             Some(series) => Some(series),
@@ -164,7 +166,8 @@ impl<'a> Coming<'a> {
         ensures found { is_some result
             ≡ list_any (is_dimension chart.now id.now) self.now.beat.now.dimensions }
         ensures series { CanNumber self.now
-            → result ≡ series_of (with_beat self.now.registry.now self.now.beat.now) chart.now id.now }
+            → result
+            ≡ series_of (with_beat self.now.registry.now self.now.beat.now) chart.now id.now }
     {
         match &self.fresh {
             Some(fresh) => match fresh.dimensions.place_of(chart, id) {

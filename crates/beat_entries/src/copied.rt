@@ -67,7 +67,7 @@ pub fn define_copied(
 
 /// The laws of a copied beat that may follow a history: its entry goes on from the history's registry, and
 /// what the entry defines leaves the registry that the copied beat leaves. It does nothing.
-pub fn any_copied()
+pub fn copied_beat_goes_on()
     ensures next { (h : List Beat) (copy : Copy) → MayCopy h copy
         → copied_goes_on (registry_of h) (copied_entry_of (registry_of (copied copy ∷ h)) copy)
         ≡ true }

@@ -32,12 +32,12 @@ mod taking;
 mod usual;
 
 pub use beat_fault::BeatFault;
-pub use copied::{any_copied, define_copied};
+pub use copied::{copied_beat_goes_on, define_copied};
 pub use entry::{define, number_beat};
-pub use law::{any_defined, any_limits, any_next, any_numbered};
+pub use law::{
+    history_defines_its_beats, numbered_beat_defines_the_same, numbered_beat_goes_on,
+    numbered_beat_keeps_limits,
+};
 pub use refusal::EntryRefusal;
 pub use taking::take_beat;
 pub use usual::{usual_chart, usual_dimension};
-
-#[cfg(test)]
-mod tests;

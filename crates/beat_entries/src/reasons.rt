@@ -17,7 +17,8 @@ use history::{BlockFault, ChartDef, OpenBeat, OpenDim, OpenRow};
 
 fn dimensions_lack_chart(coming: &Coming) -> bool
     ensures { result ≡ list_any (λ (dimension : ADim). not
-        (has_chart coming.now.registry.now coming.now.beat.now dimension.chart)) coming.now.beat.now.dimensions }
+        (has_chart coming.now.registry.now coming.now.beat.now dimension.chart))
+        coming.now.beat.now.dimensions }
 {
     let dimensions = coming.beat.dimensions.as_slice();
     dimensions.iter().any(|dimension| coming.chart(dimension.chart.as_str()).is_none())

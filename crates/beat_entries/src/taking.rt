@@ -1,6 +1,6 @@
 //! What a history with a registry makes of a collected beat.
 
-ghost use Rattle.std.specs.Prelude.{◌≡◌, None, true, is_some, filter_map, IfOk, IfErr, OnOk, MatchResult};
+ghost use Rattle.std.specs.Prelude.{◌≡◌, None, true, is_some, filter_map, IfOk, OnOk, OnErr, MatchResult};
 ghost use Rattle.chart_registry.specs.declared.fault.RegistryFault.TheVariants as registry_fault;
 ghost use Rattle.entry_codec.specs.Entries.{is_collected_canonical, IsWithinLimits};
 ghost use Rattle.history.specs.Numbered.{numbered_beat, IsThere};
@@ -10,7 +10,7 @@ ghost use Rattle.beat_entries.specs.Coming.{CanNumber};
 ghost use Rattle.beat_entries.specs.Defined.{IsDefinedIn};
 ghost use Rattle.beat_entries.specs.Gathered.{row_at};
 ghost use Rattle.beat_entries.specs.Rules.{beat_refusal, content_refusal, with_beat, IsOpenBeat};
-ghost use Rattle.beat_entries.specs.Taking.{IsFaultOf, IsRefusal};
+ghost use Rattle.beat_entries.specs.Taking.{IsFaultOf};
 
 use crate::beat_fault::BeatFault;
 use crate::coming::Coming;
@@ -94,8 +94,8 @@ fn untaken(fault: RegistryFault) -> BeatFault
 
 /// What a history with this registry makes of a beat that was collected at `moment`: its refusal, or the beat by
 /// number, defined in the registry. `copies` says that the history has copied beats or gaps, and `last` is its last
-/// moment. Each chart and each value is looked up once, and nothing needs to be looked up after it. A refused beat
-/// changes nothing; where memory is short, the registry may have taken a part of the definitions.
+/// moment. Each chart and each value is looked up once, and nothing needs to be looked up after it. After an `Err`,
+/// Memory too, the registry is as it was.
 pub fn take_beat(
     alloc: Global,
     registry: &mut Registry,
@@ -112,8 +112,7 @@ pub fn take_beat(
         (λ numbered. numbered ≡ numbered_beat registry.new moment beat.now) }
     ensures judged { let reason = beat_refusal registry.old copies last moment beat.now in
         MatchResult result (λ _. reason ≡ None) (IsFaultOf reason) }
-    ensures unchanged { IfErr result
-        (λ fault. IsRefusal fault → registry.new ≡ registry.old) }
+    ensures unchanged { OnErr result (registry.new ≡ registry.old) }
 
     // What it leaves is in form.
     ensures charts { OnOk result (AreApart same_chart registry.new.charts) }
@@ -135,6 +134,3 @@ pub fn take_beat(
         Err(fault) => Err(untaken(fault)),
     }
 }
-
-#[cfg(test)]
-mod tests;

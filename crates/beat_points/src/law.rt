@@ -15,7 +15,7 @@ ghost use Rattle.history.specs.Regular.{IsRegular};
 
 /// The law of the points of a history with one more collected beat: a series has the beat's moment with its
 /// word in front where the beat gives it a point, and else the points that it had. It does nothing.
-pub fn any_points()
+pub fn beat_adds_its_points()
     ensures { (h : List Beat) (moment series : ℕ) (beat : OpenBeat)
         → points packed (collected moment beat ∷ h) series
         ≡ option_map_or
@@ -28,7 +28,7 @@ pub fn any_points()
 
 /// The laws of the moments of what was collected: nothing was in a history without beats, and a beat's
 /// values lie before each later moment. It does nothing.
-pub fn any_before()
+pub fn values_lie_before_later_moments()
     ensures none { (moment : ℕ) → IsBefore [] moment }
     ensures collected { (h : List Beat) (moment later : ℕ) (beat : OpenBeat)
         → IsBefore h later → moment < later
@@ -38,7 +38,7 @@ pub fn any_before()
 /// The laws of a text of accepted lines that follows a history, for what `LastRows` wants of a beat: each beat
 /// that it closes is regular, no chart comes to have more dimensions than a chart may have, and all that was
 /// collected lies before the next moment. It does nothing.
-pub fn any_text()
+pub fn accepted_text_is_regular()
     ensures regular { (every : ℕ) (h : List Beat) (past : List Line) (moment : ℕ)
         → HasFew (registry_of h) → AreAccepted every h (Moment moment ∷ past)
         → IsRegular (registry_of (history_at every h (Moment moment ∷ past)))

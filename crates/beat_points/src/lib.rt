@@ -6,7 +6,7 @@
 //! the beat sets once; none goes through the whole registry. Both are proved to be what the definitions of
 //! `history` say of the open beat that was numbered, after every history whose values lie before the beat.
 //! The registry has the beat's own definitions already. What is taken is regular, as each beat is that a text of accepted lines
-//! closes, by the law `any_text`.
+//! closes, by the law `accepted_text_is_regular`.
 //!
 //! The crate stands on the numbers of `chart_registry` and on the words of a row of `algorithms`.
 #![tactic(auto)]
@@ -18,10 +18,8 @@ mod law;
 mod samples;
 mod series_word;
 mod taking;
-#[cfg(test)]
-mod tests;
 
 pub use fault::PointFault;
 pub use last_rows::LastRows;
-pub use law::{any_before, any_points, any_text};
+pub use law::{accepted_text_is_regular, beat_adds_its_points, values_lie_before_later_moments};
 pub use series_word::{SeriesWord, SeriesWordList};

@@ -16,8 +16,9 @@ use Rattle.beat_tiers.specs.Tiers.{AreOrdered}
 use Rattle.beat_tiers.proofs.BeatRuns.{behind-all-append, behind-all-in, behind-last}
 use Rattle.beat_tiers.proofs.Ordered.{ordered-tail, place-le}
 use Rattle.beat_tiers.specs.Searching.{items_in}
-use Rattle.beat_tiers.specs.Segments.{SegmentsOf, items_of}
-use Rattle.beat_tiers.specs.declared.segments.Segment.{Segment}
+use Rattle.beat_tiers.specs.declared.parts.KeptItems.{KeptItems}
+use Rattle.beat_tiers.specs.Segments.{items_of}
+use Rattle.beat_tiers.specs.declared.parts.Segment.{Segment}
 use Rattle.beat_tiers.proofs.Searches.{flat_map-take, items-split as segments-split}
 
 -- ---- one item more
@@ -228,7 +229,7 @@ pub items-split : (items : List (Item Stepped)) (i : ℕ) (d : Item Stepped) →
 items-split items i d lt = sym (take-append-drop (i + 1) items) ∙ ap (λ (zs : List (Item Stepped)). zs ++ drop (i + 1) items) (take_more items i d lt)
 
 -- those of all segments
-pub all-above-split : (from : ℕ) (segments : SegmentsOf Stepped) (a b : List (Segment Stepped)) → a ++ b ≡ segments.sealed
+pub all-above-split : (from : ℕ) (segments : KeptItems Stepped) (a b : List (Segment Stepped)) → a ++ b ≡ segments.sealed
     → filter (item_above from) (items_of segments) ≡ filter (item_above from) (items_in a) ++ (filter (item_above from) (items_in b) ++ filter (item_above from) segments.unsealed)
 all-above-split from segments a b e =
     ap (filter (item_above from)) (segments-split segments a b e)

@@ -7,6 +7,7 @@ use Rattle.std.proofs.lemmas.List.Sums.{length-filter, count_by-le-length}
 use Rattle.fixed_num.specs.declared.units.Record.{Record}
 use Rattle.storage_number.specs.declared.point.Point.{Point as Value}
 use Rattle.storage_number.specs.Word.{point_of}
+use Rattle.storage_number.proofs.Laws.{word_within}
 use Rattle.tier_rollup.specs.declared.point.Point.{Point}
 use Rattle.tier_rollup.specs.Buckets.{Added, IsWithinLimit, bucket_record, holds, members, record_of as record_with}
 use Rattle.tier_rollup.specs.Growing.{with_value}
@@ -20,7 +21,6 @@ use Rattle.beat_tiers.specs.State.{with_points}
 use Rattle.beat_tiers.specs.Tiers.{AreBeats}
 use Rattle.beat_tiers.proofs.EntryLemmas.{entries_none, with_found, with_points_is, with_word}
 use Rattle.beat_tiers.proofs.GivenLemmas.{beat_of, IsLater, above_last}
-use Rattle.beat_tiers.proofs.WordLemmas.{word_within}
 
 abbrev pub values : List TierBeat → ℕ → List Added
 values beats series = filter_map value_of (series_points beats series)

@@ -193,7 +193,7 @@ all_found f series least (point ∷ points) above =
           ∙ ap (with_found (f series)) (sym (cond-false (point.series == series) (Some point) (find (is_series series) points) not))
     ]
 
-limit_is : series_limit ≡ 65536
+pub limit_is : series_limit ≡ 65536
 unfolding series_limit
 limit_is = refl
 

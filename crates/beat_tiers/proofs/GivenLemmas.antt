@@ -9,8 +9,9 @@ use Rattle.beat_tiers.specs.declared.item.BeatPoint.{BeatPoint}
 use Rattle.beat_tiers.specs.declared.item.Item.{Item}
 use Rattle.tier_settings.specs.declared.tier.Tier.{Tier}
 use Rattle.beat_tiers.specs.Beats.{TierBeat, AreAbove, last, record_of, records_in, series_limit}
-use Rattle.beat_tiers.specs.Floors.{Cuts, cut_after, cuts_of, items_added}
-use Rattle.beat_tiers.specs.Segments.{SegmentsOf, items_of}
+use Rattle.beat_tiers.specs.Floors.{Cuts, cut_after, cuts_of, expired_of, items_added}
+use Rattle.beat_tiers.specs.declared.parts.KeptItems.{KeptItems}
+use Rattle.beat_tiers.specs.Segments.{items_of}
 use Rattle.beat_tiers.specs.State.{point_items, record_items}
 use Rattle.beat_tiers.specs.Tiers.{AreBeats, AreOrdered, AreSegmentsOf, Group, with_group, closing_items, is_after, items_in, points_given, records_given}
 use Rattle.beat_tiers.proofs.GroupLemmas.{AreFalling, falling_to, with_falling, items_cons, split_items}
@@ -175,15 +176,15 @@ abbrev pub AreBelow : {T : Type 0} → ℕ → List (Item T) → Type 0
 AreBelow limit [] = Unit {0}
 AreBelow limit (item ∷ items) = (item.place < limit) × AreBelow limit items
 
-below_to : {T : Type 0} (low high : ℕ) (items : List (Item T)) → AreBelow low items → low ≤ high → AreBelow high items
+pub below_to : {T : Type 0} (low high : ℕ) (items : List (Item T)) → AreBelow low items → low ≤ high → AreBelow high items
 below_to low high [] below le = tt
 below_to low high (item ∷ items) below le = (omega (arith, below.0), below_to low high items below.1 le)
 
-below-append : {T : Type 0} (limit : ℕ) (xs ys : List (Item T)) → AreBelow limit xs → AreBelow limit ys → AreBelow limit (xs ++ ys)
+pub below-append : {T : Type 0} (limit : ℕ) (xs ys : List (Item T)) → AreBelow limit xs → AreBelow limit ys → AreBelow limit (xs ++ ys)
 below-append limit [] ys below more = more
 below-append limit (x ∷ xs) ys below more = (below.0, below-append limit xs ys below.1 more)
 
-at_below : {T : Type 0} (place least limit : ℕ) (items : List (Item T)) → AreAt place least items → place < limit → AreBelow limit items
+pub at_below : {T : Type 0} (place least limit : ℕ) (items : List (Item T)) → AreAt place least items → place < limit → AreBelow limit items
 at_below place least limit [] are lt = tt
 at_below place least limit (item ∷ items) are lt = (omega (arith, are.0), at_below place (item.series + 1) limit items are.2 lt)
 
@@ -193,7 +194,7 @@ placed_below {T} limit (group ∷ groups) are =
     subst (λ (items : List (Item T)). AreBelow limit items) (sym (items_cons group groups))
     (below-append limit (items_in groups) group.items (below_to are.0 limit (items_in groups) (placed_below are.0 groups are.3) (omega (arith, are.1))) (at_below are.0 0 limit group.items are.2 are.1))
 
-ordered-append : {T : Type 0} (place least : ℕ) (xs ys : List (Item T)) → AreOrdered xs → AreBelow place xs → AreAt place least ys → AreOrdered (xs ++ ys)
+pub ordered-append : {T : Type 0} (place least : ℕ) (xs ys : List (Item T)) → AreOrdered xs → AreBelow place xs → AreAt place least ys → AreOrdered (xs ++ ys)
 ordered-append place least [] ys ordered below at = ordered_at place least ys at
 ordered-append place least (x ∷ []) [] ordered below at = tt
 ordered-append place least (x ∷ []) (y ∷ ys) ordered below at = (inl (omega (arith, below.0, at.0)), ordered_at place least (y ∷ ys) at)
@@ -206,17 +207,17 @@ placed_ordered {T} limit (group ∷ groups) are =
     (ordered-append are.0 0 (items_in groups) group.items (placed_ordered are.0 groups are.3) (placed_below are.0 groups are.3) are.2)
 
 -- what is kept has the order of all that was given
-pub kept_ordered : {T : Type 0} (tier : Tier) (cuts : Cuts) (high limit : ℕ) (groups : List (Group T)) (segments : SegmentsOf T) → AreFalling high groups → ArePlaced limit groups
-    → AreSegmentsOf tier cuts groups segments → AreOrdered (items_of segments)
-kept_ordered {T} tier cuts high limit groups segments falls placed are =
-    subst (λ (items : List (Item T)). AreOrdered items) (sym (split_items high segments.expired segments.sealed segments.unsealed segments.beats groups falls are.split))
-    (placed_ordered limit (filter (λ (group : Group T). is_after segments.expired group.moment) groups)
-    (placed_filter (λ (group : Group T). is_after segments.expired group.moment) limit groups placed))
+pub kept_ordered : {T : Type 0} (number : ℕ) (tier : Tier) (cuts : Cuts) (high limit : ℕ) (groups : List (Group T)) (segments : KeptItems T) → AreFalling high groups → ArePlaced limit groups
+    → AreSegmentsOf number tier cuts groups segments → AreOrdered (items_of segments)
+kept_ordered {T} number tier cuts high limit groups segments falls placed are =
+    subst (λ (items : List (Item T)). AreOrdered items) (sym (split_items high (expired_of tier cuts) segments.sealed segments.unsealed groups falls are.split))
+    (placed_ordered limit (filter (λ (group : Group T). is_after (expired_of tier cuts) group.moment) groups)
+    (placed_filter (λ (group : Group T). is_after (expired_of tier cuts) group.moment) limit groups placed))
 
 -- what is kept lies below the limit of all that was given
-pub kept_below : {T : Type 0} (tier : Tier) (cuts : Cuts) (high limit : ℕ) (groups : List (Group T)) (segments : SegmentsOf T) → AreFalling high groups → ArePlaced limit groups
-    → AreSegmentsOf tier cuts groups segments → AreBelow limit (items_of segments)
-kept_below {T} tier cuts high limit groups segments falls placed are =
-    subst (λ (items : List (Item T)). AreBelow limit items) (sym (split_items high segments.expired segments.sealed segments.unsealed segments.beats groups falls are.split))
-    (placed_below limit (filter (λ (group : Group T). is_after segments.expired group.moment) groups)
-    (placed_filter (λ (group : Group T). is_after segments.expired group.moment) limit groups placed))
+pub kept_below : {T : Type 0} (number : ℕ) (tier : Tier) (cuts : Cuts) (high limit : ℕ) (groups : List (Group T)) (segments : KeptItems T) → AreFalling high groups → ArePlaced limit groups
+    → AreSegmentsOf number tier cuts groups segments → AreBelow limit (items_of segments)
+kept_below {T} number tier cuts high limit groups segments falls placed are =
+    subst (λ (items : List (Item T)). AreBelow limit items) (sym (split_items high (expired_of tier cuts) segments.sealed segments.unsealed groups falls are.split))
+    (placed_below limit (filter (λ (group : Group T). is_after (expired_of tier cuts) group.moment) groups)
+    (placed_filter (λ (group : Group T). is_after (expired_of tier cuts) group.moment) limit groups placed))

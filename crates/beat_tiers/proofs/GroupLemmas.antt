@@ -5,7 +5,7 @@ use Rattle.std.proofs.lemmas.Bool.{cases_lt, cond-true, cond-false, and_right, l
 use Rattle.std.proofs.lemmas.List.{append_assoc, append-nil, reverse-append}
 use Rattle.std.proofs.lemmas.List.Concat.{flat_map-append}
 use Rattle.beat_tiers.specs.declared.item.Item.{Item}
-use Rattle.beat_tiers.specs.declared.segments.Segment.{Segment}
+use Rattle.beat_tiers.specs.declared.parts.Segment.{Segment}
 use Rattle.beat_tiers.specs.Tiers.{Group, with_group, is_after, is_between_groups, items_in, AreSplit}
 
 -- the moments of the groups fall, from below a limit
@@ -88,13 +88,13 @@ items_split {T} limit from to (group ∷ groups) falls rises =
     later (Some from) to moment e lt = lt-ltb from moment (omega (arith, ltb-true from to e))
 
 -- all that is kept are the items after the last moment that has expired
-pub split_items : {T : Type 0} (limit : ℕ) (from : Option ℕ) (sealed : List (Segment T)) (unsealed : List (Item T)) (beats : ℕ) (groups : List (Group T)) → AreFalling limit groups
-    → AreSplit from sealed unsealed beats groups
+pub split_items : {T : Type 0} (limit : ℕ) (from : Option ℕ) (sealed : List (Segment T)) (unsealed : List (Item T)) (groups : List (Group T)) → AreFalling limit groups
+    → AreSplit from sealed unsealed groups
     → flat_map (λ (segment : Segment T). segment.items) sealed ++ unsealed ≡ items_in (filter (λ (group : Group T). is_after from group.moment) groups)
-split_items limit from [] unsealed beats groups falls split = split.0
-split_items {T} limit from (segment ∷ rest) unsealed beats groups falls split =
+split_items limit from [] unsealed groups falls split = split
+split_items {T} limit from (segment ∷ rest) unsealed groups falls split =
     append_assoc segment.items (flat_map (λ (segment : Segment T). segment.items) rest) unsealed
-    ∙ ap (λ (xs : List (Item T)). segment.items ++ xs) (split_items limit (Some segment.sealed_at) rest unsealed beats groups falls split.3)
+    ∙ ap (λ (xs : List (Item T)). segment.items ++ xs) (split_items limit (Some segment.sealed_at) rest unsealed groups falls split.3)
     ∙ ap (λ (xs : List (Item T)). xs ++ items_in (filter (λ (group : Group T). is_after (Some segment.sealed_at) group.moment) groups)) split.0
     ∙ items_split limit from segment.sealed_at groups falls split.2
 

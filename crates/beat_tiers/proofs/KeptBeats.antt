@@ -10,9 +10,9 @@ use Rattle.beat_tiers.specs.declared.kept.KeptBeat.{KeptBeat}
 use Rattle.beat_tiers.specs.declared.kept.KeptPoint.{KeptPoint}
 use Rattle.tier_settings.specs.declared.tier.Tier.{Tier}
 use Rattle.beat_tiers.specs.Beats.{TierBeat, last}
-use Rattle.beat_tiers.specs.Floors.{has_points, is_kept}
+use Rattle.beat_tiers.specs.Floors.{floor_in, has_points, is_kept}
 use Rattle.beat_tiers.specs.Kept.{beat_of_item, before_beats, beats_in, behind_all, behind_beats, kept_beat_of, kept_point_of}
-use Rattle.beat_tiers.specs.State.{floor_in, point_items}
+use Rattle.beat_tiers.specs.State.{point_items}
 use Rattle.beat_tiers.specs.Tiers.{AreBeats, Group, is_after, items_in, points_given}
 use Rattle.beat_tiers.proofs.BeatRuns.{behind-all-in, behind-last}
 use Rattle.beat_tiers.proofs.GivenLemmas.{AreBelow, IsLater, above_last, beat_of, placed_below, placed_filter, placed_to, points_placed}

@@ -11,9 +11,10 @@ use Rattle.beat_tiers.specs.declared.item.Item.{Item}
 use Rattle.beat_tiers.specs.declared.item.Stepped.{Stepped}
 use Rattle.tier_settings.specs.declared.tier.Tier.{Tier}
 use Rattle.beat_tiers.specs.Beats.{TierBeat, AreAbove, is_series, last, point_in, series_points}
-use Rattle.beat_tiers.specs.Floors.{cuts_of, floor_of}
-use Rattle.beat_tiers.specs.Segments.{SegmentsOf, items_of}
-use Rattle.beat_tiers.specs.State.{floor_in, point_at, point_items}
+use Rattle.beat_tiers.specs.Floors.{cuts_of, expired_of, floor_in, floor_of}
+use Rattle.beat_tiers.specs.declared.parts.KeptItems.{KeptItems}
+use Rattle.beat_tiers.specs.Segments.{items_of}
+use Rattle.beat_tiers.specs.State.{point_at, point_items}
 use Rattle.beat_tiers.specs.Tiers.{AreBeats, AreSegmentsOf, Group, with_group, is_after, is_between, items_in, points_given}
 use Rattle.beat_tiers.proofs.GroupLemmas.{reverse_cons, items_cons, split_items, with_items}
 use Rattle.beat_tiers.proofs.GivenLemmas.{beat_of, points_fall}
@@ -155,18 +156,19 @@ module _ (floor series from to : ℕ) where
       by t true b c point e = absurd (cc)
 
 -- The points that are kept, at or above the floor.
-pub points_kept : (tier : Tier) (beats : List TierBeat) (segments : SegmentsOf Stepped) → AreBeats beats → AreSegmentsOf tier (cuts_of 0 tier beats) (points_given beats) segments
+pub points_kept : (tier : Tier) (beats : List TierBeat) (segments : KeptItems Stepped) → AreBeats beats → AreSegmentsOf 0 tier (cuts_of 0 tier beats) (points_given beats) segments
     → (series from to : ℕ)
-    → filter_map (point_at (floor_in 0 tier segments.expired) series from to) (items_of segments) ≡ filter (is_between (floor_of 0 tier beats) from to) (reverse (series_points beats series))
+    → filter_map (point_at segments.floor series from to) (items_of segments) ≡ filter (is_between (floor_of 0 tier beats) from to) (reverse (series_points beats series))
 points_kept tier beats segments beats_are are series from to =
-    let floor : ℕ = floor_in 0 tier segments.expired in
-    let h : Item Stepped → Option Point = point_at (floor_in 0 tier segments.expired) series from to in
-    let test : Item Stepped → Bool = λ item. nat_le (floor_in 0 tier segments.expired) item.place in
-    let kept : List (Group Stepped) = filter (λ (group : Group Stepped). is_after segments.expired group.moment) (points_given beats) in
-    let low : (item : Item Stepped) → test item ≡ false → h item ≡ None = low_none (floor_in 0 tier segments.expired) series from to in
-    ap (filter_map h) (split_items (last beats + 1) segments.expired segments.sealed segments.unsealed segments.beats (points_given beats) (points_fall beats beats_are) are.split)
+    let expired : Option ℕ = expired_of tier (cuts_of 0 tier beats) in
+    let floor : ℕ = floor_of 0 tier beats in
+    let h : Item Stepped → Option Point = point_at floor series from to in
+    let test : Item Stepped → Bool = λ item. nat_le floor item.place in
+    let kept : List (Group Stepped) = filter (λ (group : Group Stepped). is_after expired group.moment) (points_given beats) in
+    let low : (item : Item Stepped) → test item ≡ false → h item ≡ None = low_none floor series from to in
+    ap (λ (n : ℕ). filter_map (point_at n series from to) (items_of segments)) are.floor
+    ∙ ap (filter_map h) (split_items (last beats + 1) expired segments.sealed segments.unsealed (points_given beats) (points_fall beats beats_are) are.split)
     ∙ filter_map_filter h test (items_in kept) low
-    ∙ ap (filter_map h) (left_filter (λ (group : Group Stepped). is_after segments.expired group.moment) test (points_given beats) (points_left tier segments.expired beats))
+    ∙ ap (filter_map h) (left_filter (λ (group : Group Stepped). is_after expired group.moment) test (points_given beats) (points_left tier expired beats))
     ∙ sym (filter_map_filter h test (items_in (points_given beats)) low)
-    ∙ points_all (floor_in 0 tier segments.expired) series from to beats beats_are
-    ∙ ap (λ (n : ℕ). filter (is_between n from to) (reverse (series_points beats series))) (ap (λ (o : Option ℕ). floor_in 0 tier o) are.expired)
+    ∙ points_all floor series from to beats beats_are

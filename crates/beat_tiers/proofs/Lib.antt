@@ -3,6 +3,7 @@ pub mod BeatRuns
 pub mod BucketLemmas
 pub mod EntryLemmas
 pub mod GivenLemmas
+pub mod GoingOn
 pub mod GroupLemmas
 pub mod Halves
 pub mod KeptBeats
@@ -12,12 +13,16 @@ pub mod KeptLemmas
 pub mod MoreLaws
 pub mod NextLemmas
 pub mod Ordered
+pub mod PartLemmas
+pub mod PlaceLemmas
 pub mod RecordLemmas
+pub mod RestoreLemmas
 pub mod Searches
 pub mod SeriesLemmas
 pub mod SetLemmas
 pub mod SlotLemmas
 pub mod SegmentLemmas
+pub mod SoundLemmas
+pub mod SoundTier
 pub mod StateLaws
 pub mod TierLemmas
-pub mod WordLemmas

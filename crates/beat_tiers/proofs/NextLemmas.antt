@@ -1,16 +1,17 @@
 -- The first record between two buckets, from what is kept.
 use Rattle.std.proofs.Common.{◌≡◌, ℕ, ◌+◌, ◌*◌, ◌/◌, ◌<◌, ◌≤◌, ◌==◌, ◌&&◌, ◌⊎◌, true, false, cond, max, nat_le, List, [], ◌∷◌, Option, Some, None, inl, inr, arith, refl, sym, ap, subst, ◌∙◌}
 use Rattle.std.specs.List.{find}
-use Rattle.std.specs.Option.{option_map, option_map_or}
+use Rattle.std.specs.Option.{option_map}
 use Rattle.std.proofs.Math.Nat.{mul-le-mul_right}
 use Rattle.std.proofs.lemmas.Bool.{and_parts, cases_Bool, cases_eq, cases_lt, cond-true, cond-false, eq-eqb, eqb-true, leb-true, lt-ltb, le-ltb, ne_eqb}
 use Rattle.std.proofs.lemmas.Bool.Decides.{nat_tests}
+use Rattle.std.proofs.lemmas.Grind.{div_ceil_times}
 use Rattle.list_lemmas.proofs.Searches.{found-all}
 use Rattle.fixed_num.specs.declared.units.Record.{Record}
 use Rattle.beat_tiers.specs.declared.item.Item.{Item}
 use Rattle.beat_tiers.specs.Searching.{is_next}
 use Rattle.beat_tiers.specs.Segments.{items_of}
-use Rattle.beat_tiers.specs.State.{AreClosed, RecordTierState, closed_record, floor_in, is_item, open_record, record_in}
+use Rattle.beat_tiers.specs.State.{AreClosed, RecordTierState, closed_record, first_bucket, is_item, open_record, record_in}
 use Rattle.beat_tiers.specs.Tiers.{AreOrdered, HaveNoRecord, IsFirstRecord}
 use Rattle.beat_tiers.proofs.Ordered.{ordered-tail, place-le}
 
@@ -80,48 +81,41 @@ module _ (series low to : ℕ) where
 
 -- ---- the record of a bucket, by where it lies
 
-module _ (place : ℕ) (one : RecordTierState) (last series : ℕ) (wide : 1 ≤ one.tier.width) where
-  abbrev pub first_kept : ℕ
-  first_kept = option_map_or (λ moment. moment / one.tier.width) one.segments.expired 0
+module _ (one : RecordTierState) (last series : ℕ) (wide : 1 ≤ one.tier.width) where
+  first_kept_is : (one.segments.floor ≤ first_bucket one * one.tier.width) × (first_bucket one * one.tier.width < one.segments.floor + one.tier.width)
+  first_kept_is = div_ceil_times one.segments.floor one.tier.width wide
 
-  floor_is : floor_in (place + 1) one.tier one.segments.expired ≡ one.tier.width * first_kept
-  floor_is = by one.segments.expired
-    where
-      by : (expired : Option ℕ) → floor_in (place + 1) one.tier expired ≡ one.tier.width * option_map_or (λ moment. moment / one.tier.width) expired 0
-      by None = omega arith
-      by (Some moment) = cond-false (place + 1 == 0) (moment + 1) (one.tier.width * (moment / one.tier.width)) (ne_eqb (place + 1) 0 (λ e. omega arith))
-
-  below_kept : (bucket : ℕ) → bucket < first_kept → record_in (place + 1) one last series bucket ≡ None
+  below_kept : (bucket : ℕ) → bucket < first_bucket one → record_in one last series bucket ≡ None
   below_kept bucket less =
-      let more : (bucket + 1) * one.tier.width ≤ first_kept * one.tier.width = mul-le-mul_right one.tier.width (omega arith) in
-      cond-true _ _ _ (lt-ltb (bucket * one.tier.width) (floor_in (place + 1) one.tier one.segments.expired) (omega (arith, floor_is, more, wide)))
+      let more : (bucket + 1) * one.tier.width ≤ first_bucket one * one.tier.width = mul-le-mul_right one.tier.width (omega arith) in
+      cond-true _ _ _ (lt-ltb (bucket * one.tier.width) one.segments.floor (omega (arith, first_kept_is.1, more)))
 
-  from_kept : (bucket : ℕ) → first_kept ≤ bucket → record_in (place + 1) one last series bucket ≡ cond (bucket == last / one.tier.width) (open_record one series) (closed_record one series bucket)
+  from_kept : (bucket : ℕ) → first_bucket one ≤ bucket → record_in one last series bucket ≡ cond (bucket == last / one.tier.width) (open_record one series) (closed_record one series bucket)
   from_kept bucket high =
-      let more : first_kept * one.tier.width ≤ bucket * one.tier.width = mul-le-mul_right one.tier.width high in
-      cond-false _ _ _ (le-ltb (bucket * one.tier.width) (floor_in (place + 1) one.tier one.segments.expired) (omega (arith, floor_is, more)))
+      let more : first_bucket one * one.tier.width ≤ bucket * one.tier.width = mul-le-mul_right one.tier.width high in
+      cond-false _ _ _ (le-ltb (bucket * one.tier.width) one.segments.floor (omega (arith, first_kept_is.0, more)))
 
-  closed_at : (bucket : ℕ) → first_kept ≤ bucket → (bucket ≡ last / one.tier.width → ⊥) → record_in (place + 1) one last series bucket ≡ closed_record one series bucket
+  closed_at : (bucket : ℕ) → first_bucket one ≤ bucket → (bucket ≡ last / one.tier.width → ⊥) → record_in one last series bucket ≡ closed_record one series bucket
   closed_at bucket high other = from_kept bucket high ∙ cond-false _ _ _ (ne_eqb bucket (last / one.tier.width) other)
 
-  open_at : (bucket : ℕ) → first_kept ≤ bucket → bucket ≡ last / one.tier.width → record_in (place + 1) one last series bucket ≡ open_record one series
+  open_at : (bucket : ℕ) → first_bucket one ≤ bucket → bucket ≡ last / one.tier.width → record_in one last series bucket ≡ open_record one series
   open_at bucket high same = from_kept bucket high ∙ cond-true _ _ _ (eq-eqb bucket (last / one.tier.width) same)
 
   abbrev found_in : ℕ → Option Record
-  found_in bucket = record_in (place + 1) one last series bucket
+  found_in bucket = record_in one last series bucket
 
   -- no closed record lies in the buckets, and that of the last moment is not among them
-  none_closed : (from low before : ℕ) → low ≡ max from first_kept → ((bucket : ℕ) → low ≤ bucket → bucket < before → find (is_item bucket series) (items_of one.segments) ≡ None)
+  none_closed : (from low before : ℕ) → low ≡ max from (first_bucket one) → ((bucket : ℕ) → low ≤ bucket → bucket < before → find (is_item bucket series) (items_of one.segments) ≡ None)
       → (bucket : ℕ) → from ≤ bucket → bucket < before → (bucket ≡ last / one.tier.width → ⊥) → found_in bucket ≡ None
   none_closed from low before low_is none bucket least less other =
-      elim (cases_lt bucket first_kept) [
+      elim (cases_lt bucket (first_bucket one)) [
         | inl under ↦ below_kept bucket under
         | inr kept ↦
             closed_at bucket kept other
             ∙ ap (option_map (λ (item : Item Record). item.value)) (none bucket (omega (arith, low_is, least, kept)) less)
       ]
 
-  pub closed_first : (from low to : ℕ) (item : Item Record) → low ≡ max from first_kept → AreOrdered (items_of one.segments) → AreClosed last one
+  pub closed_first : (from low to : ℕ) (item : Item Record) → low ≡ max from (first_bucket one) → AreOrdered (items_of one.segments) → AreClosed last one
       → Some item ≡ find (is_next series low to) (items_of one.segments) → IsFirstRecord found_in from to (Some (item.place, item.value))
   closed_first from low to item low_is ordered closed found =
       let is : IsFound series low to (items_of one.segments) item = found_is series low to (items_of one.segments) item ordered (sym found) in
@@ -134,7 +128,7 @@ module _ (place : ℕ) (one : RecordTierState) (last series : ℕ) (wide : 1 ≤
         none_before = λ bucket least less. none_closed from low item.place low_is is.before bucket least less (λ e. omega (arith, e, early, less));
       }
 
-  open_first : (from low to : ℕ) → low ≡ max from first_kept
+  open_first : (from low to : ℕ) → low ≡ max from (first_bucket one)
       → ((bucket : ℕ) → low ≤ bucket → bucket < to + 1 → find (is_item bucket series) (items_of one.segments) ≡ None)
       → low ≤ last / one.tier.width → last / one.tier.width ≤ to → (found : Option Record) → open_record one series ≡ found
       → IsFirstRecord found_in from to (option_map (λ (found : Record). (last / one.tier.width, found)) found)
@@ -150,16 +144,16 @@ module _ (place : ℕ) (one : RecordTierState) (last series : ℕ) (wide : 1 ≤
     none_before = λ bucket from_least less. none_closed from low (to + 1) low_is none bucket from_least (omega (arith, less, most)) (λ e. omega (arith, e, less));
   }
 
-  not_among : (from low to : ℕ) → low ≡ max from first_kept
+  not_among : (from low to : ℕ) → low ≡ max from (first_bucket one)
       → ((bucket : ℕ) → low ≤ bucket → bucket < to + 1 → find (is_item bucket series) (items_of one.segments) ≡ None)
       → (low ≤ last / one.tier.width → last / one.tier.width ≤ to → ⊥) → HaveNoRecord found_in from (to + 1)
   not_among from low to low_is none out bucket least less =
-      elim (cases_lt bucket first_kept) [
+      elim (cases_lt bucket (first_bucket one)) [
         | inl under ↦ below_kept bucket under
         | inr kept ↦ none_closed from low (to + 1) low_is none bucket least less (λ e. out (omega (arith, low_is, least, kept, e)) (omega (arith, e, less)))
       ]
 
-  pub open_next : (from low to : ℕ) (result : Option (ℕ × Record)) → low ≡ max from first_kept → None ≡ find (is_next series low to) (items_of one.segments)
+  pub open_next : (from low to : ℕ) (result : Option (ℕ × Record)) → low ≡ max from (first_bucket one) → None ≡ find (is_next series low to) (items_of one.segments)
       → result ≡ cond (nat_le low (last / one.tier.width) && nat_le (last / one.tier.width) to) (option_map (λ (found : Record). (last / one.tier.width, found)) (open_record one series)) None
       → IsFirstRecord found_in from to result
   open_next from low to result low_is none is =

@@ -10,8 +10,8 @@ use Rattle.beat_tiers.specs.declared.item.BeatPoint.{BeatPoint}
 use Rattle.beat_tiers.specs.declared.item.Item.{Item}
 use Rattle.tier_settings.specs.declared.tier.Tier.{Tier}
 use Rattle.beat_tiers.specs.Beats.{TierBeat, last, record_of, records_in}
-use Rattle.beat_tiers.specs.Floors.{floor_after, floor_of}
-use Rattle.beat_tiers.specs.State.{RecordTierState, closed_record, floor_in, is_item, open_record, record_in, record_items}
+use Rattle.beat_tiers.specs.Floors.{cuts_of, expired_of, floor_after, floor_in, floor_of}
+use Rattle.beat_tiers.specs.State.{RecordTierState, closed_record, is_item, open_record, record_in, record_items}
 use Rattle.beat_tiers.specs.Tiers.{AreBeats, Group, IsRecordTierOf, closing_items, is_after, items_in, record_above, records_given, with_group}
 use Rattle.beat_tiers.proofs.BucketLemmas.{outside, record_beyond, record_same}
 use Rattle.beat_tiers.proofs.EntryLemmas.{lookup_is}
@@ -163,28 +163,28 @@ records_left number tier expired bucket series (beat ∷ beats) one some floor =
 -- ---- what is answered
 
 closed_is : (number : ℕ) (one : RecordTierState) (beats : List TierBeat) (series bucket : ℕ) → 1 ≤ number → AreBeats beats → IsRecordTierOf beats number one
-    → floor_in number one.tier one.segments.expired ≤ bucket * one.tier.width → (bucket ≡ last beats / one.tier.width → ⊥)
+    → floor_of number one.tier beats ≤ bucket * one.tier.width → (bucket ≡ last beats / one.tier.width → ⊥)
     → closed_record one series bucket ≡ record_of one.tier.width bucket beats series
 closed_is number one beats series bucket some are is floor other =
-    let kept : List (Group Record) = filter (λ (group : Group Record). is_after one.segments.expired group.moment) (records_given one.tier.width beats) in
+    let expired : Option ℕ = expired_of one.tier (cuts_of number one.tier beats) in
+    let kept : List (Group Record) = filter (λ (group : Group Record). is_after expired group.moment) (records_given one.tier.width beats) in
     let value : Option (Item Record) → Option Record = option_map (λ (item : Item Record). item.value) in
-    ap (found bucket series) (split_items (last beats + 1) one.segments.expired one.segments.sealed one.segments.unsealed one.segments.beats (records_given one.tier.width beats) (records_fall one.tier.width beats are) is.segments.split)
+    ap (found bucket series) (split_items (last beats + 1) expired one.segments.sealed one.segments.unsealed (records_given one.tier.width beats) (records_fall one.tier.width beats are) is.segments.split)
     ∙ ap value (find_filter (is_item bucket series) (items_in kept)
-    ∙ ap (find (is_item bucket series)) (left_filter (λ (group : Group Record). is_after one.segments.expired group.moment) (is_item bucket series) (records_given one.tier.width beats)
-    (records_left number one.tier one.segments.expired bucket series beats some is.settings.width floor))
+    ∙ ap (find (is_item bucket series)) (left_filter (λ (group : Group Record). is_after expired group.moment) (is_item bucket series) (records_given one.tier.width beats)
+    (records_left number one.tier expired bucket series beats some is.settings.width floor))
     ∙ sym (find_filter (is_item bucket series) (items_in (records_given one.tier.width beats))))
     ∙ found_all one.tier.width bucket series beats is.settings.width are other
 
 -- The record of a bucket that is kept.
 pub record_kept : (number : ℕ) (one : RecordTierState) (beats : List TierBeat) (now series bucket : ℕ) → 1 ≤ number → now ≡ last beats → AreBeats beats → IsRecordTierOf beats number one
-    → record_in number one now series bucket ≡ record_above (floor_of number one.tier beats) one.tier.width bucket beats series
+    → record_in one now series bucket ≡ record_above (floor_of number one.tier beats) one.tier.width bucket beats series
 record_kept number one beats now series bucket some is_last are is =
-    let floors : floor_in number one.tier one.segments.expired ≡ floor_of number one.tier beats = ap (λ (o : Option ℕ). floor_in number one.tier o) is.segments.expired in
-    ap (λ n. record_in number one n series bucket) is_last
-    ∙ by (nat_lt (bucket * one.tier.width) (floor_in number one.tier one.segments.expired)) refl
-    ∙ ap (λ n. cond (nat_lt (bucket * one.tier.width) n) None (record_of one.tier.width bucket beats series)) floors
+    ap (λ n. record_in one n series bucket) is_last
+    ∙ ap (λ n. cond (nat_lt (bucket * one.tier.width) n) None (cond (bucket == last beats / one.tier.width) (open_record one series) (closed_record one series bucket))) is.segments.floor
+    ∙ by (nat_lt (bucket * one.tier.width) (floor_of number one.tier beats)) refl
   where
-    above : floor_in number one.tier one.segments.expired ≤ bucket * one.tier.width
+    above : floor_of number one.tier beats ≤ bucket * one.tier.width
         → cond (bucket == last beats / one.tier.width) (open_record one series) (closed_record one series bucket) ≡ record_of one.tier.width bucket beats series
     above floor =
         elim (cases_eq bucket (last beats / one.tier.width)) [
@@ -198,7 +198,7 @@ record_kept number one beats now series bucket some is_last are is =
               ∙ closed_is number one beats series bucket some are is floor other
         ]
 
-    by : (b : Bool) → nat_lt (bucket * one.tier.width) (floor_in number one.tier one.segments.expired) ≡ b
+    by : (b : Bool) → nat_lt (bucket * one.tier.width) (floor_of number one.tier beats) ≡ b
         → cond b None (cond (bucket == last beats / one.tier.width) (open_record one series) (closed_record one series bucket)) ≡ cond b None (record_of one.tier.width bucket beats series)
     by true e = refl
-    by false e = above (ltb-false (bucket * one.tier.width) (floor_in number one.tier one.segments.expired) e)
+    by false e = above (ltb-false (bucket * one.tier.width) (floor_of number one.tier beats) e)

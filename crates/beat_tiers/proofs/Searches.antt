@@ -11,9 +11,10 @@ use Rattle.std.specs.Option.{option_map}
 use Rattle.fixed_num.specs.declared.units.Record.{Record}
 use Rattle.beat_tiers.specs.declared.item.Item.{Item}
 use Rattle.beat_tiers.specs.declared.item.Stepped.{Stepped}
-use Rattle.beat_tiers.specs.declared.segments.Segment.{Segment}
+use Rattle.beat_tiers.specs.declared.parts.Segment.{Segment}
 use Rattle.beat_tiers.specs.Searching.{is_before}
-use Rattle.beat_tiers.specs.Segments.{SegmentsOf, items_of}
+use Rattle.beat_tiers.specs.declared.parts.KeptItems.{KeptItems}
+use Rattle.beat_tiers.specs.Segments.{items_of}
 use Rattle.beat_tiers.specs.State.{is_item, point_at}
 use Rattle.beat_tiers.specs.Tiers.{AreOrdered}
 use Rattle.beat_tiers.proofs.Ordered.{Precedes, each-precedes, first-precedes, ordered-left, ordered-right, ordered-tail}
@@ -144,7 +145,7 @@ filter_map-more h old mid new xs ys m n =
     n ∙ ap (λ zs. zs ++ filter_map h ys) m ∙ append_assoc old (filter_map h xs) (filter_map h ys) ∙ ap (λ zs. old ++ zs) (sym (filter_map-append h xs ys))
 
 -- all items of segments, part by part
-pub items-split : {T : Type 0} (segments : SegmentsOf T) (a b : List (Segment T)) → a ++ b ≡ segments.sealed
+pub items-split : {T : Type 0} (segments : KeptItems T) (a b : List (Segment T)) → a ++ b ≡ segments.sealed
     → items_of segments ≡ flat_map (λ (segment : Segment T). segment.items) a ++ (flat_map (λ (segment : Segment T). segment.items) b ++ segments.unsealed)
 items-split {T} segments a b e =
     let items : Segment T → List (Item T) = λ segment. segment.items in
@@ -153,7 +154,7 @@ items-split {T} segments a b e =
     ∙ append_assoc (flat_map items a) (flat_map items b) segments.unsealed
 
 -- each part of ordered items is ordered
-pub parts-ordered : {T : Type 0} (segments : SegmentsOf T) (a b : List (Segment T)) → a ++ b ≡ segments.sealed → AreOrdered (items_of segments)
+pub parts-ordered : {T : Type 0} (segments : KeptItems T) (a b : List (Segment T)) → a ++ b ≡ segments.sealed → AreOrdered (items_of segments)
     → AreOrdered (flat_map (λ (segment : Segment T). segment.items) a) × AreOrdered (flat_map (λ (segment : Segment T). segment.items) b) × AreOrdered segments.unsealed
 parts-ordered {T} segments a b e o =
     let items : Segment T → List (Item T) = λ segment. segment.items in

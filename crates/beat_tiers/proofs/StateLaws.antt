@@ -14,7 +14,7 @@ use Rattle.beat_tiers.proofs.TierLemmas.{tier_at}
 module _ (set : List Tier) (beats : List TierBeat) (state : TiersState) (are : AreTiersOf set beats state) where
   pub points_ordered : AreOrdered (items_of state.points)
   points_ordered =
-      kept_ordered state.first (cuts_of 0 state.first beats) (last beats + 1) (last beats + 1) (points_given beats) state.points
+      kept_ordered 0 state.first (cuts_of 0 state.first beats) (last beats + 1) (last beats + 1) (points_given beats) state.points
       (points_fall beats are.beats_are) (points_placed beats are.beats_are) are.points
 
   pub points_are : (series from to : ℕ) → points_in state series from to ≡ filter (is_between (floor_of 0 state.first beats) from to) (reverse (series_points beats series))
@@ -24,16 +24,16 @@ module _ (set : List Tier) (beats : List TierBeat) (state : TiersState) (are : A
     pub records_ordered : AreOrdered (items_of one.segments)
     records_ordered =
         let tier = tier_at beats 1 place state.records one are.records there in
-        kept_ordered one.tier (cuts_of (place + 1) one.tier beats) (last beats + 1) (last beats / one.tier.width) (records_given one.tier.width beats) one.segments
+        kept_ordered (place + 1) one.tier (cuts_of (place + 1) one.tier beats) (last beats + 1) (last beats / one.tier.width) (records_given one.tier.width beats) one.segments
         (records_fall one.tier.width beats are.beats_are) (records_placed one.tier.width beats tier.settings.width are.beats_are) tier.segments
 
     pub records_closed : AreClosed state.last one
     records_closed =
         let tier = tier_at beats 1 place state.records one are.records there in
         subst (λ (n : ℕ). AreBelow (n / one.tier.width) (items_of one.segments)) (sym are.last_is)
-        (kept_below one.tier (cuts_of (place + 1) one.tier beats) (last beats + 1) (last beats / one.tier.width) (records_given one.tier.width beats) one.segments
+        (kept_below (place + 1) one.tier (cuts_of (place + 1) one.tier beats) (last beats + 1) (last beats / one.tier.width) (records_given one.tier.width beats) one.segments
         (records_fall one.tier.width beats are.beats_are) (records_placed one.tier.width beats tier.settings.width are.beats_are) tier.segments)
 
-    pub records_are : (series bucket : ℕ) → record_in (place + 1) one state.last series bucket ≡ record_above (floor_of (place + 1) one.tier beats) one.tier.width bucket beats series
+    pub records_are : (series bucket : ℕ) → record_in one state.last series bucket ≡ record_above (floor_of (place + 1) one.tier beats) one.tier.width bucket beats series
     records_are series bucket =
         record_kept (place + 1) one beats state.last series bucket (omega arith) are.last_is are.beats_are (tier_at beats 1 place state.records one are.records there)

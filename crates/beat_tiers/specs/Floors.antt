@@ -34,9 +34,17 @@ cuts_of number tier (beat ∷ beats) = cut_after tier beat.moment (items_added n
 abbrev pub floor_after : ℕ → Tier → ℕ → ℕ
 floor_after number tier moment = if number == 0 then moment + 1 else tier.width * (moment / tier.width)
 
--- the floor of a tier: 0 as long as no segment has expired
+-- the moment of the beat that sealed the last segment that has expired
+abbrev pub expired_of : Tier → Cuts → Option ℕ
+expired_of tier cuts = slice_get cuts.sealed tier.extents
+
+-- the floor where that is this moment: 0 as long as no segment has expired
+abbrev pub floor_in : ℕ → Tier → Option ℕ → ℕ
+floor_in number tier expired = option_map_or (floor_after number tier) expired 0
+
+-- the floor of a tier
 abbrev pub floor_of : ℕ → Tier → List TierBeat → ℕ
-floor_of number tier beats = option_map_or (floor_after number tier) (slice_get (cuts_of number tier beats).sealed tier.extents) 0
+floor_of number tier beats = floor_in number tier (expired_of tier (cuts_of number tier beats))
 
 -- ---- kept beats
 

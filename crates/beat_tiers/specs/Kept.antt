@@ -8,7 +8,8 @@ use Rattle.beat_tiers.specs.declared.kept.Kept.{Kept}
 use Rattle.beat_tiers.specs.declared.kept.KeptBeat.{KeptBeat}
 use Rattle.beat_tiers.specs.declared.kept.KeptPoint.{KeptPoint}
 use Rattle.beat_tiers.specs.Beats.{TierBeat}
-use Rattle.beat_tiers.specs.Segments.{SegmentsOf, items_of}
+use Rattle.beat_tiers.specs.declared.parts.KeptItems.{KeptItems}
+use Rattle.beat_tiers.specs.Segments.{items_of}
 
 abbrev pub point_of_item : Item Stepped → KeptPoint
 point_of_item item = record { series = item.series; word = item.value.word }
@@ -29,7 +30,7 @@ beats_in [] = []
 beats_in (item ∷ items) = before_beats item (beats_in items)
 
 -- how many beats gave what has expired, and the beats that gave what is kept
-abbrev pub kept_in : SegmentsOf Stepped → Kept
+abbrev pub kept_in : KeptItems Stepped → Kept
 kept_in segments = record { before = segments.before; beats = beats_in (items_of segments) }
 
 -- ---- of a beat

@@ -2,8 +2,10 @@ pub mod Above
 pub mod Beats
 pub mod Floors
 pub mod Kept
+pub mod Parts
 pub mod Room
 pub mod Searching
 pub mod Segments
+pub mod Sound
 pub mod State
 pub mod Tiers

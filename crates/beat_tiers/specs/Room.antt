@@ -7,12 +7,12 @@ use Rattle.fixed_num.specs.declared.units.Record.{Record}
 use Rattle.beat_tiers.specs.declared.item.Stepped.{Stepped}
 use Rattle.beat_tiers.specs.declared.item.BeatPoint.{BeatPoint}
 use Rattle.tier_settings.specs.declared.tier.Tier.{Tier}
-use Rattle.beat_tiers.specs.Segments.{SegmentsOf}
+use Rattle.beat_tiers.specs.declared.parts.KeptItems.{KeptItems}
 use Rattle.beat_tiers.specs.State.{RecordTierState, TiersState}
 
 -- the segments, and for how many more items and sealed segments there is memory
 pub record SegmentsHeld (T : Type 0) : Type 0 where
-  pub kept : SegmentsOf T
+  pub kept : KeptItems T
   pub items : ℕ
   pub segments : ℕ
 

@@ -1,6 +1,7 @@
 -- What `Tiers` keeps, and how a beat changes it.
-use Rattle.std.specs.Prelude.{ℕ, zero, suc, ◌+◌, ◌-◌, ◌*◌, ◌/◌, ◌^◌, ◌<◌, ◌==◌, ◌&&◌, Bool, min, nat_le, nat_lt, if◌then◌else◌, List, [], ◌∷◌, find, length, map, slice_get, Option, Some, None}
+use Rattle.std.specs.Prelude.{ℕ, zero, suc, ◌*◌, ◌/◌, ◌<◌, ◌==◌, ◌&&◌, Bool, nat_le, nat_lt, if◌then◌else◌, List, [], ◌∷◌, find, length, map, slice_get, Option, Some, None}
 use Rattle.std.specs.BTreeMap.{insert_entry}
+use Rattle.std.specs.Int.{div_ceil}
 use Rattle.std.specs.List.{AllByRecursion, filter_map}
 use Rattle.std.specs.Map.{lookup}
 use Rattle.std.specs.Option.{option_map, option_map_or}
@@ -13,9 +14,10 @@ use Rattle.tier_rollup.specs.Growing.{with_value}
 use Rattle.beat_tiers.specs.declared.item.BeatPoint.{BeatPoint}
 use Rattle.beat_tiers.specs.declared.item.Item.{Item}
 use Rattle.beat_tiers.specs.declared.item.Stepped.{Stepped}
+use Rattle.beat_tiers.specs.declared.segments.ItemKind.TheVariants.{Points, Records}
 use Rattle.tier_settings.specs.declared.tier.Tier.{Tier}
-use Rattle.beat_tiers.specs.Floors.{floor_after}
-use Rattle.beat_tiers.specs.Segments.{SegmentsOf, ended, items_of, no_segments, with_items}
+use Rattle.beat_tiers.specs.declared.parts.KeptItems.{KeptItems}
+use Rattle.beat_tiers.specs.Segments.{ended, items_of, no_segments, with_items}
 
 -- ---- a tier of records
 
@@ -24,7 +26,7 @@ pub record RecordTierState : Type 0 where
   -- the records of the bucket of the last moment, by series
   pub current : List (ℕ × Record)
   -- those of buckets that are over
-  pub segments : SegmentsOf Record
+  pub segments : KeptItems Record
 
 abbrev pub no_records : Tier → RecordTierState
 no_records tier = record { tier = tier; current = []; segments = no_segments }
@@ -36,7 +38,7 @@ record_items bucket records = map (λ one. record { place = bucket; series = one
 abbrev pub closed_before : ℕ → ℕ → RecordTierState → RecordTierState
 closed_before last moment state =
     if nat_lt (last / state.tier.width) (moment / state.tier.width) && nat_lt 0 (length state.current)
-    then record state { current = []; segments = ended state.tier moment (with_items state.segments (record_items (last / state.tier.width) state.current)) }
+    then record state { current = []; segments = ended Records state.tier moment (with_items state.segments (record_items (last / state.tier.width) state.current)) }
     else state
 
 abbrev pub with_value_at : List (ℕ × Record) → ℕ → Value → List (ℕ × Record)
@@ -62,7 +64,7 @@ pub record TiersState : Type 0 where
   pub last : ℕ
   -- the settings of tier 0, and its points
   pub first : Tier
-  pub points : SegmentsOf Stepped
+  pub points : KeptItems Stepped
   -- the other tiers
   pub records : List RecordTierState
 
@@ -72,9 +74,9 @@ no_beats first others = record { last = 0; first = first; points = no_segments; 
 abbrev pub point_items : ℕ → List BeatPoint → List (Item Stepped)
 point_items moment points = map (λ (point : BeatPoint). record { place = moment; series = point.series; value = record { step = point.step; word = point.word } }) points
 
-abbrev pub points_after : Tier → ℕ → List BeatPoint → SegmentsOf Stepped → SegmentsOf Stepped
+abbrev pub points_after : Tier → ℕ → List BeatPoint → KeptItems Stepped → KeptItems Stepped
 points_after tier moment [] segments = segments
-points_after tier moment (point ∷ points) segments = ended tier moment (with_items segments (point_items moment (point ∷ points)))
+points_after tier moment (point ∷ points) segments = ended Points tier moment (with_items segments (point_items moment (point ∷ points)))
 
 -- after one more beat: a beat without a moment changes nothing
 abbrev pub after_beat : Option ℕ → List BeatPoint → TiersState → TiersState
@@ -87,14 +89,10 @@ after_beat (Some moment) points state = record state {
 
 -- ---- what is answered
 
-abbrev pub floor_in : ℕ → Tier → Option ℕ → ℕ
-floor_in number tier expired = option_map_or (floor_after number tier) expired 0
-
--- the floor of a tier, by its number: that of tier 0 is at most the last moment of 32 bits, and that of a tier that is not
--- there is 0
+-- the floor of a tier, by its number: that of a tier that is not there is 0
 abbrev pub tier_floor : TiersState → ℕ → ℕ
-tier_floor state zero = min (floor_in 0 state.first state.points.expired) (2 ^ 32 - 1)
-tier_floor state (suc place) = option_map_or (λ (one : RecordTierState). floor_in (place + 1) one.tier one.segments.expired) (slice_get state.records place) 0
+tier_floor state zero = state.points.floor
+tier_floor state (suc place) = option_map_or (λ (one : RecordTierState). one.segments.floor) (slice_get state.records place) 0
 
 -- the point that an item is, where it is of this series and between these moments
 abbrev pub point_at : ℕ → ℕ → ℕ → ℕ → Item Stepped → Option Point
@@ -104,7 +102,7 @@ point_at floor series from to item =
 
 abbrev pub points_in : TiersState → ℕ → ℕ → ℕ → List Point
 points_in state series from to =
-    filter_map (point_at (floor_in 0 state.first state.points.expired) series from to) (items_of state.points)
+    filter_map (point_at state.points.floor series from to) (items_of state.points)
 
 abbrev pub is_item : ℕ → ℕ → Item Record → Bool
 is_item bucket series item = item.place == bucket && item.series == series
@@ -116,11 +114,15 @@ abbrev pub open_record : RecordTierState → ℕ → Option Record
 open_record state series = lookup (λ key. series == key) state.current
 
 -- the record of a bucket at or above the floor
-abbrev pub record_in : ℕ → RecordTierState → ℕ → ℕ → ℕ → Option Record
-record_in number state last series bucket =
-    if nat_lt (bucket * state.tier.width) (floor_in number state.tier state.segments.expired) then None
+abbrev pub record_in : RecordTierState → ℕ → ℕ → ℕ → Option Record
+record_in state last series bucket =
+    if nat_lt (bucket * state.tier.width) state.segments.floor then None
     else if bucket == last / state.tier.width then open_record state series
     else closed_record state series bucket
+
+-- the first bucket at or above the floor
+abbrev pub first_bucket : RecordTierState → ℕ
+first_bucket state = div_ceil state.segments.floor state.tier.width
 
 -- the closed records lie in buckets before that of the last moment
 abbrev pub AreClosed : ℕ → RecordTierState → Type 0

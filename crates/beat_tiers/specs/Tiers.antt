@@ -1,15 +1,16 @@
 -- Which tiers stand for which beats. A list of beats has the latest first.
-use Rattle.std.specs.Prelude.{◌≡◌, ℕ, ◌+◌, ◌*◌, ◌/◌, ◌<◌, ◌≤◌, ◌&&◌, ◌⊎◌, Bool, true, nat_le, nat_lt, if◌then◌else◌, List, [], ◌∷◌, length, filter, flat_map, map, reverse, slice_get, take, Option, Some, None}
+use Rattle.std.specs.Prelude.{◌≡◌, ℕ, ◌+◌, ◌*◌, ◌/◌, ◌<◌, ◌≤◌, ◌&&◌, ◌⊎◌, Bool, true, nat_le, nat_lt, if◌then◌else◌, List, [], ◌∷◌, length, filter, flat_map, map, reverse, take, Option, Some, None}
 use Rattle.std.specs.Option.{option_map_or}
 use Rattle.fixed_num.specs.declared.units.Record.{Record}
 use Rattle.tier_rollup.specs.declared.point.Point.{Point}
 use Rattle.beat_tiers.specs.declared.item.Item.{Item}
 use Rattle.beat_tiers.specs.declared.item.Stepped.{Stepped}
-use Rattle.beat_tiers.specs.declared.segments.Segment.{Segment}
+use Rattle.beat_tiers.specs.declared.parts.Segment.{Segment}
 use Rattle.tier_settings.specs.declared.tier.Tier.{Tier}
 use Rattle.beat_tiers.specs.Beats.{TierBeat, Follows, last, record_of, records_in}
-use Rattle.beat_tiers.specs.Floors.{Cuts, cuts_of}
-use Rattle.beat_tiers.specs.Segments.{SegmentsOf}
+use Rattle.beat_tiers.specs.Floors.{Cuts, cuts_of, expired_of, floor_in}
+use Rattle.beat_tiers.specs.Searching.{HasItems}
+use Rattle.beat_tiers.specs.declared.parts.KeptItems.{KeptItems}
 use Rattle.beat_tiers.specs.State.{RecordTierState, TiersState, point_items, record_items}
 
 -- the settings that a tier may have
@@ -59,23 +60,21 @@ module _ {T : Type 0} where
 
   -- These segments, and the items since, are what was given after a moment: each segment has what was given up to the moment at
   -- which it was sealed.
-  abbrev pub AreSplit : Option ℕ → List (Segment T) → List (Item T) → ℕ → List (Group T) → Type 0
-  AreSplit from [] unsealed beats groups =
-      (unsealed ≡ items_in (filter (λ (group : Group T). is_after from group.moment) groups))
-      × (beats ≡ length (filter (λ (group : Group T). is_after from group.moment) groups))
-  AreSplit from (segment ∷ rest) unsealed beats groups =
+  abbrev pub AreSplit : Option ℕ → List (Segment T) → List (Item T) → List (Group T) → Type 0
+  AreSplit from [] unsealed groups = unsealed ≡ items_in (filter (λ (group : Group T). is_after from group.moment) groups)
+  AreSplit from (segment ∷ rest) unsealed groups =
       (segment.items ≡ items_in (filter (is_between_groups from segment.sealed_at) groups))
-      × (segment.beats ≡ length (filter (is_between_groups from segment.sealed_at) groups))
+      × HasItems segment
       × (is_after from segment.sealed_at ≡ true)
-      × AreSplit (Some segment.sealed_at) rest unsealed beats groups
+      × AreSplit (Some segment.sealed_at) rest unsealed groups
 
-  -- the segments of a tier are those of these cuts and groups
-  pub record AreSegmentsOf (tier : Tier) (cuts : Cuts) (groups : List (Group T)) (segments : SegmentsOf T) : Type 0 where
-    pub expired : segments.expired ≡ slice_get cuts.sealed tier.extents
+  -- the segments of the tier with this number are those of these cuts and groups
+  pub record AreSegmentsOf (number : ℕ) (tier : Tier) (cuts : Cuts) (groups : List (Group T)) (segments : KeptItems T) : Type 0 where
+    pub floor : segments.floor ≡ floor_in number tier (expired_of tier cuts)
     pub sealed : map (λ (segment : Segment T). segment.sealed_at) segments.sealed ≡ reverse (take tier.extents cuts.sealed)
     pub count : segments.count ≡ length cuts.sealed
     pub since : length segments.unsealed ≡ cuts.since
-    pub split : AreSplit segments.expired segments.sealed segments.unsealed segments.beats groups
+    pub split : AreSplit (expired_of tier cuts) segments.sealed segments.unsealed groups
 
   -- the items have the order of their places, and at one place that of their series, each once
   abbrev pub AreOrdered : List (Item T) → Type 0
@@ -90,7 +89,8 @@ module _ {T : Type 0} where
 pub record IsRecordTierOf (beats : List TierBeat) (number : ℕ) (state : RecordTierState) : Type 0 where
   pub settings : IsTier state.tier
   pub current : state.current ≡ records_in state.tier.width (last beats / state.tier.width) beats
-  pub segments : AreSegmentsOf state.tier (cuts_of number state.tier beats) (records_given state.tier.width beats) state.segments
+  pub uncounted : state.segments.before ≡ 0
+  pub segments : AreSegmentsOf number state.tier (cuts_of number state.tier beats) (records_given state.tier.width beats) state.segments
 
 -- each tier of records, the first of which is tier 1
 abbrev pub AreRecordTiersOf : List TierBeat → ℕ → List RecordTierState → Type 0
@@ -107,7 +107,7 @@ pub record AreTiersOf (set : List Tier) (beats : List TierBeat) (state : TiersSt
   pub settings : IsTier state.first
   pub beats_are : AreBeats beats
   pub last_is : state.last ≡ last beats
-  pub points : AreSegmentsOf state.first (cuts_of 0 state.first beats) (points_given beats) state.points
+  pub points : AreSegmentsOf 0 state.first (cuts_of 0 state.first beats) (points_given beats) state.points
   pub records : AreRecordTiersOf beats 1 state.records
 
 -- ---- what is answered

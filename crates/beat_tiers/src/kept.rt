@@ -1,6 +1,6 @@
 ghost use Rattle.std.specs.Prelude.{◌≡◌, [], ◌∷◌, ◌++◌, flat_map, IfOk, OnOk};
 ghost use Rattle.beat_tiers.specs.declared.item.Stepped.{Stepped as AStepped};
-ghost use Rattle.beat_tiers.specs.declared.segments.Segment.{Segment as ASegment};
+ghost use Rattle.beat_tiers.specs.declared.parts.Segment.{Segment as ASegment};
 ghost use Rattle.beat_tiers.specs.Kept.{beat_of_item, behind_all, behind_beats, kept_in, point_of_item};
 
 use crate::item::{Item, Stepped};

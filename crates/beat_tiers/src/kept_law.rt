@@ -8,7 +8,7 @@ ghost use Rattle.beat_tiers.specs.Tiers.{AreTiersOf};
 
 /// The laws of kept beats: those of the tiers of some beats are the beats with points at or above tier 0's
 /// floor, the earliest first, and it is counted how many beats with points lie below it. It does nothing.
-pub fn any_kept_beats()
+pub fn kept_beats_reach_the_floor()
     ensures kept { (set : List ATier) (beats : List TierBeat) (state : TiersState)
         → AreTiersOf set beats state
         → (kept_in state.points).beats ≡ map kept_beat_of (kept_beats state.first beats) }

@@ -4,25 +4,26 @@ ghost use Rattle.tier_settings.specs.declared.tier.Tier.{Tier as ATier};
 ghost use Rattle.beat_tiers.specs.Beats.{TierBeat, Follows, series_points};
 ghost use Rattle.beat_tiers.specs.Floors.{floor_of};
 ghost use Rattle.beat_tiers.specs.Segments.{items_of};
-ghost use Rattle.beat_tiers.specs.State.{AreClosed, RecordTierState, TiersState, after_beat, floor_in, no_beats, points_in, record_in};
+ghost use Rattle.beat_tiers.specs.State.{AreClosed, RecordTierState, TiersState, after_beat, no_beats, points_in, record_in};
 ghost use Rattle.beat_tiers.specs.Tiers.{AreOrdered, AreTiersOf, IsTier, is_between, record_above};
 
 /// The laws of tiers of beats: the empty ones are those of no beat, and with one more beat they are those of that
 /// beat behind the others. Their floors, the points of a series and the records at or above a floor are those of
 /// the whole list of the beats, whatever has expired. It does nothing.
-pub fn any_beats()
-    ensures none { (first : ATier) (others : List ATier) → IsTier first → AllByRecursion IsTier others
+pub fn tiers_follow_the_beats()
+    ensures none { (first : ATier) (others : List ATier) → IsTier first
+        → AllByRecursion IsTier others
         → AreTiersOf (first ∷ others) [] (no_beats first others) }
     ensures more { (set : List ATier) (beats : List TierBeat) (beat : TierBeat) (state : TiersState)
         → AreTiersOf set beats state → Follows beat beats
         → AreTiersOf set (beat ∷ beats) (after_beat beat.moment beat.points state) }
     ensures first_floor { (set : List ATier) (beats : List TierBeat) (state : TiersState)
         → AreTiersOf set beats state
-        → floor_in 0 state.first state.points.expired ≡ floor_of 0 state.first beats }
+        → state.points.floor ≡ floor_of 0 state.first beats }
     ensures floors { (set : List ATier) (beats : List TierBeat) (state : TiersState)
         → AreTiersOf set beats state
         → (place : ℕ) (one : RecordTierState) → slice_get state.records place ≡ Some one
-        → floor_in (place + 1) one.tier one.segments.expired ≡ floor_of (place + 1) one.tier beats }
+        → one.segments.floor ≡ floor_of (place + 1) one.tier beats }
     ensures ordered { (set : List ATier) (beats : List TierBeat) (state : TiersState)
         → AreTiersOf set beats state → AreOrdered (items_of state.points) }
     ensures each_ordered { (set : List ATier) (beats : List TierBeat) (state : TiersState)
@@ -42,6 +43,6 @@ pub fn any_beats()
         → AreTiersOf set beats state
         → (place : ℕ) (one : RecordTierState) → slice_get state.records place ≡ Some one
         → (series bucket : ℕ)
-        → record_in (place + 1) one state.last series bucket
+        → record_in one state.last series bucket
         ≡ record_above (floor_of (place + 1) one.tier beats) one.tier.width bucket beats series }
 {}

@@ -8,7 +8,7 @@ ghost use Rattle.beat_tiers.specs.Tiers.{AreBeats};
 /// The laws of one more beat: no floor falls. To a tier of records it adds as many items as the
 /// bucket of the last moment has records, where that bucket is over with the beat, and else none.
 /// No other bucket that was open has records. It does nothing.
-pub fn any_more_beat()
+pub fn floors_never_fall()
     ensures floors { (number : ℕ) (tier : ATier) (beat : TierBeat) (beats : List TierBeat)
         → 1 ≤ tier.width → AreBeats (beat ∷ beats)
         → floor_of number tier beats ≤ floor_of number tier (beat ∷ beats) }

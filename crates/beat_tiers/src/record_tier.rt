@@ -1,15 +1,21 @@
-ghost use Rattle.std.specs.Prelude.{◌≡◌, ◌==◌, ◌&&◌, ◌-◌, ℕ, ◌+◌, ◌*◌, ◌/◌, ◌≤◌, true, length, nat_le, if◌then◌else◌, [], ◌∷◌, None, OnOk};
+ghost use Rattle.std.specs.Prelude.{◌≡◌, ◌==◌, ◌&&◌, ◌-◌, ℕ, ◌≤◌, true, length, nat_le, if◌then◌else◌, [], ◌∷◌, ◌++◌, None, IfOk, OnOk};
+ghost use Rattle.std.specs.BTreeMap.{insert_entry};
+ghost use Rattle.std.specs.List.{AllByRecursion};
 ghost use Rattle.std.specs.Map.{keys_of, lookup};
-ghost use Rattle.std.specs.Option.{option_map, option_map_or};
+ghost use Rattle.std.specs.Option.{option_map};
+ghost use Rattle.std.specs.Ordering.{nat_cmp};
 ghost use Rattle.fixed_num.specs.declared.units.Record.{Record as ARecord};
+ghost use Rattle.beat_tiers.specs.Parts.{are_open, restored_tier, with_records};
 ghost use Rattle.beat_tiers.specs.Room.{closes, filled, has_slot, records_held, HasRoom, HasRoomAfter, HaveSlots};
+ghost use Rattle.beat_tiers.specs.Searching.{HasItems};
 ghost use Rattle.beat_tiers.specs.Segments.{items_of, with_items};
-ghost use Rattle.beat_tiers.specs.State.{AreClosed, closed_before, floor_in, no_records, open_record, record_in, record_items, record_tier_after, with_point, with_points, with_value_at};
+ghost use Rattle.beat_tiers.specs.State.{AreClosed, closed_before, first_bucket, no_records, open_record, record_in, record_items, record_tier_after, with_point, with_points, with_value_at};
 ghost use Rattle.beat_tiers.specs.Tiers.{AreOrdered, IsFirstRecord, IsTier};
 
 use crate::item::{BeatPoint, Item};
+use crate::parts::{KeptRecords, OpenRecordList};
 use crate::searching;
-use crate::segments::Segments;
+use crate::segments::{ItemKind, Segments};
 use fixed_num::Record;
 use std::alloc::{AllocError, Global};
 use std::collections::BTreeMap;
@@ -23,7 +29,7 @@ type Slots = BTreeMap<u32, Option<Record>>;
 
 /// A tier of records.
 #[derive(Debug, Drop)]
-pub(crate) struct RecordTier {
+pub struct RecordTier {
     tier: Tier,
     /// The slots of the bucket of the last moment.
     current: Slots,
@@ -118,6 +124,51 @@ fn reserve_slots(slots: &mut Slots, points: &[BeatPoint]) -> Result<(), AllocErr
     Ok(())
 }
 
+/// Puts in the record of a series.
+fn put_record(slots: &mut Slots, series: u32, value: Record) -> Result<(), AllocError>
+    ensures { OnOk result (filled slots.new.entries
+        ≡ insert_entry nat_cmp (filled slots.old.entries) series value) }
+{
+    slots.insert(series, Some(value))?;
+    Ok(())
+}
+
+/// Puts in records, one after the other.
+fn put_records(slots: &mut Slots, records: &[(u32, Record)]) -> Result<(), AllocError>
+    ensures { OnOk result (filled slots.new.entries
+        ≡ with_records (filled slots.old.entries) records.now) }
+{
+    for record in records {
+        put_record(slots, record.0, record.1)?;
+    }
+    Ok(())
+}
+
+/// Adds the record of a slot to others, if it has one.
+fn add_open(
+    records: &mut OpenRecordList,
+    series: u32,
+    slot: Option<Record>,
+) -> Result<(), AllocError>
+    ensures { OnOk result (records.new ≡ records.old ++ filled ((series, slot) ∷ [])) }
+{
+    if let Some(record) = slot {
+        records.push((series, record))?;
+    }
+    Ok(())
+}
+
+/// The records of slots.
+fn open_records(alloc: Global, slots: &Slots) -> Result<OpenRecordList, AllocError>
+    ensures { IfOk result (λ records. records ≡ filled slots.now.entries) }
+{
+    let mut records = OpenRecordList::new(alloc);
+    for (series, slot) in slots.iter() {
+        add_open(&mut records, *series, *slot)?;
+    }
+    Ok(records)
+}
+
 /// Adds a value to the record of its series, which has a slot.
 fn add_value(slots: &mut Slots, series: u32, value: Value)
     requires { has_slot slots.old.entries series ≡ true }
@@ -151,14 +202,6 @@ fn add_points(slots: &mut Slots, points: &[BeatPoint])
     }
 }
 
-/// The first moment that is kept where a segment that a beat of this moment sealed has expired.
-fn floor_after(tier: Tier, moment: u32) -> u32
-    requires { 1 ≤ tier.width }
-    ensures { result ≡ tier.width * (moment / tier.width) }
-{
-    tier.width * (moment / tier.width)
-}
-
 impl RecordTier {
     pub(crate) fn new(alloc: Global, tier: Tier) -> RecordTier
         requires { IsTier tier }
@@ -172,7 +215,43 @@ impl RecordTier {
         }
     }
 
-    pub(crate) fn tier(&self) -> Tier
+    /// The tier of what was kept.
+    pub(crate) fn restore(
+        alloc: Global,
+        tier: Tier,
+        kept: KeptRecords,
+    ) -> Result<RecordTier, AllocError>
+        requires settings { IsTier tier }
+        requires sealed { AllByRecursion HasItems kept.items.sealed }
+        requires records { are_open 0 kept.current ≡ true }
+        ensures { IfOk result (λ restored. records_held restored ≡ restored_tier tier kept) }
+    {
+        let mut current = BTreeMap::new(alloc);
+        put_records(&mut current, kept.current.as_slice())?;
+        Ok(RecordTier {
+            tier,
+            current,
+            next: BTreeMap::new(alloc),
+            segments: Segments::restore(alloc, kept.items)?,
+        })
+    }
+
+    /// The records of buckets that are over.
+    pub fn segments(&self) -> &Segments<Record>
+        ensures { result.now ≡ self.now.segments }
+    {
+        &self.segments
+    }
+
+    /// A copy of the records of the bucket of the last moment.
+    pub fn open_records(&self, alloc: Global) -> Result<OpenRecordList, AllocError>
+        ensures { IfOk result (λ records. records ≡ filled self.now.slots) }
+    {
+        open_records(alloc, &self.current)
+    }
+
+    /// The settings.
+    pub fn tier(&self) -> Tier
         ensures { result ≡ self.now.tier }
     {
         self.tier
@@ -224,7 +303,7 @@ impl RecordTier {
         let before = self.segments.unsealed().len();
         push_records(&mut self.segments, last / self.tier.width, &self.current);
         if before < self.segments.unsealed().len() {
-            self.segments.end_beat(self.tier, moment);
+            self.segments.end_beat(ItemKind::Records, self.tier, moment);
         }
         std::mem::swap(&mut self.current, &mut self.next);
         self.next.clear();
@@ -232,13 +311,9 @@ impl RecordTier {
 
     /// The first moment that is kept, or 0 where nothing has expired.
     pub(crate) fn floor(&self) -> u32
-        ensures { (place : ℕ) → result
-            ≡ floor_in (place + 1) self.now.tier self.now.segments.kept.expired }
+        ensures { result ≡ self.now.segments.kept.floor }
     {
-        match self.segments.expired() {
-            Some(moment) => floor_after(self.tier, moment),
-            None => 0,
-        }
+        self.segments.floor()
     }
 
     /// The record of a series in the bucket of the last moment.
@@ -250,8 +325,8 @@ impl RecordTier {
 
     /// The record of a series in a bucket at or above the floor, where `last` is the last moment.
     pub(crate) fn record_of(&self, last: u32, series: u32, bucket: u32) -> Option<Record>
-        ensures { AreOrdered (items_of self.now.segments.kept) → (place : ℕ)
-            → result ≡ record_in (place + 1) (records_held self.now) last series bucket }
+        ensures { AreOrdered (items_of self.now.segments.kept)
+            → result ≡ record_in (records_held self.now) last series bucket }
     {
         if u64::from(bucket) * u64::from(self.tier.width) < u64::from(self.floor()) {
             return None;
@@ -264,20 +339,17 @@ impl RecordTier {
 
     /// The first bucket that is kept.
     fn first_bucket(&self) -> u32
-        ensures { result ≡ option_map_or (λ (moment : ℕ). moment / self.now.tier.width)
-            self.now.segments.kept.expired 0 }
+        ensures { result ≡ first_bucket (records_held self.now) }
     {
-        match self.segments.expired() {
-            Some(moment) => moment / self.tier.width,
-            None => 0,
-        }
+        self.floor().div_ceil(self.tier.width)
     }
 
     /// The bucket of the last moment and the record of a series in it, where the bucket is from one to another, these
     /// included.
     fn next_open(&self, bucket: u32, series: u32, from: u32, to: u32) -> Option<(u32, Record)>
         ensures { result ≡ if nat_le from bucket && nat_le bucket to
-            then option_map (λ (found : ARecord). (bucket, found)) (open_record (records_held self.now) series)
+            then option_map (λ (found : ARecord). (bucket, found))
+            (open_record (records_held self.now) series)
             else None }
     {
         if from <= bucket && bucket <= to {
@@ -297,9 +369,9 @@ impl RecordTier {
         to: u32,
     ) -> Option<(u32, Record)>
         ensures { AreOrdered (items_of self.now.segments.kept)
-            → AreClosed last (records_held self.now) → (place : ℕ)
-            → IsFirstRecord (λ bucket. record_in (place + 1) (records_held self.now) last series
-            bucket) from to result }
+            → AreClosed last (records_held self.now)
+            → IsFirstRecord (λ bucket. record_in (records_held self.now) last series bucket)
+            from to result }
     {
         let low = from.max(self.first_bucket());
         match searching::next_item(&self.segments, series, low, to) {

@@ -5,13 +5,13 @@ ghost use Rattle.beat_tiers.specs.Searching.{is_of, IsBySeries};
 ghost use Rattle.beat_tiers.specs.Tiers.{AreOrdered};
 
 use crate::item::Item;
-use crate::segments::Segment;
+use crate::parts::Segment;
 use std::alloc::Global;
 use std::marker::Model;
 
 /// A sealed segment, which contracts see as the segment alone.
 #[derive(Debug, Drop)]
-pub(crate) struct Sealed<T> {
+pub struct Sealed<T> {
     segment: Segment<T>,
     /// The items by their series, each series' in their order. Where memory lacked there is none, and a question
     /// reads the items of all series.
@@ -20,7 +20,7 @@ pub(crate) struct Sealed<T> {
 
 impl<T> Model for Sealed<T> {
     ghost use Rattle.std.specs.Prelude.{IfSome};
-    ghost use Rattle.beat_tiers.specs.declared.segments.Segment.{Segment as ASegment};
+    ghost use Rattle.beat_tiers.specs.declared.parts.Segment.{Segment as ASegment};
     ghost use Rattle.beat_tiers.specs.Searching.{IsBySeries};
 
     ghost Value = { ASegment T };
@@ -82,21 +82,15 @@ impl<T: Copy + Drop> Sealed<T> {
 }
 
 impl<T> Sealed<T> {
-    /// The moment of the beat at which the items were cut off.
-    pub(crate) fn sealed_at(&self) -> u32
+    /// The moment of the beat at which the items were cut off, in seconds.
+    pub fn sealed_at(&self) -> u32
         ensures { result ≡ self.now.sealed_at }
     {
         self.segment.sealed_at
     }
 
-    /// How many beats gave the items.
-    pub(crate) fn beats(&self) -> u64
-        ensures { result ≡ self.now.beats }
-    {
-        self.segment.beats
-    }
-
-    pub(crate) fn items(&self) -> &[Item<T>]
+    /// The items, in the order in which they came.
+    pub fn items(&self) -> &[Item<T>]
         ensures { result.now ≡ self.now.items }
     {
         self.segment.items.as_slice()

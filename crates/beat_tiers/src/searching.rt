@@ -3,7 +3,7 @@ ghost use Rattle.std.specs.List.{filter_map, AllByRecursion};
 ghost use Rattle.std.specs.Option.{option_map};
 ghost use Rattle.fixed_num.specs.declared.units.Record.{Record as ARecord};
 ghost use Rattle.beat_tiers.specs.declared.item.Item.{Item as AnItem};
-ghost use Rattle.beat_tiers.specs.declared.segments.Segment.{Segment as ASegment};
+ghost use Rattle.beat_tiers.specs.declared.parts.Segment.{Segment as ASegment};
 ghost use Rattle.beat_tiers.specs.Searching.{first_place, is_before, is_next, items_in, last_place, HasItems};
 ghost use Rattle.beat_tiers.specs.Segments.{items_of};
 ghost use Rattle.beat_tiers.specs.State.{is_item, point_at};

@@ -1,17 +1,20 @@
-ghost use Rattle.std.specs.Prelude.{◌≡◌, ℕ, ◌+◌, ◌-◌, ◌^◌, ◌<◌, ◌≤◌, min, ◌∷◌, ◌++◌, filter, length, map, slice_get, take, Some, None, IfOk, IsNone, IsOk, OnOk};
+ghost use Rattle.std.specs.Prelude.{◌≡◌, ℕ, ◌+◌, ◌-◌, ◌^◌, ◌<◌, ◌≤◌, min, ◌∷◌, ◌++◌, filter, length, map, slice_get, take, true, Some, None, IfOk, IsNone, IsOk, OnOk};
 ghost use Rattle.std.specs.List.{AllByRecursion};
+ghost use Rattle.std.specs.Option.{option_map};
 ghost use Rattle.beat_tiers.specs.Above.{is_above, RiseAbove};
 ghost use Rattle.beat_tiers.specs.Kept.{kept_in};
+ghost use Rattle.beat_tiers.specs.Parts.{are_record_tiers, restored, restored_tiers};
 ghost use Rattle.beat_tiers.specs.Room.{records_held, tiers_held, HasRoom, HasRoomAfter, HasRoomFor};
 ghost use Rattle.beat_tiers.specs.Segments.{items_of, with_items};
-ghost use Rattle.beat_tiers.specs.State.{AreClosed, RecordTierState, after_beat, floor_in, no_beats, no_records, point_items, points_after, points_in, record_in, record_tier_after, tier_floor};
+ghost use Rattle.beat_tiers.specs.State.{AreClosed, RecordTierState, after_beat, no_beats, no_records, point_items, points_after, points_in, record_in, record_tier_after, tier_floor};
 ghost use Rattle.beat_tiers.specs.Tiers.{AreOrdered, IsFirstRecord, IsTier};
 
 use crate::item::{BeatPoint, Item, Stepped};
 use crate::kept::{self, Kept, KeptBeatList};
+use crate::parts::{KeptItems, KeptRecordsList};
 use crate::record_tier::RecordTier;
-use crate::segments::Segments;
-use crate::{above, searching};
+use crate::segments::{ItemKind, Segments};
+use crate::{above, form, searching};
 use fixed_num::Record;
 use std::alloc::{AllocError, Global};
 use std::marker::Model;
@@ -42,7 +45,7 @@ impl Model for Tiers {
       records = tiers.records.items;
     } };
 
-    ghost invariant = { λ tiers. 1 ≤ tiers.first.items };
+    ghost invariant = { λ tiers. (1 ≤ tiers.first.items) × (1 ≤ tiers.first.width) };
 }
 
 /// Tiers of records with these settings.
@@ -53,6 +56,30 @@ fn record_tiers(alloc: Global, settings: &[Tier]) -> Result<Vec<RecordTier>, All
     let mut tiers = Vec::new(alloc);
     for tier in settings {
         tiers.push(RecordTier::new(alloc, *tier))?;
+    }
+    Ok(tiers)
+}
+
+/// Tiers of records of what was kept.
+fn restored_tiers(
+    alloc: Global,
+    last: u32,
+    settings: &[Tier],
+    records: KeptRecordsList,
+) -> Result<Vec<RecordTier>, AllocError>
+    requires settings { AllByRecursion IsTier settings.now }
+    requires form { are_record_tiers last settings.now records ≡ true }
+    ensures { IfOk result (λ tiers. map records_held tiers.items
+        ≡ restored_tiers settings.now records) }
+{
+    let mut tiers = Vec::new(alloc);
+    let mut ahead = settings;
+    for kept in records.into_vec() {
+        let Some((tier, rest)) = ahead.split_first() else {
+            return Ok(tiers);
+        };
+        tiers.push(RecordTier::restore(alloc, *tier, kept)?)?;
+        ahead = rest;
     }
     Ok(tiers)
 }
@@ -80,14 +107,15 @@ fn push_points(segments: &mut Segments<Stepped>, moment: u32, points: &[BeatPoin
 /// Adds the points of a beat, for which there is memory, and ends it.
 fn take_points(segments: &mut Segments<Stepped>, tier: Tier, moment: u32, points: &[BeatPoint])
     requires room { HasRoom (length points.now) segments.old }
-    requires tier { 1 ≤ tier.items }
+    requires items { 1 ≤ tier.items }
+    requires width { 1 ≤ tier.width }
     ensures { segments.new.kept ≡ points_after tier moment points.now segments.old.kept }
 {
     if points.is_empty() {
         return;
     }
     push_points(segments, moment, points);
-    segments.end_beat(tier, moment);
+    segments.end_beat(ItemKind::Points, tier, moment);
 }
 
 /// Each tier of records takes the memory for a beat.
@@ -118,16 +146,6 @@ fn take_each(tiers: &mut [RecordTier], last: u32, moment: u32, points: &[BeatPoi
     }
 }
 
-/// The first moment that is kept of points, or 0 where nothing has expired.
-fn first_floor(expired: Option<u32>, tier: Tier) -> u64
-    ensures { result ≡ floor_in 0 tier expired }
-{
-    match expired {
-        Some(moment) => u64::from(moment) + 1,
-        None => 0,
-    }
-}
-
 impl Tiers {
     /// The tiers of no beat: `first` has the settings of tier 0, and `others` those of the tiers of records.
     pub fn new(alloc: Global, first: Tier, others: &[Tier]) -> Result<Tiers, AllocError>
@@ -142,6 +160,33 @@ impl Tiers {
             points: Segments::new(alloc),
             records: record_tiers(alloc, others)?,
         })
+    }
+
+    /// The tiers of what was kept: `last` is the last moment, or 0, and the settings are those of `new`. `None`
+    /// where the parts are not in the form that such tiers have.
+    pub fn restore(
+        alloc: Global,
+        first: Tier,
+        others: &[Tier],
+        last: u32,
+        points: KeptItems<Stepped>,
+        records: KeptRecordsList,
+    ) -> Result<Option<Tiers>, AllocError>
+        requires first { IsTier first }
+        requires others { AllByRecursion IsTier others.now }
+        ensures { IfOk result (λ found. option_map tiers_held found
+            ≡ restored first others.now last points records) }
+    {
+        if !form::are_in_form(first, others, last, &points, records.as_slice()) {
+            return Ok(None);
+        }
+        Ok(Some(Tiers {
+            alloc,
+            last,
+            first,
+            points: Segments::restore(alloc, points)?,
+            records: restored_tiers(alloc, last, others, records)?,
+        }))
     }
 
     /// Takes the memory for a beat. What is kept is as before, also after an `Err`.
@@ -198,11 +243,18 @@ impl Tiers {
         }
     }
 
-    fn points_floor(&self) -> u32
-        ensures { result ≡ tier_floor (tiers_held self.now) 0 }
+    /// What is kept of the points, to be read.
+    pub fn kept_points(&self) -> &Segments<Stepped>
+        ensures { result.now ≡ self.now.points }
     {
-        let floor = first_floor(self.points.expired(), self.first);
-        u32::try_from(floor).unwrap_or(u32::MAX)
+        &self.points
+    }
+
+    /// What is kept of the tiers of records, to be read. The first is tier 1.
+    pub fn kept_records(&self) -> &[RecordTier]
+        ensures { result.now ≡ self.now.records }
+    {
+        self.records.as_slice()
     }
 
     /// The first moment of which a tier has what it was given, in seconds, or 0 where nothing has expired. It is
@@ -211,7 +263,7 @@ impl Tiers {
         ensures { result ≡ tier_floor (tiers_held self.now) tier }
     {
         if tier == 0 {
-            return self.points_floor();
+            return self.points.floor();
         }
         match self.records.get(usize::from(tier) - 1) {
             Some(tier) => tier.floor(),
@@ -225,7 +277,7 @@ impl Tiers {
         ensures { AreOrdered (items_of self.now.points.kept)
             → IfOk result (λ points. points ≡ points_in (tiers_held self.now) series from to) }
     {
-        let floor = first_floor(self.points.expired(), self.first);
+        let floor = u64::from(self.points.floor());
         searching::points_of(self.alloc, &self.points, floor, series, from, to)
     }
 
@@ -235,7 +287,7 @@ impl Tiers {
         ensures kept { (place : ℕ) (one : RecordTierState)
             → slice_get (tiers_held self.now).records place ≡ Some one → tier ≡ place + 1
             → AreOrdered (items_of one.segments)
-            → result ≡ record_in (place + 1) one self.now.last series bucket }
+            → result ≡ record_in one self.now.last series bucket }
         ensures first { tier ≡ 0 → result ≡ None }
         ensures beyond { length self.now.records < tier → result ≡ None }
     {
@@ -255,7 +307,7 @@ impl Tiers {
         ensures kept { (place : ℕ) (one : RecordTierState)
             → slice_get (tiers_held self.now).records place ≡ Some one → tier ≡ place + 1
             → AreOrdered (items_of one.segments) → AreClosed self.now.last one
-            → IsFirstRecord (λ bucket. record_in (place + 1) one self.now.last series bucket)
+            → IsFirstRecord (λ bucket. record_in one self.now.last series bucket)
             from to result }
         ensures first { tier ≡ 0 → result ≡ None }
         ensures beyond { length self.now.records < tier → result ≡ None }

@@ -9,7 +9,7 @@ use Rattle.chart_registry.specs.declared.dimensions.Dimension.{Dimension}
 use Rattle.chart_registry.specs.Rows.{Mark, mark_of, marks, open_dims, redefined}
 use Rattle.chart_registry.proofs.Places.{map-set_kept}
 
-at_mark : (dimensions : List Dimension) (n : ℕ) (id : List ℕ) (old : Dimension) → option_map (λ (mark : Mark). mark.id) (slice_get (marks dimensions) n) ≡ Some id → old ≡ get_or dimensions n old
+pub at_mark : (dimensions : List Dimension) (n : ℕ) (id : List ℕ) (old : Dimension) → option_map (λ (mark : Mark). mark.id) (slice_get (marks dimensions) n) ≡ Some id → old ≡ get_or dimensions n old
     → (slice_get dimensions n ≡ Some old) × (id ≡ old.definition.def.id)
 at_mark [] n id old named at = absurd (none-some id named)
 at_mark (first ∷ dimensions) zero id old named at =

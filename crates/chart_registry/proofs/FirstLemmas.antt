@@ -9,7 +9,7 @@ use Rattle.history.specs.declared.fault.BlockFault.{BlockFault}
 use Rattle.history.specs.Refusal.{chart_refusal, dimension_refusal}
 use Rattle.history.specs.Registry.{Registry, with_definitions}
 use Rattle.chart_registry.specs.declared.fault.RegistryFault.{RegistryFault}
-use Rattle.chart_registry.specs.Defining.{nothing_open, chart_reason, dimension_reason, RefusesChart, RefusesDimension, IsReasonOf, RefusedBy}
+use Rattle.chart_registry.specs.Defining.{nothing_open, chart_reason, dimension_reason, IsFirstRefused, RefusesChart, RefusesDimension, IsReasonOf, RefusedBy}
 use Rattle.chart_registry.proofs.ReasonLemmas.{chart-reason, dimension-reason, charts-wider, dimensions-wider}
 
 -- what a list gives at a place that it has, and past its end
@@ -43,13 +43,12 @@ module _ (registry : Registry) (charts : List ChartDef) where
     pub charts-free-more : chart_refusal made nothing_open def ≡ None → (k : ℕ) → k < n + 1 → chart_reason registry charts k ≡ None
     charts-free-more accepted = below_more _ n free (here ∙ accepted)
 
-    pub first-chart : (after : Registry) → after ≡ made → (fault : RegistryFault) → RefusedBy (chart_refusal made nothing_open def) fault → RefusesChart registry charts after fault
-    first-chart after same fault refused = record {
+    pub first-chart : (fault : RegistryFault) → RefusedBy (chart_refusal made nothing_open def) fault → RefusesChart registry charts fault
+    first-chart fault refused = record {
       place = n;
       within = within;
       free = free;
       refused = subst (λ (r : Option BlockFault). RefusedBy r fault) (sym here) refused;
-      taken = same ∙ made_is;
     }
 
 -- ---- dimensions
@@ -68,22 +67,20 @@ module _ (registry : Registry) (dimensions : List OpenDim) where
     pub dimensions-free-more : dimension_refusal made nothing_open dimension.chart dimension.def ≡ None → (k : ℕ) → k < n + 1 → dimension_reason registry dimensions k ≡ None
     dimensions-free-more accepted = below_more _ n free (there ∙ accepted)
 
-    pub first-dimension : (after : Registry) → after ≡ made → (fault : RegistryFault) → RefusedBy (dimension_refusal made nothing_open dimension.chart dimension.def) fault
-        → RefusesDimension registry dimensions after fault
-    first-dimension after same fault refused = record {
+    pub first-dimension : (fault : RegistryFault) → RefusedBy (dimension_refusal made nothing_open dimension.chart dimension.def) fault → RefusesDimension registry dimensions fault
+    first-dimension fault refused = record {
       place = n;
       within = within;
       free = free;
       refused = subst (λ (r : Option BlockFault). RefusedBy r fault) (sym there) refused;
-      taken = same ∙ made_is;
     }
 
 -- ---- why the first that is refused is refused is a reason of the beat
-module _ (registry : Registry) (beat : OpenBeat) (after : Registry) where
-  pub chart-first : (charts : List ChartDef) → charts ≡ beat.charts → (fault : RegistryFault) → RefusesChart registry charts after fault → IsReasonOf registry beat fault
-  chart-first charts same fault refuses = by (subst (λ (charts : List ChartDef). RefusesChart registry charts after fault) same refuses)
+module _ (registry : Registry) (beat : OpenBeat) where
+  pub chart-first : (charts : List ChartDef) → charts ≡ beat.charts → (fault : RegistryFault) → RefusesChart registry charts fault → IsReasonOf registry beat fault
+  chart-first charts same fault refuses = by (subst (λ (charts : List ChartDef). RefusesChart registry charts fault) same refuses)
     where
-      by : RefusesChart registry beat.charts after fault → IsReasonOf registry beat fault
+      by : RefusesChart registry beat.charts fault → IsReasonOf registry beat fault
       by first = at (slice_get_cases beat.charts first.place).1
         where
           at : ((x : ChartDef) × (first.place < length beat.charts) × (slice_get beat.charts first.place ≡ Some x) × (get_or beat.charts first.place x ≡ x))
@@ -95,11 +92,11 @@ module _ (registry : Registry) (beat : OpenBeat) (after : Registry) where
           at (inr past) = absurd (omega (arith, past.0, first.within))
 
   pub dimension-first : (made : Registry) (dimensions : List OpenDim) → made ≡ with_definitions registry beat.charts [] → dimensions ≡ beat.dimensions
-      → (fault : RegistryFault) → RefusesDimension made dimensions after fault → IsReasonOf registry beat fault
+      → (fault : RegistryFault) → RefusesDimension made dimensions fault → IsReasonOf registry beat fault
   dimension-first made dimensions made_is same fault refuses =
-      by (subst (λ (dimensions : List OpenDim). RefusesDimension (with_definitions registry beat.charts []) dimensions after fault) same (subst (λ (r : Registry). RefusesDimension r dimensions after fault) made_is refuses))
+      by (subst (λ (dimensions : List OpenDim). RefusesDimension (with_definitions registry beat.charts []) dimensions fault) same (subst (λ (r : Registry). RefusesDimension r dimensions fault) made_is refuses))
     where
-      by : RefusesDimension (with_definitions registry beat.charts []) beat.dimensions after fault → IsReasonOf registry beat fault
+      by : RefusesDimension (with_definitions registry beat.charts []) beat.dimensions fault → IsReasonOf registry beat fault
       by first = at (slice_get_cases beat.dimensions first.place).1
         where
           at : ((x : OpenDim) × (first.place < length beat.dimensions) × (slice_get beat.dimensions first.place ≡ Some x) × (get_or beat.dimensions first.place x ≡ x))
@@ -109,3 +106,7 @@ module _ (registry : Registry) (beat : OpenBeat) (after : Registry) where
               (dimension-reason (with_definitions registry beat.charts []) beat.dimensions first.place found.0 (with_definitions (with_definitions registry beat.charts []) [] (take first.place beat.dimensions)) found.1 found.3 refl fault
               (subst (λ (o : Option OpenDim). RefusedBy (option_and_then (refusal_of (with_definitions registry beat.charts []) beat.dimensions first.place) o) fault) found.2 first.refused))
           at (inr past) = absurd (omega (arith, past.0, first.within))
+
+  pub first-reason : (fault : RegistryFault) → IsFirstRefused registry beat fault → IsReasonOf registry beat fault
+  first-reason fault (inl refuses) = chart-first beat.charts refl fault refuses
+  first-reason fault (inr later) = dimension-first (with_definitions registry beat.charts []) beat.dimensions refl refl fault later.1

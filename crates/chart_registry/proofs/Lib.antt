@@ -2,6 +2,7 @@ pub mod AcceptedLemmas
 pub mod AcceptedRows
 pub mod ApartLemmas
 pub mod Applying
+pub mod ChangesLemmas
 pub mod ChartsLemmas
 pub mod DefiningLemmas
 pub mod DimensionsLemmas
@@ -9,6 +10,7 @@ pub mod FewLemmas
 pub mod Finding
 pub mod FirstLemmas
 pub mod Growing
+pub mod LeavingLemmas
 pub mod Lists
 pub mod OpenLemmas
 pub mod Places

@@ -19,7 +19,7 @@ nothing_open = record { charts = []; dimensions = []; rows = [] }
 abbrev pub chart_id : Registry → ℕ → List ℕ
 chart_id registry number = option_map_or (λ def. def.id) (slice_get registry.charts number) []
 
--- A definition is refused with this fault for this reason. Memory is short only where nothing else
+-- A definition is refused with this fault for this reason. Memory runs out only where nothing else
 -- stands against the definition.
 abbrev pub RefusedBy : Option BlockFault → RegistryFault → Type 0
 RefusedBy reason GridChanged = reason ≡ Some block.GridChanged
@@ -62,25 +62,22 @@ pub record MayDefine (registry : Registry) (beat : OpenBeat) : Type 0 where
   pub charts : (place : ℕ) → chart_reason registry beat.charts place ≡ None
   pub dimensions : (place : ℕ) → dimension_reason (with_definitions registry beat.charts []) beat.dimensions place ≡ None
 
--- The chart at this place is refused with this fault, none before it is, and those before it were taken.
-pub record RefusesChart (before : Registry) (charts : List ChartDef) (after : Registry) (fault : RegistryFault) : Type 0 where
+-- the chart at this place is refused with this fault, and none before it is
+pub record RefusesChart (registry : Registry) (charts : List ChartDef) (fault : RegistryFault) : Type 0 where
   pub place : ℕ
   pub within : place < length charts
-  pub free : (earlier : ℕ) → earlier < place → chart_reason before charts earlier ≡ None
-  pub refused : RefusedBy (chart_reason before charts place) fault
-  pub taken : after ≡ with_definitions before (take place charts) []
+  pub free : (earlier : ℕ) → earlier < place → chart_reason registry charts earlier ≡ None
+  pub refused : RefusedBy (chart_reason registry charts place) fault
 
 -- the same of a dimension
-pub record RefusesDimension (before : Registry) (dimensions : List OpenDim) (after : Registry) (fault : RegistryFault) : Type 0 where
+pub record RefusesDimension (registry : Registry) (dimensions : List OpenDim) (fault : RegistryFault) : Type 0 where
   pub place : ℕ
   pub within : place < length dimensions
-  pub free : (earlier : ℕ) → earlier < place → dimension_reason before dimensions earlier ≡ None
-  pub refused : RefusedBy (dimension_reason before dimensions place) fault
-  pub taken : after ≡ with_definitions before [] (take place dimensions)
+  pub free : (earlier : ℕ) → earlier < place → dimension_reason registry dimensions earlier ≡ None
+  pub refused : RefusedBy (dimension_reason registry dimensions place) fault
 
--- The first definition of a beat that is refused, the charts first, is refused with this fault, and this is the
--- registry with those before it.
-abbrev pub IsFirstRefused : Registry → OpenBeat → Registry → RegistryFault → Type 0
-IsFirstRefused before beat after fault =
-    RefusesChart before beat.charts after fault
-    ⊎ ((place : ℕ) → chart_reason before beat.charts place ≡ None) × RefusesDimension (with_definitions before beat.charts []) beat.dimensions after fault
+-- the first definition of a beat that is refused, the charts first, is refused with this fault
+abbrev pub IsFirstRefused : Registry → OpenBeat → RegistryFault → Type 0
+IsFirstRefused registry beat fault =
+    RefusesChart registry beat.charts fault
+    ⊎ ((place : ℕ) → chart_reason registry beat.charts place ≡ None) × RefusesDimension (with_definitions registry beat.charts []) beat.dimensions fault

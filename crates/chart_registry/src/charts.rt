@@ -1,10 +1,14 @@
-ghost use Rattle.std.specs.Prelude.{◌≡◌, ◌<◌, ◌≤◌, [], ◌∷◌, ◌++◌, length, position, slice_get, slice_set, Some, None, string_bytes, OnOk, OnErr};
+ghost use Rattle.std.specs.Prelude.{◌≡◌, ◌<◌, ◌≤◌, [], ◌∷◌, ◌++◌, true, length, position, slice_get, slice_set, is_some, Some, None, string_bytes, OnOk, OnErr};
 ghost use Rattle.std.specs.Str.{bytes_eq};
 ghost use Rattle.chart_registry.specs.Rows.{rows, row_at, ids, chart_defs, series_in, AreById, AddsSeries, EntersSeries};
+ghost use Rattle.chart_registry.specs.Leaving.{RemovesSeries, LeavesSeries};
+ghost use Rattle.indexmap.specs.IndexMap.{values};
+ghost use Rattle.chart_registry.specs.declared.charts.Chart.{Chart as Kept};
 
 use history::ChartDef;
 use indexmap::IndexMap;
 use std::alloc::{AllocError, Global};
+use std::mem::replace;
 
 /// A chart as it is kept: its last definition, and the series of its dimensions by their ids.
 #[derive(Drop)]
@@ -35,23 +39,25 @@ pub(crate) fn chart_at(charts: &IndexMap<String, Chart>, number: u32) -> &Chart
     &charts[number as usize]
 }
 
-// Keeps a new definition of the chart with this number, which has the same id.
-pub(crate) fn replace(
-    charts: &mut IndexMap<String, Chart>,
-    number: u32,
-    def: &ChartDef,
-) -> Result<(), AllocError>
+// Puts a definition in the place of that of the chart with this number, which has the same id, and gives that.
+pub(crate) fn exchange(charts: &mut IndexMap<String, Chart>, number: u32, def: ChartDef) -> ChartDef
     requires there { number < length (chart_defs charts.old) }
-    requires same { (row_at (rows charts.old) number).id ≡ def.now.id }
+    requires same { (row_at (rows charts.old) number).id ≡ def.id }
     ensures by_id { AreById charts.old → AreById charts.new }
     ensures rows { rows charts.new ≡ rows charts.old }
-    ensures ok { OnOk result (chart_defs charts.new
-        ≡ slice_set (chart_defs charts.old) number def.now) }
-    ensures err { OnErr result (chart_defs charts.new ≡ chart_defs charts.old) }
+    ensures defs { chart_defs charts.new ≡ slice_set (chart_defs charts.old) number def }
+    ensures before { slice_get (chart_defs charts.old) number ≡ Some result }
 {
-    let copy = def.clone()?;
-    charts[number as usize].def = copy;
-    Ok(())
+    replace(&mut charts[number as usize].def, def)
+}
+
+// Takes the last chart out.
+pub(crate) fn remove_last(charts: &mut IndexMap<String, Chart>)
+    requires { 0 < length (chart_defs charts.old) }
+    ensures by_id { AreById charts.old → AreById charts.new }
+    ensures last { (last : Kept) × (values charts.old ≡ values charts.new ++ last ∷ []) }
+{
+    let _last = charts.pop();
 }
 
 // Keeps a chart with an id that no chart has yet.
@@ -96,6 +102,26 @@ fn add_series(chart: &mut Chart, id: String, series: u32) -> Result<(), AllocErr
 {
     chart.series.insert(id, series)?;
     Ok(())
+}
+
+// Takes the series of a dimension out of a chart's table.
+fn remove_series(chart: &mut Chart, id: &str)
+    requires { is_some (series_in chart.old.series.entries id.now) ≡ true }
+    ensures def { chart.new.def ≡ chart.old.def }
+    ensures series { RemovesSeries chart.old.series.entries id.now chart.new.series.entries }
+{
+    let _series = chart.series.swap_remove(id);
+}
+
+// Takes the series of a dimension out of the table of the chart with this number.
+pub(crate) fn leave(charts: &mut IndexMap<String, Chart>, number: u32, id: &str)
+    requires there { number < length (chart_defs charts.old) }
+    requires found { is_some (series_in (row_at (rows charts.old) number).series id.now) ≡ true }
+    ensures by_id { AreById charts.old → AreById charts.new }
+    ensures defs { chart_defs charts.new ≡ chart_defs charts.old }
+    ensures rows { LeavesSeries (rows charts.old) number id.now (rows charts.new) }
+{
+    remove_series(&mut charts[number as usize], id)
 }
 
 // Enters the series of a new dimension into the table of the chart with this number.

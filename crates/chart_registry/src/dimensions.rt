@@ -1,11 +1,14 @@
 ghost use Rattle.std.specs.Prelude.{◌≡◌, ◌<◌, ◌∷◌, [], ◌++◌, length, slice_get, slice_set, Some, None, IfOk, OnOk, OnErr};
 ghost use Rattle.std.specs.Option.{option_map};
-ghost use Rattle.chart_registry.specs.Rows.{rows, row_at, marks, chart_defs, open_dims, redefined, series_in, AreById, EntersSeries};
+ghost use Rattle.chart_registry.specs.Rows.{rows, row_at, marks, chart_defs, open_dims, redefined, series_in, AreById, AreKept, EntersSeries};
+ghost use Rattle.chart_registry.specs.Leaving.{LeavesSeries};
+ghost use Rattle.chart_registry.specs.declared.dimensions.Dimension.{Dimension as Kept};
 
 use crate::charts::{self, Chart};
 use history::{DimDef, OpenDim};
 use indexmap::IndexMap;
 use std::alloc::AllocError;
+use std::mem::replace;
 
 /// A dimension as it is kept: its last definition with its chart's id, and its chart's number.
 #[derive(Drop)]
@@ -16,8 +19,10 @@ pub(crate) struct Dimension {
 
 // A dimension of the chart with this number.
 fn dimension_of(chart: &Chart, number: u32, def: &DimDef) -> Result<Dimension, AllocError>
-    ensures { IfOk result (λ made. made
-        ≡ record { owner = number; definition = record { chart = chart.now.def.id; def = def.now } }) }
+    ensures { IfOk result (λ made. made ≡ record {
+      owner = number;
+      definition = record { chart = chart.now.def.id; def = def.now };
+    }) }
 {
     Ok(Dimension {
         owner: number,
@@ -28,22 +33,36 @@ fn dimension_of(chart: &Chart, number: u32, def: &DimDef) -> Result<Dimension, A
     })
 }
 
-// Keeps a new definition of the dimension with this series, which has the same id.
-pub(crate) fn replace(
-    dimensions: &mut Vec<Dimension>,
-    series: u32,
-    def: &DimDef,
-) -> Result<(), AllocError>
+// Puts a definition in the place of that of the dimension with this series, which has the same id, and gives
+// that.
+pub(crate) fn exchange(dimensions: &mut Vec<Dimension>, series: u32, def: DimDef) -> DimDef
     requires { option_map (λ mark. mark.id) (slice_get (marks dimensions.old.items) series)
-        ≡ Some def.now.id }
+        ≡ Some def.id }
     ensures marks { marks dimensions.new.items ≡ marks dimensions.old.items }
-    ensures ok { OnOk result (open_dims dimensions.new.items
-        ≡ redefined (open_dims dimensions.old.items) series def.now) }
-    ensures err { OnErr result (open_dims dimensions.new.items ≡ open_dims dimensions.old.items) }
+    ensures defs { open_dims dimensions.new.items
+        ≡ redefined (open_dims dimensions.old.items) series def }
+    ensures before { option_map (λ dimension. dimension.def)
+        (slice_get (open_dims dimensions.old.items) series) ≡ Some result }
 {
-    let copy = def.clone()?;
-    dimensions[series as usize].definition.def = copy;
-    Ok(())
+    replace(&mut dimensions[series as usize].definition.def, def)
+}
+
+// Takes the last dimension out.
+pub(crate) fn remove_last(charts: &mut IndexMap<String, Chart>, dimensions: &mut Vec<Dimension>)
+    requires kept { AreKept (rows charts.old) (marks dimensions.old.items) }
+    requires some { 0 < length dimensions.old.items }
+    ensures by_id { AreById charts.old → AreById charts.new }
+    ensures defs { chart_defs charts.new ≡ chart_defs charts.old }
+    ensures last { (last : Kept) × (dimensions.old.items ≡ dimensions.new.items ++ last ∷ [])
+        × LeavesSeries (rows charts.old) last.owner last.definition.def.id (rows charts.new) }
+{
+    if let Some(dimension) = dimensions.pop() {
+        charts::leave(
+            charts,
+            dimension.owner,
+            dimension.definition.def.id.as_str(),
+        );
+    }
 }
 
 // Keeps a dimension with an id that none of its chart has yet. Its series is the next number.

@@ -1,3 +1,7 @@
+ghost use Rattle.std.specs.Prelude.{◌≡◌};
+ghost use Rattle.chart_registry.specs.declared.fault.RegistryFault.TheVariants.{Memory};
+
+use std::alloc::AllocError;
 use thiserror::Error;
 
 /// Why a chart or a dimension was not defined.
@@ -15,4 +19,12 @@ pub enum RegistryFault {
     /// There was no memory.
     #[error("out of memory")]
     Memory,
+}
+
+impl From<AllocError> for RegistryFault {
+    ghost from_gives = { λ _ fault. fault ≡ Memory };
+
+    fn from(_error: AllocError) -> RegistryFault {
+        RegistryFault::Memory
+    }
 }

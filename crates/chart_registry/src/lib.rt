@@ -5,14 +5,17 @@
 //! chart or dimension replaces the one before and keeps the number. What it holds, and which definition
 //! it refuses, is proved to be what the definitions of `history` say: a chart keeps its update_every, and
 //! there are at most 4,096 charts, 1,024 dimensions of one chart and 65,536 in all. A refused definition
-//! changes nothing. Each call looks up by a hash, and none goes through all charts or dimensions.
+//! changes nothing, and of a beat all definitions are taken or none, also where memory runs out. Each call looks
+//! up by a hash, and none goes through all charts or dimensions.
 //!
 //! A `ChartTable` and a `DimensionTable` have the definitions of a beat that is not in the registry yet,
 //! and find them by hashes too.
 #![tactic(auto)]
 
+mod changes;
 mod chart_table;
 mod charts;
+mod defining;
 mod dimension_table;
 mod dimensions;
 mod fault;

@@ -4,12 +4,16 @@ ghost use Rattle.std.specs.Option.{option_and_then, option_map};
 ghost use Rattle.history.specs.Registry.{empty, is_chart, is_of, is_dimension, chart_of, series_of, with_definitions};
 ghost use Rattle.history.specs.Refusal.{has_chart, chart_refusal, dimension_refusal, dimensions_full};
 ghost use Rattle.chart_registry.specs.Accepted.{IsWithin};
-ghost use Rattle.chart_registry.specs.Defining.{nothing_open, chart_id, chart_reason, dimension_reason, MayDefine, IsFirstRefused, RefusesChart, RefusesDimension, IsReasonOf, RefusedBy};
+ghost use Rattle.chart_registry.specs.Defining.{nothing_open, chart_id, MayDefine, IsFirstRefused, IsReasonOf, RefusedBy};
+ghost use Rattle.chart_registry.specs.Changes.{IsChange};
+ghost use Rattle.history.specs.Registry.{Registry as Definitions};
 
+use crate::changes::Change;
 use crate::charts::{self, Chart};
+use crate::defining;
 use crate::dimensions::{self, Dimension};
 use crate::fault::RegistryFault;
-use history::{ChartDef, DimDef, OpenBeat, OpenDim};
+use history::{ChartDef, DimDef, OpenBeat};
 use indexmap::IndexMap;
 use std::alloc::Global;
 use std::marker::Model;
@@ -127,25 +131,37 @@ impl Registry {
         ensures refused { let reason = chart_refusal self.old nothing_open def.now in
             MatchResult result (λ _. reason ≡ None) (RefusedBy reason) }
     {
+        let (number, _) = self.change_chart(def)?;
+        Ok(number)
+    }
+
+    /// The same, and tells what changed.
+    pub(crate) fn change_chart(&mut self, def: &ChartDef) -> Result<(u32, Change), RegistryFault>
+        requires { 0 < def.now.update_every }
+        ensures number { IfOk result (λ made. chart_of self.new def.now.id ≡ Some made.0) }
+        ensures within { IfOk result (λ made. made.0 < length self.new.charts) }
+        ensures ok { OnOk result (self.new ≡ with_definitions self.old (def.now ∷ []) []) }
+        ensures change { IfOk result (λ made. IsChange self.old made.1 self.new) }
+        ensures err { OnErr result (self.new ≡ self.old) }
+        ensures refused { let reason = chart_refusal self.old nothing_open def.now in
+            MatchResult result (λ _. reason ≡ None) (RefusedBy reason) }
+    {
         match charts::number_of(&self.charts, def.id.as_str()) {
             Some(number) => {
                 if charts::chart_at(&self.charts, number).def.update_every != def.update_every {
                     return Err(RegistryFault::GridChanged);
                 }
-                match charts::replace(&mut self.charts, number, def) {
-                    Ok(()) => Ok(number),
-                    Err(_) => Err(RegistryFault::Memory),
-                }
+                let chart = def.clone()?;
+                let before = charts::exchange(&mut self.charts, number, chart);
+                Ok((number, Change::ChartReplaced(number, before)))
             }
             None => {
                 let number = self.charts();
                 if number >= MOST_CHARTS {
                     return Err(RegistryFault::TooManyCharts);
                 }
-                match charts::add(self.alloc, &mut self.charts, def) {
-                    Ok(()) => Ok(number),
-                    Err(_) => Err(RegistryFault::Memory),
-                }
+                charts::add(self.alloc, &mut self.charts, def)?;
+                Ok((number, Change::ChartAdded))
             }
         }
     }
@@ -174,37 +190,76 @@ impl Registry {
             (chart_id self.old chart) def.now in
             MatchResult result (λ _. reason ≡ None) (RefusedBy reason) }
     {
+        let (series, _) = self.change_dimension(chart, def)?;
+        Ok(series)
+    }
+
+    /// The same, and tells what changed.
+    pub(crate) fn change_dimension(
+        &mut self,
+        chart: u32,
+        def: &DimDef,
+    ) -> Result<(u32, Change), RegistryFault>
+        requires { chart < length self.old.charts }
+        ensures series { IfOk result
+            (λ made. series_of self.new (chart_id self.old chart) def.now.id ≡ Some made.0) }
+        ensures within { IfOk result (λ made. made.0 < length self.new.dimensions) }
+        ensures ok { OnOk result (self.new
+            ≡ with_definitions self.old []
+            (record { chart = chart_id self.old chart; def = def.now } ∷ [])) }
+        ensures change { IfOk result (λ made. IsChange self.old made.1 self.new) }
+        ensures err { OnErr result (self.new ≡ self.old) }
+        ensures refused { let reason = dimension_refusal self.old nothing_open
+            (chart_id self.old chart) def.now in
+            MatchResult result (λ _. reason ≡ None) (RefusedBy reason) }
+    {
         match charts::series_of(&self.charts, chart, def.id.as_str()) {
             Some(series) => {
-                match dimensions::replace(&mut self.dimensions, series, def) {
-                    Ok(()) => Ok(series),
-                    Err(_) => Err(RegistryFault::Memory),
-                }
+                let dimension = def.clone()?;
+                let before = dimensions::exchange(&mut self.dimensions, series, dimension);
+                Ok((series, Change::DimensionReplaced(series, before)))
             }
             None => {
                 if self.is_full(chart) {
                     return Err(RegistryFault::TooManyDimensions);
                 }
-                match dimensions::add(&mut self.charts, &mut self.dimensions, chart, def) {
-                    Ok(series) => Ok(series),
-                    Err(_) => Err(RegistryFault::Memory),
-                }
+                let series = dimensions::add(&mut self.charts, &mut self.dimensions, chart, def)?;
+                Ok((series, Change::DimensionAdded))
             }
         }
     }
 
-    /// Takes the definitions of a beat, the charts first, each list in its order, up to the first that is
-    /// refused: the error is why that one is, or Memory where nothing else stands against it. After an `Err` it
-    /// has taken those before that one. Whatever it answers, the registry had no more charts and dimensions than
-    /// there may be.
+    /// Takes a change back, which was the last.
+    pub(crate) fn undo(&mut self, change: Change)
+        requires { (before : Definitions) × IsChange before change self.old }
+        ensures { (before : Definitions) → IsChange before change self.old → self.new ≡ before }
+    {
+        match change {
+            Change::ChartAdded => charts::remove_last(&mut self.charts),
+            Change::ChartReplaced(number, before) => {
+                let _after = charts::exchange(&mut self.charts, number, before);
+            }
+            Change::DimensionAdded => {
+                dimensions::remove_last(&mut self.charts, &mut self.dimensions);
+            }
+            Change::DimensionReplaced(series, before) => {
+                let _after = dimensions::exchange(&mut self.dimensions, series, before);
+            }
+        }
+    }
+
+    /// Takes all definitions of a beat, or none of them: the error is why the first that is refused is so, the
+    /// charts first and each list in its order, or Memory where nothing else stands against it. After an `Err`
+    /// all is as before. Whatever it answers, the registry had no more charts and dimensions than there may be.
     pub fn apply(&mut self, beat: &OpenBeat) -> Result<(), RegistryFault>
         requires grids { All (λ def. 0 < def.update_every) beat.now.charts }
         requires owned { All
             (λ dimension. has_chart self.old beat.now dimension.chart ≡ true) beat.now.dimensions }
         ensures ok { OnOk result
             (self.new ≡ with_definitions self.old beat.now.charts beat.now.dimensions) }
+        ensures err { OnErr result (self.new ≡ self.old) }
         ensures free { OnOk result (MayDefine self.old beat.now) }
-        ensures first { IfErr result (IsFirstRefused self.old beat.now self.new) }
+        ensures first { IfErr result (IsFirstRefused self.old beat.now) }
 
         // What the error says of the beat as a whole, in whatever order its definitions stand.
         ensures refused { IfErr result (IsReasonOf self.old beat.now) }
@@ -212,50 +267,14 @@ impl Registry {
     {
         // To have read the fields tells the prover how much they hold at most.
         let _ = &self.dimensions;
-        self.define_charts(beat.charts.as_slice())?;
-        self.define_dimensions(beat.dimensions.as_slice())
-    }
-
-    fn define_charts(&mut self, charts: &[ChartDef]) -> Result<(), RegistryFault>
-        requires { All (λ def. 0 < def.update_every) charts.now }
-        ensures ok { OnOk result (self.new ≡ with_definitions self.old charts.now []) }
-        ensures free { OnOk result
-            ((place : ℕ) → chart_reason self.old charts.now place ≡ None) }
-        ensures first { IfErr result (RefusesChart self.old charts.now self.new) }
-    {
-        for def in charts {
-            self.define_chart(def)?;
+        let mut changes = Vec::new(self.alloc);
+        match defining::define(self, beat, &mut changes) {
+            Ok(()) => Ok(()),
+            Err(fault) => {
+                defining::undo_all(self, changes);
+                Err(fault)
+            }
         }
-        Ok(())
-    }
-
-    fn define_dimensions(&mut self, dimensions: &[OpenDim]) -> Result<(), RegistryFault>
-        requires { All (λ dimension. list_any (is_chart dimension.chart) self.old.charts
-            ≡ true) dimensions.now }
-        ensures ok { OnOk result (self.new ≡ with_definitions self.old [] dimensions.now) }
-        ensures free { OnOk result
-            ((place : ℕ) → dimension_reason self.old dimensions.now place ≡ None) }
-        ensures first { IfErr result (RefusesDimension self.old dimensions.now self.new) }
-    {
-        for dimension in dimensions {
-            self.define_owned(dimension)?;
-        }
-        Ok(())
-    }
-
-    // Defines a dimension of a chart that is there.
-    fn define_owned(&mut self, dimension: &OpenDim) -> Result<(), RegistryFault>
-        requires { list_any (is_chart dimension.now.chart) self.old.charts ≡ true }
-        ensures ok { OnOk result (self.new ≡ with_definitions self.old [] (dimension.now ∷ [])) }
-        ensures err { OnErr result (self.new ≡ self.old) }
-        ensures refused { let reason = dimension_refusal self.old nothing_open
-            dimension.now.chart dimension.now.def in
-            MatchResult result (λ _. reason ≡ None) (RefusedBy reason) }
-    {
-        if let Some(chart) = self.chart_of(dimension.chart.as_str()) {
-            self.define_dimension(chart, &dimension.def)?;
-        }
-        Ok(())
     }
 
     /// The definition of the dimension with this series.
@@ -281,6 +300,3 @@ impl Registry {
         self.dimensions[series as usize].owner
     }
 }
-
-#[cfg(test)]
-mod tests;

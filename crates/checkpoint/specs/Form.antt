@@ -28,7 +28,7 @@ size_in bytes = little_number 8 (drop 9 bytes)
 abbrev pub is_open : ℕ → List ℕ → Bool
 is_open odd bytes = nat_le 17 (length bytes) && (slice_index bytes 0 == 1) && (number_in bytes % 2 == odd)
 
--- what the front of an open file says
+-- what the head of an open file says
 unfoldable pub head_in : ℕ → List ℕ → Option Head
 head_in odd bytes = if is_open odd bytes then Some (record { number = number_in bytes; size = size_in bytes }) else None
 

@@ -13,10 +13,10 @@ pub record KeepsBehindGate (old bytes : List ℕ) : Type 0 where
   pub size : length bytes ≡ length old
   pub rest : drop 1 bytes ≡ drop 1 old
 
--- a stop may have left these bytes before, or the file is not open
+-- a crash may have left these bytes before, or the file is not open
 abbrev pub IsSameOrShut : List Change → List ℕ → Type 0
 IsSameOrShut past bytes = IsImage past bytes ⊎ IsShut bytes
 
--- a stop may have left these bytes before, or the file is not open, or it holds the new ones whole
+-- a crash may have left these bytes before, or the file is not open, or it holds the new ones whole
 abbrev pub IsReplacing : List Change → List ℕ → List ℕ → Type 0
 IsReplacing past whole bytes = IsImage past bytes ⊎ (IsShut bytes ⊎ (bytes ≡ whole))

@@ -8,7 +8,7 @@ use host_model::File;
 /// How many bytes stand before the body: the gate, the number and the length.
 pub(crate) const HEAD: usize = 17;
 
-/// What the front of an open checkpoint file says.
+/// What the first 17 bytes of an open checkpoint file say.
 #[derive(Clone, Copy, Debug)]
 pub(crate) struct Head {
     pub(crate) number: u64,

@@ -7,10 +7,10 @@
 //!
 //! A switch writes the next checkpoint over the older one: it closes that file's gate, writes all that
 //! stands behind the gate, and then opens it, each with a sync. A gate is opened, and an open one closed,
-//! only where the rest is stable. So at every moment a stop leaves the checkpoint that was there, or the
+//! only where the rest is stable. So at every moment a crash leaves the checkpoint that was there, or the
 //! new one whole.
 //!
-//! It stands on `host_model`: what a stop may leave of a file is its definition, and over a host that
+//! It stands on `host_model`: what a crash may leave of a file is its definition, and over a host that
 //! tells nothing of its past each call is still safe and returns. Only `load` takes memory, for the body
 //! that it gives.
 #![tactic(auto)]
@@ -26,6 +26,3 @@ mod switching;
 pub use fault::CheckFault;
 pub use loading::load;
 pub use switching::switch;
-
-#[cfg(test)]
-mod tests;

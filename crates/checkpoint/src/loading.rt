@@ -93,7 +93,7 @@ fn sync_both<H: Host>(host: &mut H) -> Result<(), Failed>
     host.sync(File::CheckB)
 }
 
-/// What the front of a file says, where it is open. The numbers of the file are odd, or even.
+/// What the head of a file says, where it is open. The numbers of the file are odd, or even.
 fn read_head<H: Host>(host: &mut H, file: File, odd: u64) -> Result<Option<Head>, Failed>
     ensures head { IfOk result
         (λ head. H.honest → head ≡ head_in odd (contents (of file (H.seen host.old).past))) }

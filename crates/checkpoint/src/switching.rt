@@ -17,7 +17,7 @@ use crate::rest::write_rest;
 use host_model::{Failed, File, Host};
 
 /// Makes a body the checkpoint of this number, which is one above that of the checkpoint that is there,
-/// or 0 where there is none. At `Ok` it is stored and synced. After `DiskFault` each stop leaves the old
+/// or 0 where there is none. At `Ok` it is stored and synced. After `DiskFault` each crash leaves the old
 /// checkpoint or the new one, as at every moment of the call, and the checkpoint must be loaded before
 /// the next switch.
 pub fn switch<H: Host>(host: &mut H, number: u64, body: &[u8]) -> Result<(), CheckFault>
@@ -36,7 +36,7 @@ pub fn switch<H: Host>(host: &mut H, number: u64, body: &[u8]) -> Result<(), Che
     ensures synced { OnOk result
         (H.honest → IsSynced (of (slot_file number) (H.seen host.new).past)) }
 
-    // No stop leaves a file that is longer than it could be before, or than the new checkpoint is.
+    // No crash leaves a file that is longer than it could be before, or than the new checkpoint is.
     ensures bound { (size : ℕ) → HEAD + length body.now ≤ size → H.honest
         → greatest (of (slot_file number) (H.seen host.old).past) ≤ size
         → Throughout (λ past. greatest (of (slot_file number) past) ≤ size) (H.seen host.old).past
@@ -57,7 +57,7 @@ pub fn switch<H: Host>(host: &mut H, number: u64, body: &[u8]) -> Result<(), Che
     Ok(())
 }
 
-/// Leaves an open gate, a head and a body in a file, whatever it held. At every moment a stop leaves
+/// Leaves an open gate, a head and a body in a file, whatever it held. At every moment a crash leaves
 /// what was there, or a file that is not open, or the new bytes whole.
 fn replace<H: Host>(host: &mut H, file: File, head: [u8; 16], body: &[u8]) -> Result<(), Failed>
     ensures whole { OnOk result

@@ -9,6 +9,8 @@ use Rattle.checkpoint_body.specs.declared.body.PointTier.{PointTier}
 use Rattle.checkpoint_body.specs.declared.body.RecordTier.{RecordTier}
 use Rattle.checkpoint_body.specs.declared.page.RecordPage.{RecordPage}
 use Rattle.checkpoint_body.specs.declared.page.SlotPage.{SlotPage}
+use Rattle.checkpoint_body.specs.declared.records.TheConstants.{MOST_RECORDS}
+use Rattle.checkpoint_body.specs.declared.slots.TheConstants.{MOST_SLOTS}
 use Rattle.checkpoint_body.specs.declared.span.Span.{Span}
 
 -- ---- extents
@@ -72,12 +74,12 @@ ends_in_time span = nat_lt span.end (2 ^ 32)
 
 abbrev pub is_slot_page : SlotPage → Bool
 is_slot_page page =
-    nat_le (length page.words) 1024 && spaced 6 page.words && list_all is_slot page.words && ends_in_time (slot_span page)
+    nat_le (length page.words) MOST_SLOTS && nat_lt 0 page.step && spaced 6 page.words && list_all is_slot page.words && ends_in_time (slot_span page)
 
 -- 1 to 73 records, of buckets of this width
 abbrev pub is_record_page : ℕ → RecordPage → Bool
 is_record_page width page =
-    nat_lt 0 (length page.records) && nat_le (length page.records) 73 && page.step == width
+    nat_lt 0 (length page.records) && nat_le (length page.records) MOST_RECORDS && page.step == width
     && nat_lt 0 page.step && page.first % page.step == 0 && ends_in_time (record_span page)
 
 -- ---- tiers

@@ -3,6 +3,7 @@ use Rattle.std.specs.Prelude.{ℕ, ◌+◌, ◌*◌, ◌/◌, ◌-◌, ◌<◌, 
 use Rattle.fixed_num.specs.declared.units.Record.{Record}
 use Rattle.checkpoint_body.specs.declared.item.BucketRecord.{BucketRecord}
 use Rattle.checkpoint_body.specs.declared.page.RecordPage.{RecordPage}
+use Rattle.checkpoint_body.specs.declared.records.TheConstants.{MOST_RECORDS}
 use Rattle.checkpoint_body.specs.Pages.{pages_of}
 
 -- the page of a record alone: it begins with the record's bucket
@@ -15,7 +16,7 @@ abbrev pub is_next : ℕ → RecordPage → BucketRecord → Bool
 is_next width page item =
     page.series == item.series && page.step == width
     && page.first + length page.records * width == item.bucket * width
-    && nat_lt (length page.records) 73
+    && nat_lt (length page.records) MOST_RECORDS
 
 -- the page with the record, where it takes it
 abbrev pub with_record : ℕ → RecordPage → BucketRecord → Option RecordPage

@@ -2,6 +2,7 @@
 use Rattle.std.specs.Prelude.{ℕ, zero, suc, ◌+◌, ◌*◌, ◌-◌, ◌<◌, ◌^◌, Bool, ◌&&◌, ◌==◌, nat_lt, List, [], ◌∷◌, ◌++◌, length, replicate, find, flat_map, sum_by, Option, option_map}
 use Rattle.checkpoint_body.specs.declared.item.Point.{Point}
 use Rattle.checkpoint_body.specs.declared.page.SlotPage.{SlotPage}
+use Rattle.checkpoint_body.specs.declared.slots.TheConstants.{MOST_SLOTS}
 use Rattle.checkpoint_body.specs.Pages.{pages_of}
 
 -- the page of a point alone
@@ -18,7 +19,7 @@ abbrev pub takes : SlotPage → Point → ℕ → Bool
 takes page point empty =
     page.series == point.series && page.step == point.step
     && page.first + (length page.words + empty) * page.step == point.moment
-    && nat_lt (length page.words + empty) 1024
+    && nat_lt (length page.words + empty) MOST_SLOTS
 
 abbrev pub with_word : SlotPage → ℕ → ℕ → SlotPage
 with_word page word empty = record page { words = page.words ++ replicate empty 0 ++ word ∷ [] }

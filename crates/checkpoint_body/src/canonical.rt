@@ -184,6 +184,7 @@ fn is_slot_page(page: &SlotPage) -> bool
 {
     let words = page.words.as_slice();
     words.len() <= MOST_SLOTS
+        && 0 < page.step
         && are_spaced(words)
         && are_slots(words)
         && slot_span(page).end <= u128::from(u32::MAX)
@@ -236,13 +237,15 @@ fn has_fewer_records(pages: &[RecordPage], items: u32) -> bool
     0 < left
 }
 
-fn are_slot_pages(pages: &[SlotPage]) -> bool
+/// Whether each page is in the form in which a body has it.
+pub fn are_slot_pages(pages: &[SlotPage]) -> bool
     ensures { result ≡ list_all is_slot_page pages.now }
 {
     pages.iter().all(is_slot_page)
 }
 
-fn are_record_pages(width: u32, pages: &[RecordPage]) -> bool
+/// Whether each page is in the form in which a body has it, with buckets of this width.
+pub fn are_record_pages(width: u32, pages: &[RecordPage]) -> bool
     ensures { result ≡ list_all (is_record_page width) pages.now }
 {
     pages.iter().all(|page| is_record_page(width, page))

@@ -13,8 +13,8 @@
 //! it is written: no tier has more than its settings allow, each thing is named once, and lists
 //! have their order. What is written is the spelling, and what is read of bytes has them as its
 //! spelling: so two bodies never share one, what was written is read again, and bytes that are no
-//! spelling are refused. A list grows with the items that are read, so that a count takes no memory
-//! by itself.
+//! spelling are refused. The settings and the side say how many bytes it has at most. A list grows
+//! with the items that are read, so that a count takes no memory by itself.
 //!
 //! It stands on `field_codec` for the fields and lists, on `tier_settings` for the settings and
 //! their limits, on `fixed_num` for records and lists, and on `storage_number` for which words are
@@ -35,14 +35,13 @@ mod reading;
 mod records;
 mod slots;
 mod span;
-#[cfg(test)]
-mod tests;
 mod writing;
 
 pub use body::{Body, Extent, ExtentList, OpenRecord, OpenRecordList, PointTier, RecordTier};
+pub use canonical::{are_record_pages, are_slot_pages};
 pub use fault::BodyFault;
 pub use item::{BucketRecord, BucketRecordList, Point, PointList};
-pub use law::{any_records, any_slots, every_body};
+pub use law::{every_body, record_pages_give_records_back, slot_pages_give_points_back};
 pub use page::{RecordList, RecordPage, RecordPageList, SlotPage, SlotPageList, WordList};
 pub use reading::read_body;
 pub use records::{record_pages, records_of};

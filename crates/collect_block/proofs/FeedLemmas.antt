@@ -1,6 +1,7 @@
 -- What a feed knows of the lines that it has taken.
 use Rattle.std.proofs.Common.{◌≡◌, ℕ, Bool, false, List, Option, Some, None, is_some, refl, sym, ap, ◌∙◌, if◌then◌else◌}
 use Rattle.std.specs.Option.{option_map, option_map_or}
+use Rattle.list_lemmas.proofs.Searches.{some-map}
 use Rattle.history.specs.declared.beat.OpenBeat.{OpenBeat}
 use Rattle.history.specs.declared.dimension.DimDef.{DimDef}
 use Rattle.history.specs.declared.fault.BlockFault.TheVariants.{OpenBlock, NoChart}
@@ -12,10 +13,6 @@ use Rattle.history.specs.Registry.{Registry}
 use Rattle.collect_block.specs.declared.feed.Feed.{Feed}
 use Rattle.collect_block.specs.BeatTables.{beat_of}
 use Rattle.collect_block.specs.Feed.{IsFeedOf, block_of}
-
-some-map : {A B : Type 0} (f : A → B) (x : Option A) → is_some (option_map f x) ≡ is_some x
-some-map f None = refl
-some-map f (Some x) = refl
 
 -- whether a block is open
 pub block-open : (feed : Feed) (every : ℕ) (past : List Line) → IsFeedOf feed every past → is_some feed.block ≡ is_some (open_block past)

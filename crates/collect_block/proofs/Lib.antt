@@ -3,4 +3,3 @@ pub mod FeedLemmas
 pub mod GrownLemmas
 pub mod MarksLemmas
 pub mod OpenLemmas
-pub mod TextLemmas

@@ -1,16 +1,19 @@
--- What the definitions of an open beat know of its charts.
-use Rattle.std.proofs.Common.{◌≡◌, ℕ, zero, suc, ◌<◌, Bool, true, false, ◌||◌, nat_eq, List, [], ◌∷◌, All, Option, Some, None, IfSome, true≢false, refl, sym, ap, ◌∙◌, arith, if◌then◌else◌}
+-- What is known of the definitions of an open beat.
+use Rattle.std.proofs.Common.{◌≡◌, ℕ, zero, suc, ◌<◌, ◌≤◌, Bool, true, false, ◌&&◌, ◌||◌, nat_eq, nat_le, List, [], ◌∷◌, All, Option, Some, None, IfSome, true≢false, refl, sym, ap, ◌∙◌, arith, if◌then◌else◌}
 use Rattle.std.specs.List.{list_any, AllByRecursion}
 use Rattle.std.specs.Option.{option_map_or}
-use Rattle.std.proofs.lemmas.List.Elements.{All-from_recursion}
+use Rattle.std.proofs.lemmas.Bool.{and_parts, le-leb}
+use Rattle.std.proofs.lemmas.List.Elements.{All-from_recursion, recursion_from_All}
 use Rattle.history.specs.declared.beat.OpenBeat.{OpenBeat}
 use Rattle.history.specs.declared.beat.OpenDim.{OpenDim}
 use Rattle.history.specs.declared.beat.OpenRow.{OpenRow}
 use Rattle.history.specs.declared.chart.ChartDef.{ChartDef}
 use Rattle.history.specs.declared.dimension.DimDef.{DimDef}
+use Rattle.history.specs.declared.limits.TheConstants.{UPDATE_EVERY_LIMIT}
 use Rattle.history.specs.declared.line.Line.{Line}
 use Rattle.history.specs.declared.line.Line.TheVariants as line
 use Rattle.history.specs.History.{Beat, registry_of}
+use Rattle.history.specs.Limits.{chart_keeps_limits, dimension_keeps_limits, has_short_texts, is_chart_id, keeps_limits}
 use Rattle.history.specs.Looking.{last_chart, with_grid, charts, dimensions, rows, beat}
 use Rattle.history.specs.Put.{put}
 use Rattle.history.specs.Read.{history_at}
@@ -55,6 +58,51 @@ grids-by_recursion every (line.Skipped ∷ past) above = grids-by_recursion ever
 
 pub grids : (every : ℕ) (past : List Line) → 0 < every → All (λ (def : ChartDef). 0 < def.update_every) (charts every past)
 grids every past above = All-from_recursion HasGrid (charts every past) (grids-by_recursion every past above)
+
+-- ---- where the lines keep their limits, so do the definitions
+abbrev KeepsLimits : Line → Type 0
+KeepsLimits line = keeps_limits line ≡ true
+
+abbrev IsLimitedChart : ChartDef → Type 0
+IsLimitedChart def = chart_keeps_limits def ≡ true
+
+abbrev IsLimitedDimension : OpenDim → Type 0
+IsLimitedDimension dimension = dimension_keeps_limits dimension.def ≡ true
+
+limits-given : (every : ℕ) (def : ChartDef) → every ≤ UPDATE_EVERY_LIMIT → IsLimitedChart def → IsLimitedChart (with_grid every def)
+limits-given every def low limits = by (nat_eq def.update_every 0)
+  where
+    by : (b : Bool) → IsLimitedChart (if b then record def { update_every = every } else def)
+    by true =
+        let texts = (and_parts (is_chart_id def.id && has_short_texts def) (nat_le def.update_every UPDATE_EVERY_LIMIT) limits).0 in
+        λ i. texts i && le-leb every UPDATE_EVERY_LIMIT low i
+    by false = limits
+
+charts-by_recursion : (every : ℕ) (past : List Line) → every ≤ UPDATE_EVERY_LIMIT → AllByRecursion KeepsLimits past → AllByRecursion IsLimitedChart (charts every past)
+charts-by_recursion every [] low limits = tt
+charts-by_recursion every (line.Moment moment ∷ past) low limits = tt
+charts-by_recursion every (line.Chart def ∷ past) low limits =
+    all-put same_chart IsLimitedChart (charts every past) (with_grid every def) (charts-by_recursion every past low limits.1) (limits-given every def low limits.0)
+charts-by_recursion every (line ∷ past) low limits = charts-by_recursion every past low limits.1
+
+pub charts-limits : (every : ℕ) (past : List Line) → every ≤ UPDATE_EVERY_LIMIT → All (λ (line : Line). keeps_limits line ≡ true) past
+    → All (λ (def : ChartDef). chart_keeps_limits def ≡ true) (charts every past)
+charts-limits every past low limits = All-from_recursion IsLimitedChart (charts every past) (charts-by_recursion every past low (recursion_from_All KeepsLimits past limits))
+
+dimension-also : (def : DimDef) (ds : List OpenDim) (chart : Option (List ℕ)) → dimension_keeps_limits def ≡ true → AllByRecursion IsLimitedDimension ds
+    → AllByRecursion IsLimitedDimension (option_map_or (λ chart. put same_dimension ds (record { chart = chart; def = def })) chart ds)
+dimension-also def ds None here all = all
+dimension-also def ds (Some chart) here all = all-put same_dimension IsLimitedDimension ds (record { chart = chart; def = def }) all here
+
+dimensions-by_recursion : (past : List Line) → AllByRecursion KeepsLimits past → AllByRecursion IsLimitedDimension (dimensions past)
+dimensions-by_recursion [] limits = tt
+dimensions-by_recursion (line.Moment moment ∷ past) limits = tt
+dimensions-by_recursion (line.Dimension def ∷ past) limits = dimension-also def (dimensions past) (last_chart past) limits.0 (dimensions-by_recursion past limits.1)
+dimensions-by_recursion (line ∷ past) limits = dimensions-by_recursion past limits.1
+
+pub dimensions-limits : (past : List Line) → All (λ (line : Line). keeps_limits line ≡ true) past
+    → All (λ (dimension : OpenDim). dimension_keeps_limits dimension.def ≡ true) (dimensions past)
+dimensions-limits past limits = All-from_recursion IsLimitedDimension (dimensions past) (dimensions-by_recursion past (recursion_from_All KeepsLimits past limits))
 
 -- ---- each chart that a text named last is there, and so is that of each dimension
 or-wider : (x y z : Bool) → (x || z) ≡ true → ((x || y) || z) ≡ true

@@ -60,7 +60,7 @@ abbrev pub CountsPast : Line → Feed → Registry → Type 0
 CountsPast (line.Moment moment) feed registry = (later : Registry) → CountsFor feed later
 CountsPast line feed registry = CountsFor feed registry
 
--- A line is refused with this fault for this reason. Memory is short only where nothing else stands
+-- A line is refused with this fault for this reason. Memory runs out only where nothing else stands
 -- against the line.
 abbrev pub RefusedBy : Option BlockFault → BlockFault → Type 0
 RefusedBy reason Memory = reason ≡ None

@@ -4,4 +4,3 @@ pub mod Feed
 pub mod Grown
 pub mod Marks
 pub mod Tables
-pub mod Text

@@ -14,7 +14,8 @@
 //! dimension up there in the registry, and in the open beat only where the registry does not have it.
 //!
 //! What was counted holds for a registry that has all charts and dimensions of those that
-//! the feed was handed since its beat was opened, as that of a history that only grows has (`any_later`).
+//! the feed was handed since its beat was opened, as that of a history that only grows has
+//! (`counts_hold_as_registry_grows`).
 #![tactic(auto)]
 
 mod beat_tables;
@@ -25,13 +26,8 @@ mod feed;
 mod law;
 mod row_table;
 mod step;
-mod text;
 
 pub use feed::Feed;
 pub use history::{BlockFault, Line, OpenBeat, OpenDim, OpenRow, OpenValue};
-pub use law::any_later;
+pub use law::counts_hold_as_registry_grows;
 pub use step::Step;
-pub use text::{End, Item, ItemList, ReadText, read_text};
-
-#[cfg(test)]
-mod tests;

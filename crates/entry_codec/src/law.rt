@@ -20,7 +20,7 @@ pub fn every_entry()
 /// The law of the length of the entry of a numbered beat that keeps to the limits of a registry. Each
 /// chart has 1,230 bytes at most, each dimension 422, each row 8 and each value 13; 17 are for the rest.
 /// It does nothing.
-pub fn any_length()
+pub fn entry_length_is_limited()
     ensures { (beat : NumberedBeat) → IsWithinLimits beat
         → length (entry_bytes (entry.Collected beat)) ≤ 33579025 }
 {}

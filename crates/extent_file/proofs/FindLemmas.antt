@@ -1,4 +1,4 @@
--- A directory in order has the pages before a moment of a series in front, and so halving finds the first one.
+-- A directory in order has the pages before a moment of a series first, and so halving finds the first one.
 use Rattle.std.proofs.Common.{◌≡◌, ◌⊎◌, ℕ, zero, suc, ◌<◌, ◌≤◌, Bool, true, false, not, List, [], ◌∷◌, length, get_or, Some, None, refl, sym, ◌∙◌, inl, inr, arith}
 use Rattle.std.specs.List.{prefix_len, position}
 use Rattle.std.specs.List.Sorted.{IsPartitionedBy}

@@ -75,6 +75,9 @@ wrong_of_front field n bytes place enough wrong =
       reaches = omega (arith, long, reaches);
       before = λ some. goes_on-front field n place bytes (omega (arith, within, enough)) (wrong.before some);
       here = λ inside goes. wrong.here (omega (arith, long, inside, within, enough)) (goes_on-back field n (place + 1) bytes (omega (arith, within, enough)) goes);
+      refused = λ whole allowed.
+          wrong.refused (omega (arith, long, whole, enough))
+          (subst (IsAllowed field) (sym (little_from-take 0 field.width n bytes (omega (arith, enough)))) allowed);
     }
 
 module _ (form : Form) (seen bytes : List ℕ) (at size : ℕ) (field : Field) (after : ℕ → Form) (front : seen ≡ take size bytes)

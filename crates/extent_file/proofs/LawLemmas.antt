@@ -1,8 +1,8 @@
 -- A form says one thing of some bytes, or stops at one place in them, and an entry leads to its page.
-use Rattle.std.proofs.Common.{◌≡◌, ℕ, zero, suc, ◌+◌, ◌<◌, ◌≤◌, List, [], ◌∷◌, ◌++◌, length, take, drop, get_or, Some, refl, sym, ap, ◌∙◌, subst, inl, inr, arith}
+use Rattle.std.proofs.Common.{◌≡◌, ℕ, zero, suc, ◌+◌, ◌<◌, ◌≤◌, List, [], ◌∷◌, ◌++◌, length, take, drop, Some, refl, sym, ap, ◌∙◌, subst, inl, inr, arith}
 use Rattle.std.proofs.lemmas.Bool.{cases_order}
-use Rattle.std.proofs.lemmas.List.{append_assoc, append-nil, length-append, length-take, length-drop, get_or-drop, take-take, take-append-drop}
-use Rattle.byteorder.specs.Numbers.{little_from-take}
+use Rattle.std.proofs.lemmas.List.{append_assoc, length-append, length-take, length-drop, take-take, take-append-drop}
+use Rattle.list_lemmas.proofs.Bytes.{bytes-append, bytes-drop, bytes-take, AreBytes}
 use Rattle.extent_file.specs.declared.field.Field.{Field}
 use Rattle.extent_file.specs.Fields.{IsAllowed, GoesOn, IsFirstWrong}
 use Rattle.std.specs.Prelude.{slice_get}
@@ -39,24 +39,6 @@ held_at tier place (first ∷ pages) bytes zero page entry hold same_page same_e
 held_at tier place (first ∷ pages) bytes (suc index) page entry hold same_page same_entry =
     held_at tier (place + bytes_of tier (entry_of place first)) pages bytes index page entry hold.1 same_page same_entry
 
--- bytes are below 256
-abbrev pub AreBytes : List ℕ → Type 0
-AreBytes bytes = (k : ℕ) → get_or bytes k 0 < 256
-
-bytes-drop : (n : ℕ) (bytes : List ℕ) → AreBytes bytes → AreBytes (drop n bytes)
-bytes-drop n bytes are k = rw (get_or-drop n bytes k 0) (are (n + k))
-
-bytes-take : (n : ℕ) (bytes : List ℕ) → AreBytes bytes → AreBytes (take n bytes)
-bytes-take zero bytes are k = omega arith
-bytes-take (suc n) [] are k = omega arith
-bytes-take (suc n) (byte ∷ bytes) are zero = are zero
-bytes-take (suc n) (byte ∷ bytes) are (suc k) = bytes-take n bytes (λ i. are (suc i)) k
-
-bytes-append : (front rest : List ℕ) → AreBytes front → AreBytes rest → AreBytes (front ++ rest)
-bytes-append [] rest are more k = more k
-bytes-append (byte ∷ front) rest are more zero = are zero
-bytes-append (byte ∷ front) rest are more (suc k) = bytes-append front rest (λ i. are (suc i)) more k
-
 -- what begins an allowed value begins one with fewer of its bytes too
 goes_on-less : (field : Field) (n m : ℕ) (bytes : List ℕ) → AreBytes bytes → m ≤ n → n ≤ length bytes → GoesOn field n bytes → GoesOn field m bytes
 goes_on-less field n m bytes are less within goes =
@@ -74,24 +56,12 @@ goes_on-less field n m bytes are less within goes =
       allowed = subst (λ (l : List ℕ). IsAllowed field (little_number field.width l)) (sym whole) goes.allowed;
     }
 
-whole_goes_on : (field : Field) (bytes : List ℕ) → field.width ≤ length bytes → IsAllowed field (little_number field.width bytes) → GoesOn field field.width bytes
-whole_goes_on field bytes within allowed =
-    let same : little_number field.width (take field.width bytes ++ []) ≡ little_number field.width bytes =
-    ap (little_number field.width) (append-nil (take field.width bytes)) ∙ little_from-take 0 field.width field.width bytes (omega arith) in
-    record { more = []; size = omega arith; are_bytes = λ k. omega arith; allowed = subst (IsAllowed field) (sym same) allowed }
-
-not_wrong : (field : Field) (bytes : List ℕ) (place : ℕ) → AreBytes bytes → field.width ≤ length bytes → IsAllowed field (little_number field.width bytes) → IsFirstWrong field bytes place → ⊥
-not_wrong field bytes place are within allowed wrong =
-    let inside = wrong.within in
-    wrong.here (omega (arith, inside, within))
-    (goes_on-less field field.width (place + 1) bytes are (omega (arith, inside)) within (whole_goes_on field bytes within allowed))
-
 -- bytes that say something do not stop
-pub never_both : (form : Form) (bytes : List ℕ) (entries : List Entry) (place : ℕ) → AreBytes bytes → Says form bytes entries → StopsAt form bytes place → ⊥
-never_both (Rest size said) bytes entries place are said_here stop = let a = said_here.0 in let b = stop.0 in omega (arith, a, b)
-never_both (Next field after) bytes entries place are said (inl wrong) = not_wrong field bytes place are said.0 said.1 wrong
-never_both (Next field after) bytes entries place are said (inr (within, allowed, (rest, is, stop))) =
-    never_both (after (little_number field.width bytes)) (drop field.width bytes) entries rest (bytes-drop field.width bytes are) said.2 stop
+pub never_both : (form : Form) (bytes : List ℕ) (entries : List Entry) (place : ℕ) → Says form bytes entries → ¬ StopsAt form bytes place
+never_both (Rest size said) bytes entries place said_here stop = let a = said_here.0 in let b = stop.0 in omega (arith, a, b)
+never_both (Next field after) bytes entries place said (inl wrong) = wrong.refused said.0 said.1
+never_both (Next field after) bytes entries place said (inr (within, allowed, (rest, is, stop))) =
+    never_both (after (little_number field.width bytes)) (drop field.width bytes) entries rest said.2 stop
 
 not_before : (field : Field) (bytes : List ℕ) (place other : ℕ) → AreBytes bytes → IsFirstWrong field bytes place → IsFirstWrong field bytes other → place < other → ⊥
 not_before field bytes place other are first second less =
@@ -108,8 +78,8 @@ one_place (Next field after) bytes place other are (inl first) (inl second) =
       | inr (inl less) ↦ absurd (not_before field bytes place other are first second less)
       | inr (inr more) ↦ absurd (not_before field bytes other place are second first more)
     ]
-one_place (Next field after) bytes place other are (inl first) (inr (within, allowed, rest)) = absurd (not_wrong field bytes place are within allowed first)
-one_place (Next field after) bytes place other are (inr (within, allowed, rest)) (inl second) = absurd (not_wrong field bytes other are within allowed second)
+one_place (Next field after) bytes place other are (inl first) (inr (within, allowed, rest)) = absurd (first.refused within allowed)
+one_place (Next field after) bytes place other are (inr (within, allowed, rest)) (inl second) = absurd (second.refused within allowed)
 one_place (Next field after) bytes place other are (inr (_, _, (rest, is, stop))) (inr (_, _, (more, also, again))) =
     let same = one_place (after (little_number field.width bytes)) (drop field.width bytes) rest more (bytes-drop field.width bytes are) stop again in
     is ∙ ap (λ (n : ℕ). field.width + n) same ∙ sym also

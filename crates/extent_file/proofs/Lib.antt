@@ -1,4 +1,5 @@
 pub mod EncodeLemmas
+pub mod EndLemmas
 pub mod EntryLemmas
 pub mod FieldLemmas
 pub mod FindLemmas

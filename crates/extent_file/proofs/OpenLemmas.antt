@@ -21,6 +21,7 @@ starts_none tier slot size = inl (record {
   reaches = omega arith;
   before = λ some. absurd (omega (arith, some));
   here = λ inside. absurd (omega (arith, inside));
+  refused = λ whole allowed. omega (arith, whole);
 })
 
 module _ (tier same_tier slot same_slot start same_start size : ℕ) (bytes : List ℕ) (tier_is : same_tier ≡ tier) (slot_is : same_slot ≡ slot) (start_is : same_start ≡ start) where

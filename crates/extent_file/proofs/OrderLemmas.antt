@@ -50,6 +50,7 @@ all_read tier size pages index before entries form bytes done count leads =
 pub record IsPlaced (tier most : ℕ) (entry : Entry) : Type 0 where
   pub some : 1 ≤ entry.count
   pub bytes : bytes_of tier entry ≤ 4096
+  pub step : 1 ≤ entry.step
   pub place : entry.place ≤ most
 
 bytes-most : (tier : ℕ) (before : Before) (entry : Entry) → Follows tier before entry → bytes_of tier entry ≤ 4096
@@ -63,18 +64,18 @@ pub placed : (tier : ℕ) (before : Before) (entries : List Entry) (k : ℕ) (d 
 placed tier before [] k d order within = absurd (omega (arith, within))
 placed tier before (entry ∷ entries) zero d order within =
     let follows = order.0 in let place = follows.place in
-    record { some = follows.some; bytes = bytes-most tier before entry follows; place = omega (arith, place) }
+    record { some = follows.some; bytes = bytes-most tier before entry follows; step = follows.step; place = omega (arith, place) }
 placed tier before (entry ∷ entries) (suc k) d order within =
     let rest = placed tier (after_entry tier entry) entries k d order.1 (omega (arith, within)) in
     let follows = order.0 in let place = follows.place in let bytes = bytes-most tier before entry follows in
     let there = rest.place in
-    record { some = rest.some; bytes = rest.bytes; place = omega (arith, place, bytes, there) }
+    record { some = rest.some; bytes = rest.bytes; step = rest.step; place = omega (arith, place, bytes, there) }
 
 -- and so of the entry at an index
 pub entry_known : (file : File) (start : ℕ) (entries : List Entry) (index : ℕ) (d : Entry) → IsDirectory file start entries → index < length entries
-    → (0 < bytes_of (tier_of file) (get_or entries index d)) × (bytes_of (tier_of file) (get_or entries index d) ≤ 4096) × (start + (get_or entries index d).place < 2 ^ 41)
+    → (0 < bytes_of (tier_of file) (get_or entries index d)) × (bytes_of (tier_of file) (get_or entries index d) ≤ 4096) × (start + (get_or entries index d).place < 2 ^ 41) × (0 < (get_or entries index d).step) × (0 < (get_or entries index d).count)
 entry_known file start entries index d directory within =
     let tier = tier_of file in
     let there = placed tier (at_first (length entries)) entries index d directory.order within in
     let some = there.some in let place = there.place in let count = directory.count in let begins = directory.begins in
-    (bytes-some tier (get_or entries index d) some, there.bytes, omega (arith, place, count, begins, within))
+    (bytes-some tier (get_or entries index d) some, there.bytes, omega (arith, place, count, begins, within), let step = there.step in omega (arith, step), omega (arith, some))

@@ -60,18 +60,18 @@ says_entry tier size left before next entry rest entries fits said =
     (says_field (count_field tier size left before.place entry.first entry.step) (λ v. after_count tier size left before next entry.series entry.first entry.step v) entry.count (p ++ rest) entries (let top = fits.small in omega (arith, top)) fits.count
     (says_field (between 8 before.place before.place) (λ v. after_place tier size left before next entry.series entry.first entry.step entry.count v) entry.place rest entries (let top = fits.place_small in omega (arith, top)) (omega (arith, place), omega (arith, place)) said)))))
 
-item-cases : (tier : ℕ) → ((tier ≡ 0) × (item_size tier ≡ 4) × (most_items tier ≡ 1024)) ⊎ ((0 < tier) × (item_size tier ≡ 56) × (most_items tier ≡ 73))
+pub item-cases : (tier : ℕ) → ((tier ≡ 0) × (item_size tier ≡ 4) × (most_items tier ≡ 1024)) ⊎ ((0 < tier) × (item_size tier ≡ 56) × (most_items tier ≡ 73))
 item-cases tier =
     elim (cases_eq tier 0) [
       | inl none ↦ inl (none, ap item_size none, ap most_items none)
       | inr other ↦ inr (omega (arith, other), rw (ne_eqb tier 0 other) refl, rw (ne_eqb tier 0 other) refl)
     ]
 
-item-some : (tier : ℕ) → (1 ≤ item_size tier) × (item_size tier ≤ 56)
+pub item-some : (tier : ℕ) → (1 ≤ item_size tier) × (item_size tier ≤ 56)
 item-some tier = elim (item-cases tier) [ inl a ↦ let e = a.1 in (omega (arith, e), omega (arith, e)) | inr a ↦ let e = a.1 in (omega (arith, e), omega (arith, e)) ]
 
 -- how long the items of a page are, and how many there may be
-page_long : (tier : ℕ) (page : Page) (bytes : List ℕ) → IsOfTier tier page → IsItemsOf page bytes → length bytes ≡ (entry_of 0 page).count * item_size tier
+pub page_long : (tier : ℕ) (page : Page) (bytes : List ℕ) → IsOfTier tier page → IsItemsOf page bytes → length bytes ≡ (entry_of 0 page).count * item_size tier
 page_long tier (Slots page) bytes of is =
     let count = length-words_of bytes in let same = ap length is.1 in let whole = is.0.0.0 in
     let size : item_size tier ≡ 4 = ap item_size of in
@@ -164,7 +164,7 @@ step_is : (place : ℕ) (page : Page) → (entry_of place page).step ≡ (entry_
 step_is place (Slots page) = refl
 step_is place (Records page) = refl
 
-place_is : (place : ℕ) (page : Page) → (entry_of place page).place ≡ place
+pub place_is : (place : ℕ) (page : Page) → (entry_of place page).place ≡ place
 place_is place (Slots page) = refl
 place_is place (Records page) = refl
 
@@ -198,7 +198,7 @@ fits_of tier size before page pages bytes small are is whole =
       place_small = omega (arith, place, whole, small);
     }
 
-bytes_is : (tier place : ℕ) (page : Page) → bytes_of tier (entry_of place page) ≡ (entry_of 0 page).count * item_size tier
+pub bytes_is : (tier place : ℕ) (page : Page) → bytes_of tier (entry_of place page) ≡ (entry_of 0 page).count * item_size tier
 bytes_is tier place (Slots page) = refl
 bytes_is tier place (Records page) = refl
 

@@ -31,7 +31,7 @@ beside_moments file from to old new within moments =
     let kept = RunsWithin-images file from to old past within run bytes image in
     record { front = kept.front; rest = kept.rest }) moments
 
--- what lies in a front lies in all
+-- what lies in a prefix lies in all
 lies_in_front : (place : ℕ) (lies : List ℕ) (size : ℕ) (bytes : List ℕ) → place + length lies ≤ size → take (length lies) (drop place (take size bytes)) ≡ take (length lies) (drop place bytes)
 lies_in_front place lies size bytes within =
     ap (λ (n : ℕ). take (length lies) (drop place (take n bytes))) (let e : size ≡ place + (size - place) = omega (arith, within) in e)

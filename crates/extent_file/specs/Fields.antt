@@ -12,7 +12,7 @@ pub record IsField (field : Field) : Type 0 where
 abbrev pub IsAllowed : Field → ℕ → Type 0
 IsAllowed field value = (field.low ≤ value) × (value ≤ field.high)
 
--- the front of the bytes is the field, with this value
+-- the bytes begin with the field, with this value
 pub record IsValue (field : Field) (bytes : List ℕ) (value : ℕ) : Type 0 where
   pub within : field.width ≤ length bytes
   pub is : value ≡ little_number field.width bytes
@@ -31,3 +31,5 @@ pub record IsFirstWrong (field : Field) (bytes : List ℕ) (place : ℕ) : Type 
   pub reaches : place ≤ length bytes
   pub before : 0 < place → GoesOn field place bytes
   pub here : place < length bytes → ¬ GoesOn field (place + 1) bytes
+  -- where the field is whole, its value is not allowed
+  pub refused : field.width ≤ length bytes → ¬ IsAllowed field (little_number field.width bytes)

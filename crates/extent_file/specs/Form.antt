@@ -33,7 +33,7 @@ pub record Leads (form : Form) (bytes : List ℕ) (at : ℕ) (to : Form) : Type 
   pub stops : (place : ℕ) → StopsAt to (drop at bytes) place → StopsAt form bytes (at + place)
 
 -- what a read of a form's next part gives, which ends at this place: what comes after it, or where the form
--- does not go on. What was seen is the front of some bytes, up to that place at least.
+-- does not go on. What was seen is a prefix of some bytes, up to that place at least.
 abbrev pub GoesTo : {T : Type 0} → List ℕ → ℕ → ℕ → Form → (T → Form) → Result T ℕ → Type 0
 GoesTo seen at end part after result =
     (bytes : List ℕ) (size : ℕ) (form : Form) → seen ≡ take size bytes → end ≤ size → Leads form bytes at part

@@ -31,7 +31,8 @@ impl Model for Extent {
 
     ghost Value = { Directory };
 
-    ghost view = { λ extent. record { file = extent.file; start = extent.start; entries = extent.entries } };
+    ghost view = { λ extent.
+        record { file = extent.file; start = extent.start; entries = extent.entries } };
 
     ghost invariant = { λ extent. IsDirectory extent.file extent.start extent.entries };
 }
@@ -63,15 +64,19 @@ impl Extent {
         ensures some { 0 < bytes_of (tier_of self.now.file) result }
         ensures most { bytes_of (tier_of self.now.file) result ≤ 4096 }
         ensures place { self.now.start + result.place < 2 ^ 41 }
+        ensures step { 0 < result.step }
+        ensures count { 0 < result.count }
     {
         self.entries.as_slice()[index as usize]
     }
 
-    /// Series, first moment, step and count of items of a page.
+    /// Series, first moment, step and count of items of a page. The step and the count are 1 at least.
     pub fn head(&self, index: u32) -> (u32, u32, u32, u32)
         requires { index < length self.now.entries }
-        ensures { (entry : AnEntry) × (slice_get self.now.entries index ≡ Some entry)
+        ensures entry { (entry : AnEntry) × (slice_get self.now.entries index ≡ Some entry)
             × (result ≡ (entry.series, entry.first, entry.step, entry.count)) }
+        ensures step { 0 < result.2 }
+        ensures count { 0 < result.3 }
     {
         let entry = self.entry(index);
         (entry.series, entry.first, entry.step, entry.count)

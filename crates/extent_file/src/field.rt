@@ -42,7 +42,7 @@ fn first_wrong(bytes: &[u8], field: Field) -> usize
     bytes.len()
 }
 
-/// The value of a field at the front of some bytes, or the first byte at which the field does not go on.
+/// The value of a field at the start of some bytes, or the first byte at which the field does not go on.
 pub(crate) fn read_field(bytes: &[u8], field: Field) -> Result<u64, usize>
     requires { IsField field }
     ensures value { IfOk result (IsValue field bytes.now) }

@@ -8,12 +8,11 @@ ghost use Rattle.extent_file.specs.Pages.{IsExtentOf, IsItemsOf, extent_size, en
 /// The law of extents: bytes say one list of entries or stop at one place, and never both. Of the extent of
 /// some pages, what is read are the pages' entries, and at the place of an entry stand the items of its
 /// page. It does nothing.
-pub fn any_extent()
+pub fn bytes_say_one_extent()
     ensures one { (form : Form) (bytes : List ℕ) (entries others : List AnEntry)
         → Says form bytes entries → Says form bytes others → entries ≡ others }
     ensures exactly { (form : Form) (bytes : List ℕ) (entries : List AnEntry) (place : ℕ)
-        → ((k : ℕ) → slice_index bytes k < 256) → Says form bytes entries
-        → ¬ StopsAt form bytes place }
+        → Says form bytes entries → ¬ StopsAt form bytes place }
     ensures one_place { (form : Form) (bytes : List ℕ) (place other : ℕ)
         → ((k : ℕ) → slice_index bytes k < 256) → StopsAt form bytes place
         → StopsAt form bytes other → place ≡ other }

@@ -1,4 +1,4 @@
-ghost use Rattle.std.specs.Prelude.{◌≡◌, ◌<◌, ◌≤◌, ◌^◌};
+ghost use Rattle.std.specs.Prelude.{◌≡◌, ◌+◌, ◌*◌, ◌<◌, ◌≤◌, ◌^◌};
 ghost use Rattle.extent_file.specs.Slot.{IsTierFile, tier_of, item_size, most_items, slot_size, slot_start};
 
 use host_model::File;
@@ -45,6 +45,14 @@ pub(crate) fn most_items(tier: u32) -> u64
     ensures { result ≡ most_items tier }
 {
     PAGE_SIZE as u64 / item_size(tier)
+}
+
+/// How many bytes an extent of so many pages has, which have so many items together.
+pub fn size_of(tier: u32, pages: u64, items: u64) -> u64
+    requires { 24 + 24 * pages + items * item_size tier < 2 ^ 64 }
+    ensures { result ≡ 24 + 24 * pages + items * item_size tier }
+{
+    HEAD_SIZE as u64 + ENTRY_SIZE as u64 * pages + items * item_size(tier)
 }
 
 /// How many bytes a slot has.

@@ -140,7 +140,7 @@ pub fn write_extent<H: Host>(
     requires fits { extent_size (tier_of file) pages.now ≤ slot_size (tier_of file) items }
     ensures size { IfOk result (λ size. size ≡ extent_size (tier_of file) pages.now) }
 
-    // Each stop leaves the extent of the pages in the slot.
+    // Each crash leaves the extent of the pages in the slot.
     ensures held { OnOk result (H.honest → EveryImage file
         (λ bytes. IsExtentOf (tier_of file) (slot_size (tier_of file) items) pages.now
         (drop (slot_start (tier_of file) items slot) bytes)) (H.seen host.new).past) }
@@ -153,7 +153,7 @@ pub fn write_extent<H: Host>(
         (filled_to (slot_start (tier_of file) items slot)
         (contents (of file (H.seen host.old).past)))) }
 
-    // At every moment each stop leaves what stood in another slot.
+    // At every moment each crash leaves what stood in another slot.
     ensures others { (other : ℕ) (lies : List ℕ) → other ≢ slot
         → length lies ≤ slot_size (tier_of file) items → H.honest
         → EveryImage file (LiesAt (slot_start (tier_of file) items other) lies)
@@ -161,7 +161,7 @@ pub fn write_extent<H: Host>(
         → Throughout (EveryImage file (LiesAt (slot_start (tier_of file) items other) lies))
         (H.seen host.old).past (H.seen host.new).past }
 
-    // No stop leaves a file that is longer than it could be before, or than the slot's end.
+    // No crash leaves a file that is longer than it could be before, or than the slot's end.
     ensures bound { (size : ℕ)
         → slot_start (tier_of file) items slot + slot_size (tier_of file) items ≤ size → H.honest
         → greatest (of file (H.seen host.old).past) ≤ size

@@ -28,6 +28,3 @@ pub use fixed_num::ByteList;
 pub use law::every_field;
 pub use reader::Reader;
 pub use writer::Writer;
-
-#[cfg(test)]
-mod tests;

@@ -77,7 +77,7 @@ size_within-capped whole part places most big below =
           ]
     ]
 
--- what `digits` answers
+-- what `read_digits` answers
 numeral_is : (bytes : List ℕ) (most n : ℕ) → Some n ≡ cond (is_numeral bytes) (Some (min (digits_value 10 bytes) most)) None → (is_numeral bytes ≡ true) × (n ≡ min (digits_value 10 bytes) most)
 numeral_is bytes most n h = grind arith
 

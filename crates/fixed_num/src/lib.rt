@@ -19,4 +19,4 @@ pub use list::{ByteList, ListOf, WordsList};
 pub use rounding::{Frac, round_half_even};
 pub use text::Text;
 pub use units::{LIMIT, NumberFault, Record, Units, div, mul};
-pub use units_text::{read_units, write_units};
+pub use units_text::{read_digits, read_units, write_units};

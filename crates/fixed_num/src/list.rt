@@ -104,32 +104,3 @@ impl ListOf<u8> {
         self.items.extend_from_slice(bytes)
     }
 }
-
-#[cfg(test)]
-mod tests {
-    use super::*;
-    use std::test::Fail;
-
-    #[test]
-    fn holds_what_was_put_in(rt: HostRuntime) -> Result<(), Fail> {
-        let mut words = WordsList::new(rt.alloc());
-        assert!(rt; words.is_empty());
-        words.push(Text::from_str(rt.alloc(), "new")?)?;
-        words.push(Text::from_str(rt.alloc(), "7")?)?;
-        assert_eq!(rt; words.len(), 2);
-        assert_eq!(rt; words.as_slice().len(), 2);
-        words.clear();
-        assert!(rt; words.is_empty());
-        Ok(())
-    }
-
-    #[test]
-    fn is_made_from_a_vector_and_gives_it_back(rt: HostRuntime) -> Result<(), Fail> {
-        let mut bytes = ByteList::from_slice(rt.alloc(), b"ab")?;
-        bytes.extend(b"cd")?;
-        assert_eq!(rt; bytes.as_slice(), b"abcd".as_slice());
-        let again = ByteList::from_vec(bytes.into_vec());
-        assert_eq!(rt; again.len(), 4);
-        Ok(())
-    }
-}

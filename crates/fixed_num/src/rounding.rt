@@ -69,32 +69,3 @@ pub fn round_half_even(f: Frac) -> i128
     let size = half_even(f.num.unsigned_abs(), f.den.unsigned_abs());
     signed(f.num.is_negative(), size)
 }
-
-#[cfg(test)]
-mod tests {
-    use super::*;
-
-    #[test]
-    fn rounds_to_the_nearest_and_ties_to_even(rt: HostRuntime) {
-        for (num, den, want) in [
-            (5, 2, 2),
-            (7, 2, 4),
-            (-5, 2, -2),
-            (-7, 2, -4),
-            (1, 3, 0),
-            (2, 3, 1),
-            (-2, 3, -1),
-            (1, 2, 0),
-            (i128::MIN, 1, i128::MIN),
-            (i128::MAX, i128::MAX, 1),
-            (
-                i128::MAX,
-                2,
-                85_070_591_730_234_615_865_843_651_857_942_052_864,
-            ),
-            (-1, i128::MAX, 0),
-        ] {
-            assert_eq!(rt; round_half_even(Frac { num, den }), want, "{num}/{den}");
-        }
-    }
-}

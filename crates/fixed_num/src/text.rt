@@ -118,29 +118,3 @@ impl PartialEq for Text {
 impl Eq for Text {
     ghost laws = { nat_list_eq_equiv };
 }
-
-#[cfg(test)]
-mod tests {
-    use super::*;
-    use std::test::Fail;
-
-    #[test]
-    fn holds_what_was_put_in(rt: HostRuntime) -> Result<(), Fail> {
-        let mut text = Text::new(rt.alloc());
-        assert!(rt; text.is_empty());
-        text.push_str("größ")?;
-        text.push_str("er")?;
-        assert_eq!(rt; text.as_str(), "größer");
-        assert_eq!(rt; text.len(), 8);
-        let copy = Text::from_str(rt.alloc(), "größer")?;
-        assert_eq!(rt; copy.as_bytes(), text.as_bytes());
-        assert!(rt; copy == text);
-        assert!(rt; copy == copy.clone()?);
-        assert!(rt; copy != Text::new(rt.alloc()));
-        text.clear();
-        assert!(rt; text.is_empty());
-        let again = Text::from_string(copy.into_string());
-        assert_eq!(rt; again.as_str(), "größer");
-        Ok(())
-    }
-}

@@ -90,26 +90,3 @@ pub fn div(a: Units, b: Units) -> Option<Units>
     let size = rounding::half_even(a.unsigned_abs() * ONE, b.unsigned_abs());
     within_limit(differ_in_sign(a, b), size)
 }
-
-#[cfg(test)]
-mod tests {
-    use super::*;
-
-    #[test]
-    fn rounds_products_and_quotients(rt: HostRuntime) {
-        assert_eq!(rt; mul(LIMIT, LIMIT), None);
-        assert_eq!(rt; mul(LIMIT, -10_000_000), Some(-LIMIT));
-        assert_eq!(rt; mul(LIMIT, 10_000_001), None);
-        assert_eq!(rt; mul(15_000_000, 1), Some(2));
-        assert_eq!(rt; mul(25_000_000, -1), Some(-2));
-        assert_eq!(rt;
-            mul(-12_345_678_901, 98_765_432_109),
-            Some(-121_932_631_133_623)
-        );
-        assert_eq!(rt; div(10_000_000, 30_000_000), Some(3_333_333));
-        assert_eq!(rt; div(20_000_000, -30_000_000), Some(-6_666_667));
-        assert_eq!(rt; div(LIMIT, 9_999_999), None);
-        assert_eq!(rt; div(-1, 20_000_000), Some(0));
-        assert_eq!(rt; div(3, 20_000_000), Some(2));
-    }
-}

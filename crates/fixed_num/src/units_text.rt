@@ -85,9 +85,9 @@ fn split_sign(text: &[u8]) -> (bool, &[u8])
 
 /// The number that digits are, or the largest of 128 bits where it is above that. `None` where a byte
 /// is no digit, or none is there.
-fn digits(bytes: &[u8]) -> Option<u128>
-    ensures { result
-        ≡ (if is_numeral bytes.now then Some (min (digits_value 10 bytes.now) (2 ^ 128 - 1)) else None) }
+pub fn read_digits(bytes: &[u8]) -> Option<u128>
+    ensures { result ≡ (if is_numeral bytes.now
+        then Some (min (digits_value 10 bytes.now) (2 ^ 128 - 1)) else None) }
 {
     if bytes.is_empty() {
         return None;
@@ -131,7 +131,7 @@ fn size_within(whole: u128, part: u128, places: usize) -> Result<u128, NumberFau
 fn read_parts(whole: &[u8], part: &[u8]) -> Result<u128, NumberFault>
     ensures { result ≡ size_by true whole.now part.now }
 {
-    match (digits(whole), digits(part)) {
+    match (read_digits(whole), read_digits(part)) {
         (Some(number), Some(decimals)) => size_within(number, decimals, part.len()),
         _ => Err(NumberFault::NotANumber),
     }
@@ -141,7 +141,7 @@ fn read_parts(whole: &[u8], part: &[u8]) -> Result<u128, NumberFault>
 fn read_whole(whole: &[u8]) -> Result<u128, NumberFault>
     ensures { result ≡ size_by false whole.now [] }
 {
-    match digits(whole) {
+    match read_digits(whole) {
         Some(number) => size_within(number, 0, 0),
         None => Err(NumberFault::NotANumber),
     }
@@ -167,63 +167,4 @@ pub fn read_units(text: &[u8]) -> Result<Units, NumberFault>
     let (negative, body) = split_sign(text);
     let size = read_size(body)?;
     Ok(rounding::signed(negative, size))
-}
-
-#[cfg(test)]
-mod tests {
-    use super::*;
-    use std::test::Fail;
-
-    #[test]
-    fn writes_the_exact_text(rt: HostRuntime) -> Result<(), Fail> {
-        for (units, want) in [
-            (-25_000_000, "-2.5"),
-            (1, "0.0000001"),
-            (-1, "-0.0000001"),
-            (0, "0"),
-            (420_000_000, "42"),
-            (333_333_330, "33.333333"),
-            (1_000_000, "0.1"),
-            (10_000_100, "1.00001"),
-            (LIMIT, "10000000000000000000000"),
-            (i128::MIN, "-17014118346046923173168730371588.4105728"),
-        ] {
-            let mut text = Text::from_str(rt.alloc(), "is ")?;
-            write_units(&mut text, units)?;
-            let mut wanted = Text::from_str(rt.alloc(), "is ")?;
-            wanted.push_str(want)?;
-            assert_eq!(rt; text.as_str(), wanted.as_str(), "{units}");
-        }
-        Ok(())
-    }
-
-    #[test]
-    fn reads_what_a_text_says(rt: HostRuntime) {
-        let limit = b"10000000000000000000000".as_slice();
-        let beyond = b"10000000000000000000000.0000001".as_slice();
-        let huge = b"99999999999999999999999999999999999999999999999999".as_slice();
-        for (text, want) in [
-            (b"0.5".as_slice(), Ok(5_000_000)),
-            (b"-2.5", Ok(-25_000_000)),
-            (b"+7", Ok(70_000_000)),
-            (b"007.0000001", Ok(70_000_001)),
-            (b"-0", Ok(0)),
-            (limit, Ok(LIMIT)),
-            (beyond, Err(NumberFault::TooWide)),
-            (huge, Err(NumberFault::TooWide)),
-            (b"0.12345678", Err(NumberFault::TooWide)),
-            (b"0.00000000", Err(NumberFault::TooWide)),
-            (b"1e3", Err(NumberFault::NotANumber)),
-            (b"0.12345678x", Err(NumberFault::NotANumber)),
-            (b"", Err(NumberFault::NotANumber)),
-            (b"-", Err(NumberFault::NotANumber)),
-            (b"+-1", Err(NumberFault::NotANumber)),
-            (b".5", Err(NumberFault::NotANumber)),
-            (b"5.", Err(NumberFault::NotANumber)),
-            (b"1.2.3", Err(NumberFault::NotANumber)),
-            (b" 1", Err(NumberFault::NotANumber)),
-        ] {
-            assert_eq!(rt; read_units(text), want, "{text:?}");
-        }
-    }
 }

@@ -1,10 +1,12 @@
 -- The alarms of a health text, or its first refusal.
-use Rattle.std.specs.Prelude.{◌≡◌, ℕ, ◌+◌, ◌^◌, Bool, true, false, nat_lt, if◌then◌else◌, List, [], ◌∷◌, ◌++◌, length, map, Option, Some, None, Result, Ok, Err}
+use Rattle.std.specs.Prelude.{◌≡◌, ℕ, ◌+◌, Bool, true, false, nat_lt, if◌then◌else◌, List, [], ◌∷◌, ◌++◌, length, map, Option, Some, None, Result, Ok, Err}
 use Rattle.std.specs.Option.{option_to_list}
+use Rattle.health_config.specs.declared.config.TheConstants.{TEXT_LIMIT}
 use Rattle.health_config.specs.declared.fault.ConfigFault.{ConfigFault}
 use Rattle.health_config.specs.declared.fault.ConfigFault.TheVariants.{NoOn, TooManyAlarms, TextTooLong}
 use Rattle.health_config.specs.declared.lines.Line.{Line}
 use Rattle.health_config.specs.declared.tally.Tally.{Tally}
+use Rattle.health_config.specs.declared.tally.TheConstants.{ENTITY_LIMIT}
 use Rattle.health_config.specs.Fault.{◌>>=◌, at_line}
 use Rattle.health_config.specs.Draft.{Draft, draft_read}
 use Rattle.health_config.specs.Entity.{Alarm, alarm, alarm_of, name}
@@ -35,7 +37,7 @@ ended line name template draft = ended_by draft.on line (of_draft name template 
 
 -- there is room for one entity more behind so many
 abbrev pub room : ℕ → ℕ → Result ℕ ConfigFault
-room before line = if nat_lt before 4096 then Ok before else Err (TooManyAlarms line)
+room before line = if nat_lt before ENTITY_LIMIT then Ok before else Err (TooManyAlarms line)
 
 -- the alarm of an entity behind so many: its name, its place, its lines, and where it ends, in this order
 abbrev pub entity : ℕ → Group → Result Configuration ConfigFault
@@ -69,7 +71,7 @@ abbrev pub of_sections : Sections → Result Configuration ConfigFault
 of_sections all = front_skipped all.front >>= λ skipped. then_entities (none_but skipped) (entities 0 all.groups)
 
 unfoldable pub config_read : List ℕ → Result Configuration ConfigFault
-config_read text = if nat_lt (2 ^ 20) (length text) then Err TextTooLong else of_sections (sections (lines text))
+config_read text = if nat_lt TEXT_LIMIT (length text) then Err TextTooLong else of_sections (sections (lines text))
 
 -- ---- the code's tallies
 

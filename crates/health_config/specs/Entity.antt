@@ -7,6 +7,7 @@ use Rattle.words.specs.Words.{is_blank}
 use Rattle.health_expr.specs.Tree.{Tree}
 use Rattle.health_expr.specs.TreeOf.{tree_of}
 use Rattle.health_config.specs.declared.entity.Entity.{Entity}
+use Rattle.health_config.specs.declared.entity.TheConstants.{NAME_LIMIT}
 use Rattle.health_config.specs.declared.fault.ValueFault.{ValueFault}
 use Rattle.health_config.specs.declared.fault.ValueFault.TheVariants.{Bad, NoName}
 use Rattle.health_config.specs.declared.lookup.Lookup.{Lookup}
@@ -65,7 +66,7 @@ alarm_of entity = record {
 abbrev pub name_read : List ℕ → Result (List ℕ) ValueFault
 name_read value =
     if length value == 0 then Err NoName
-    else (if nat_lt 200 (length value) || list_any is_blank value then Err Bad
+    else (if nat_lt NAME_LIMIT (length value) || list_any is_blank value then Err Bad
     else Ok value)
 
 abbrev pub name_by : Option (List ℕ × List ℕ) → Result (List ℕ) ValueFault

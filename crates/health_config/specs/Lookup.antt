@@ -11,7 +11,7 @@ use Rattle.health_config.specs.declared.lookup.Head.{Head}
 use Rattle.health_config.specs.declared.lookup.LookupLine.{LookupLine}
 use Rattle.health_config.specs.declared.lookup.Method.{Method}
 use Rattle.health_config.specs.declared.lookup.Method.TheVariants.{Average, Min, Max, Sum, Count, AnomalyRate}
-use Rattle.health_config.specs.declared.number.TheConstants.{LONGEST}
+use Rattle.health_config.specs.declared.number.TheConstants.{LONGEST_DURATION}
 use Rattle.health_config.specs.Fault.{◌>>=◌}
 use Rattle.health_config.specs.Number.{duration}
 
@@ -43,7 +43,7 @@ method (word ∷ words) = method_by (method_of word) words
 -- a duration of at least so many seconds
 abbrev pub needed : ℕ → Reader ℕ
 needed low [] = Err Duration
-needed low (word ∷ words) = duration low LONGEST word >>= λ seconds. Ok (seconds, words)
+needed low (word ∷ words) = duration low LONGEST_DURATION word >>= λ seconds. Ok (seconds, words)
 
 -- the same behind a keyword, where that stands next
 abbrev pub optional : List ℕ → ℕ → Reader (Option ℕ)

@@ -17,6 +17,7 @@ use Rattle.health_config.specs.declared.setting.Key.{Key}
 use Rattle.health_config.specs.declared.setting.Key.TheVariants as key
 use Rattle.health_config.specs.declared.setting.Setting.{Setting as Kept}
 use Rattle.health_config.specs.declared.setting.Setting.TheVariants as kept
+use Rattle.health_config.specs.declared.setting.TheConstants.{LONGEST_EVERY}
 use Rattle.health_config.specs.Fault.{◌>>=◌, at_line}
 use Rattle.health_config.specs.Key.{is_ignored, key_value}
 use Rattle.health_config.specs.Lookup as of
@@ -81,7 +82,7 @@ value_read key.Lookup text = of.lookup text >>= λ line. Ok (lookup line)
 value_read key.Calc text = expression text >>= λ tree. Ok (calc tree)
 value_read key.Warn text = expression text >>= λ tree. Ok (warn tree)
 value_read key.Crit text = expression text >>= λ tree. Ok (crit tree)
-value_read key.Every text = duration 1 86400 text >>= λ seconds. Ok (every seconds)
+value_read key.Every text = duration 1 LONGEST_EVERY text >>= λ seconds. Ok (every seconds)
 value_read key.Green text = number text >>= λ value. Ok (green value)
 value_read key.Red text = number text >>= λ value. Ok (red value)
 value_read key.Units text = Ok (units text)

@@ -3,7 +3,7 @@ ghost use Rattle.std.specs.Prelude.{◌≡◌};
 ghost use Rattle.health_config.specs.Delay as spec;
 
 use crate::fault::ValueFault;
-use crate::number::{LONGEST, duration, multiplier};
+use crate::number::{LONGEST_DURATION, duration, multiplier};
 use fixed_num::Units;
 use simple_pattern::first_word;
 
@@ -22,10 +22,10 @@ fn with(word: &str, value: &str, delay: Delay) -> Result<Delay, ValueFault>
 {
     let value = value.as_bytes();
     if word == "up" && delay.up.is_none() {
-        let up = Some(duration(value, 0, LONGEST)?);
+        let up = Some(duration(value, 0, LONGEST_DURATION)?);
         Ok(Delay { up, ..delay })
     } else if word == "down" && delay.down.is_none() {
-        let down = Some(duration(value, 0, LONGEST)?);
+        let down = Some(duration(value, 0, LONGEST_DURATION)?);
         Ok(Delay { down, ..delay })
     } else if word == "multiplier" && delay.multiplier.is_none() {
         let multiplier = Some(multiplier(value)?);
@@ -34,7 +34,7 @@ fn with(word: &str, value: &str, delay: Delay) -> Result<Delay, ValueFault>
             ..delay
         })
     } else if word == "max" && delay.max.is_none() {
-        let max = Some(duration(value, 0, LONGEST)?);
+        let max = Some(duration(value, 0, LONGEST_DURATION)?);
         Ok(Delay { max, ..delay })
     } else {
         Err(ValueFault::Bad)

@@ -31,7 +31,7 @@ pub enum ConfigFault {
 }
 
 impl ConfigFault {
-    /// The number that a refusal is told by. Want of memory is no refusal and has none.
+    /// The number that a refusal is told by. Out of memory is no refusal and has none.
     pub fn number(self) -> Option<u32>
         ensures { result ≡ spec.fault_number self }
     {
@@ -46,7 +46,7 @@ impl ConfigFault {
         }
     }
 
-    /// The line of a refusal, which is 0 for that of the text as a whole. Want of memory has none.
+    /// The line of a refusal, which is 0 for that of the text as a whole. Out of memory has none.
     pub fn line(self) -> Option<u64>
         ensures { result ≡ spec.fault_line self }
     {

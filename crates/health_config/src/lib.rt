@@ -28,6 +28,4 @@ pub use config::{Config, TEXT_LIMIT};
 pub use entity::{AlarmList, Entity};
 pub use fault::ConfigFault;
 pub use lookup::{Lookup, Method};
-
-#[cfg(test)]
-mod tests;
+pub use number::LONGEST_DURATION;

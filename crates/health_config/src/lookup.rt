@@ -6,7 +6,7 @@ ghost use Rattle.health_config.specs.Lookup as spec;
 ghost use Rattle.health_config.specs.Lookup.{seen};
 
 use crate::fault::ValueFault;
-use crate::number::{LONGEST, duration};
+use crate::number::{LONGEST_DURATION, duration};
 use simple_pattern::{Pattern, PatternFault, first_word};
 use std::alloc::Global;
 
@@ -90,7 +90,7 @@ fn needed(text: &str, low: u32) -> Result<(u32, &str), ValueFault>
     let Some((word, rest)) = first_word(false, text) else {
         return Err(ValueFault::Duration);
     };
-    let seconds = duration(word.as_bytes(), low, LONGEST)?;
+    let seconds = duration(word.as_bytes(), low, LONGEST_DURATION)?;
     Ok((seconds, rest))
 }
 

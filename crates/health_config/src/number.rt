@@ -1,14 +1,13 @@
 //! Durations and numbers.
-ghost use Rattle.std.specs.Prelude.{◌≡◌, ◌≤◌, ◌<◌, ◌-◌, ◌^◌, min, Some, None, if◌then◌else◌, IfSome};
-ghost use Rattle.std.specs.Str.Parse.{digits_value, without_leading_sign};
-ghost use Rattle.fixed_num.specs.UnitsText.{is_numeral};
+ghost use Rattle.std.specs.Prelude.{◌≡◌, ◌≤◌, IfSome};
+ghost use Rattle.std.specs.Str.Parse.{without_leading_sign};
 ghost use Rattle.health_config.specs.Number as spec;
 
 use crate::fault::ValueFault;
-use fixed_num::{Units, read_units};
+use fixed_num::{Units, read_digits, read_units};
 
 /// The most seconds of a duration.
-pub const LONGEST: u32 = 2_592_000;
+pub const LONGEST_DURATION: u32 = 2_592_000;
 
 /// The least and the greatest multiplier of a delay, in ten-millionths.
 const LEAST_MULTIPLIER: Units = 10_000_000;
@@ -53,27 +52,6 @@ fn split_unit(body: &[u8]) -> (&[u8], u64)
     }
 }
 
-/// The number that digits are, or the largest of 64 bits where it is above that. `None` where a byte is
-/// no digit, or none is there.
-fn digits(bytes: &[u8]) -> Option<u64>
-    ensures { result ≡ (if is_numeral bytes.now then Some
-        (min (digits_value 10 bytes.now) (2 ^ 64 - 1)) else None) }
-{
-    if bytes.is_empty() {
-        return None;
-    }
-    let mut value = 0u64;
-    for byte in bytes {
-        if !byte.is_ascii_digit() {
-            return None;
-        }
-        value = value
-            .saturating_mul(10)
-            .saturating_add(u64::from(*byte - b'0'));
-    }
-    Some(value)
-}
-
 /// The seconds of a duration: a sign, which is dropped, digits, and `s`, `m`, `h`, `d` or nothing for
 /// seconds. It is at least `low`, and at most `high`.
 #[tactic(auto, unfolding(crate::specs::Number::duration))]
@@ -81,11 +59,11 @@ pub fn duration(text: &[u8], low: u32, high: u32) -> Result<u32, ValueFault>
     ensures { result ≡ spec.duration low high text.now }
 {
     let (front, unit) = split_unit(without_sign(text));
-    let Some(count) = digits(front) else {
+    let Some(count) = read_digits(front) else {
         return Err(ValueFault::Duration);
     };
-    let seconds = count.saturating_mul(unit);
-    if u64::from(low) <= seconds && seconds <= u64::from(high) {
+    let seconds = count.saturating_mul(u128::from(unit));
+    if u128::from(low) <= seconds && seconds <= u128::from(high) {
         Ok(seconds as u32)
     } else {
         Err(ValueFault::Duration)

@@ -9,6 +9,6 @@ pub record Is (cut : Cut) (text : List ℕ) (word : Word) : Type 0 where
   pub said : word.said.now ≡ cut.said
   pub rest : word.rest.now ≡ drop cut.len text
 
--- a front of this length is all of the text, or ends with a byte of ASCII
+-- a prefix of this length is all of the text, or ends with a byte of ASCII
 abbrev pub EndsInAscii : List ℕ → ℕ → Type 0
 EndsInAscii text len = (len ≡ length text) ⊎ ((0 < len) × (len ≤ length text) × (slice_index text (len - 1) < 128))

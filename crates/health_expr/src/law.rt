@@ -9,7 +9,7 @@ use crate::fault::ExprFault;
 
 /// A law of the language, for every tree; the call does nothing. The text of a tree, with parentheses
 /// only where they are needed, is read as that tree.
-pub fn any_tree()
+pub fn tree_text_reads_back()
     ensures { (tree : Tree) → IsWritable tree → levels_in 7 tree ≤ 64
         → tree_read (text_of tree) ≡ Ok tree }
 {}
@@ -17,7 +17,7 @@ pub fn any_tree()
 /// A law of the language, for every text; the call does nothing. A text is read as a tree just where
 /// it spells that tree by the forms of the language, with no place in more than 64 levels; and a fault
 /// is told just where it is the first of the text.
-pub fn any_text()
+pub fn text_reads_as_it_spells()
     ensures spelling { (text : List ℕ) (tree : Tree)
         → (tree_read text ≡ Ok tree) ↔ IsSpelling text tree }
     ensures misfit { (text : List ℕ) (place : ℕ)
@@ -30,7 +30,7 @@ pub fn any_text()
 
 /// A law of the language, for any two spellings; the call does nothing. How many levels hold a word
 /// hangs on the kinds of the words up to it alone.
-pub fn any_front()
+pub fn levels_depend_on_earlier_kinds()
     ensures { (one two : Tree) (front other more rest : List Spelled)
         → Spells 7 0 one (front ++ more) → Spells 7 0 two (other ++ rest)
         → kinds (placed_in front) ≡ kinds (placed_in other) → levels_of front ≡ levels_of other }

@@ -10,12 +10,12 @@
 //! fault of any other; `Expr::eval` is proved to give what a tree is worth for any variables. `eval`
 //! takes no memory and returns on every tree.
 //!
-//! Two laws say of the grammar that it is the language. By `any_text` a text is read as a tree just
-//! where it spells it by the forms of the language (`specs/Spelling.antt`: a sum is a sum, `+` or `-`,
-//! and a product), at most 64 levels holding any place. A fault is told just where the words before it
-//! begin a spelling and no spelling goes on with its word, or where that word is too deep or its number
-//! too wide (`specs/Faults.antt`). By `any_tree` the text of a tree, with parentheses only where they
-//! are needed, is read as that tree.
+//! Two laws say of the grammar that it is the language. By `text_reads_as_it_spells` a text is read as
+//! a tree just where it spells it by the forms of the language (`specs/Spelling.antt`: a sum is a sum,
+//! `+` or `-`, and a product), at most 64 levels holding any place. A fault is told just where the
+//! words before it begin a spelling and no spelling goes on with its word, or where that word is too
+//! deep or its number too wide (`specs/Faults.antt`). By `tree_text_reads_back` the text of a tree,
+//! with parentheses only where they are needed, is read as that tree.
 //!
 //! Such are the expressions of alarms in Netdata's public documentation; the rules are made exact here.
 //! It stands on `fixed_num` for numbers and texts.
@@ -34,9 +34,6 @@ mod word;
 
 pub use expr::Expr;
 pub use fault::ExprFault;
-pub use law::{any_front, any_text, any_tree};
+pub use law::{levels_depend_on_earlier_kinds, text_reads_as_it_spells, tree_text_reads_back};
 pub use operator::{Operator, Prefix};
 pub use value::{Value, Vars};
-
-#[cfg(test)]
-mod tests;

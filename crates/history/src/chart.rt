@@ -6,6 +6,9 @@ use std::alloc::AllocError;
 /// The priority of a chart that nothing tells.
 pub const USUAL_PRIORITY: i64 = 1000;
 
+/// How many seconds lie between two values of a chart, where neither its line nor a command says it.
+pub const USUAL_UPDATE_EVERY: u32 = 1;
+
 /// How a chart is drawn.
 #[derive(Clone, Copy, Debug, PartialEq, Eq)]
 pub enum ChartKind {

@@ -20,7 +20,7 @@ mod row;
 pub use beat::{
     ChartDefList, OpenBeat, OpenDim, OpenDimList, OpenRow, OpenRowList, OpenValue, OpenValueList,
 };
-pub use chart::{ChartDef, ChartKind, USUAL_PRIORITY};
+pub use chart::{ChartDef, ChartKind, USUAL_PRIORITY, USUAL_UPDATE_EVERY};
 pub use dimension::{Algorithm, DimDef};
 pub use fault::BlockFault;
 pub use limits::{FACTOR_LIMIT, ID_LIMIT, TEXT_LIMIT, UPDATE_EVERY_LIMIT, is_chart_id, is_id};

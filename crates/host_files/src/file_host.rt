@@ -142,7 +142,7 @@ impl<R: Files<File = fs::File> + Drop, W: Write + Drop> Host for FileHost<R, W> 
 
     fn tell(&mut self, bytes: &[u8]) -> Result<(), Failed> {
         let sent = match self.tell_faults.first() {
-            // A tell has failed: what was sent stays a front of what was to be told.
+            // A tell has failed: what was sent stays a prefix of what was to be told.
             Some(reason) => Err(reason),
             None => send(&mut self.output, bytes),
         };

@@ -28,7 +28,7 @@ enum Handle {
 enum Names {
     /// They were synced since the last file was made.
     Synced,
-    /// A file was made since, by this program or by one before it that was stopped.
+    /// A file was made since, by this program or by one before it that crashed.
     Changed,
     /// A sync of them failed.
     Lost,

@@ -13,7 +13,7 @@ use std::net::{Net, TcpListener, TcpStream};
 ///
 /// A peer that is silent is waited for, as long as it takes: there is no timeout, neither while the
 /// connection is made nor while bytes are sent or awaited. Once a call has failed, each later one fails
-/// for the same reason: so what was sent stays a front of what was to be sent.
+/// for the same reason: so what was sent stays a prefix of what was to be sent.
 #[derive(Drop)]
 pub struct TcpLink<R: Net<Stream = TcpStream, Listener = TcpListener> + Drop> {
     connection: Connection<R>,

@@ -51,7 +51,7 @@ take-take_min m n xs =
     (λ more. take-take m n xs more ∙ ap (λ k. take k xs) (sym (min-eq_left more)))
     (cases_lt n m)
 
--- a tell: the disk stays, and the output gains a front of what is told
+-- a tell: the disk stays, and the output gains a prefix of what is told
 pub said : {T E : Type 0} (P : (File → List ℕ) → List ℕ → Type 0) (honest : Type 0) (result : Result T E) (bytes : List ℕ) (old new : List Event) → honest
     → OnOk result (honest → new ≡ Told bytes ∷ old) → OnErr result (honest → MayAdd (λ n. Told (take n bytes)) old new)
     → EveryStop P old → ((disk : File → List ℕ) (n : ℕ) → IsDisk old disk → P disk (told old ++ take n bytes))

@@ -50,7 +50,7 @@ told_each old past new same from_old to_new =
     ap (λ l. l ++ told to_new.more) (sym here) ∙ sym there ∙ same in
     here ∙ nothing_between (told old) (told from_old.more) (told to_new.more) all
 
--- where nothing was told, what holds of each disk holds at each stop
+-- where nothing was told, what holds of each disk holds at each crash
 pub untold : {A : (File → List ℕ) → Type 0} {P : (File → List ℕ) → List ℕ → Type 0} {old new : List Event}
     → told new ≡ told old
     → ((disk : File → List ℕ) (text : List ℕ) → A disk → IsText old text → P disk text)

@@ -186,7 +186,7 @@ read-written old at bytes within =
     ∙ drop_at (take at old) (bytes ++ drop (at + length bytes) old) at size in
     ap (λ (l : List ℕ). take (length bytes) l) rest ∙ take_at bytes (drop (at + length bytes) old) (length bytes) refl
 
--- bytes written behind the front of a list
+-- bytes written behind the prefix of a list
 pub written-behind : (front rest : List ℕ) (at : ℕ) (bytes : List ℕ) → length front ≡ at
     → written (front ++ rest) at bytes ≡ (front ++ bytes) ++ drop (length bytes) rest
 written-behind front rest at bytes size =

@@ -127,7 +127,7 @@ text_at_start old past grew same text there =
     text_before old grew.more (sym (ap told grew.whole) ∙ same) text (subst (λ p. IsText p text) grew.whole there)
 
 -- from one file to the whole disk and the output: what is shown of the images of the one file, those
--- of the others at the start, and what may have been told at the start, holds at each stop
+-- of the others at the start, and what may have been told at the start, holds at each crash
 pub whole_disk : {A : List ℕ → Type 0} {P : (File → List ℕ) → List ℕ → Type 0} {old new : List Event} (file : File)
     → OnlyOn file old new
     → ((disk : File → List ℕ) (text : List ℕ) → A (disk file) → ((other : File) → IsOther other file → IsImage (of other old) (disk other)) → IsText old text → P disk text)

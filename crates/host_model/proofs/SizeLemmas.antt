@@ -1,4 +1,4 @@
--- a file that has at most so many bytes after every stop
+-- a file that has at most so many bytes after every crash
 use Rattle.std.proofs.Common.{◌≡◌, ℕ, ◌+◌, ◌≤◌, List, [], ◌∷◌, length, Result, refl, arith}
 use Rattle.std.specs.Result.{OnOk, OnErr}
 use Rattle.host_model.specs.declared.file.File.{File}
@@ -8,7 +8,7 @@ use Rattle.host_model.specs.Moments.{Throughout, EveryImage}
 use Rattle.host_model.proofs.MomentLemmas.{at_end, joined, weakened, of-on_same}
 use Rattle.host_model.proofs.CallLemmas.{changed, settled}
 
--- no stop leaves more bytes of the file
+-- no crash leaves more bytes of the file
 abbrev pub StaysWithin : ℕ → File → List Event → Type 0
 StaysWithin size file past = greatest (of file past) ≤ size
 

@@ -1,4 +1,4 @@
--- a new host that gets what a stop leaves, file by file
+-- a new host that gets what a crash leaves, file by file
 use Rattle.std.proofs.Common.{◌≡◌, ◌≢◌, eq-eqb, lit<, ℕ, ◌+◌, ◌<◌, ◌≤◌, Bool, true, false, List, [], ◌∷◌, ◌++◌, length, None, refl, sym, ap, ◌∙◌, subst, arith, append-nil}
 use Rattle.std.proofs.lemmas.Bool.{eqb-true, false≢true}
 use Rattle.std.proofs.lemmas.List.{drop_all}
@@ -11,7 +11,7 @@ use Rattle.host_model.specs.HostState.{HostState, new_host, write_event}
 use Rattle.host_model.specs.Keep.{IsLeftBy, IsStopped}
 use Rattle.host_model.specs.DiskLaw.{same_file}
 
--- the files below this number are as the stop leaves them, and nothing has happened to the others
+-- the files below this number are as the crash leaves them, and nothing has happened to the others
 pub record Settling (keep : Keep) (old new : HostState) (number : ℕ) : Type 0 where
   pub files : (file : File) → file_number file < number → IsLeftBy keep (of file old.past) (contents (of file new.past))
   pub stable : (file : File) → IsSynced (of file new.past)

@@ -1,7 +1,7 @@
--- bytes that are taken from the front of what is left
+-- bytes that are taken from the start of what is left
 use Rattle.std.proofs.Common.{◌≡◌, ℕ, sym, ◌+◌, List, ◌++◌, take, drop}
 use Rattle.std.proofs.lemmas.List.{take-append-drop, drop-drop}
 
--- what was left is its front and then the rest
+-- what was left is its prefix and then the rest
 pub front_and_rest : (bytes into : List ℕ) (taken n : ℕ) → take n into ≡ take n (drop taken bytes) → drop taken bytes ≡ take n into ++ drop (taken + n) bytes
 front_and_rest bytes into taken n front = rw (front, ← drop-drop n taken bytes) (sym (take-append-drop n (drop taken bytes)))

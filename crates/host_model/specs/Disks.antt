@@ -1,4 +1,4 @@
--- the whole disk: what a stop may leave of it, whatever was told by then
+-- the whole disk: what a crash may leave of it, whatever was told by then
 use Rattle.std.specs.Prelude.{ℕ, List, if◌then◌else◌}
 use Rattle.host_model.specs.declared.file.File.{File}
 use Rattle.host_model.specs.Images.{contents}

@@ -73,7 +73,7 @@ after_read host = record host { reads = raised host.reads }
 abbrev pub write_event : File → ℕ → List ℕ → List Event → Event
 write_event file at bytes past = On file (Wrote at (length bytes) (written (contents (of file past)) at bytes))
 
--- a write that failed and put no byte down: its range may hold anything after a stop
+-- a write that failed and put no byte down: its range may hold anything after a crash
 abbrev pub failed_write_event : File → ℕ → ℕ → List Event → Event
 failed_write_event file at size past = On file (Wrote at size (contents (of file past)))
 

@@ -12,13 +12,13 @@ pub record IsFilled (byte : ℕ) (past : List Change) (bytes : List ℕ) : Type 
   pub kept : (place : ℕ) → place < length (synced past) → IsUntouched past place → slice_index bytes place ≡ slice_index (synced past) place
   pub filled : (place : ℕ) → place < length bytes → (place < length (synced past) → IsUntouched past place → ⊥) → slice_index bytes place ≡ byte
 
--- what a stop leaves of a file
+-- what a crash leaves of a file
 abbrev pub IsLeftBy : Keep → List Change → List ℕ → Type 0
 IsLeftBy All past bytes = bytes ≡ contents past
 IsLeftBy Nothing past bytes = bytes ≡ synced past
 IsLeftBy (Fill byte) past bytes = IsFilled byte past bytes
 
--- a host that a stop leaves: no call of it was made yet, and none is to fail
+-- a host that a crash leaves: no call of it was made yet, and none is to fail
 pub record IsStopped (keep : Keep) (old new : HostState) : Type 0 where
   pub files : (file : File) → IsLeftBy keep (of file old.past) (contents (of file new.past))
   pub stable : (file : File) → IsSynced (of file new.past)

@@ -4,6 +4,6 @@ use Rattle.std.specs.Prelude.{◌≡◌, ℕ, List, ◌++◌, take, Option, opti
 abbrev pub Sends : Option (List ℕ) → List ℕ → Option (List ℕ) → Type 0
 Sends before bytes after = after ≡ option_map (λ sent. sent ++ bytes) before
 
--- a part of these bytes from the front was put behind what was sent, which may be none or all
+-- a prefix of these bytes was put behind what was sent: none, some or all of them
 abbrev pub SendsFront : Option (List ℕ) → List ℕ → Option (List ℕ) → Type 0
 SendsFront before bytes after = (n : ℕ) × Sends before (take n bytes) after

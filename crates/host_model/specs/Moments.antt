@@ -6,7 +6,7 @@ use Rattle.host_model.specs.Past.{Event, of, told, IsOther, IsDisk, IsText}
 -- from the old past to the new one, which has grown from it, this holds of the past at every moment.
 -- A call that is under way is covered by the moment before its event and the moment after it: what a
 -- crash leaves within a write or a cut is left after its event too, what it leaves within a sync is
--- left before its event too, and what a tell has sent by then is a front of what it sends.
+-- left before its event too, and what a tell has sent by then is a prefix of what it sends.
 pub data Throughout (P : List Event → Type 0) (old : List Event) : List Event → Type 0 where
   begins : P old → Throughout P old old
   goes_on : (event : Event) (past : List Event) → Throughout P old past → P (event ∷ past) → Throughout P old (event ∷ past)

@@ -44,7 +44,7 @@ told (Told sent ∷ past) = told past ++ sent
 abbrev pub IsDisk : List Event → (File → List ℕ) → Type 0
 IsDisk past disk = (file : File) → IsImage (of file past) (disk file)
 
--- this may be what was told by the time of the newest event: of a tell, any front of what it sent
+-- this may be what was told by the time of the newest event: of a tell, any prefix of what it sent
 abbrev pub IsText : List Event → List ℕ → Type 0
 IsText [] text = text ≡ []
 IsText (On file change ∷ past) text = text ≡ told past

@@ -15,11 +15,11 @@ abbrev pub Touches : Option ℕ → ℕ → ℕ → List ℕ → List ℕ → Ty
 Touches None at end old new = new ≡ old
 Touches (Some byte) at end old new = FillsIn byte at end old new
 
--- what a stop leaves of a file, filled or as it was synced
+-- what a crash leaves of a file, filled or as it was synced
 abbrev pub IsLeft : Option ℕ → List Change → List ℕ → Type 0
 IsLeft None past left = left ≡ synced past
 IsLeft (Some byte) past left = IsFilled byte past left
 
--- these are what the file reads as, and what a stop leaves of it
+-- these are what the file reads as, and what a crash leaves of it
 abbrev pub Replays : Option ℕ → File → List Event → List ℕ → List ℕ → Type 0
 Replays fill file past now left = (now ≡ contents (of file past)) × IsLeft fill (of file past) left

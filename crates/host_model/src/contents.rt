@@ -19,7 +19,7 @@ impl Model for Contents {
     ghost view = { λ c. c.bytes.items };
 }
 
-/// Copies as many bytes as fit from the front of `from` to the front of `into`, and says how many.
+/// Copies as many bytes as fit from the start of `from` to the start of `into`, and says how many.
 pub(crate) fn copy_front(from: &[u8], into: &mut [u8]) -> usize
     ensures size { result ≡ min (length from.now) (length into.old) }
     ensures bytes { into.new ≡ take result from.now ++ drop result into.old }

@@ -17,7 +17,7 @@ pub struct Failed;
 ///
 /// What a host has been through is its *past*, a list of events with the newest first. It is known of
 /// an honest host alone; whether a host is honest is a fact of its type. Each call says which event
-/// joins the past, and the past says what a read gives, what was told, and what a stop at any moment
+/// joins the past, and the past says what a read gives, what was told, and what a crash at any moment
 /// may leave of each file.
 pub trait Host {
     /// Whether what the clauses say of the past is true of these hosts.
@@ -36,7 +36,7 @@ pub trait Host {
         ensures output { (seen self.new).tell_faults ≡ (seen self.old).tell_faults }
         ensures reads { (seen self.new).reads ≡ (seen self.old).reads };
 
-    /// Reads from the place `at` on into the front of `into`, and says how many bytes. It gives fewer
+    /// Reads from the place `at` on into the start of `into`, and says how many bytes. It gives fewer
     /// than fit only at the file's end.
     fn read(&mut self, file: File, at: u64, into: &mut [u8]) -> Result<usize, Failed>
         ensures size { IfOk result (λ n. n ≤ length into.old) }
@@ -91,7 +91,7 @@ pub trait Host {
         ensures output { (seen self.new).tell_faults ≡ (seen self.old).tell_faults }
         ensures reads { (seen self.new).reads ≡ (seen self.old).reads };
 
-    /// Sends `bytes` to the output. After `Failed` a part from the front may have been sent.
+    /// Sends `bytes` to the output. After `Failed` a prefix of them may have been sent.
     fn tell(&mut self, bytes: &[u8]) -> Result<(), Failed>
         ensures done { OnOk result (honest
             → (seen self.new).past ≡ Told bytes.now ∷ (seen self.old).past) }

@@ -1,4 +1,4 @@
-/// What a stop leaves of what was not synced.
+/// What a crash leaves of what was not synced.
 #[derive(Clone, Copy, Debug, PartialEq, Eq)]
 pub enum Keep {
     /// All of it: each file is what it reads as.

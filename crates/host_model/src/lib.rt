@@ -4,9 +4,9 @@
 //! Every object of the outside may fail at any call, and counts its failures, so that a caller can be
 //! held to the truth about whose fault a refusal was. An object may tell what it holds, as those in
 //! memory do, or keep silent, as a real file must: each fact about bytes is stated for those that tell.
-//! A host's past says what its files read as, what was told, and, for every moment, what a stop may
+//! A host's past says what its files read as, what was told, and, for every moment, what a crash may
 //! leave of the files and what may have been told by then. The objects in memory say exactly which of
-//! their calls fail, and what a stop leaves of them.
+//! their calls fail, and what a crash leaves of them.
 #![tactic(auto)]
 
 mod calls;

@@ -16,14 +16,14 @@ pub trait Link {
     /// How many calls have failed. The count stands still at 2^64 - 1.
     ghost faults: { Self → ℕ };
 
-    /// Sends `bytes`, all of them. After `Failed` a part from the front may have been sent.
+    /// Sends `bytes`, all of them. After `Failed` a prefix of them may have been sent.
     fn send(&mut self, bytes: &[u8]) -> Result<(), Failed>
         ensures done { OnOk result (Sends (sent self.old) bytes.now (sent self.new)) }
         ensures torn { OnErr result (SendsFront (sent self.old) bytes.now (sent self.new)) }
         ensures left { left self.new ≡ left self.old }
         ensures cause { HasCause (faults self.old) (faults self.new) (IsErr result) };
 
-    /// Takes bytes from the front of what is left into the front of `into`, and says how many. No
+    /// Takes bytes from the start of what is left into the start of `into`, and says how many. No
     /// byte for an `into` that has room means that the peer sends no more. `Failed` takes nothing.
     fn recv(&mut self, into: &mut [u8]) -> Result<usize, Failed>
         ensures within { IfOk result (λ n. n ≤ length into.new) }

@@ -76,11 +76,12 @@ impl MemoryHost {
         }
     }
 
-    /// The host that a stop now leaves, with nothing told. What was synced is there, and of what was
+    /// The host that a crash now leaves, with nothing told. What was synced is there, and of what was
     /// not, as much as `keep` says. No call of it was made yet, and none is to fail.
     pub fn stop(self, keep: Keep) -> Result<MemoryHost, ModelFault>
         ensures files { IfOk result (λ host. (file : AFile)
-            → IsLeftBy keep (of file (state_of self).past) (contents (of file (state_of host).past))) }
+            → IsLeftBy keep (of file (state_of self).past)
+            (contents (of file (state_of host).past))) }
         ensures image { IfOk result (λ host.
             IsDisk (state_of self).past (λ file. contents (of file (state_of host).past))) }
         ensures synced { IfOk result (λ host. (file : AFile)
@@ -222,7 +223,9 @@ impl MemoryHost {
         ensures range { self.old.disk_faults ≤ 2 ^ 64 - 1 }
         ensures counted { state_of self.new ≡ record (state_of self.old) {
           disk_faults = raised (state_of self.old).disk_faults;
-          refusals = (if refused then raised (state_of self.old).refusals else (state_of self.old).refusals);
+          refusals = (if refused
+              then raised (state_of self.old).refusals
+              else (state_of self.old).refusals);
         } }
     {
         self.disk_faults = self.disk_faults.saturating_add(1);
@@ -276,7 +279,9 @@ impl MemoryHost {
         ensures range { self.old.tell_faults ≤ 2 ^ 64 - 1 }
         ensures counted { state_of self.new ≡ record (state_of self.old) {
           tell_faults = raised (state_of self.old).tell_faults;
-          refusals = (if refused then raised (state_of self.old).refusals else (state_of self.old).refusals);
+          refusals = (if refused
+              then raised (state_of self.old).refusals
+              else (state_of self.old).refusals);
         } }
     {
         self.tell_faults = self.tell_faults.saturating_add(1);
@@ -286,7 +291,7 @@ impl MemoryHost {
         Failed
     }
 
-    /// What a stop leaves of a file.
+    /// What a crash leaves of a file.
     fn left_of(&self, file: File, keep: Keep) -> Result<Contents, AllocError>
         ensures { IfOk result (λ left. IsLeftBy keep (of file (state_of self.now).past) left) }
     {
@@ -308,7 +313,7 @@ impl MemoryHost {
         self.note(Entry::Sync(file))
     }
 
-    /// Puts down in a new host what a stop leaves of each file of this one.
+    /// Puts down in a new host what a crash leaves of each file of this one.
     fn settle_all(&self, keep: Keep, host: &mut MemoryHost) -> Result<(), AllocError>
         requires { state_of host.old ≡ new_host [] None }
         ensures { OnOk result (IsStopped keep (state_of self.now) (state_of host.new)) }
@@ -384,7 +389,7 @@ impl Host for MemoryHost {
         requires { at ≤ length (contents (of file (state_of self.old).past)) }
         ensures cause { HasCause self.old.disk_faults self.new.disk_faults (IsErr result) }
 
-        // A call that is to fail fails, and leaves that its range may hold anything after a stop.
+        // A call that is to fail fails, and leaves that its range may hold anything after a crash.
         // Another fails only where memory is refused to it, and then leaves all as it was.
         ensures fails { FailsNext (state_of self.old) → IsErr result }
         ensures done { OnOk result (state_of self.new ≡ after_call (state_of self.old)
@@ -411,7 +416,7 @@ impl Host for MemoryHost {
         ensures cause { HasCause self.old.disk_faults self.new.disk_faults (IsErr result) }
 
         // A call that is to fail fails, and leaves that what it was to take away may hold anything
-        // after a stop. Another fails only where memory is refused to it, and then leaves all as it
+        // after a crash. Another fails only where memory is refused to it, and then leaves all as it
         // was.
         ensures fails { FailsNext (state_of self.old) → IsErr result }
         ensures done { OnOk result (state_of self.new ≡ after_call (state_of self.old)
@@ -476,6 +481,3 @@ impl Host for MemoryHost {
 
     ghost reads_an_image = { λ host file _. reads_an_image_of_record host.entries.items file };
 }
-
-#[cfg(test)]
-mod tests;

@@ -150,6 +150,3 @@ impl Link for MemoryLink {
         Ok(size)
     }
 }
-
-#[cfg(test)]
-mod tests;

@@ -256,6 +256,3 @@ impl Spawner for MemorySpawner {
         Ok(())
     }
 }
-
-#[cfg(test)]
-mod tests;

@@ -10,7 +10,7 @@ use crate::entry::Entry;
 use crate::file::File;
 use std::alloc::{AllocError, Global};
 
-/// What a file read as after some of its changes, and what a stop would have left of it then: what
+/// What a file read as after some of its changes, and what a crash would have left of it then: what
 /// was synced, or that filled with a byte where it was touched since.
 #[derive(Drop)]
 pub(crate) struct Replay {
@@ -44,7 +44,8 @@ impl Replay {
     /// After a write of `bytes` from the place `at` on.
     fn write(&mut self, at: usize, bytes: &[u8], fill: Option<u8>) -> Result<(), AllocError>
         ensures now { OnOk result (self.new.now ≡ written self.old.now at bytes.now) }
-        ensures left { OnOk result (Touches fill at (at + length bytes.now) self.old.left self.new.left) }
+        ensures left { OnOk result
+            (Touches fill at (at + length bytes.now) self.old.left self.new.left) }
     {
         self.now.write(at, bytes)?;
         self.fail_write(at, bytes.len(), fill)
@@ -139,7 +140,7 @@ impl Replay {
     }
 }
 
-/// What a stop leaves of a file after these calls: what was synced, or that filled with a byte where
+/// What a crash leaves of a file after these calls: what was synced, or that filled with a byte where
 /// it was touched since.
 pub(crate) fn replayed(
     alloc: Global,

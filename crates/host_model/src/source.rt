@@ -12,7 +12,7 @@ pub trait Source {
     /// How many calls have failed. The count stands still at 2^64 - 1.
     ghost faults: { Self → ℕ };
 
-    /// Takes bytes from the front of what is left into the front of `into`, and says how many. No
+    /// Takes bytes from the start of what is left into the start of `into`, and says how many. No
     /// byte for an `into` that has room means that the input has ended. `Failed` takes nothing.
     fn pull(&mut self, into: &mut [u8]) -> Result<usize, Failed>
         ensures within { IfOk result (λ n. n ≤ length into.new) }

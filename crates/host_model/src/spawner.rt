@@ -23,7 +23,7 @@ pub trait Spawner {
         ensures kept { OnErr result (children self.new ≡ children self.old) }
         ensures cause { HasCause (faults self.old) (faults self.new) (IsErr result) };
 
-    /// Takes the next bytes that the child writes into the front of `into`, and says how many. No byte
+    /// Takes the next bytes that the child writes into the start of `into`, and says how many. No byte
     /// for an `into` that has room means that the child writes no more. `Failed` takes nothing.
     fn pull(&mut self, into: &mut [u8]) -> Result<usize, Failed>
         ensures within { IfOk result (λ n. n ≤ length into.new) }

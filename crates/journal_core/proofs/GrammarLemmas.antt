@@ -16,7 +16,7 @@ tail_of generation bytes records stands = record {
   fits = stands.fits;
 }
 
--- two records at the front of the same bytes are one, and the same bytes follow it
+-- two records at the start of the same bytes are one, and the same bytes follow it
 pub record SameFront (body other rest others : List ℕ) : Type 0 where
   pub body_same : body ≡ other
   pub rest_same : rest ≡ others
@@ -46,7 +46,7 @@ same_front body other rest others short short_other same =
           ∙ drop_at other others (length other) refl;
     }
 
--- one open record at the front
+-- one open record at the start
 pub one_open : (body rest : List ℕ) (records : List (List ℕ))
     → opened (body ∷ records) ++ rest ≡ 1 ∷ (length_field (length body) ++ (body ++ (opened records ++ rest)))
 one_open body rest records =
@@ -54,7 +54,7 @@ one_open body rest records =
     (append_assoc (length_field (length body)) (body ++ opened records) rest
     ∙ ap (λ (l : List ℕ). length_field (length body) ++ l) (append_assoc body (opened records) rest))
 
--- behind the records at the front stand the others
+-- behind the records at the start stand the others
 pub record Behind (before records : List (List ℕ)) (bytes : List ℕ) : Type 0 where
   pub others : List (List ℕ)
   pub all : records ≡ before ++ others
@@ -86,7 +86,7 @@ records_once generation bytes records others stands again =
     let none = none_at_closed stands.gate stands.rest there.others stands.closed there.tail in
     sym (there.all ∙ ap (λ (l : List (List ℕ)). records ++ l) none ∙ append-nil records)
 
--- where a journal goes on from some bytes, one goes on from their front
+-- where a journal goes on from some bytes, one goes on from their prefix
 pub goes_on_front : (generation : ℕ) (front rest : List ℕ) → GoesOn generation (front ++ rest) → GoesOn generation front
 goes_on_front generation front rest on =
     (rest ++ on.0, (on.1.0, subst (λ (b : List ℕ). StandsFor generation b on.1.0) (append_assoc front rest on.0) on.1.1))

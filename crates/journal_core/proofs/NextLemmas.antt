@@ -3,15 +3,12 @@ use Rattle.std.proofs.Common.{◌≡◌, ℕ, zero, suc, lit<, ◌+◌, ◌-◌,
 use Rattle.std.specs.Int.{w32, from_le_bytes}
 use Rattle.std.proofs.lemmas.Bool.{cases_lt}
 use Rattle.std.proofs.lemmas.Nat.{le_bytes_4}
-use Rattle.std.proofs.lemmas.List.{take_at, take_all, drop_more, take-append-le, get_or-take, get_or-drop, get_or_append_left, get_or-append_right, get_or-replicate, get_or_past, length-take, length-drop, length-replicate, nil_from_length}
+use Rattle.std.proofs.lemmas.List.{take_at, take_all, drop_more, take-append-le, get_or-take, get_or-append_right, get_or-replicate, get_or_past, length-take, length-drop, length-replicate, nil_from_length}
+use Rattle.list_lemmas.proofs.Bytes.{bytes-append, bytes-drop, bytes-take, AreBytes}
 use Rattle.journal_core.specs.Form.{length_field, opened, IsShort}
 use Rattle.journal_core.specs.Reading.{Tail, TailGoesOn, TailFails}
 use Rattle.journal_core.proofs.FormLemmas.{length-length_field, length_field_once}
 use Rattle.journal_core.proofs.GrammarLemmas.{one_open}
-
--- each number is a byte
-abbrev pub AreBytes : List ℕ → Type 0
-AreBytes bytes = (i : ℕ) → get_or bytes i 0 < 256
 
 -- four bytes are the length that is read of them
 pub length_field-read : (field : List ℕ) → length field ≡ 4 → AreBytes field → length_field (from_le_bytes w32 field) ≡ field
@@ -93,20 +90,7 @@ zeros count i =
 
 -- zeros behind bytes
 padded_bytes : (part : List ℕ) (count : ℕ) → AreBytes part → AreBytes (part ++ replicate count 0)
-padded_bytes part count small i =
-    ⊎_elim
-    (λ before. rw (get_or_append_left part (replicate count 0) 0 i before) (small i))
-    (λ after.
-    let zero_there : get_or (part ++ replicate count 0) i 0 ≡ 0 = get_or-append_right part (replicate count 0) (length part) i 0 refl after ∙ zeros count (i - length part) in
-    omega (arith, zero_there))
-    (cases_lt i (length part))
-
-front_bytes : (count : ℕ) (bytes : List ℕ) → AreBytes bytes → AreBytes (take count bytes)
-front_bytes count bytes small i =
-    ⊎_elim
-    (λ before. rw (get_or-take count bytes i 0 before) (small i))
-    (λ after. omega (arith, get_or_past (take count bytes) i 0 (omega (arith, length-take count bytes))))
-    (cases_lt i count)
+padded_bytes part count small = bytes-append part (replicate count 0) small (λ i. omega (arith, zeros count i))
 
 -- a length whose highest byte is 0 is short
 low_length : (field : List ℕ) → AreBytes field → get_or field 3 0 ≡ 0 → from_le_bytes w32 field ≤ 2 ^ 26
@@ -149,7 +133,7 @@ fails_at_length field rest size small fits long =
       before =
           let part_size : length (take 3 field) < 4 = omega (arith, length-take 3 field) in
           subst TailGoesOn (ap (λ (l : List ℕ). 1 ∷ l) (sym (take-append-le 3 field rest (omega arith))))
-          (less_goes_on (take 3 field) part_size (front_bytes 3 field small));
+          (less_goes_on (take 3 field) part_size (bytes-take 3 field small));
       here = λ inside on.
           let front : take 5 (1 ∷ (field ++ rest)) ≡ 1 ∷ length_field count = ap (λ (l : List ℕ). 1 ∷ l) (take_at field rest 4 size ∙ sym is_field) in
           let tail : Tail (1 ∷ (length_field count ++ on.0)) on.1 = subst (λ (l : List ℕ). Tail (l ++ on.0) on.1) front on.2 in
@@ -228,7 +212,7 @@ pub begins_short : (seen bytes : List ℕ) → AreBytes seen → length seen < 5
 begins_short seen bytes small short some is_open is_seen =
     let all : seen ≡ bytes = is_seen ∙ take_all 5 bytes (omega (arith, ap length is_seen, length-take 5 bytes)) in
     let form : seen ≡ 1 ∷ drop 1 seen = drop_more seen 0 0 some ∙ ap (λ (gate : ℕ). gate ∷ drop 1 seen) is_open in
-    let part_small : AreBytes (drop 1 seen) = λ i. subst (λ (b : ℕ). b < 256) (sym (get_or-drop 1 seen i 0)) (small (1 + i)) in
+    let part_small : AreBytes (drop 1 seen) = bytes-drop 1 seen small in
     subst (λ (l : List ℕ). TailFails l (length seen)) all
     (subst (λ (l : List ℕ). TailFails l (length l)) (sym form) (fails_in_length (drop 1 seen) (omega (arith, length-drop 1 seen)) part_small))
 

@@ -65,7 +65,7 @@ staged gate field body old first second third is_field inside one two three =
           ∙ ap (λ (f : List ℕ). front ++ (f ++ (body ++ 0 ∷ drop 1 behind))) is_field;
     }
 
--- a list that keeps the front of another
+-- a list that keeps the prefix of another
 front_kept : (front rest bytes : List ℕ) (mark at : ℕ) → length front ≡ at → take (at + 1) bytes ≡ take (at + 1) (front ++ mark ∷ rest)
     → bytes ≡ front ++ mark ∷ drop (at + 1) bytes
 front_kept front rest bytes mark at size same =
@@ -192,7 +192,7 @@ written_stands generation gate records body old middle new stands here short sta
     ∙ written-behind front (stands.gate ∷ tail) gate (1 ∷ []) (front_size generation records gate here)
     ∙ append_assoc front (1 ∷ []) tail)
 
--- whatever a stop leaves of an open journal holds its records
+-- whatever a crash leaves of an open journal holds its records
 pub open_stands : (journal : JournalState) (past : List Event) (records : List (List ℕ)) → IsOpen (of journal.file past) journal records
     → EveryImage journal.file (λ bytes. StandsFor journal.generation bytes records) past
 open_stands journal past records is_open bytes image =

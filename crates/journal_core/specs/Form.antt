@@ -15,6 +15,10 @@ abbrev pub opened : List (List ℕ) → List ℕ
 opened [] = []
 opened (body ∷ records) = 1 ∷ (length_field (length body) ++ (body ++ opened records))
 
+-- how many bytes a record has in a journal: its gate, its length and itself
+abbrev pub record_size : List ℕ → ℕ
+record_size body = 5 + length body
+
 -- a record has at most 2^26 bytes
 abbrev pub IsShort : List ℕ → Type 0
 IsShort bytes = length bytes ≤ 2 ^ 26

@@ -1,5 +1,5 @@
-ghost use Rattle.std.specs.Prelude.{◌≡◌, ◌<◌, [], ◌∷◌, length, IsErr, OnOk};
-ghost use Rattle.host_model.specs.Images.{contents, written, IsSynced};
+ghost use Rattle.std.specs.Prelude.{◌≡◌, ℕ, ◌<◌, ◌≤◌, [], ◌∷◌, length, IsErr, OnOk};
+ghost use Rattle.host_model.specs.Images.{contents, greatest, written, IsSynced};
 ghost use Rattle.host_model.specs.Past.{of};
 ghost use Rattle.host_model.specs.Cause.{HasCause};
 ghost use Rattle.host_model.specs.Moments.{Throughout, EveryImage, OnlyOn};
@@ -18,6 +18,10 @@ pub(crate) fn open_gate<H: Host>(host: &mut H, file: File, gate: u64) -> Result<
         → Throughout (EveryImage file
         (KeepsBeside gate (contents (of file (H.seen host.old).past))))
         (H.seen host.old).past (H.seen host.new).past }
+    ensures bound { (size : ℕ) → gate < size → H.honest
+        → greatest (of file (H.seen host.old).past) ≤ size
+        → Throughout (λ past. greatest (of file past) ≤ size) (H.seen host.old).past
+        (H.seen host.new).past }
     ensures only_here { H.honest → OnlyOn file (H.seen host.old).past (H.seen host.new).past }
     ensures cause { HasCause (H.seen host.old).disk_faults (H.seen host.new).disk_faults
         (IsErr result) }

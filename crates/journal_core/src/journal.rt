@@ -1,9 +1,9 @@
 ghost use Rattle.std.specs.Prelude.{◌≡◌, ℕ, ◌+◌, ◌^◌, ◌<◌, ◌≤◌, ◌↔◌, ◌⊎◌, List, [], ◌∷◌, ◌++◌, length, IfOk, IfErr, IsErrOf, OnOk, OnErr};
-ghost use Rattle.host_model.specs.Images.{Synced, contents, IsImage};
+ghost use Rattle.host_model.specs.Images.{Synced, contents, greatest, IsImage};
 ghost use Rattle.host_model.specs.Past.{On, of};
 ghost use Rattle.host_model.specs.Cause.{HasCause};
 ghost use Rattle.host_model.specs.Moments.{Throughout, EveryImage, OnlyOn};
-ghost use Rattle.journal_core.specs.Form.{FailsAt};
+ghost use Rattle.journal_core.specs.Form.{record_size, FailsAt};
 
 use crate::fault::JournalFault;
 use crate::reading::{LONGEST, RecordList, read_journal};
@@ -28,7 +28,8 @@ impl Model for Journal {
 
     ghost Value = { JournalState };
 
-    ghost view = { λ journal. record { file = journal.file; generation = journal.generation; bytes = journal.bytes } };
+    ghost view = { λ journal.
+        record { file = journal.file; generation = journal.generation; bytes = journal.bytes } };
 
     ghost invariant = { λ journal. 17 ≤ journal.bytes };
 }
@@ -92,8 +93,8 @@ impl Journal {
         Ok((journal, records))
     }
 
-    /// Adds a record. At `Ok` it is stored and synced, so that it is there after every later stop. After
-    /// `DiskFault` each stop leaves the records with the new one or without it, as at every moment of
+    /// Adds a record. At `Ok` it is stored and synced, so that it is there after every later crash. After
+    /// `DiskFault` each crash leaves the records with the new one or without it, as at every moment of
     /// the call, and the journal must be opened again.
     pub fn append<H: Host>(&mut self, host: &mut H, body: &[u8]) -> Result<(), JournalFault>
         requires room { self.old.bytes ≤ 2 ^ 60 }
@@ -108,6 +109,12 @@ impl Journal {
             → IsOpen (of self.old.file (H.seen host.old).past) self.old records
             → Throughout (EveryImage self.old.file
             (StandsForEither self.old.generation records body.now)) (H.seen host.old).past
+            (H.seen host.new).past }
+
+        // No crash leaves a file that is longer than it could be before, or than the record's end.
+        ensures bound { (size : ℕ) → self.old.bytes + record_size body.now ≤ size → H.honest
+            → greatest (of self.old.file (H.seen host.old).past) ≤ size
+            → Throughout (λ past. greatest (of self.old.file past) ≤ size) (H.seen host.old).past
             (H.seen host.new).past }
 
         // The images of all other files and the output stay.
@@ -145,6 +152,3 @@ impl Journal {
         self.bytes
     }
 }
-
-#[cfg(test)]
-mod tests;

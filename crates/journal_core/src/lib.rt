@@ -6,10 +6,10 @@
 //! and bytes behind it have no meaning. A record has at most 2^26 bytes.
 //!
 //! A record is written and synced behind the closed gate, and then the gate is opened in a write of its
-//! own, while all that it opens is stable. So at every moment a stop leaves the records that were there,
+//! own, while all that it opens is stable. So at every moment a crash leaves the records that were there,
 //! with the new one or without it, and a record whose `append` answered `Ok` is never lost again.
 //!
-//! It stands on `host_model`: what a stop may leave of a file is its definition, and over a host that
+//! It stands on `host_model`: what a crash may leave of a file is its definition, and over a host that
 //! tells nothing of its past each call is still safe and returns. Only `open` takes memory, for the
 //! records that it gives.
 #![tactic(auto)]
@@ -26,6 +26,6 @@ mod store;
 
 pub use fault::JournalFault;
 pub use journal::Journal;
-pub use law::any_journal;
+pub use law::bytes_hold_one_journal;
 pub use reading::RecordList;
 pub use start::prepare;

@@ -70,7 +70,7 @@ fn fill<H: Host>(
     Ok(piece.copy(place, want, into))
 }
 
-/// How many bytes two texts have in common at their fronts.
+/// The length of the longest common prefix of two texts.
 fn same_front(bytes: &[u8], other: &[u8]) -> usize
     ensures within { (result ≤ length bytes.now) × (result ≤ length other.now) }
     ensures same { take result bytes.now ≡ take result other.now }

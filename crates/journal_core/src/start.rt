@@ -1,4 +1,4 @@
-ghost use Rattle.std.specs.Prelude.{◌≡◌, ◌≤◌, [], ◌∷◌, ◌++◌, length, IfErr, IsErr, IsErrOf, OnOk};
+ghost use Rattle.std.specs.Prelude.{◌≡◌, ℕ, ◌≤◌, [], ◌∷◌, ◌++◌, length, IfErr, IsErr, IsErrOf, OnOk};
 ghost use Rattle.host_model.specs.Images.{contents, greatest, IsSynced};
 ghost use Rattle.host_model.specs.Past.{of};
 ghost use Rattle.host_model.specs.Cause.{HasCause};
@@ -22,10 +22,16 @@ pub fn prepare<H: Host>(host: &mut H, file: File, generation: u64) -> Result<(),
         → Throughout (OnlyOn file (H.seen host.old).past) (H.seen host.old).past
         (H.seen host.new).past }
 
-    // Where the file was synced with at most the 17 bytes of an empty journal, no stop leaves more.
+    // Where the file was synced with at most the 17 bytes of an empty journal, no crash leaves more.
     ensures short { H.honest → IsSynced (of file (H.seen host.old).past)
         → length (contents (of file (H.seen host.old).past)) ≤ 17
         → Throughout (EveryImage file (λ bytes. length bytes ≤ 17)) (H.seen host.old).past
+        (H.seen host.new).past }
+
+    // No crash leaves a file that is longer than it could be before, or than an empty journal.
+    ensures bound { (size : ℕ) → 17 ≤ size → H.honest
+        → greatest (of file (H.seen host.old).past) ≤ size
+        → Throughout (λ past. greatest (of file past) ≤ size) (H.seen host.old).past
         (H.seen host.new).past }
     ensures faults { IfErr result (λ fault. fault ≡ JournalFault.DiskFault) }
     ensures cause { HasCause (H.seen host.old).disk_faults (H.seen host.new).disk_faults
@@ -47,8 +53,9 @@ fn put_down<H: Host>(host: &mut H, file: File, head: [u8; 16]) -> Result<(), Fai
     ensures any_moment { H.honest
         → Throughout (OnlyOn file (H.seen host.old).past) (H.seen host.old).past
         (H.seen host.new).past }
-    ensures short { H.honest → greatest (of file (H.seen host.old).past) ≤ 17
-        → Throughout (λ past. greatest (of file past) ≤ 17) (H.seen host.old).past
+    ensures bound { (size : ℕ) → 17 ≤ size → H.honest
+        → greatest (of file (H.seen host.old).past) ≤ size
+        → Throughout (λ past. greatest (of file past) ≤ size) (H.seen host.old).past
         (H.seen host.new).past }
     ensures cause { HasCause (H.seen host.old).disk_faults (H.seen host.new).disk_faults
         (IsErr result) }

@@ -1,9 +1,9 @@
 ghost use Rattle.std.specs.Prelude.{◌≡◌, ℕ, ◌+◌, ◌^◌, ◌<◌, ◌≤◌, List, [], ◌∷◌, ◌++◌, length, IsErr, OnOk};
-ghost use Rattle.host_model.specs.Images.{contents, IsSynced};
+ghost use Rattle.host_model.specs.Images.{contents, greatest, IsSynced};
 ghost use Rattle.host_model.specs.Past.{of};
 ghost use Rattle.host_model.specs.Cause.{HasCause};
 ghost use Rattle.host_model.specs.Moments.{Throughout, EveryImage, OnlyOn};
-ghost use Rattle.journal_core.specs.Form.{opened, StandsFor};
+ghost use Rattle.journal_core.specs.Form.{opened, record_size, StandsFor};
 ghost use Rattle.journal_core.specs.Journal.{StandsForEither};
 ghost use Rattle.journal_core.specs.Store.{KeepsThrough, Stages};
 
@@ -11,7 +11,7 @@ use crate::form::length_bytes;
 use crate::gate::open_gate;
 use host_model::{Failed, File, Host};
 
-/// Adds a record to the journal in a file, whose closed gate is at this place. At every moment a stop
+/// Adds a record to the journal in a file, whose closed gate is at this place. At every moment a crash
 /// leaves the journal with the record or without it.
 pub(crate) fn store<H: Host>(host: &mut H, file: File, gate: u64, body: &[u8]) -> Result<(), Failed>
     requires room { gate ≤ 2 ^ 60 }
@@ -29,6 +29,10 @@ pub(crate) fn store<H: Host>(host: &mut H, file: File, gate: u64, body: &[u8]) -
         → gate ≡ 16 + length (opened records)
         → Throughout (EveryImage file (StandsForEither generation records body.now))
         (H.seen host.old).past (H.seen host.new).past }
+    ensures bound { (size : ℕ) → gate + 1 + record_size body.now ≤ size → H.honest
+        → greatest (of file (H.seen host.old).past) ≤ size
+        → Throughout (λ past. greatest (of file past) ≤ size) (H.seen host.old).past
+        (H.seen host.new).past }
     ensures only_here { H.honest → OnlyOn file (H.seen host.old).past (H.seen host.new).past }
     ensures cause { HasCause (H.seen host.old).disk_faults (H.seen host.new).disk_faults
         (IsErr result) }
@@ -52,6 +56,10 @@ fn stage<H: Host>(host: &mut H, file: File, gate: u64, body: &[u8]) -> Result<()
         → Throughout (EveryImage file
         (KeepsThrough gate (contents (of file (H.seen host.old).past))))
         (H.seen host.old).past (H.seen host.new).past }
+    ensures bound { (size : ℕ) → gate + 1 + record_size body.now ≤ size → H.honest
+        → greatest (of file (H.seen host.old).past) ≤ size
+        → Throughout (λ past. greatest (of file past) ≤ size) (H.seen host.old).past
+        (H.seen host.new).past }
     ensures only_here { H.honest → OnlyOn file (H.seen host.old).past (H.seen host.new).past }
     ensures cause { HasCause (H.seen host.old).disk_faults (H.seen host.new).disk_faults
         (IsErr result) }

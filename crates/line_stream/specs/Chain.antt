@@ -13,10 +13,6 @@ pub record Acts (T H : Type 0) : Type 1 where
   -- the line with this number has too many bytes
   pub overflows : T → H → ℕ → Status → T → H → Type 0
 
-abbrev pub acts_of : {T H : Type 0} → (T → H → ℕ → List ℕ → Result (Unit {0}) Status → T → H → Type 0) → (T → H → Result (Unit {0}) Status → T → H → Type 0)
-    → (T → H → ℕ → List ℕ → Status → T → H → Type 0) → (T → H → ℕ → Status → T → H → Type 0) → Acts T H
-acts_of takes pauses ends overflows = record { takes = takes; pauses = pauses; ends = ends; overflows = overflows }
-
 -- From a taker and a host these lines were taken, one by one in their order, and none of them ended the run.
 pub data Chain {T H : Type 0} (acts : Acts T H) (taker : T) (host : H) : List (List ℕ) → T → H → Type 0 where
   begins : Chain acts taker host [] taker host

@@ -6,7 +6,7 @@ use Rattle.line_stream.specs.declared.stream.Stream.{Stream}
 use Rattle.line_stream.specs.Chain.{Acts, Chain, HasPaused}
 use Rattle.line_stream.specs.Run.{TookAll}
 
--- one of these lines, behind those of the front, ended the run
+-- one of these lines, behind those of the prefix, ended the run
 pub record BrokeAt {T H : Type 0} (acts : Acts T H) (status : Status) (taker : T) (host : H) (front handed : List (List ℕ)) (taker'' : T) (host'' : H) : Type 0 where
   pub before : List (List ℕ)
   pub line : List ℕ
@@ -17,7 +17,7 @@ pub record BrokeAt {T H : Type 0} (acts : Acts T H) (status : Status) (taker : T
   pub chain : Chain acts taker host (front ++ before) taker' host'
   pub broke : acts.takes taker' host' (length (front ++ before) + 1) line (Err status) taker'' host''
 
--- these lines were taken behind those of the front, or one of them ended the run
+-- these lines were taken behind those of the prefix, or one of them ended the run
 abbrev pub HandsOver : {T H R : Type 0} → Acts T H → T → H → List (List ℕ) → List (List ℕ) → Result R Status → T → H → Type 0
 HandsOver acts taker host front handed result taker' host' =
     MatchResult result (λ _. Chain acts taker host (front ++ handed) taker' host') (λ status. BrokeAt acts status taker host front handed taker' host')

@@ -17,6 +17,3 @@ mod taker;
 
 pub use stream::{INPUT_LIMIT, Stream, take_text};
 pub use taker::Taker;
-
-#[cfg(test)]
-mod tests;

@@ -1,9 +1,9 @@
-ghost use Rattle.std.specs.Prelude.{◌≡◌, ℕ, ◌+◌, ◌^◌, ◌<◌, ◌≤◌, ◌++◌, true, List, [], length, Option, None, IsErrOf, OnOk, IfOk, IfErr};
+ghost use Rattle.std.specs.Prelude.{◌≡◌, ℕ, ◌+◌, ◌^◌, ◌<◌, ◌≤◌, ◌++◌, true, List, [], length, Option, None, IsErrOf, IsOk, OnOk, IfOk, IfErr};
 ghost use Rattle.std.specs.List.{AllPass};
 ghost use Rattle.history.specs.Limits.{is_one_line};
 ghost use Rattle.host_model.specs.Cause.{Rose};
 ghost use Rattle.plugin_text.specs.Lines.{fits, lines, rest};
-ghost use Rattle.line_stream.specs.Chain.{acts_of, Chain};
+ghost use Rattle.line_stream.specs.Chain.{Chain};
 ghost use Rattle.line_stream.specs.Run.{input_limit, Ended, Ran, Steps, Stops};
 ghost use Rattle.line_stream.specs.Stream.{HandsOver, HasTaken, IsFresh, next_number};
 
@@ -39,7 +39,8 @@ fn hand_line<H: Host, T: Taker<H>>(
     requires few { count.old < 2 ^ 40 }
     requires short { fits line.now ≡ true }
     requires whole { is_one_line line.now ≡ true }
-    ensures takes { T.takes taker.old host.old (count.old + 1) line.now result taker.new host.new }
+    ensures takes { T.acts.takes
+        taker.old host.old (count.old + 1) line.now result taker.new host.new }
     ensures count { OnOk result (count.new ≡ count.old + 1) }
     ensures ready { OnOk result (T.ready taker.new host.new (count.new + 1)) }
 {
@@ -61,9 +62,8 @@ fn hand_over<H: Host, T: Taker<H>>(
     requires short { AllPass fits lines.now }
     requires whole { AllPass is_one_line lines.now }
     ensures handed { (start : T) (begin : H) (front : List (List ℕ)) → length front ≡ count.old
-        → Chain (acts_of T.takes T.pauses T.ends T.overflows) start begin front taker.old host.old
-        → HandsOver
-        (acts_of T.takes T.pauses T.ends T.overflows) start begin front lines.now result taker.new host.new }
+        → Chain T.acts start begin front taker.old host.old
+        → HandsOver T.acts start begin front lines.now result taker.new host.new }
     ensures count { OnOk result (count.new ≡ count.old + length lines.now) }
     ensures ready { OnOk result (T.ready taker.new host.new (count.new + 1)) }
 {
@@ -86,9 +86,9 @@ impl Stream {
         }
     }
 
-    /// Takes the next piece of the text, and hands over the lines that end in it. `Err` is how the run ends: at
-    /// a line, between two pieces, at a line that is too long, or with `Status::Memory`. No more than
-    /// `INPUT_LIMIT` bytes may be taken in all.
+    /// Takes the next piece of the text, and hands over the lines that end in it. Of an empty piece nothing is
+    /// taken. `Err` is how the run ends: at a line, between two pieces, at a line that is too long, or with
+    /// `Status::Memory`. No more than `INPUT_LIMIT` bytes may be taken in all.
     pub fn take_piece<H: Host, T: Taker<H>>(
         &mut self,
         taker: &mut T,
@@ -97,24 +97,24 @@ impl Stream {
     ) -> Result<(), Status>
         requires ready { T.ready taker.old host.old (next_number self.old) }
         requires room { (start : T) × (begin : H) × (text : List ℕ)
-            × HasTaken
-            (acts_of T.takes T.pauses T.ends T.overflows) self.old start begin text taker.old host.old
+            × HasTaken T.acts self.old start begin text taker.old host.old
             × (length text + length piece.now ≤ input_limit) }
         ensures goes_on { OnOk result
             ((start : T) (begin : H) (text : List ℕ)
-            → HasTaken
-            (acts_of T.takes T.pauses T.ends T.overflows) self.old start begin text taker.old host.old
-            → HasTaken (acts_of T.takes T.pauses T.ends T.overflows) self.new start begin
-            (text ++ piece.now) taker.new host.new) }
+            → HasTaken T.acts self.old start begin text taker.old host.old
+            → HasTaken T.acts self.new start begin (text ++ piece.now) taker.new host.new) }
         ensures stops { IfErr result
             (λ status. (start : T) (begin : H) (text : List ℕ)
-            → HasTaken
-            (acts_of T.takes T.pauses T.ends T.overflows) self.old start begin text taker.old host.old
+            → HasTaken T.acts self.old start begin text taker.old host.old
             → (left : Option (List ℕ))
-            → Ended (acts_of T.takes T.pauses T.ends T.overflows) status start begin
-            (text ++ piece.now) taker.new host.new left ⊥) }
+            → Ended T.acts status start begin (text ++ piece.now) taker.new host.new left ⊥) }
         ensures ready { OnOk result (T.ready taker.new host.new (next_number self.new)) }
+        ensures empty { piece.now ≡ [] → IsOk result
+            × (self.new ≡ self.old) × (taker.new ≡ taker.old) × (host.new ≡ host.old) }
     {
+        if piece.is_empty() {
+            return Ok(());
+        }
         self.lines.clear();
         match self.splitter.feed(piece, &mut self.lines) {
             Ok(()) => {
@@ -125,7 +125,7 @@ impl Stream {
                 hand_over(taker, host, &mut self.count, &self.lines)?;
                 Err(taker.overflow(host, self.count + 1))
             }
-            // Of the other refusals a splitter has want of memory alone.
+            // Of the other refusals a splitter has out of memory alone.
             Err(_) => Err(Status::Memory),
         }
     }
@@ -135,13 +135,11 @@ impl Stream {
     pub fn end<H: Host, T: Taker<H>>(&self, taker: &mut T, host: &mut H) -> Status
         requires ready { T.ready taker.old host.old (next_number self.now) }
         requires room { (start : T) × (begin : H) × (text : List ℕ)
-            × HasTaken
-            (acts_of T.takes T.pauses T.ends T.overflows) self.now start begin text taker.old host.old
+            × HasTaken T.acts self.now start begin text taker.old host.old
             × (length text ≤ input_limit) }
         ensures ends { (start : T) (begin : H) (text : List ℕ)
-            → HasTaken
-            (acts_of T.takes T.pauses T.ends T.overflows) self.now start begin text taker.old host.old
-            → T.ends taker.old host.old (length (lines text)) (rest text)
+            → HasTaken T.acts self.now start begin text taker.old host.old
+            → T.acts.ends taker.old host.old (length (lines text)) (rest text)
             result taker.new host.new }
     {
         taker.end(host, self.count, self.splitter.rest())
@@ -158,24 +156,20 @@ fn take_next<S: Source, H: Host, T: Taker<H>>(
 ) -> Result<usize, Status>
     requires ready { T.ready taker.old host.old (next_number stream.old) }
     requires room { (start : T) × (begin : H) × (text : List ℕ)
-        × HasTaken
-        (acts_of T.takes T.pauses T.ends T.overflows) stream.old start begin text taker.old host.old
+        × HasTaken T.acts stream.old start begin text taker.old host.old
         × (length text + length piece.old ≤ input_limit) }
     requires some { 0 < length piece.old }
     ensures goes_on { IfOk result
         (λ n. (start : T) (begin : H) (text : List ℕ)
-        → HasTaken
-        (acts_of T.takes T.pauses T.ends T.overflows) stream.old start begin text taker.old host.old
-        → Steps (λ all. HasTaken
-        (acts_of T.takes T.pauses T.ends T.overflows) stream.new start begin all taker.new host.new)
+        → HasTaken T.acts stream.old start begin text taker.old host.old
+        → Steps (λ all. HasTaken T.acts stream.new start begin all taker.new host.new)
         n text (S.left source.old) (S.left source.new)) }
     ensures within { IfOk result (λ n. (0 < n) × (n ≤ length piece.old)) }
     ensures stops { IfErr result
         (λ status. (start : T) (begin : H) (text : List ℕ)
-        → HasTaken
-        (acts_of T.takes T.pauses T.ends T.overflows) stream.old start begin text taker.old host.old
+        → HasTaken T.acts stream.old start begin text taker.old host.old
         → length text + length piece.old ≤ input_limit
-        → Stops (acts_of T.takes T.pauses T.ends T.overflows) status start begin text
+        → Stops T.acts status start begin text
         taker.new host.new (S.left source.old) (S.left source.new)
         (Rose (S.faults source.old) (S.faults source.new))) }
     ensures ready { OnOk result (T.ready taker.new host.new (next_number stream.new)) }
@@ -204,7 +198,7 @@ fn take_pieces<S: Source, H: Host, T: Taker<H>>(
     requires ready { T.ready taker.old host.old 1 }
     requires start { IsFresh stream.old }
     requires some { 0 < length piece.old }
-    ensures ran { Ran (acts_of T.takes T.pauses T.ends T.overflows) result
+    ensures ran { Ran T.acts result
         taker.old host.old taker.new host.new (S.left source.old) (S.left source.new)
         (Rose (S.faults source.old) (S.faults source.new)) }
     ensures count { S.faults source.old ≤ S.faults source.new }
@@ -225,7 +219,7 @@ fn take_pieces<S: Source, H: Host, T: Taker<H>>(
 ///
 /// No more than 2^40 bytes are taken. Where just so many were and none of them ended the run, the answer is
 /// `Status::InputLimit`, also where the source would fail next. Where a line is too long nothing behind it is
-/// handed over. Want of memory may end the run at any place, with `Status::Memory`.
+/// handed over. The run may run out of memory at any place, and ends with `Status::Memory` then.
 pub fn take_text<S: Source, H: Host, T: Taker<H>>(
     alloc: Global,
     taker: &mut T,
@@ -233,7 +227,7 @@ pub fn take_text<S: Source, H: Host, T: Taker<H>>(
     host: &mut H,
 ) -> Status
     requires { T.ready taker.old host.old 1 }
-    ensures ran { Ran (acts_of T.takes T.pauses T.ends T.overflows) result
+    ensures ran { Ran T.acts result
         taker.old host.old taker.new host.new (S.left source.old) (S.left source.new)
         (Rose (S.faults source.old) (S.faults source.new)) }
     ensures count { S.faults source.old ≤ S.faults source.new }

@@ -1,7 +1,7 @@
-ghost use Rattle.std.specs.Prelude.{◌≡◌, ℕ, ◌+◌, ◌^◌, ◌≤◌, true, List, Result, OnOk};
+ghost use Rattle.std.specs.Prelude.{◌≡◌, ℕ, ◌+◌, ◌^◌, ◌≤◌, true, OnOk};
 ghost use Rattle.history.specs.Limits.{is_one_line};
-ghost use Rattle.host_model.specs.declared.status.Status.{Status as AStatus};
 ghost use Rattle.plugin_text.specs.Lines.{fits};
+ghost use Rattle.line_stream.specs.Chain.{Acts};
 
 use host_model::{Host, Status};
 
@@ -13,17 +13,8 @@ pub trait Taker<H: Host> {
     /// The line with this number may be handed over; the first line has the number 1.
     ghost ready: { Self → H → ℕ → Type 0 };
 
-    /// The line with this number was taken so.
-    ghost takes: { Self → H → ℕ → List ℕ → Result (Unit {0}) AStatus → Self → H → Type 0 };
-
-    /// The lines of a piece were over, and it went on so.
-    ghost pauses: { Self → H → Result (Unit {0}) AStatus → Self → H → Type 0 };
-
-    /// The input ended after so many lines, with these bytes behind the last line feed.
-    ghost ends: { Self → H → ℕ → List ℕ → AStatus → Self → H → Type 0 };
-
-    /// The line with this number has too many bytes.
-    ghost overflows: { Self → H → ℕ → AStatus → Self → H → Type 0 };
+    /// What each call does.
+    ghost acts: { Acts Self H };
 
     /// Takes a line, which stands there without its line feed. `Err` says how the run ends.
     fn take_line(&mut self, host: &mut H, number: u64, line: &[u8]) -> Result<(), Status>
@@ -31,13 +22,13 @@ pub trait Taker<H: Host> {
         requires few { number ≤ 2 ^ 40 }
         requires short { fits line.now ≡ true }
         requires whole { is_one_line line.now ≡ true }
-        ensures takes { takes self.old host.old number line.now result self.new host.new }
+        ensures takes { acts.takes self.old host.old number line.now result self.new host.new }
         ensures ready { OnOk result (ready self.new host.new (number + 1)) };
 
     /// The input may be slow to go on: what waits can be told now. `Err` says how the run ends.
     fn pause(&mut self, host: &mut H) -> Result<(), Status>
         requires ready { (number : ℕ) × ready self.old host.old number }
-        ensures pauses { pauses self.old host.old result self.new host.new }
+        ensures pauses { acts.pauses self.old host.old result self.new host.new }
         ensures ready { OnOk result
             ((number : ℕ) → ready self.old host.old number → ready self.new host.new number) };
 
@@ -47,11 +38,11 @@ pub trait Taker<H: Host> {
         requires ready { ready self.old host.old (lines + 1) }
         requires few { lines ≤ 2 ^ 40 }
         requires short { fits rest.now ≡ true }
-        ensures ends { ends self.old host.old lines rest.now result self.new host.new };
+        ensures ends { acts.ends self.old host.old lines rest.now result self.new host.new };
 
     /// The line with this number is too long. Says how the run ends.
     fn overflow(&mut self, host: &mut H, number: u64) -> Status
         requires ready { ready self.old host.old number }
         requires few { number ≤ 2 ^ 40 + 1 }
-        ensures overflows { overflows self.old host.old number result self.new host.new };
+        ensures overflows { acts.overflows self.old host.old number result self.new host.new };
 }

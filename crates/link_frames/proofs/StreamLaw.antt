@@ -171,9 +171,9 @@ pub under_way : (pieces : List (List ℕ)) (before now : List Frame) (rest : Lis
 under_way pieces before now rest feeds = fed-open [] pieces before now rest feeds nothing-open
 
 -- however the same bytes are cut
-pub any_pieces : (pieces others : List (List ℕ)) (before first second : List Frame) (rest end : List ℕ) → Feeds [] pieces before first rest → Feeds [] others before second end
+pub pieces_change_no_frames : (pieces others : List (List ℕ)) (before first second : List Frame) (rest end : List ℕ) → Feeds [] pieces before first rest → Feeds [] others before second end
     → concat pieces ≡ concat others → (first ≡ second) × (rest ≡ end)
-any_pieces pieces others before first second rest end one two same =
+pieces_change_no_frames pieces others before first second rest end one two same =
     one_reading (concat pieces) rest end before first second (together pieces before first rest one) (none-open rest (under_way pieces before first rest one))
     (subst (λ (bs : List ℕ). HandsOut bs before second end) (sym same) (together others before second end two)) (none-open end (under_way others before second end two))
 

@@ -3,6 +3,7 @@ use Rattle.std.specs.Prelude.{◌≡◌, ℕ, ◌==◌, ◌<◌, ◌≤◌, Bool
 use Rattle.std.specs.List.{list_all, list_any, IsDistinct}
 use Rattle.std.specs.Str.{bytes_eq}
 use Rattle.storage_number.specs.Word.{is_word}
+use Rattle.history.specs.declared.limits.TheConstants.{TEXT_LIMIT, UPDATE_EVERY_LIMIT}
 use Rattle.history.specs.Limits.{is_chart_id, is_id}
 use Rattle.entry_codec.specs.Lists.{is_ascending}
 use Rattle.replication.specs.declared.beats.Beat.{Beat}
@@ -18,7 +19,7 @@ use Rattle.replication.specs.Names.{beat_moment, uses, words_of}
 -- ---- names
 -- its id is that of a chart, its context has at most 200 bytes, and it has a value each 1 to 86,400 seconds
 abbrev pub is_chart : ChartName → Bool
-is_chart chart = is_chart_id chart.id && nat_le (length chart.context) 200 && nat_le 1 chart.update_every && nat_le chart.update_every 86400
+is_chart chart = is_chart_id chart.id && nat_le (length chart.context) TEXT_LIMIT && nat_le 1 chart.update_every && nat_le chart.update_every UPDATE_EVERY_LIMIT
 
 abbrev pub has_id : DimName → Bool
 has_id dimension = is_id dimension.id

@@ -21,7 +21,7 @@ pub fn every_frame()
 {}
 
 /// The laws of bytes that are cut in two at any place. It does nothing.
-pub fn any_cut()
+pub fn cut_changes_no_frames()
     // What is handed out of two pieces, one after the other, is what is handed out of both together.
     ensures onward { (bytes more rest end : List ℕ) (first second third : List Frame)
         → HandsOut bytes first second rest → HandsOut (rest ++ more) second third end
@@ -54,7 +54,7 @@ pub fn any_cut()
 {}
 
 /// The laws of bytes that are cut into pieces at any places, each piece answered with `Ok`. It does nothing.
-pub fn any_pieces()
+pub fn pieces_change_no_frames()
     // What a new reader hands out of pieces, one after the other, is what is handed out of all bytes together.
     ensures together { (pieces : List (List ℕ)) (before now : List Frame) (rest : List ℕ)
         → Feeds [] pieces before now rest → HandsOut (concat pieces) before now rest }
@@ -71,7 +71,7 @@ pub fn any_pieces()
 {}
 
 /// The law of answers: what a child answers whose names and beats keep the rules is a frame. It does nothing.
-pub fn any_answer()
+pub fn answers_are_frames()
     ensures { (child floor : ℕ) (names : Names) (beats : List Beat) (ask : AnAsk) (message : Data)
         → child < 2 ^ 64 → floor < 2 ^ 32 → ask.last < 2 ^ 32 → KeepsRules names beats
         → data_of child floor names beats ask ≡ Some message → HasSpelling (frame.Data message) }

@@ -4,11 +4,11 @@
 //! frames share a spelling, and none is the prefix of another (`every_frame`).
 //!
 //! A `FrameReader` is fed the bytes of a link piece by piece and hands out the frames that stand in them. These are
-//! the frames of the bytes so far, however they are cut into pieces (`any_cut`, `any_pieces`). It stops at a length above 2^24
-//! once its four bytes are there, and at a body that no frame has once it is whole, each time after the frames
-//! before it. Where memory is short it is a prefix of these frames, and the reader reads no more. Between two pieces
-//! it keeps fewer than 2^24 + 4 bytes (`any_cut`). Nothing is reserved by a length or a count; what is read of a
-//! body takes some times the bytes of the body. No contract says so.
+//! the frames of the bytes so far, however they are cut into pieces (`cut_changes_no_frames`, `pieces_change_no_frames`). It
+//! stops at a length above 2^24 once its four bytes are there, and at a body that no frame has once it is whole, each time
+//! after the frames before it. Where memory runs out it is a prefix of these frames, and the reader reads no more. Between two
+//! pieces it keeps fewer than 2^24 + 4 bytes (`cut_changes_no_frames`). Nothing is reserved by a length or a count; what is
+//! read of a body takes some times the bytes of the body. No contract says so.
 //!
 //! It stands on the spelling of a `Data` of `replication`, on the fields and lists of `field_codec`, on the order of
 //! lists of `entry_codec`, on the form of ids of `history`, and on `storage_number` for which words are storage numbers.
@@ -30,9 +30,8 @@ mod writing;
 
 pub use fault::FrameFault;
 pub use frame::{BAD_FRAME, BODY_LIMIT, DONE, Frame, FrameList, WRONG_CHILD};
-pub use law::{any_answer, any_cut, any_pieces, every_frame, one_beat};
+pub use law::{
+    answers_are_frames, cut_changes_no_frames, every_frame, one_beat, pieces_change_no_frames,
+};
 pub use reader::FrameReader;
 pub use writing::write_frame;
-
-#[cfg(test)]
-mod tests;

@@ -27,7 +27,8 @@ impl Model for FrameReader {
 
     ghost view = { λ reader. record { rest = reader.rest; refused = reader.refused } };
 
-    ghost invariant = { λ reader. IsOpen reader.rest × IfSome reader.refused (λ _. reader.rest ≡ []) };
+    ghost invariant = { λ reader.
+        IsOpen reader.rest × IfSome reader.refused (λ _. reader.rest ≡ []) };
 }
 
 impl FrameReader {

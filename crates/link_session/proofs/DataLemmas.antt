@@ -63,13 +63,13 @@ module _ (past : List Event) (agent : AgentState) (set : Settings) (h : List Bea
 
   pub adds-is : agent_adds agent message ≡ added_to h message
   adds-is =
-      ap (λ (v : Verdict). added_by v agent.registry agent.role message) verdict-is ∙ ap (λ (r : Registry). added_by (verdict_of h message) r agent.role message) is_of.holds.registry_is
-      ∙ ap (λ (r : Role). added_by (verdict_of h message) (registry_of h) r message) is_of.role
+      ap (λ (v : Verdict). added_by v agent.registry agent.role message) verdict-is ∙ ap (λ (r : Registry). added_by (verdict_of h message) r agent.role message) is_of.left_by.registry_is
+      ∙ ap (λ (r : Role). added_by (verdict_of h message) (registry_of h) r message) is_of.left_by.role_is
 
   pub refusal-is : refusal_by (agent_verdict agent message) agent.registry agent.role message ≡ refusal_by (verdict_of h message) (registry_of h) (role_of h) message
   refusal-is =
-      ap (λ (v : Verdict). refusal_by v agent.registry agent.role message) verdict-is ∙ ap (λ (r : Registry). refusal_by (verdict_of h message) r agent.role message) is_of.holds.registry_is
-      ∙ ap (λ (r : Role). refusal_by (verdict_of h message) (registry_of h) r message) is_of.role
+      ap (λ (v : Verdict). refusal_by v agent.registry agent.role message) verdict-is ∙ ap (λ (r : Registry). refusal_by (verdict_of h message) r agent.role message) is_of.left_by.registry_is
+      ∙ ap (λ (r : Role). refusal_by (verdict_of h message) (registry_of h) r message) is_of.left_by.role_is
 
 -- ---- what becomes of the history
 module _ (set : Settings) (id : ℕ) (h : List Beat) (message : Data) where

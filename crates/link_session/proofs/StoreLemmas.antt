@@ -21,7 +21,7 @@ use Rattle.link_session.proofs.ExtendsLemmas.{extends-front, extends-further, ex
 
 -- ---- an agent
 pub stands-all : (past : List Event) (agent : AgentState) (set : Settings) (h : List Beat) → IsAgentOf past agent set h → EveryDisk (StandsForHistory set h) past
-stands-all past agent set h is_of = stays past agent.store agent.registry agent.last_rows agent.latest set h is_of.holds
+stands-all past agent set h is_of = stays past agent.store set h is_of.holds
 
 -- it is of all that was stored
 pub gone-on : (past : List Event) (agent : AgentState) (set : Settings) (h0 h : List Beat) → Extends h0 h → IsAgentOf past agent set h → (all : Bool) → HasGoneOn all past agent set h0 h

@@ -23,6 +23,3 @@ mod saying;
 pub use child::send;
 pub use fault::{PeerFault, SessionFault};
 pub use parent::receive;
-
-#[cfg(test)]
-mod tests;

@@ -1,6 +1,7 @@
 -- What holds of each element of a list.
-use Rattle.std.proofs.Common.{◌≡◌, ℕ, zero, suc, Bool, true, false, cond, List, [], ◌∷◌, ◌++◌, take, drop, Some, slice_get, subst}
-use Rattle.std.specs.List.{AllByRecursion, filter}
+use Rattle.std.proofs.Common.{◌≡◌, ℕ, zero, suc, Bool, true, false, not, cond, List, [], ◌∷◌, ◌++◌, take, drop, Some, slice_get, subst}
+use Rattle.std.specs.List.{AllByRecursion, filter, list_any}
+use Rattle.std.proofs.lemmas.Bool.{not-false, or_parts}
 use Rattle.std.proofs.lemmas.Option.{none-some, same_Some}
 
 pub all-append : {A : Type 0} (P : A → Type 0) (xs ys : List A) → AllByRecursion P xs → AllByRecursion P ys → AllByRecursion P (xs ++ ys)
@@ -38,3 +39,10 @@ pub all-at : {A : Type 0} (P : A → Type 0) (xs : List A) (n : ℕ) (x : A) →
 all-at P [] n x all at = absurd (none-some x at)
 all-at P (y ∷ ys) zero x all at = subst P (same_Some y x at) all.0
 all-at P (y ∷ ys) (suc n) x all at = all-at P ys n x all.1 at
+
+-- where none fails a test, each passes it
+pub none-fails : {A : Type 0} (test : A → Bool) (xs : List A) → list_any (λ x. not (test x)) xs ≡ false → AllByRecursion (λ x. test x ≡ true) xs
+none-fails test [] none = tt
+none-fails test (x ∷ xs) none =
+    let parts = or_parts (not (test x)) (list_any (λ x. not (test x)) xs) none in
+    (not-false (test x) parts.0, none-fails test xs parts.1)

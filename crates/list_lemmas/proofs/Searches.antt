@@ -1,6 +1,7 @@
 -- What a search of a list finds.
-use Rattle.std.proofs.Common.{◌≡◌, Bool, true, false, ◌||◌, cond, List, [], ◌∷◌, Some, None, refl, ap, sym, subst, ◌∙◌}
+use Rattle.std.proofs.Common.{◌≡◌, Bool, true, false, ◌||◌, cond, List, [], ◌∷◌, Option, Some, None, is_some, refl, ap, sym, subst, ◌∙◌}
 use Rattle.std.specs.List.{AllByRecursion, find, list_any}
+use Rattle.std.specs.Option.{option_map}
 use Rattle.std.proofs.lemmas.Bool.{cond-false, or_parts}
 use Rattle.std.proofs.lemmas.Option.{none-some, same_Some}
 
@@ -27,3 +28,12 @@ found-all {A} P p (y ∷ ys) x all e = by (p y) e (found-all P p ys x all.1)
     by : (b : Bool) → cond b (Some y) (find p ys) ≡ Some x → (find p ys ≡ Some x → P x) → P x
     by true e rest = subst P (same_Some y x e) all.0
     by false e rest = rest e
+
+-- what is not there is none
+pub none-from : {A : Type 0} (found : Option A) → is_some found ≡ false → found ≡ None
+none-from None e = refl
+none-from (Some x) e = absurd cc
+
+pub some-map : {A B : Type 0} (f : A → B) (found : Option A) → is_some (option_map f found) ≡ is_some found
+some-map f None = refl
+some-map f (Some x) = refl

@@ -25,10 +25,7 @@ mod slot_page;
 mod words;
 
 pub use fault::PageFault;
-pub use law::{any_records, any_slots};
+pub use law::{pushes_make_all_records, pushes_make_all_slots};
 pub use record_page::RecordPage;
 pub use records::RECORD_SIZE;
 pub use slot_page::SlotPage;
-
-#[cfg(test)]
-mod tests;

@@ -1,7 +1,7 @@
 -- What the calls of `lru` make of a cache of pages.
 use Rattle.std.proofs.Common.{◌≡◌, ℕ, zero, suc, ◌-◌, ◌<◌, Bool, true, false, cond, List, [], ◌∷◌, length, take, Option, Some, None, refl, sym, ap, ◌∙◌, arith}
 use Rattle.std.specs.Cmp.{IsEquivalence, nat_eq_equiv}
-use Rattle.std.specs.Prelude.{nat_eq, is_some, unwrap_or}
+use Rattle.std.specs.Prelude.{nat_eq, unwrap_or}
 use Rattle.lru.proofs.CallerLemmas.{lookup-put_entries}
 use Rattle.std.proofs.lemmas.Bool.{and_parts}
 use Rattle.std.specs.Map.{lookup, lookup_entry, remove_entry}
@@ -76,10 +76,6 @@ pub not_promoted : (c : Cached) (key : PageKey) → lookup (same_key key) c.entr
 not_promoted c key none =
     let test = same_key key in let others = remove_entry test c.entries in
     ap (λ (o : Option (PageKey × List ℕ)). lru_cache (option_map_or (λ e. e ∷ others) o c.entries) c.cap) (none_of test c.entries none)
-
-pub none_from : {X : Type 0} (o : Option X) → is_some o ≡ false → o ≡ None
-none_from None not = refl
-none_from (Some x) not = absurd cc
 
 -- a look-up after the page was given finds it
 pub lookup-given : (c : Cached) (key : PageKey) (page : List ℕ) → lookup (same_key key) (with_given c key page).entries ≡ Some page

@@ -17,6 +17,3 @@ pub use cache::PageCache;
 pub use fault::CacheFault;
 pub use fetch::Fetch;
 pub use key::PageKey;
-
-#[cfg(test)]
-mod tests;

@@ -29,6 +29,3 @@ pub use fault::PoolFault;
 pub use node::PAGE_SIZE;
 pub use page::RawPage;
 pub use pool::PagePool;
-
-#[cfg(test)]
-mod tests;

@@ -20,7 +20,8 @@ impl Model for RawPage {
 
     ghost view = { λ page. take page.filled page.block.value.bytes };
 
-    ghost invariant = { λ page. (page.filled ≤ PAGE_SIZE) × (length page.block.value.bytes ≡ PAGE_SIZE) };
+    ghost invariant = { λ page.
+        (page.filled ≤ PAGE_SIZE) × (length page.block.value.bytes ≡ PAGE_SIZE) };
 }
 
 impl RawPage {

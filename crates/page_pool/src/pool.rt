@@ -24,7 +24,8 @@ impl Model for PagePool {
 
     ghost view = { λ pool. pool.spare };
 
-    ghost invariant = { λ pool. (length pool.free.nodes ≡ pool.spare) × (are_whole pool.free.nodes ≡ true) };
+    ghost invariant = { λ pool.
+        (length pool.free.nodes ≡ pool.spare) × (are_whole pool.free.nodes ≡ true) };
 }
 
 /// A block of memory for a page.

@@ -25,7 +25,7 @@ pub record GoesOn {T H : Type 0} (acts : Acts T H) (size : ℕ) (text : List ℕ
   pub held : HasTaken acts stream taker host (text ++ added) taker' host'
   pub put : (begin : Course) (before : Option Children) (first : Option (List ℕ)) → HasPut begin old text before now first ahead → HasPut begin new (text ++ added) before after first ahead'
 
--- so many bytes may still be taken of a text whose front was taken
+-- so many bytes may still be taken of a text of which a prefix was taken
 pub record Going {T H : Type 0} (acts : Acts T H) (budget : ℕ) (old new : Runner) (stream : Stream) (taker : T) (host : H) (taker' : T) (host' : H) (before now : Option Children) (ahead ahead' : Option (List ℕ)) : Type 0 where
   pub text : List ℕ
   pub held : HasTaken acts stream taker host text taker' host'

@@ -102,7 +102,7 @@ said_in (Open past) = said past
 said_in (Closed past tail) = said past
 
 -- The bytes that were put are those of the text, the runner goes on, or answers what this text asks for, and the clock
--- was read once for each beat with a BEGIN line. Once there was no memory, the bytes are a front of the text's, and
+-- was read once for each beat with a BEGIN line. Once there was no memory, the bytes are a prefix of the text's, and
 -- the clock was read at most so often.
 abbrev pub IsTold : Option (Result Turn RunFault) → Course → Text → Type 0
 IsTold (Some (Err fault.Memory)) course whole = IsFront course.told (bytes_of whole) × (length course.readings ≤ beats_begun (said_in whole))

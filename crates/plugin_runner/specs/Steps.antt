@@ -23,11 +23,11 @@ pub record Puts (step : Step) (old new : Follower) (before now : Option (List �
   pub wrote : out' ≡ out ++ added
   pub goes : (origin : Origin) (readings : List ℕ) (past : List (List ℕ)) → Follows old origin readings (said past) → Reaches step origin (readings ++ taken) added past new
 
--- these bytes are a front of those of the lines, and there are no more readings than beats that the lines begin
+-- these bytes are a prefix of those of the lines, and there are no more readings than beats that the lines begin
 abbrev pub IsWithin : List ℕ → List ℕ → List (List ℕ) → Type 0
 IsWithin told readings lines = IsFront told (bytes lines) × (length readings ≤ beats_begun (said lines))
 
--- a front of these bytes was put behind `out`, and the clock was read at most once for each beat that they begin
+-- a prefix of these bytes was put behind `out`, and the clock was read at most once for each beat that they begin
 pub record PutsFront (step : Step) (old : Follower) (before now : Option (List ℕ)) (out out' : List ℕ) : Type 0 where
   pub taken : List ℕ
   pub reads : Reads before taken now
@@ -55,7 +55,7 @@ pub record PutsAll (lines : List (List ℕ)) (old new : Follower) (before now : 
   pub plain : IsPlain lines
   pub puts : Puts (after lines) old new before now out out'
 
--- of these lines a front was put, up to one within which it ends, and none before that one says DISABLE
+-- of these lines a prefix was put, up to one within which it ends, and none before that one says DISABLE
 pub record PutsSome (lines : List (List ℕ)) (old : Follower) (before now : Option (List ℕ)) (out out' : List ℕ) : Type 0 where
   pub front : List (List ℕ)
   pub last : List ℕ

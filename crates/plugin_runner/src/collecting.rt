@@ -1,9 +1,8 @@
 //! A collector that is run to its end, and whose lines are handed over.
-ghost use Rattle.std.specs.Prelude.{◌≡◌, ℕ, ◌+◌, ◌*◌, ◌<◌, ◌≤◌, List, ◌++◌, length, Option, IfOk, IfErr, OnOk};
+ghost use Rattle.std.specs.Prelude.{◌≡◌, ℕ, ◌+◌, ◌*◌, ◌<◌, ◌≤◌, List, length, Option, IfOk, IfErr, OnOk};
 ghost use Rattle.host_model.specs.Cause.{Rose};
 ghost use Rattle.host_model.specs.Spawner.{Children};
-ghost use Rattle.line_stream.specs.Chain.{acts_of};
-ghost use Rattle.line_stream.specs.Run.{input_limit, Ended};
+ghost use Rattle.line_stream.specs.Run.{input_limit};
 ghost use Rattle.line_stream.specs.Stream.{HasTaken, next_number};
 ghost use Rattle.plugin_runner.specs.Collected.{Collected, FailsBySpawner};
 ghost use Rattle.plugin_runner.specs.Collecting.{GoesOn, HasPut};
@@ -28,39 +27,6 @@ pub enum Halt {
     Failed(RunFault),
 }
 
-/// Hands over a piece of the text, which may be empty.
-fn hand_piece<H: Host, T: Taker<H>>(
-    stream: &mut Stream,
-    taker: &mut T,
-    host: &mut H,
-    piece: &[u8],
-) -> Result<(), Status>
-    requires ready { T.ready taker.old host.old (next_number stream.old) }
-    requires room { (start : T) × (begin : H) × (text : List ℕ)
-        × HasTaken
-        (acts_of T.takes T.pauses T.ends T.overflows) stream.old start begin text taker.old host.old
-        × (length text + length piece.now ≤ input_limit) }
-    ensures goes_on { OnOk result
-        ((start : T) (begin : H) (text : List ℕ)
-        → HasTaken
-        (acts_of T.takes T.pauses T.ends T.overflows) stream.old start begin text taker.old host.old
-        → HasTaken (acts_of T.takes T.pauses T.ends T.overflows) stream.new start begin
-        (text ++ piece.now) taker.new host.new) }
-    ensures stops { IfErr result
-        (λ status. (start : T) (begin : H) (text : List ℕ)
-        → HasTaken
-        (acts_of T.takes T.pauses T.ends T.overflows) stream.old start begin text taker.old host.old
-        → (left : Option (List ℕ))
-        → Ended (acts_of T.takes T.pauses T.ends T.overflows) status start begin
-        (text ++ piece.now) taker.new host.new left ⊥) }
-    ensures ready { OnOk result (T.ready taker.new host.new (next_number stream.new)) }
-{
-    if piece.is_empty() {
-        return Ok(());
-    }
-    stream.take_piece(taker, host, piece)
-}
-
 /// Takes a turn of the runner and hands over what it puts, up to `budget` bytes. `out` is room for that.
 /// Says how many bytes were taken where the run goes on, and `Err` how it ended.
 fn take_turn<P: Spawner, C: Clock, H: Host, T: Taker<H>>(
@@ -75,25 +41,22 @@ fn take_turn<P: Spawner, C: Clock, H: Host, T: Taker<H>>(
 ) -> Result<usize, Halt>
     requires ready { T.ready taker.old host.old (next_number stream.old) }
     requires room { (start : T) × (begin : H) × (text : List ℕ)
-        × HasTaken
-        (acts_of T.takes T.pauses T.ends T.overflows) stream.old start begin text taker.old host.old
+        × HasTaken T.acts stream.old start begin text taker.old host.old
         × (length text + budget ≡ input_limit) }
     ensures goes_on { IfOk result
         (λ taken. (start : T) (begin : H) (text : List ℕ)
-        → HasTaken
-        (acts_of T.takes T.pauses T.ends T.overflows) stream.old start begin text taker.old host.old
-        → GoesOn (acts_of T.takes T.pauses T.ends T.overflows) taken text runner.old runner.new
+        → HasTaken T.acts stream.old start begin text taker.old host.old
+        → GoesOn T.acts taken text runner.old runner.new
         stream.new start begin taker.new host.new (P.children spawner.old) (P.children spawner.new)
         (C.readings clock.old) (C.readings clock.new)) }
     ensures stops { IfErr result
         (λ halt. (start : T) (begin : H) (text : List ℕ)
-        → HasTaken
-        (acts_of T.takes T.pauses T.ends T.overflows) stream.old start begin text taker.old host.old
+        → HasTaken T.acts stream.old start begin text taker.old host.old
         → length text + budget ≡ input_limit
         → (course : Course) (before : Option Children) (first : Option (List ℕ))
         → HasPut
         course runner.old text before (P.children spawner.old) first (C.readings clock.old)
-        → Collected (acts_of T.takes T.pauses T.ends T.overflows) halt course start begin
+        → Collected T.acts halt course start begin
         taker.new host.new before (P.children spawner.new) first (C.readings clock.new)) }
     ensures ready { OnOk result (T.ready taker.new host.new (next_number stream.new)) }
     ensures within { IfOk result (λ taken. taken < budget) }
@@ -106,7 +69,7 @@ fn take_turn<P: Spawner, C: Clock, H: Host, T: Taker<H>>(
     out.clear();
     let answer = runner.turn(spawner, clock, out);
     let taken = budget.min(out.len());
-    if let Err(status) = hand_piece(stream, taker, host, &out.as_slice()[..taken]) {
+    if let Err(status) = stream.take_piece(taker, host, &out.as_slice()[..taken]) {
         return Err(Halt::Within(status));
     }
     if taken == budget {
@@ -137,7 +100,7 @@ pub fn take_collected<P: Spawner, C: Clock, H: Host, T: Taker<H>>(
     requires ready { T.ready taker.old host.old 1 }
     ensures collected { (words : List (List ℕ)) (every starts last : ℕ)
         → IsRunnerOf runner.old (new_course words every starts last)
-        → Collected (acts_of T.takes T.pauses T.ends T.overflows) result
+        → Collected T.acts result
         (new_course words every starts last) taker.old host.old taker.new host.new
         (P.children spawner.old) (P.children spawner.new)
         (C.readings clock.old) (C.readings clock.new) }
@@ -164,6 +127,3 @@ pub fn take_collected<P: Spawner, C: Clock, H: Host, T: Taker<H>>(
         }
     }
 }
-
-#[cfg(test)]
-mod tests;

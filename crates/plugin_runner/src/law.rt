@@ -13,7 +13,7 @@ ghost use Rattle.plugin_runner.specs.Runner.{lasting_answer};
 ghost use Rattle.plugin_runner.specs.Text.{text};
 
 /// The laws of a runner of a course, whatever the clock gives later. It does nothing.
-pub fn any_course()
+pub fn runner_puts_what_it_heard()
     // What was put is a prefix of the text of what was heard, and all of it unless memory ran out.
     ensures front { (runner : Runner) (course : Course) (later : List ℕ) → IsRunnerOf runner course
         → IsFront course.told (bytes_of (text_of course later)) }
@@ -24,12 +24,13 @@ pub fn any_course()
     // It is at its end just where the text asks for that, and with that answer.
     ensures answer { (runner : Runner) (course : Course) (later : List ℕ) → IsRunnerOf runner course
         → lasting_answer runner ≢ Some (Err fault.Memory)
-        → lasting_answer runner ≡ answer_after course.starts (text_of course later) course.children }
+        → lasting_answer runner
+        ≡ answer_after course.starts (text_of course later) course.children }
 {}
 
 /// The law of a collector over a spawner that tells its children: after its last turn its text is that of the
 /// children which were started, each with all its bytes and its end. It does nothing.
-pub fn any_run()
+pub fn run_hears_its_children_whole()
     ensures { (coming : List Child) (course : Course) (event : Option Event) (taken added : List ℕ)
         (answer : Option (Result Turn RunFault)) (before after : Children) (faults faults' : ℕ)
         → Run coming course before
@@ -43,7 +44,7 @@ pub fn any_run()
 /// The law of `take_collected` over a spawner that tells its children: where the last turn came to an end of the
 /// text, this is the text of the children which were started, each with all its bytes and its end. It does
 /// nothing.
-pub fn any_collected()
+pub fn collected_text_is_whole()
     ensures { (coming : List Child) (words : List (List ℕ)) (every starts last : ℕ)
         (begun : List (List (List ℕ))) (course : Course) (answer ending : Result Turn RunFault)
         (after : Option Children) (ahead ahead' : Option (List ℕ)) (later : List ℕ)
@@ -55,7 +56,7 @@ pub fn any_collected()
 
 /// The law of `take_collected` over a spawner that tells its children, in words of those that are to come. The text
 /// of those that are started has each with all its bytes and its end. It does nothing.
-pub fn any_front()
+pub fn collected_text_is_a_prefix()
     // Wherever the turns ended, what was put is a prefix of that text.
     ensures front { (coming : List Child) (words : List (List ℕ)) (every starts last : ℕ)
         (begun : List (List (List ℕ))) (course : Course) (answer : Result Turn RunFault)

@@ -308,7 +308,7 @@ impl Runner {
                 append_both(out, held.as_slice(), piece)?;
                 Ok(Some(Ending::Ended))
             }
-            // Of the other refusals a splitter has want of memory alone.
+            // Of the other refusals a splitter has out of memory alone.
             Err(_) => Err(AllocError),
         }
     }
@@ -349,6 +349,3 @@ fn take_lines<C: Clock>(
     }
     Ok(false)
 }
-
-#[cfg(test)]
-mod tests;

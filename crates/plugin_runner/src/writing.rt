@@ -56,7 +56,7 @@ fn append_line(out: &mut ByteList, line: &[u8]) -> Result<(), AllocError>
     Ok(())
 }
 
-// After an `Err` of a call that puts lines a front of them was put, and what the follower knows is left
+// After an `Err` of a call that puts lines a prefix of them was put, and what the follower knows is left
 // open.
 impl Follower {
     /// Puts a line behind the text.

@@ -1,10 +1,10 @@
 -- How far a text has been cut, while it is.
-use Rattle.std.proofs.Common.{◌≡◌, ℕ, true, false, List, [], ◌∷◌, ◌++◌, Result, Ok, Err, OnOk, OnErr, refl, sym, ap, ◌∙◌, subst, append_assoc}
+use Rattle.std.proofs.Common.{◌≡◌, ℕ, true, false, List, [], ◌∷◌, ◌++◌, Result, Ok, Err, IsErrOf, OnOk, OnErr, refl, sym, ap, ◌∙◌, subst, append_assoc}
 use Rattle.std.specs.List.{AllPass}
 use Rattle.std.proofs.lemmas.List.{append-nil}
-use Rattle.std.proofs.lemmas.List.Elements.{All-nil, All-push}
+use Rattle.std.proofs.lemmas.List.Elements.{All-nil, All-append, All-push}
 use Rattle.plugin_text.specs.Lines.{parts, but_last, last_part, lines, rest, fits, HasNoLongLine, IsLongAfter, BeginsWithLines, IsRest}
-use Rattle.plugin_text.proofs.PartsLemmas.{parts_first, but_last-append, last_part-append, parts-append_parts}
+use Rattle.plugin_text.proofs.PartsLemmas.{parts_first, parts_whole, parts-rest, but_last-append, last_part-append, parts-append_parts}
 
 -- the lines that were handed out are the first parts of the text; the others are those of what is held and what is ahead
 pub record HasCut (text held ahead : List ℕ) (before now : List (List ℕ)) : Type 0 where
@@ -15,7 +15,7 @@ pub record HasCut (text held ahead : List ℕ) (before now : List (List ℕ)) : 
   pub is_rest : IsRest held
 
 -- where nothing is held there is no line feed
-IsRest-nil : IsRest []
+pub IsRest-nil : IsRest []
 IsRest-nil = record { no_line_feed = refl; short = refl }
 
 -- at the start nothing is cut
@@ -78,8 +78,14 @@ module _ (text held ahead : List ℕ) (before now : List (List ℕ)) (h : HasCut
     last_is : parts text ≡ h.cut ++ (held ++ ahead) ∷ []
     last_is = h.whole ∙ ap (λ ps. h.cut ++ ps) (parts_joined held ahead ahead [] h.is_rest none)
 
+    lines-are : lines text ≡ h.cut
+    lines-are = ap but_last last_is ∙ but_last-append h.cut (held ++ ahead) [] ∙ append-nil h.cut
+
     pub lines-cut : now ≡ before ++ lines text
-    lines-cut = h.handed ∙ ap (λ ls. before ++ ls) (sym (ap but_last last_is ∙ but_last-append h.cut (held ++ ahead) [] ∙ append-nil h.cut))
+    lines-cut = h.handed ∙ ap (λ ls. before ++ ls) (sym lines-are)
+
+    pub AllPass-lines_cut : AllPass fits (lines text)
+    AllPass-lines_cut = subst (AllPass fits) (sym lines-are) h.short
 
     pub rest-cut : rest text ≡ held ++ ahead
     rest-cut = ap last_part last_is ∙ last_part-append h.cut (held ++ ahead) []
@@ -93,3 +99,74 @@ module _ (text held ahead : List ℕ) (before now : List (List ℕ)) (h : HasCut
       short = fit;
     }
     IsRest-kept (Err _) held' kept fit same = rw same h.is_rest
+
+-- ---- where nothing is held, the lines of what is ahead are lines of the text
+module _ (text held ahead : List ℕ) (before now : List (List ℕ)) (h : HasCut text held ahead before now) (none : held ≡ []) where
+  abbrev IsShort : List ℕ → Type 0
+  IsShort part = fits part ≡ true
+
+  ahead-whole : parts text ≡ h.cut ++ parts ahead
+  ahead-whole = h.whole ∙ ap (λ (front : List ℕ). h.cut ++ parts (front ++ ahead)) none
+
+  handed-more : (more now' : List (List ℕ)) → now' ≡ now ++ more → now' ≡ before ++ (h.cut ++ more)
+  handed-more more now' same = same ∙ ap (λ ls. ls ++ more) h.handed ∙ append_assoc before h.cut more
+
+  -- all of them
+  pub HasCut-lines : (left : List ℕ) (now' : List (List ℕ)) → left ≡ rest ahead → now' ≡ now ++ lines ahead → AllPass fits (lines ahead) → HasCut text held left before now'
+  HasCut-lines left now' is same short = rw (none, is) record {
+    cut = h.cut ++ lines ahead;
+    handed = handed-more (lines ahead) now' same;
+    whole = ahead-whole ∙ ap (λ ps. h.cut ++ ps) (parts_whole ahead ∙ ap (λ ps. lines ahead ++ ps) (sym (parts-rest ahead))) ∙ sym (append_assoc h.cut (lines ahead) (parts (rest ahead)));
+    short = All-append IsShort h.cut (lines ahead) h.short short;
+    is_rest = IsRest-nil;
+  }
+
+  -- those before one that is too long
+  pub IsLongAfter-lines : (more now' : List (List ℕ)) → now' ≡ now ++ more → IsLongAfter ahead more → (handed : List (List ℕ)) × (now' ≡ before ++ handed) × IsLongAfter text handed
+  IsLongAfter-lines more now' same long = (
+    h.cut ++ more,
+    handed-more more now' same,
+    record {
+      long = long.long;
+      more = long.more;
+      whole = ahead-whole ∙ ap (λ ps. h.cut ++ ps) long.whole ∙ sym (append_assoc h.cut more (long.long ∷ long.more));
+      short = All-append IsShort h.cut more h.short long.short;
+      too_long = long.too_long;
+    },
+  )
+
+  -- those before one for which there is no memory
+  pub BeginsWithLines-lines : (more now' : List (List ℕ)) → now' ≡ now ++ more → BeginsWithLines ahead more
+      → (handed : List (List ℕ)) × (now' ≡ before ++ handed) × BeginsWithLines text handed
+  BeginsWithLines-lines more now' same front =
+      let some = parts_first ahead in
+      let behind : lines text ≡ h.cut ++ lines ahead = ap but_last ahead-whole ∙ rw some.2 (but_last-append h.cut some.0 some.1) in (
+        h.cut ++ more,
+        handed-more more now' same,
+        record {
+          left = front.left;
+          whole = behind ∙ ap (λ ls. h.cut ++ ls) front.whole ∙ sym (append_assoc h.cut more front.left);
+          short = All-append IsShort h.cut more h.short front.short;
+        },
+      )
+
+-- the first line of a piece ends what is held, and the others are lines of the piece
+pub HasCut-piece : (held piece end more left held' : List ℕ) (before now now' : List (List ℕ)) → IsRest held → parts piece ≡ end ∷ parts more → fits (held ++ end) ≡ true
+    → held' ≡ [] → now ≡ before ++ (held ++ end) ∷ [] → left ≡ rest more → now' ≡ now ++ lines more → AllPass fits (lines more) → HasCut (held ++ piece) held' left before now'
+HasCut-piece held piece end more left held' before now now' is_rest is fit cleared line left_is added short =
+    let first = HasCut-line (held ++ piece) held piece before before (HasCut-start held piece before is_rest) end more held' now is fit cleared line in
+    HasCut-lines (held ++ piece) held' more before now first cleared left now' left_is added short
+
+-- the rest of a text has no line feed
+pub parts-left : (left text : List ℕ) → left ≡ rest text → parts left ≡ left ∷ []
+parts-left left text is = rw is (parts-rest text)
+
+abbrev fault_in : {T E : Type 0} → E → Result T E → E
+fault_in other (Ok done) = other
+fault_in other (Err fault) = fault
+
+-- an error is the same one in an answer of another type
+pub same_error : {T U E : Type 0} (fault other : E) → IsErrOf {T = T} (Err fault) other → IsErrOf {T = U} (Err fault) other
+same_error {T = T} {U = U} {E = E} fault other is =
+    let same : fault ≡ other = ap (fault_in {T = T} fault) is in
+    subst (λ (e : E). IsErrOf {T = U} (Err fault) e) same refl

@@ -1,8 +1,8 @@
 -- What a line says, by the words that are kept of it.
-use Rattle.std.proofs.Common.{◌≡◌, ℕ, Bool, true, false, List, [], ◌∷◌, length, take, nat_lt, Err, refl, ap, sym, arith, if◌then◌else◌}
+use Rattle.std.proofs.Common.{◌≡◌, ℕ, false, List, [], ◌∷◌, length, take, nat_lt, Err, refl, ap, sym, arith, if◌then◌else◌}
 use Rattle.std.proofs.lemmas.Bool.Decides.{nat_tests}
-use Rattle.std.proofs.lemmas.Str.{IsUtf8-from_is_utf8, is_utf8-from_IsUtf8}
-use Rattle.std.specs.Str.{IsUtf8, is_utf8}
+use Rattle.std.proofs.lemmas.Str.{is_utf8-from_IsUtf8}
+use Rattle.std.specs.Str.{IsUtf8}
 use Rattle.plugin_text.specs.declared.fault.LineFault.TheVariants.{NotText, MissingWord}
 use Rattle.plugin_text.specs.declared.keyword.Keyword.{Keyword}
 use Rattle.plugin_text.specs.declared.keyword.Keyword.TheVariants.{Chart, Dimension, Begin, Set, End, Flush, Disable, Moment, Query}

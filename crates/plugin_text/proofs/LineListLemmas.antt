@@ -1,74 +1,80 @@
 -- Lines in one buffer.
-use Rattle.std.proofs.Common.{◌≡◌, ℕ, suc, zero, ◌-◌, ◌<◌, ◌≤◌, List, [], ◌∷◌, ◌++◌, length, get_or, take, drop, refl, sym, ap, ◌∙◌, arith, length-append, length-drop}
+use Rattle.std.proofs.Common.{◌≡◌, ℕ, ◌+◌, ◌-◌, ◌<◌, ◌≤◌, true, false, List, [], ◌∷◌, ◌++◌, length, take, drop, refl, sym, ap, ◌∙◌, subst, arith, length-append, length-drop}
 use Rattle.std.specs.List.{slice_range}
 use Rattle.std.proofs.Math.Seq.{drop-append_seam}
-use Rattle.std.proofs.lemmas.List.{take-append-le, drop-append-le, take_all}
-use Rattle.plugin_text.specs.LineList.{lines_to, AreEnds}
+use Rattle.std.proofs.lemmas.Bool.{le-leb, lt-leb}
+use Rattle.std.proofs.lemmas.List.{take-append-le, drop-append-le, take_all, map-append, length-take-le, drop-drop}
+use Rattle.std.proofs.lemmas.List.Elements.{All-head, All-tail}
+use Rattle.plugin_text.specs.declared.line_list.Place.{Place}
+use Rattle.plugin_text.specs.LineList.{line_at, lines_at, IsWithin, AreWithin}
+use Rattle.plugin_text.specs.declared.splitter.TheConstants.{LINE_LIMIT}
+use Rattle.plugin_text.specs.Lines.{parts, lines, fits}
 
--- there are as many lines as ends
-pub length-lines_to : (bytes : List ℕ) (start : ℕ) (ends : List ℕ) → length (lines_to bytes start ends) ≡ length ends
-length-lines_to bytes start [] = refl
-length-lines_to bytes start (end ∷ ends) = omega (arith, length-lines_to bytes end ends)
-
--- the first end is within the bytes
-pub start_within : (bytes : List ℕ) (start : ℕ) (ends : List ℕ) → AreEnds bytes start ends → start ≤ length bytes
-start_within bytes start [] are = omega (arith, are)
-start_within bytes start (end ∷ ends) are = omega (arith, are.0, start_within bytes end ends are.1)
-
--- each end is, and none is before the one ahead of it
-ends_within : (bytes : List ℕ) (start : ℕ) (ends : List ℕ) (at other : ℕ) → AreEnds bytes start ends → at < length ends
-    → (get_or (start ∷ ends) at 0 ≤ get_or ends at other) × (get_or ends at other ≤ length bytes)
-ends_within bytes start [] at other are inside = absurd (omega arith)
-ends_within bytes start (end ∷ ends) zero other are inside = (are.0, start_within bytes end ends are.1)
-ends_within bytes start (end ∷ ends) (suc at) other are inside =
-    let more = ends_within bytes end ends at other are.1 (omega arith) in
-    (omega (arith, more.0), more.1)
-
--- a line stands between two ends
-lines_to-at : (bytes : List ℕ) (start : ℕ) (ends : List ℕ) (at other : ℕ) (line : List ℕ) → at < length ends
-    → get_or (lines_to bytes start ends) at line ≡ slice_range bytes (get_or (start ∷ ends) at 0) (get_or ends at other)
-lines_to-at bytes start [] at other line inside = absurd (omega arith)
-lines_to-at bytes start (end ∷ ends) zero other line inside = refl
-lines_to-at bytes start (end ∷ ends) (suc at) other line inside = lines_to-at bytes end ends at other line (omega arith)
-
-module _ (bytes ends : List ℕ) (list : List (List ℕ)) (at : ℕ) (is : lines_to bytes 0 ends ≡ list) (inside : at < length list) where
-  pub at_within : at < length ends
-  at_within = omega (arith, ap length is, length-lines_to bytes 0 ends, inside)
-
-  module _ (start end : ℕ) (start_is : start ≡ get_or (0 ∷ ends) at 0) (end_is : end ≡ get_or ends at end) where
-    -- the place of a line is within the bytes
-    pub part_within : AreEnds bytes 0 ends → (start ≤ end) × (end ≤ length bytes)
-    part_within are =
-        let within = ends_within bytes 0 ends at end are at_within in
-        (omega (arith, start_is, end_is, within.0), omega (arith, end_is, within.1))
-
-    -- and the line stands there
-    pub part_is : (line : List ℕ) → slice_range bytes start end ≡ get_or list at line
-    part_is line = rw (start_is, end_is) (sym (ap (λ l. get_or l at line) (sym is) ∙ lines_to-at bytes 0 ends at end line at_within))
-
--- ---- one line more
-
-range-append : (bytes line : List ℕ) (start end : ℕ) → start ≤ end → end ≤ length bytes → slice_range (bytes ++ line) start end ≡ slice_range bytes start end
-range-append bytes line start end order within =
-    let from_start : drop start (bytes ++ line) ≡ drop start bytes ++ line = drop-append-le start bytes line (omega arith) in
-    ap (take (end - start)) from_start ∙ take-append-le (end - start) (drop start bytes) line (omega (arith, length-drop start bytes))
+range-append : (bytes more : List ℕ) (start end : ℕ) → start ≤ end → end ≤ length bytes → slice_range (bytes ++ more) start end ≡ slice_range bytes start end
+range-append bytes more start end order within =
+    let from_start : drop start (bytes ++ more) ≡ drop start bytes ++ more = drop-append-le start bytes more (omega arith) in
+    ap (take (end - start)) from_start ∙ take-append-le (end - start) (drop start bytes) more (omega (arith, length-drop start bytes))
 
 range-last : (bytes line : List ℕ) → slice_range (bytes ++ line) (length bytes) (length (bytes ++ line)) ≡ line
 range-last bytes line = ap (take (length (bytes ++ line) - length bytes)) (drop-append_seam bytes line) ∙ take_all _ line (omega (arith, length-append bytes line))
 
-pub lines_to-push : (bytes line : List ℕ) (start : ℕ) (ends : List ℕ) → AreEnds bytes start ends
-    → lines_to (bytes ++ line) start (ends ++ length (bytes ++ line) ∷ []) ≡ lines_to bytes start ends ++ line ∷ []
-lines_to-push bytes line start [] are = rw are (ap (λ l. l ∷ []) (range-last bytes line))
-lines_to-push bytes line start (end ∷ ends) are =
-    rw (range-append bytes line start end are.0 (start_within bytes end ends are.1), lines_to-push bytes line end ends are.1) refl
+-- how long a line is
+pub length-line_at : (bytes : List ℕ) (place : Place) → IsWithin bytes place → length (line_at bytes place) + place.start ≡ place.end
+length-line_at bytes place within =
+    omega (arith, within.0, within.1, length-drop place.start bytes, length-take-le (place.end - place.start) (drop place.start bytes) (omega (arith, within.0, within.1, length-drop place.start bytes)))
 
-pub AreEnds-push : (bytes line : List ℕ) (start : ℕ) (ends : List ℕ) → AreEnds bytes start ends → AreEnds (bytes ++ line) start (ends ++ length (bytes ++ line) ∷ [])
-AreEnds-push bytes line start [] are = (omega (arith, are, length-append bytes line), refl)
-AreEnds-push bytes line start (end ∷ ends) are = (are.0, AreEnds-push bytes line end ends are.1)
+pub fits_at : (bytes : List ℕ) (place : Place) → IsWithin bytes place → place.end ≤ place.start + LINE_LIMIT → fits (line_at bytes place) ≡ true
+fits_at bytes place within short = le-leb (length (line_at bytes place)) LINE_LIMIT (omega (arith, length-line_at bytes place within, short))
 
-module _ (bytes ends line bytes' ends' : List ℕ) (are : AreEnds bytes 0 ends) (bytes_are : bytes' ≡ bytes ++ line) (ends_are : ends' ≡ ends ++ length bytes' ∷ []) where
-  pub are_pushed : AreEnds bytes' 0 ends'
-  are_pushed = rw (ends_are, bytes_are) (AreEnds-push bytes line 0 ends are)
+pub too_long_at : (bytes : List ℕ) (place : Place) → IsWithin bytes place → place.start + LINE_LIMIT < place.end → fits (line_at bytes place) ≡ false
+too_long_at bytes place within long = lt-leb (length (line_at bytes place)) LINE_LIMIT (omega (arith, length-line_at bytes place within, long))
 
-  pub is_pushed : (list : List (List ℕ)) → lines_to bytes 0 ends ≡ list → lines_to bytes' 0 ends' ≡ list ++ line ∷ []
-  is_pushed list is = rw (ends_are, bytes_are) (lines_to-push bytes line 0 ends are ∙ ap (λ l. l ++ line ∷ []) is)
+-- the first part of what stands from a place on
+pub parts_from : (bytes : List ℕ) (start len : ℕ) → parts (drop start bytes) ≡ take len (drop start bytes) ∷ parts (drop (len + 1) (drop start bytes))
+    → parts (drop start bytes) ≡ slice_range bytes start (start + len) ∷ parts (drop (start + len + 1) bytes)
+parts_from bytes start len is =
+    let span : start + len - start ≡ len = omega arith in
+    let behind : start + (len + 1) ≡ start + len + 1 = omega arith in
+    is ∙ rw (span, drop-drop (len + 1) start bytes, behind) refl
+
+-- ---- what is there stays when more bytes follow
+module _ (bytes more : List ℕ) where
+  pub lines_at-append : (places : List Place) → AreWithin bytes places → lines_at (bytes ++ more) places ≡ lines_at bytes places
+  lines_at-append [] are = refl
+  lines_at-append (place ∷ places) are =
+      let here = All-head (IsWithin bytes) place places are in
+      rw (range-append bytes more place.start place.end here.0 here.1, lines_at-append places (All-tail (IsWithin bytes) place places are)) refl
+
+-- ---- one line more
+pub lines_at-push : (bytes : List ℕ) (places : List Place) (place : Place) → lines_at bytes (places ++ place ∷ []) ≡ lines_at bytes places ++ line_at bytes place ∷ []
+lines_at-push bytes places place = map-append (line_at bytes) places (place ∷ [])
+
+-- a line that is added behind all others
+module _ (bytes line : List ℕ) (places : List Place) (are : AreWithin bytes places) where
+  abbrev last_place : Place
+  last_place = record { start = length bytes; end = length (bytes ++ line) }
+
+  at_last : lines_at (bytes ++ line) (places ++ last_place ∷ []) ≡ lines_at bytes places ++ line ∷ []
+  at_last =
+      lines_at-push (bytes ++ line) places last_place ∙ ap (λ ls. ls ++ line_at (bytes ++ line) last_place ∷ []) (lines_at-append bytes line places are)
+      ∙ ap (λ l. lines_at bytes places ++ l ∷ []) (range-last bytes line)
+
+  pub lines_at-pushed : (bytes' : List ℕ) (places' : List Place) (start end : ℕ) → bytes' ≡ bytes ++ line → start ≡ length bytes → end ≡ length bytes'
+      → places' ≡ places ++ record { start = start; end = end } ∷ [] → lines_at bytes' places' ≡ lines_at bytes places ++ line ∷ []
+  lines_at-pushed bytes' places' start end bytes_are start_is end_is places_are = rw (places_are, end_is, start_is, bytes_are) at_last
+
+-- ---- the lines of a text that is added behind all others
+module _ (bytes text bytes' : List ℕ) (places places' : List Place) (start : ℕ) (list : List (List ℕ)) (are : AreWithin bytes places) (is : lines_at bytes places ≡ list)
+    (bytes_are : bytes' ≡ bytes ++ text) (start_is : start ≡ length bytes) where
+  text_behind : drop start bytes' ≡ text
+  text_behind = rw (bytes_are, start_is) (drop-append_seam bytes text)
+
+  list_stays : lines_at bytes' places ≡ list
+  list_stays = rw bytes_are (lines_at-append bytes text places are ∙ is)
+
+  pub lines_behind : lines_at bytes' places' ≡ lines_at bytes' places ++ lines (drop start bytes') → lines_at bytes' places' ≡ list ++ lines text
+  lines_behind added = added ∙ ap (λ ls. ls ++ lines (drop start bytes')) list_stays ∙ ap (λ (t : List ℕ). list ++ lines t) text_behind
+
+  pub handed_behind : (IsFront : List ℕ → List (List ℕ) → Type 0) → (handed : List (List ℕ)) × (lines_at bytes' places' ≡ lines_at bytes' places ++ handed) × IsFront (drop start bytes') handed
+      → (handed : List (List ℕ)) × (lines_at bytes' places' ≡ list ++ handed) × IsFront text handed
+  handed_behind IsFront h = (h.0, h.1 ∙ ap (λ ls. ls ++ h.0) list_stays, subst (λ t. IsFront t h.0) text_behind h.2)

@@ -1,12 +1,19 @@
--- Lines in one buffer, one behind the other.
-use Rattle.std.specs.Prelude.{◌≡◌, ℕ, ◌≤◌, List, [], ◌∷◌, length, slice_range}
+-- Lines in one buffer.
+use Rattle.std.specs.Prelude.{ℕ, ◌≤◌, List, All, length, map, slice_range}
+use Rattle.plugin_text.specs.declared.line_list.Place.{Place}
 
--- the bytes from the start to the first end, those from there to the next end, and so on
-abbrev pub lines_to : List ℕ → ℕ → List ℕ → List (List ℕ)
-lines_to bytes start [] = []
-lines_to bytes start (end ∷ ends) = slice_range bytes start end ∷ lines_to bytes end ends
+-- the bytes at a place
+abbrev pub line_at : List ℕ → Place → List ℕ
+line_at bytes place = slice_range bytes place.start place.end
 
--- no end is before the one ahead of it, and the last is that of the bytes
-abbrev pub AreEnds : List ℕ → ℕ → List ℕ → Type 0
-AreEnds bytes start [] = start ≡ length bytes
-AreEnds bytes start (end ∷ ends) = (start ≤ end) × AreEnds bytes end ends
+-- the lines at these places, in their order
+abbrev pub lines_at : List ℕ → List Place → List (List ℕ)
+lines_at bytes places = map (line_at bytes) places
+
+-- the place is one of the bytes
+abbrev pub IsWithin : List ℕ → Place → Type 0
+IsWithin bytes place = (place.start ≤ place.end) × (place.end ≤ length bytes)
+
+-- all these places are
+abbrev pub AreWithin : List ℕ → List Place → Type 0
+AreWithin bytes places = All (IsWithin bytes) places

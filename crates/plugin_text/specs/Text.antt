@@ -5,8 +5,8 @@ use Rattle.std.specs.Str.Lossy.{utf8_valid_len}
 use Rattle.history.specs.declared.limits.TheConstants.{TEXT_LIMIT}
 use Rattle.words.specs.Words.{is_blank}
 
--- a text that is cut to its longest front of at most so many bytes that ends at a character, which is
--- the longest front of those bytes that is UTF-8
+-- a text that is cut to its longest prefix of at most so many bytes that ends at a character, which is
+-- the longest prefix of those bytes that is UTF-8
 unfoldable pub shortened : List ℕ → List ℕ
 shortened text = let front = take TEXT_LIMIT text in take (utf8_valid_len front) front
 

@@ -36,8 +36,8 @@ pub fn read_chart(alloc: Global, fields: &Fields) -> Result<Line, LineFault>
 }
 
 fn chart_head<'a>(fields: &Fields<'a>) -> Result<ChartHead<'a>, LineFault>
-    ensures head { IfOk result (λ head. chart (texts fields.now.items)
-        ≡ Ok (Line.Chart (chart_def (texts fields.now.items) head.priority (pos head.update_every)))) }
+    ensures head { IfOk result (λ head. chart (texts fields.now.items) ≡ Ok (Line.Chart
+        (chart_def (texts fields.now.items) head.priority (pos head.update_every)))) }
     ensures part { IfOk result (λ head. head.part.now
         ≡ after_first is_dot (field 0 (texts fields.now.items))) }
     ensures fault { IfErr result (λ fault. chart (texts fields.now.items) ≡ Err fault) }

@@ -53,7 +53,8 @@ fn keep(held: &mut ByteList, more: &[u8]) -> Result<(), LineFault>
     held.extend(more).map_err(|_| LineFault::Memory)
 }
 
-/// Hands out the lines of `held` and `piece` together, and leaves their rest in `held`.
+/// Hands out the lines of `held` and `piece` together, and leaves their rest in `held`. Only the first of them
+/// begins in `held`: the others are lines of the piece itself.
 pub fn cut_lines(held: &mut ByteList, piece: &[u8], out: &mut LineList) -> Result<(), LineFault>
     requires { IsRest held.old }
     ensures lines { OnOk result (out.new ≡ out.old ++ lines (held.old ++ piece.now)) }
@@ -68,10 +69,10 @@ pub fn cut_lines(held: &mut ByteList, piece: &[u8], out: &mut LineList) -> Resul
         → (handed : List (List ℕ)) × (out.new ≡ out.old ++ handed)
         × BeginsWithLines (held.old ++ piece.now) handed }
 {
-    let mut ahead = piece;
-    while let Some((end, left)) = split_at_line_feed(ahead) {
-        hand_out(held, end, out)?;
-        ahead = left;
-    }
-    keep(held, ahead)
+    let Some((end, more)) = split_at_line_feed(piece) else {
+        return keep(held, piece);
+    };
+    hand_out(held, end, out)?;
+    let left = out.push_lines(more)?;
+    keep(held, left)
 }

@@ -33,7 +33,7 @@ pub enum LineFault {
 }
 
 impl LineFault {
-    /// The number that a refusal is told by. Want of memory is no refusal and has none.
+    /// The number that a refusal is told by. Out of memory is no refusal and has none.
     pub fn number(self) -> Option<u32>
         ensures { result ≡ fault_number self }
     {

@@ -6,7 +6,7 @@ ghost use Rattle.plugin_text.specs.Line.{line};
 ghost use Rattle.plugin_text.specs.Lines.{parts, lines, rest, HasNoLongLine, IsLongAfter};
 
 /// The laws of a text that is cut in two at any place. It does nothing.
-pub fn any_cut()
+pub fn cut_changes_no_lines()
     // The parts of a text are its lines and then its rest.
     ensures whole { (text : List ℕ) → parts text ≡ lines text ++ rest text ∷ [] }
 
@@ -33,7 +33,7 @@ pub fn any_cut()
 {}
 
 /// The law of lines that are read: what a line defines keeps its limits. It does nothing.
-pub fn any_limits()
+pub fn read_lines_keep_limits()
     ensures { (bytes : List ℕ) (said : Line) → is_one_line bytes ≡ true → line bytes ≡ Ok said
         → keeps_limits said ≡ true }
 {}

@@ -5,7 +5,7 @@
 //! waits for the next piece. The lines go into a `LineList`, which keeps them in one buffer and can be
 //! used again for the next piece. `read_line` reads one line: it answers with just the `Line` or the
 //! refusal that the rules give, or that there was no memory for the texts that the line keeps.
-//! `any_limits` is the law that what a line defines keeps its limits. The crate stands on `words` for
+//! `read_lines_keep_limits` is the law that what a line defines keeps its limits. The crate stands on `words` for
 //! the words of a line, on `history` for the values that lines say and their limits, on `fixed_num`
 //! for lists, and on `memchr` for the search.
 #![tactic(auto)]
@@ -28,7 +28,7 @@ mod text;
 pub use fault::LineFault;
 pub use fixed_num::Text;
 pub use history::{Algorithm, ChartDef, ChartKind, DimDef, Line};
-pub use law::{any_cut, any_limits};
+pub use law::{cut_changes_no_lines, read_lines_keep_limits};
 pub use line::read_line;
 pub use line_list::LineList;
 pub use splitter::{LINE_LIMIT, Splitter};

@@ -87,6 +87,3 @@ fn read_said(
         },
     }
 }
-
-#[cfg(test)]
-mod tests;

@@ -1,8 +1,22 @@
-//! Lines of a text, kept one behind the other.
-ghost use Rattle.std.specs.Prelude.{◌≡◌, ◌==◌, ◌<◌, [], ◌∷◌, ◌++◌, length, take, slice_index, slice_index_or, OnOk, OnErr};
+//! Lines of a text, kept in one buffer.
+ghost use Rattle.std.specs.Prelude.{◌≡◌, ◌==◌, ◌+◌, ◌<◌, ◌≤◌, ℕ, List, [], ◌∷◌, ◌++◌, length, drop, slice_index_or, IsErrOf, IfOk, IfErr, OnOk, OnErr, MatchOption};
+ghost use Rattle.std.specs.List.{AllPass};
+ghost use Rattle.plugin_text.specs.Fault.{EndsSplitting};
+ghost use Rattle.plugin_text.specs.LineList.{line_at, lines_at, AreWithin};
+ghost use Rattle.plugin_text.specs.Lines.{parts, lines, rest, fits, IsLongAfter, BeginsWithLines};
 
+use crate::fault::LineFault;
+use crate::splitter::LINE_LIMIT;
+use memchr::memchr;
 use std::alloc::{AllocError, Global};
 use std::marker::Model;
+
+/// Where a line stands in a buffer, without its line feed.
+#[derive(Clone, Copy, Debug)]
+struct Place {
+    start: usize,
+    end: usize,
+}
 
 /// Lines in their order, each without its line feed.
 ///
@@ -11,46 +25,87 @@ use std::marker::Model;
 #[derive(Debug, Drop)]
 pub struct LineList {
     bytes: Vec<u8>,
-    /// Where each line ends in `bytes`; the next one begins there.
-    ends: Vec<usize>,
+    /// Where each line stands in `bytes`.
+    places: Vec<Place>,
 }
 
 impl Model for LineList {
     ghost use Rattle.std.specs.Prelude.{ℕ, List};
-    ghost use Rattle.plugin_text.specs.LineList.{lines_to, AreEnds};
+    ghost use Rattle.plugin_text.specs.LineList.{lines_at, AreWithin};
 
     ghost Value = { List (List ℕ) };
 
-    ghost view = { λ list. lines_to list.bytes.items 0 list.ends.items };
+    ghost view = { λ list. lines_at list.bytes.items list.places.items };
 
-    ghost invariant = { λ list. AreEnds list.bytes.items 0 list.ends.items };
+    ghost invariant = { λ list. AreWithin list.bytes.items list.places.items };
 }
 
-/// Where a line begins: at the end of the line before it.
-fn start_of(ends: &[usize], at: usize) -> usize
-    requires { at < length ends.now }
-    ensures { result ≡ slice_index (0 ∷ ends.now) at }
-{
-    if at == 0 { 0 } else { ends[at - 1] }
-}
-
-/// Adds a line of two parts. After an `Err` there may be bytes behind the last line.
-fn add_line(
-    bytes: &mut Vec<u8>,
-    ends: &mut Vec<usize>,
-    start: &[u8],
-    end: &[u8],
-) -> Result<(), AllocError>
-    ensures bytes { OnOk result (bytes.new.items ≡ bytes.old.items ++ (start.now ++ end.now)) }
-    ensures ends { OnOk result (ends.new.items ≡ ends.old.items ++ length bytes.new.items ∷ []) }
-    ensures bytes_stay { OnErr result
-        (take (length bytes.old.items) bytes.new.items ≡ bytes.old.items) }
-    ensures ends_stay { OnErr result (ends.new.items ≡ ends.old.items) }
+/// Adds bytes in two parts. After an `Err` the first part may have been added.
+fn add_bytes(bytes: &mut Vec<u8>, start: &[u8], end: &[u8]) -> Result<(), AllocError>
+    ensures ok { OnOk result (bytes.new.items ≡ bytes.old.items ++ (start.now ++ end.now)) }
+    ensures kept { (more : List ℕ) × (bytes.new.items ≡ bytes.old.items ++ more) }
 {
     bytes.extend_from_slice(start)?;
-    bytes.extend_from_slice(end)?;
-    ends.push(bytes.len())?;
-    Ok(())
+    bytes.extend_from_slice(end)
+}
+
+/// Where the line that begins at `start` stands, if a line feed ends it.
+fn line_place(bytes: &[u8], start: usize) -> Option<Place>
+    requires { start ≤ length bytes.now }
+    ensures place { MatchOption result (parts (drop start bytes.now) ≡ drop start bytes.now ∷ [])
+        (λ place. parts (drop start bytes.now)
+        ≡ line_at bytes.now place ∷ parts (drop (place.end + 1) bytes.now)) }
+    ensures within { MatchOption result (Unit {0})
+        (λ place. (start ≡ place.start) × (start ≤ place.end) × (place.end < length bytes.now)) }
+{
+    let len = memchr(b'\n', &bytes[start..])?;
+    Some(Place {
+        start,
+        end: start + len,
+    })
+}
+
+/// Adds the place of a line that is not too long. After an `Err` nothing has changed.
+fn add_place(places: &mut Vec<Place>, place: Place) -> Result<(), LineFault>
+    requires { place.start ≤ place.end }
+    ensures ok { OnOk result (places.new.items ≡ places.old.items ++ place ∷ []) }
+    ensures fits { OnOk result (place.end ≤ place.start + LINE_LIMIT) }
+    ensures too_long { IsErrOf result LineFault.LineTooLong → place.start + LINE_LIMIT < place.end }
+    ensures only { IfErr result EndsSplitting }
+    ensures err { OnErr result (places.new.items ≡ places.old.items) }
+{
+    if place.end - place.start > LINE_LIMIT {
+        return Err(LineFault::LineTooLong);
+    }
+    places.push(place).map_err(|_| LineFault::Memory)
+}
+
+/// Adds the places of the lines from `start` on, and gives where their rest begins.
+fn add_places(places: &mut Vec<Place>, bytes: &[u8], start: usize) -> Result<usize, LineFault>
+    requires start { start ≤ length bytes.now }
+    requires within { AreWithin bytes.now places.old.items }
+    ensures within { AreWithin bytes.now places.new.items }
+    ensures end { IfOk result (λ end. (start ≤ end) × (end ≤ length bytes.now)) }
+    ensures lines { OnOk result (lines_at bytes.now places.new.items
+        ≡ lines_at bytes.now places.old.items ++ lines (drop start bytes.now)) }
+    ensures rest { IfOk result (λ end. drop end bytes.now ≡ rest (drop start bytes.now)) }
+    ensures short { OnOk result (AllPass fits (lines (drop start bytes.now))) }
+    ensures only { IfErr result EndsSplitting }
+    ensures long { IsErrOf result LineFault.LineTooLong
+        → (handed : List (List ℕ))
+        × (lines_at bytes.now places.new.items ≡ lines_at bytes.now places.old.items ++ handed)
+        × IsLongAfter (drop start bytes.now) handed }
+    ensures memory { IsErrOf result LineFault.Memory
+        → (handed : List (List ℕ))
+        × (lines_at bytes.now places.new.items ≡ lines_at bytes.now places.old.items ++ handed)
+        × BeginsWithLines (drop start bytes.now) handed }
+{
+    let mut next = start;
+    while let Some(place) = line_place(bytes, next) {
+        add_place(places, place)?;
+        next = place.end + 1;
+    }
+    Ok(next)
 }
 
 impl LineList {
@@ -60,7 +115,7 @@ impl LineList {
     {
         LineList {
             bytes: Vec::new(alloc),
-            ends: Vec::new(alloc),
+            places: Vec::new(alloc),
         }
     }
 
@@ -68,14 +123,14 @@ impl LineList {
     pub fn len(&self) -> usize
         ensures { result ≡ length self.now }
     {
-        self.ends.len()
+        self.places.len()
     }
 
     /// Whether there is no line.
     pub fn is_empty(&self) -> bool
         ensures { result ≡ (length self.now == 0) }
     {
-        self.ends.is_empty()
+        self.places.is_empty()
     }
 
     /// The line at a place, counted from 0.
@@ -83,8 +138,8 @@ impl LineList {
         requires { at < length self.now }
         ensures { result.now ≡ slice_index_or self.now at result.now }
     {
-        let start = start_of(&self.ends, at);
-        &self.bytes[start..self.ends[at]]
+        let place = self.places[at];
+        &self.bytes[place.start..place.end]
     }
 
     /// Adds the line that begins with `start` and ends with `end`. After an `Err` the list is as
@@ -93,12 +148,36 @@ impl LineList {
         ensures ok { OnOk result (self.new ≡ self.old ++ (start.now ++ end.now) ∷ []) }
         ensures err { OnErr result (self.new ≡ self.old) }
     {
-        let before = self.bytes.len();
-        let added = add_line(&mut self.bytes, &mut self.ends, start, end);
-        if added.is_err() {
-            self.bytes.truncate(before);
-        }
-        added
+        let from = self.bytes.len();
+        add_bytes(&mut self.bytes, start, end)?;
+        let place = Place {
+            start: from,
+            end: self.bytes.len(),
+        };
+        self.places.push(place)?;
+        Ok(())
+    }
+
+    /// Adds the lines of a text, which is copied as a whole, and gives its rest. At `LineTooLong` the lines
+    /// before the long one have been added, at `Memory` a prefix of the lines.
+    pub(crate) fn push_lines<'a>(&mut self, text: &'a [u8]) -> Result<&'a [u8], LineFault>
+        ensures lines { OnOk result (self.new ≡ self.old ++ lines text.now) }
+        ensures rest { IfOk result (λ left. left.now ≡ rest text.now) }
+        ensures short { OnOk result (AllPass fits (lines text.now)) }
+        ensures only { IfErr result EndsSplitting }
+        ensures long { IsErrOf result LineFault.LineTooLong
+            → (handed : List (List ℕ)) × (self.new ≡ self.old ++ handed)
+            × IsLongAfter text.now handed }
+        ensures memory { IsErrOf result LineFault.Memory
+            → (handed : List (List ℕ)) × (self.new ≡ self.old ++ handed)
+            × BeginsWithLines text.now handed }
+    {
+        let start = self.bytes.len();
+        let Ok(()) = self.bytes.extend_from_slice(text) else {
+            return Err(LineFault::Memory);
+        };
+        let end = add_places(&mut self.places, &self.bytes, start)?;
+        Ok(&text[end - start..])
     }
 
     /// Leaves the empty list, and keeps its memory for the next lines.
@@ -106,6 +185,6 @@ impl LineList {
         ensures { self.new ≡ [] }
     {
         self.bytes.clear();
-        self.ends.clear();
+        self.places.clear();
     }
 }

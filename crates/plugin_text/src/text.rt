@@ -4,7 +4,7 @@ ghost use Rattle.plugin_text.specs.Text.{shortened, is_option_separator, has_opt
 use history::TEXT_LIMIT;
 use words::is_blank;
 
-/// The longest front of a text of at most `TEXT_LIMIT` bytes that ends at a character.
+/// The longest prefix of a text of at most `TEXT_LIMIT` bytes that ends at a character.
 pub fn shortened(text: &str) -> &str
     ensures { result.now ≡ shortened text.now }
 {

@@ -1,12 +1,14 @@
 -- What a line that was taken changes, and why one was not.
 use Rattle.std.proofs.Common.{◌≡◌, ◌≤◌, ℕ, ◌+◌, Bool, true, false, true≢false, List, [], ◌∷◌, ◌++◌, length, Option, None, is_some, Result, Ok, Err, refl, sym, ap, subst, ◌∙◌, arith}
 use Rattle.std.proofs.lemmas.List.{append-nil}
+use Rattle.std.proofs.lemmas.List.Elements.{All-cons}
 use Rattle.std.specs.Option.{option_map_or}
 use Rattle.history.specs.declared.fault.BlockFault.{BlockFault}
 use Rattle.history.specs.declared.fault.BlockFault.TheVariants as block
 use Rattle.history.specs.declared.line.Line.{Line}
 use Rattle.history.specs.declared.line.Line.TheVariants as line
 use Rattle.history.specs.History.{child, last, registry_of}
+use Rattle.history.specs.Limits.{keeps_limits}
 use Rattle.history.specs.Read.{is_disable, refusal_at}
 use Rattle.history.specs.Refusal.{refusal as refusal_by}
 use Rattle.history.specs.Registry.{Registry}
@@ -67,7 +69,7 @@ counts-on feed registry (line.Moment moment) counts = counts registry
 counts-on feed registry said counts = counts
 
 -- ---- why a line was not read
-child-none : (past : List Line) → child (history_of past) ≡ None
+pub child-none : (past : List Line) → child (history_of past) ≡ None
 child-none [] = refl
 child-none (line.Chart def ∷ past) = child-none past
 child-none (line.Dimension def ∷ past) = child-none past
@@ -127,9 +129,9 @@ module _ (old : Reader) (past : List Line) (said : Line) (leads_to : Step) (feed
   abbrev counted : Reader
   counted = record old { lines = old.lines + 1; skipped = old.skipped + skips said; feed = feed }
 
-  pub count-steps : IsReaderOf old past → refusal_at every [] past said ≡ None → IsFeedOf feed every (said ∷ past) → CountsPast said feed old.registry → leads_to ≡ step_of every past said
+  pub count-steps : IsReaderOf old past → keeps_limits said ≡ true → refusal_at every [] past said ≡ None → IsFeedOf feed every (said ∷ past) → CountsPast said feed old.registry → leads_to ≡ step_of every past said
       → Stepped counted past said leads_to
-  count-steps has none fed counts step_is = record {
+  count-steps has limits none fed counts step_is = record {
     lines = omega (arith, has.lines);
     skips = ap (λ (n : ℕ). n + skips said) has.skips ∙ skipped-more said past;
     feed = fed;
@@ -139,6 +141,7 @@ module _ (old : Reader) (past : List Line) (said : Line) (leads_to : Step) (feed
     rows = has.rows;
     accepted = has.accepted;
     accepted_line = none;
+    limits = All-cons (λ (line : Line). keeps_limits line ≡ true) said past limits has.limits;
     step_is = step_is;
   }
 
@@ -195,6 +198,7 @@ module _ (reader : Reader) (past : List Line) (said : Line) (leads_to : Step) (s
           moment = stepped.moment ∙ sym (ap last q.stays);
           rows = subst (AreLastOf reader.last_rows) (sym q.stays) stepped.rows;
           accepted = (stepped.accepted_line, stepped.accepted);
+          limits = stepped.limits;
         };
         added = sym (ap (λ more. out ++ more) q.tells ∙ append-nil out);
       }
@@ -213,6 +217,7 @@ reads-disable reader past out stepped = (
     moment = stepped.moment;
     rows = stepped.rows;
     accepted = (stepped.accepted_line, stepped.accepted);
+    limits = stepped.limits;
   },
 )
 

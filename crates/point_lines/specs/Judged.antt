@@ -1,5 +1,6 @@
 use Rattle.std.specs.Prelude.{ℕ, List, [], Result, Ok, Err}
 use Rattle.std.specs.Option.{option_map_or}
+use Rattle.history.specs.declared.chart.TheConstants.{USUAL_UPDATE_EVERY}
 use Rattle.history.specs.declared.fault.BlockFault.{BlockFault}
 use Rattle.history.specs.declared.fault.BlockFault.TheVariants.{NoChart, NoDimension, NoBlock, OpenBlock, SecondBlock, OffGrid, MomentOrder, Unfinished, MixedRoles, GridChanged, TooManyCharts, TooManyDimensions, Memory}
 use Rattle.history.specs.declared.line.Line.{Line}
@@ -15,7 +16,7 @@ use Rattle.point_lines.specs.declared.refusal.Refusal.TheVariants as refusal
 
 -- the update_every of the charts whose line leaves it open
 abbrev pub every : ℕ
-every = 1
+every = USUAL_UPDATE_EVERY
 
 -- the history that these lines make
 abbrev pub history_of : List Line → List Beat
@@ -33,7 +34,7 @@ judged past (Err fault) = Err (refusal.Line fault)
 abbrev pub judge : List Line → List ℕ → Result Line Refusal
 judge past bytes = judged past (line bytes)
 
--- the number that a refusal by a line's place is told by; want of memory is no refusal
+-- the number that a refusal by a line's place is told by; out of memory is none
 abbrev pub block_number : BlockFault → ℕ
 block_number NoChart = 21
 block_number NoDimension = 22

@@ -1,8 +1,9 @@
-use Rattle.std.specs.Prelude.{◌≡◌, ℕ, ◌<◌, ◌^◌, true, false, List, [], ◌∷◌, ◌++◌, length, Result, Ok, Err, MatchResult}
+use Rattle.std.specs.Prelude.{◌≡◌, ℕ, ◌<◌, ◌^◌, true, false, List, [], ◌∷◌, ◌++◌, length, All, Result, Ok, Err, MatchResult}
 use Rattle.history.specs.declared.line.Line.{Line}
 use Rattle.history.specs.declared.line.Line.TheVariants.{Disable}
 use Rattle.history.specs.declared.fault.BlockFault.TheVariants.{Unfinished}
 use Rattle.history.specs.History.{last, registry_of}
+use Rattle.history.specs.Limits.{keeps_limits}
 use Rattle.history.specs.Read.{is_disable}
 use Rattle.history.specs.Refusal.{is_unfinished}
 use Rattle.beat_points.specs.LastRows.{AreLastOf}
@@ -27,6 +28,8 @@ pub record IsReaderOf (reader : Reader) (past : List Line) : Type 0 where
   pub moment : reader.last ≡ last (history_of past)
   pub rows : AreLastOf reader.last_rows (history_of past)
   pub accepted : AreAccepted every [] past
+  -- what each defines keeps its limits
+  pub limits : All (λ (line : Line). keeps_limits line ≡ true) past
 
 -- the reader has read fewer than 2^63 lines
 abbrev pub HasRoom : Reader → Type 0

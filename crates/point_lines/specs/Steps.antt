@@ -1,13 +1,16 @@
 -- How a reader goes from a line to the next.
-use Rattle.std.specs.Prelude.{◌≡◌, ℕ, Bool, true, false, List, [], ◌∷◌, length, None, Result}
+use Rattle.std.specs.Prelude.{◌≡◌, ℕ, Bool, true, false, List, [], ◌∷◌, length, All, None, Result}
 use Rattle.history.specs.declared.fault.BlockFault.{BlockFault}
 use Rattle.history.specs.declared.fault.BlockFault.TheVariants as block
 use Rattle.history.specs.declared.line.Line.{Line}
 use Rattle.history.specs.declared.line.Line.TheVariants.{Query, Skipped}
 use Rattle.history.specs.History.{last, registry_of}
+use Rattle.history.specs.Limits.{keeps_limits}
 use Rattle.history.specs.Read.{refusal_at}
 use Rattle.plugin_text.specs.declared.fault.LineFault.{LineFault}
 use Rattle.plugin_text.specs.declared.fault.LineFault.TheVariants as line
+use Rattle.beat_entries.specs.declared.beat_fault.BeatFault.{BeatFault}
+use Rattle.beat_entries.specs.declared.beat_fault.BeatFault.TheVariants as beat
 use Rattle.beat_points.specs.LastRows.{AreLastOf}
 use Rattle.chart_registry.specs.Accepted.{AreAccepted}
 use Rattle.collect_block.specs.Feed.{CountsPast, IsFeedOf, step_of}
@@ -30,6 +33,11 @@ abbrev pub block_stop : BlockFault → Stop
 block_stop block.Memory = stop.Memory
 block_stop fault = stop.Refused (refusal.Block fault)
 
+-- why the beat that a line closed was not taken
+abbrev pub beat_stop : BeatFault → Stop
+beat_stop (beat.Refused why) = stop.Refused (refusal.Block why)
+beat_stop beat.Memory = stop.Memory
+
 -- by how many the count of skipped lines rises with this one
 abbrev pub skips : Line → ℕ
 skips Skipped = 1
@@ -51,6 +59,7 @@ pub record Stepped (reader : Reader) (past : List Line) (said : Line) (step : St
   pub rows : AreLastOf reader.last_rows (history_of past)
   pub accepted : AreAccepted every [] past
   pub accepted_line : refusal_at every [] past said ≡ None
+  pub limits : All (λ (line : Line). keeps_limits line ≡ true) (said ∷ past)
   pub step_is : step ≡ step_of every past said
 
 -- the reader reads a line that says this, or stops there

@@ -7,15 +7,14 @@
 //! dimension, and two counts.
 //!
 //! The crate stands on `plugin_text` for what a line says, on `collect_block` for where it may stand and
-//! for the beats, and on `beat_points` for the points that a beat gives.
+//! for the beats, on `beat_entries` for a beat by number, and on `beat_points` for the points that a beat
+//! gives.
 #![tactic(auto)]
 
 mod reader;
 mod refusal;
 mod stop;
 mod telling;
-#[cfg(test)]
-mod tests;
 
 pub use reader::Reader;
 pub use refusal::Refusal;

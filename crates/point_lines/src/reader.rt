@@ -1,6 +1,7 @@
-ghost use Rattle.std.specs.Prelude.{◌≡◌, ◌+◌, ◌^◌, ◌<◌, ◌≤◌, ◌++◌, ℕ, List, [], ◌∷◌, length, string_bytes, IfOk, IfErr, OnOk};
+ghost use Rattle.std.specs.Prelude.{◌≡◌, ◌+◌, ◌^◌, ◌<◌, ◌≤◌, ◌++◌, ℕ, List, [], ◌∷◌, length, string_bytes, true, IfOk, IfErr, OnOk};
 ghost use Rattle.history.specs.declared.line.Line.{Line as ALine};
 ghost use Rattle.history.specs.declared.line.Line.TheVariants as line;
+ghost use Rattle.history.specs.Limits.{is_one_line, keeps_limits};
 ghost use Rattle.history.specs.Numbered.{IsThere};
 ghost use Rattle.collect_block.specs.declared.step.Step.TheVariants as step;
 ghost use Rattle.plugin_text.specs.Line.{line as line_of};
@@ -11,9 +12,9 @@ ghost use Rattle.point_lines.specs.Closing.{HasTaken, TellsOf};
 ghost use Rattle.point_lines.specs.Told.{told_at_end};
 
 use crate::refusal::Refusal;
-use crate::stop::{Stop, block_stop, line_stop, registry_stop};
+use crate::stop::{Stop, beat_stop, block_stop, line_stop};
 use crate::telling::push_points;
-use beat_entries::number_beat;
+use beat_entries::take_beat;
 use beat_points::LastRows;
 use chart_registry::Registry;
 use collect_block::{Feed, Step};
@@ -23,7 +24,7 @@ use std::alloc::{AllocError, Global};
 use std::fmt::Write;
 
 /// The update_every of the charts whose line leaves it open, in seconds.
-const EVERY: u32 = 1;
+const EVERY: u32 = history::USUAL_UPDATE_EVERY;
 
 /// What is kept of the lines of a text.
 #[derive(Drop)]
@@ -73,6 +74,7 @@ impl Reader {
     /// `Disabled` the reader has read the line, and after another `Err` it is spent.
     pub fn take_line(&mut self, bytes: &[u8], out: &mut String) -> Result<(), Stop>
         requires room { HasRoom self.old }
+        requires whole { is_one_line bytes.now ≡ true }
         ensures { ReadsOrStops self.old bytes.now result self.new (string_bytes out.old)
             (string_bytes out.new) }
     {
@@ -107,6 +109,7 @@ impl Reader {
     // Reads a line that says this.
     fn take(&mut self, line: Line, out: &mut String) -> Result<(), Stop>
         requires room { HasRoom self.old }
+        requires limits { keeps_limits line ≡ true }
         ensures { TakesOr self.old line result self.new (string_bytes out.old)
             (string_bytes out.new) }
     {
@@ -124,8 +127,10 @@ impl Reader {
     fn count(&mut self, skipped: bool)
         requires lines { self.old.lines < 2 ^ 63 }
         requires skips { self.old.skipped < 2 ^ 63 }
-        ensures { self.new
-            ≡ record self.old { lines = self.old.lines + 1; skipped = self.old.skipped + one_if skipped } }
+        ensures { self.new ≡ record self.old {
+          lines = self.old.lines + 1;
+          skipped = self.old.skipped + one_if skipped;
+        } }
     {
         self.lines += 1;
         if skipped {
@@ -153,17 +158,21 @@ impl Reader {
         ensures { StepsOr self.old (line.Moment moment) (step.Beat beat.now moment) result self.new
             (string_bytes out.old) (string_bytes out.new) }
     {
-        if let Err(fault) = self.registry.apply(beat) {
-            return Err(registry_stop(fault));
-        }
-        match number_beat(self.alloc, &self.registry, moment, beat) {
-            Ok(numbered) => self.take_beat(&numbered, out),
-            Err(_) => Err(Stop::Memory),
+        match take_beat(
+            self.alloc,
+            &mut self.registry,
+            false,
+            self.last,
+            moment,
+            beat,
+        ) {
+            Ok(numbered) => self.take_numbered(&numbered, out),
+            Err(fault) => Err(beat_stop(fault)),
         }
     }
 
     // Takes a beat by number, whose definitions the registry has, and tells its points.
-    fn take_beat(&mut self, beat: &NumberedBeat, out: &mut String) -> Result<(), Stop>
+    fn take_numbered(&mut self, beat: &NumberedBeat, out: &mut String) -> Result<(), Stop>
         requires { IsThere self.old.registry beat.now }
         ensures told { OnOk result
             (TellsOf self.old.registry self.old.last_rows beat.now (string_bytes out.old)

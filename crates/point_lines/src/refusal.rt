@@ -16,7 +16,7 @@ pub enum Refusal {
 }
 
 impl Refusal {
-    /// The number that the refusal is told by. Want of memory is no refusal, and has 0 here.
+    /// The number that the refusal is told by. Out of memory is no refusal, and has 0 here.
     pub fn number(self) -> u32
         ensures { result ≡ refusal_number self }
     {

@@ -1,10 +1,8 @@
 ghost use Rattle.std.specs.Prelude.{◌≡◌};
-ghost use Rattle.chart_registry.specs.declared.fault.RegistryFault.TheVariants as registry;
-ghost use Rattle.point_lines.specs.declared.stop.Stop.TheVariants.{Memory};
-ghost use Rattle.point_lines.specs.Steps.{line_stop, block_stop};
+ghost use Rattle.point_lines.specs.Steps.{line_stop, block_stop, beat_stop};
 
 use crate::refusal::Refusal;
-use chart_registry::RegistryFault;
+use beat_entries::BeatFault;
 use history::BlockFault;
 use plugin_text::LineFault;
 
@@ -39,15 +37,12 @@ pub(crate) fn block_stop(fault: BlockFault) -> Stop
     }
 }
 
-/// Why the beat of lines that may stand where they do was not taken: memory ran out.
-pub(crate) fn registry_stop(fault: RegistryFault) -> Stop
-    requires { fault ≡ registry.Memory }
-    ensures { result ≡ Memory }
+/// Why the beat that a line closed was not taken.
+pub(crate) fn beat_stop(fault: BeatFault) -> Stop
+    ensures { result ≡ beat_stop fault }
 {
     match fault {
-        RegistryFault::Memory => Stop::Memory,
-        RegistryFault::GridChanged
-        | RegistryFault::TooManyCharts
-        | RegistryFault::TooManyDimensions => unreachable!(),
+        BeatFault::Refused(why) => Stop::Refused(Refusal::Block(why)),
+        BeatFault::Memory => Stop::Memory,
     }
 }

@@ -1,4 +1,3 @@
-pub mod WordLemmas
 pub mod MemberLemmas
 pub mod JoinLemmas
 pub mod FirstLemmas

@@ -6,12 +6,12 @@ use Rattle.std.specs.List.{filter_map, cons_option}
 use Rattle.std.specs.Option.{option_map}
 use Rattle.storage_number.specs.declared.point.Point.{Point as Value}
 use Rattle.storage_number.specs.Word.{point_of}
+use Rattle.storage_number.proofs.Laws.{word_within}
 use Rattle.tier_rollup.specs.Buckets.{Added}
 use Rattle.tier_rollup.specs.Rolling.{AreWithin}
 use Rattle.tier_rollup.specs.declared.point.Point.{Point}
 use Rattle.query_engine.specs.Points.{are_rising_from, value_of, values}
 use Rattle.query_engine.specs.Windows.{is_between, members_between}
-use Rattle.query_engine.proofs.WordLemmas.{word_within}
 use Rattle.tier_rollup.proofs.RecordLemmas.{within_step}
 
 -- ---- a moment in a span

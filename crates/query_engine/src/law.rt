@@ -14,7 +14,7 @@ use crate::points::Points;
 /// The laws of the tiers of any object that has points: which is read, and that by each tier that may be
 /// read a window's cell is the group of all its points. So two tiers whose floors are at most where a
 /// window starts give it equal cells. It does nothing.
-pub fn any_tiers<P: Points>(points: &P)
+pub fn tiers_give_equal_cells<P: Points>(points: &P)
     ensures chosen { let tiers = P.tiers points.now in (after window : ℕ)
         → IsLowestTier tiers.floor (may_read tiers.widths after window) (length tiers.widths)
         (tier_for tiers.widths tiers.floor after window) }
@@ -42,7 +42,7 @@ pub fn any_tiers<P: Points>(points: &P)
 
 /// The laws of a series, its points latest first as the roller of a tier takes them: their moments rise,
 /// their units are within its limit, and each bucket has the same record. It does nothing.
-pub fn any_series()
+pub fn series_can_be_rolled()
     ensures rising { (points : List APoint) → IsTrue (are_series points)
         → IsRising (reverse (values points)) }
     ensures within { (points : List APoint) → AreWithin (reverse (values points)) }

@@ -10,7 +10,7 @@ use crate::span;
 use fixed_num::Record;
 use std::alloc::Global;
 
-/// Points in memory, with records that are computed from them. Its calls fail for want of memory alone.
+/// Points in memory, with records that are computed from them. Its calls fail only out of memory.
 #[derive(Debug, Drop)]
 pub struct ListPoints {
     widths: MomentList,
@@ -180,5 +180,6 @@ impl Points for ListPoints {
 
     ghost rising_widths = { λ source. source.widths_of_tiers };
 
-    ghost rising_series = { λ source told tells series. told_series source.points source.rising told tells series };
+    ghost rising_series = { λ source told tells series.
+        told_series source.points source.rising told tells series };
 }

@@ -13,6 +13,7 @@ use Rattle.query_engine.specs.declared.request.Request.{Request}
 use Rattle.query_text.specs.declared.fault.QueryFault.{QueryFault}
 use Rattle.query_text.specs.declared.fault.QueryFault.TheVariants.{BadWord, BadNumber, NoChart, BadGroup, TooManyRows}
 use Rattle.query_text.specs.declared.span.Span.{Span}
+use Rattle.query_text.specs.declared.span.TheConstants.{MOST_WINDOWS}
 use Rattle.query_text.specs.Fault.{◌>>=◌}
 use Rattle.query_text.specs.Shown.{columns}
 
@@ -61,7 +62,7 @@ windows after before window = div_ceil (before - after) window
 abbrev pub rows_read : Span → Result ℕ QueryFault
 rows_read span =
     let rows = windows span.after span.before span.window in
-    if nat_lt 10000 rows then Err TooManyRows else Ok rows
+    if nat_lt MOST_WINDOWS rows then Err TooManyRows else Ok rows
 
 -- ---- the group
 

@@ -37,6 +37,6 @@ abbrev pub table_text : Registry → Request → Table → List ℕ
 table_text registry request table =
     head_text registry request.series (length table.rows) ++ flat_map row_text table.rows
 
--- the text of a refusal; want of memory is none
+-- the text of a refusal; out of memory has none
 abbrev pub fault_text : QueryFault → Option (List ℕ)
 fault_text fault = option_map (λ number. codes "ERROR " ++ decimal number ++ codes "\n") (fault_number fault)

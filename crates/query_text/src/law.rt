@@ -9,14 +9,14 @@ ghost use Rattle.query_text.specs.declared.fault.QueryFault.{QueryFault as AFaul
 
 /// What the number of windows is, said for every span; the call does nothing. Just those windows are
 /// counted that start below `before`.
-pub fn any_span()
+pub fn windows_start_in_the_span()
     ensures { (after before window i : ℕ) → 0 < window
         → (i < windows after before window) ↔ (after + i * window < before) }
 {}
 
 /// What every reply looks like; the call does nothing. It is whole lines, and each begins with `ROWS `,
 /// with `ERROR ` or with a digit. Of a table that holds where no id of a dimension has a line feed.
-pub fn any_reply()
+pub fn replies_are_whole_lines()
     ensures table { (registry : Definitions) (request : ARequest) (table : ATable)
         → HasOneLineIds registry → IsReply (table_text registry request table) }
     ensures fault { (fault : AFault) → IsReply (unwrap_or (fault_text fault) []) }

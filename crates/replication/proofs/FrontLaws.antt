@@ -1,4 +1,4 @@
--- The longest front, and that a child's first beats give the same answer.
+-- The longest prefix, and that a child's first beats give the same answer.
 use Rattle.std.proofs.Common.{◌≡◌, ℕ, zero, suc, ◌==◌, ◌<◌, ◌≤◌, Bool, true, false, leb, max, List, [], ◌∷◌, length, take, cond, ◌⊎◌, inl, inr, refl, sym, ap, subst, ◌∙◌, arith, Some, None}
 use Rattle.std.proofs.lemmas.Bool.{cases_Bool, cases_lt, cond-true, cond-false, false≢true}
 use Rattle.std.proofs.lemmas.List.{take_all, take-take}

@@ -1,6 +1,7 @@
 -- The Data that a child answers to an Ask.
-use Rattle.std.specs.Prelude.{ℕ, zero, suc, ◌==◌, ◌-◌, ◌^◌, ◌<◌, nat_le, max, List, [], ◌∷◌, length, take, map, Option, Some, None, if◌then◌else◌}
+use Rattle.std.specs.Prelude.{ℕ, zero, suc, ◌==◌, ◌-◌, ◌<◌, nat_le, max, List, [], ◌∷◌, length, take, map, Option, Some, None, if◌then◌else◌}
 use Rattle.std.specs.List.{AllByRecursion}
+use Rattle.replication.specs.declared.answer.TheConstants.{BEAT_LIMIT, DATA_LIMIT}
 use Rattle.replication.specs.declared.ask.Ask.{Ask}
 use Rattle.replication.specs.declared.beats.Beat.{Beat}
 use Rattle.replication.specs.declared.beats.SeriesWord.{SeriesWord}
@@ -27,14 +28,14 @@ data_with child floor prev names beats = record {
   beats = map (placed_beat (uses (words_of beats))) beats;
 }
 
--- how many beats, at most n, the longest front has whose Data's body has at most 2^20 bytes
+-- how many beats, at most n, the longest prefix has whose Data's body has at most 2^20 bytes
 unfoldable pub longest : (List Beat → Data) → List Beat → ℕ → ℕ
 longest make beats zero = 0
-longest make beats (suc n) = if nat_le (length (data_bytes (make (take (suc n) beats)))) (2 ^ 20) then suc n else longest make beats n
+longest make beats (suc n) = if nat_le (length (data_bytes (make (take (suc n) beats)))) DATA_LIMIT then suc n else longest make beats n
 
--- the longest front with at most 64 beats and 2^20 bytes, but at least one beat
+-- the longest prefix with at most 64 beats and 2^20 bytes, but at least one beat
 abbrev pub front : (List Beat → Data) → List Beat → List Beat
-front make beats = take (max 1 (longest make beats 64)) beats
+front make beats = take (max 1 (longest make beats BEAT_LIMIT)) beats
 
 -- the Data with that prefix, if there is a beat
 abbrev pub with_front : (List Beat → Data) → List Beat → Option Data

@@ -56,7 +56,7 @@ with_stored w gaps beats = record w { held = w.held ++ beats; gaps = w.gaps ++ g
 abbrev pub with_first : World → ℕ → Message NamedBeat → World
 with_first w n message = with_stored w (first_gaps n message) (first_beats n message)
 
--- how many things of a message outlive a crash, and all of them where nothing stops
+-- how many things of a message outlive a crash, and all of them where nothing crashes
 abbrev pub kept_of : Option ℕ → Message NamedBeat → ℕ
 kept_of keep message = option_map_or (λ (n : ℕ). n) keep (length message.beats + 1)
 

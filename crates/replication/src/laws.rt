@@ -24,7 +24,7 @@ use crate::step::{StepList, World};
 use std::alloc::Global;
 
 /// Runs a schedule by the calls of both ends, from a child and a parent that have nothing. Whatever is lost,
-/// comes again or comes in another order, and wherever either end stops, the parent is a copy of the child,
+/// comes again or comes in another order, and wherever either end crashes, the parent is a copy of the child,
 /// and each message that was ever sent is true of the child and begins where the parent ends or below. The steps have fewer than 2^32 points in all, those
 /// of beats that are lost or not allowed counted too. `Memory` where none is left.
 pub fn schedule(alloc: Global, steps: &StepList) -> Result<World, CopyFault>

@@ -7,7 +7,7 @@
 //! a gap. Nothing here knows a network, a file or a clock: a message that is lost is one that never comes.
 //!
 //! `laws::schedule` is proved over any list of steps of fewer than 2^32 points, with losses, repeats, other
-//! orders and stops at either end. The parent is a copy of the child: it holds exactly the child's beats up to
+//! orders and crashes at either end. The parent is a copy of the child: it holds exactly the child's beats up to
 //! its own end but those in its gaps. Each gap ends one below a floor that the child had. Each message that was
 //! ever sent is true of the child. The definitions are over beats of any kind that have a moment, so that they
 //! can serve whole histories. It stands on `field_codec`, by which the length of a body is counted, and on the
@@ -47,6 +47,3 @@ pub use names::{ChartName, ChartNameList, DimName, DimNameList, Names};
 pub use parent::Parent;
 pub use step::{AskList, DataList, FloorList, Step, StepList, World};
 pub use verdict::Verdict;
-
-#[cfg(test)]
-mod tests;

@@ -42,7 +42,7 @@ pub enum Step {
     Deliver {
         /// The place of the message, from 0.
         message: u64,
-        /// None where nothing stops. Else the number of stored things, the gap first and then the beats,
+        /// None where nothing crashes. Else the number of stored things, the gap first and then the beats,
         /// that outlive a crash.
         keep: Option<u64>,
     },

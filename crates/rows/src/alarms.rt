@@ -1,7 +1,7 @@
 //! What `health`, `run` and `log` tell of alarms, over hosts that live through several commands.
 
 use crate::run::{host_of, run_over};
-use crate::stored::{MAKE, RUN, Step, first_wrong};
+use crate::steps::{MAKE, RUN, Step, first_wrong};
 use host_model::Status;
 use std::alloc::Global;
 use std::test::Fail;

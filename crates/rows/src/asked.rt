@@ -1,7 +1,7 @@
 //! Questions: between the beats of a text, and by the command `query`.
 
 use crate::run::{host_of, run_over};
-use crate::stored::{MAKE, RUN, STORE, Step, first_wrong};
+use crate::steps::{MAKE, RUN, STORE, Step, first_wrong};
 use host_model::Status;
 use std::alloc::Global;
 use std::test::Fail;

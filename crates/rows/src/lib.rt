@@ -1,8 +1,7 @@
-//! The tests that cross crates, and tests only: each file holds the tables of one subject.
+//! The tests of the commands `convert`, `run`, `query`, `collect`, `health` and `log`, and tests only: each file holds the
+//! tables of one subject.
 #![tactic(auto)]
 
-#[cfg(test)]
-mod alarm_stops;
 #[cfg(test)]
 mod alarms;
 #[cfg(test)]
@@ -22,6 +21,8 @@ mod faults;
 #[cfg(test)]
 mod health_examples;
 #[cfg(test)]
+mod health_sizes;
+#[cfg(test)]
 mod logs;
 #[cfg(test)]
 mod random;
@@ -30,8 +31,8 @@ mod replaced_stops;
 #[cfg(test)]
 mod run;
 #[cfg(test)]
-mod stored;
+mod steps;
 #[cfg(test)]
-mod texts;
+mod stored;
 #[cfg(test)]
 mod usage;

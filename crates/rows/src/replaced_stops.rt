@@ -2,7 +2,7 @@
 //! turn: the alarm and its log as they were, or the alarm gone and its event in the log.
 
 use crate::run::{Ending, host_of, run_over};
-use crate::stored::{MAKE, RUN};
+use crate::steps::{MAKE, RUN};
 use host_model::{Keep, MemoryHost, Status};
 use std::alloc::Global;
 use std::test::Fail;

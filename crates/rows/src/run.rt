@@ -67,6 +67,19 @@ pub fn told_since(host: &MemoryHost, count: usize) -> &[u8] {
     host.told().get(count..).unwrap_or(&[])
 }
 
+/// Runs the top call. The caller looks at what it left.
+fn hand_over(
+    alloc: Global,
+    words: &WordsList,
+    source: &mut MemorySource,
+    host: &mut MemoryHost,
+    link: &mut MemoryLink,
+    spawner: &mut MemorySpawner,
+    clock: &mut MemoryClock,
+) -> Status {
+    agent_main(alloc, words, source, host, link, spawner, clock)
+}
+
 /// Runs the top call, over a link on which nothing comes and a clock that always reads 100.
 pub fn call_main(
     alloc: Global,
@@ -78,7 +91,13 @@ pub fn call_main(
     let words = words_list(alloc, words)?;
     let mut link = MemoryLink::new(alloc, b"", CallList::new(alloc))?;
     let mut clock = MemoryClock::new(alloc, &[100])?;
-    Ok(agent_main(alloc, &words, source, host, &mut link, spawner, &mut clock))
+    Ok(hand_over(alloc, &words, source, host, &mut link, spawner, &mut clock))
+}
+
+/// Whether a source of so many bytes was asked for any.
+fn has_taken(alloc: Global, source: &mut MemorySource, count: usize) -> Result<bool, Fail> {
+    let mut left = vec![in alloc; 0; count]?;
+    Ok(source.pull(&mut left).unwrap_or(0) < count)
 }
 
 /// Runs the top call over a host that may have been through others, and looks at what it left. The told is that of
@@ -94,12 +113,10 @@ pub fn run_over(
     let mut source = MemorySource::new(alloc, input, calls(alloc, pull_fails)?)?;
     let mut spawner = MemorySpawner::new(alloc, CallList::new(alloc));
     let status = call_main(alloc, words, &mut source, host, &mut spawner)?;
-    let mut left = vec![in alloc; 0; input.len()]?;
-    let count = source.pull(&mut left).unwrap_or(0);
     Ok(Ending {
         status,
         told: String::from_utf8(told_since(host, before).to_vec(alloc)?)?,
-        has_taken: count < input.len(),
+        has_taken: has_taken(alloc, &mut source, input.len())?,
     })
 }
 

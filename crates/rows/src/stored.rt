@@ -1,22 +1,11 @@
 //! What `new` and `run` leave of a database, over hosts that live through several commands.
 
 use crate::run::{Ending, ONE_POINT, POINT, host_of, run_over};
+use crate::steps::{MAKE, NEW, RUN, STORE, Step, first_wrong, step};
 use host_model::{Keep, MemoryHost, Status};
 use std::alloc::{AllocError, Global};
 use std::fmt::Write;
 use std::test::Fail;
-
-/// A command: its words, the input, what is told, and how it ends.
-pub type Step = (&'static [&'static str], &'static str, &'static str, Status);
-
-const NEW: &[&str] = &["new", "7"];
-
-pub const RUN: &[&str] = &["run"];
-
-/// The database is made.
-pub const MAKE: Step = (NEW, "", "", Status::Ok);
-/// Its first beat is stored.
-pub const STORE: Step = (RUN, ONE_POINT, "STORED 1\n", Status::Ok);
 
 /// A text that another beat may follow.
 const NEXT_POINT: &str =
@@ -113,24 +102,6 @@ static SEQUENCES: [(&str, &[Step]); 8] = [
         ],
     ),
 ];
-
-/// How a command ended, and whether it told what is wanted.
-fn step(alloc: Global, host: &mut MemoryHost, step: &Step) -> Result<(Status, bool), Fail> {
-    let (words, input, told, _) = step;
-    let end = run_over(alloc, host, words, input.as_bytes(), &[])?;
-    Ok((end.status, end.told.as_str() == *told))
-}
-
-/// The first of the commands that does not end as it should.
-pub fn first_wrong(alloc: Global, steps: &[Step]) -> Result<Option<usize>, Fail> {
-    let mut host = host_of(alloc, &[])?;
-    for (index, row) in steps.iter().enumerate() {
-        if step(alloc, &mut host, row)? != (row.3, true) {
-            return Ok(Some(index));
-        }
-    }
-    Ok(None)
-}
 
 #[test]
 fn each_command_ends_as_it_should(rt: HostRuntime) -> Result<(), Fail> {
@@ -263,7 +234,7 @@ fn store_rest(alloc: Global, host: &mut MemoryHost) -> Result<Option<u64>, Fail>
     Ok(Some(count))
 }
 
-/// What was found after a call was refused and the host stopped.
+/// What was found after a call was refused and the host crashed.
 #[derive(Clone, Copy, Debug, PartialEq, Eq)]
 struct Found {
     /// How `new` and the run of the four beats ended, and how many beats were told of.

@@ -42,6 +42,3 @@ pub use role::SideRole;
 pub use short::is_short;
 pub use side::{MomentList, Side};
 pub use writing::write_side;
-
-#[cfg(test)]
-mod tests;

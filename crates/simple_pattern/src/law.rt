@@ -4,7 +4,7 @@ ghost use Rattle.simple_pattern.specs.Glob.{star, is_match};
 ghost use Rattle.simple_pattern.specs.Piece.{IsPlain};
 
 /// What a match is, said for every glob and name; the call does nothing.
-pub fn any_glob()
+pub fn globs_match_part_by_part()
     // The empty glob matches the empty name alone.
     ensures end { (name : List ℕ) → IsTrue (is_match [] name) ↔ (name ≡ []) }
 

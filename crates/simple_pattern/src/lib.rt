@@ -4,8 +4,8 @@
 //! other character for itself; a `!` in front makes a word refuse what it matches. The first word that
 //! matches a name decides, and where none matches the pattern says nothing. Such are the simple
 //! patterns of Netdata's public documentation; the rule is made exact here. What matches is defined by
-//! a recursion over a word and a name, of which `any_glob` has the laws, and `Pattern` is proved to
-//! decide by just that, taking no memory. It stands on `fixed_num` for its list of words.
+//! a recursion over a word and a name, of which `globs_match_part_by_part` has the laws, and `Pattern`
+//! is proved to decide by just that, taking no memory. It stands on `fixed_num` for its list of words.
 #![tactic(auto)]
 
 mod cut;
@@ -16,5 +16,5 @@ mod pattern;
 
 pub use cut::first_word;
 pub use fault::PatternFault;
-pub use law::any_glob;
+pub use law::globs_match_part_by_part;
 pub use pattern::{Pattern, WORD_LIMIT};

@@ -88,6 +88,3 @@ impl Pattern {
         Some(accepts(word.as_str()))
     }
 }
-
-#[cfg(test)]
-mod tests;

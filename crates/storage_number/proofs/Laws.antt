@@ -238,11 +238,27 @@ size_in_table word = go (step_in word) refl
         let is = find_is _ s e in
         (is.place, mantissa_in word, is.inside, omega arith, ap (λ u. mantissa_in word * u) (ap units_of (sym is.same) ∙ units_at is.place is.inside))
 
+units_in_table : (word : ℕ) (p : Point) → point_of word ≡ Some p → unsigned_abs p.units ≡ (size_in_table word).1 * 10 ^ power (size_in_table word).0
+units_in_table word p h = ap unsigned_abs (sym (point_units word p h).1) ∙ unsigned_abs-signed (has_bit word 31) (size_in word) ∙ (size_in_table word).4
+
+powers_small : (k : ℕ) → k < 19 → 10 ^ power k ≤ 10 ^ 21
+unfolding power
+powers_small k h = leb-true (10 ^ power k) (10 ^ 21) (agree_below_at (λ i. leb (10 ^ power i) (10 ^ 21)) (λ _. true) 19 k refl h)
+
+-- the units of a word are at most the greatest mantissa at the last step
+pub word_within : (word : ℕ) (p : Point) → point_of word ≡ Some p → unsigned_abs p.units ≤ most * 10 ^ 21
+word_within word p h =
+    let table = size_in_table word in
+    let size = units_in_table word p h in
+    let small : table.1 * 10 ^ power table.0 ≤ most * 10 ^ 21 =
+    le_trans (mul-le-mul_left table.1 (powers_small table.0 table.2)) (mul-le-mul_right (10 ^ 21) table.3) in
+    omega (arith, size, small)
+
 -- what a word reads as packs to a word of the same value
 pub packed_again : (word : ℕ) (p : Point) → point_of word ≡ Some p → (anomalous reset : Bool) → units_in (storage_number p.units (pos one) anomalous reset) ≡ p.units
 packed_again word p h anomalous reset =
     let table = size_in_table word in
-    let size : unsigned_abs p.units ≡ table.1 * 10 ^ power table.0 = ap unsigned_abs (sym (point_units word p h).1) ∙ unsigned_abs-signed (has_bit word 31) (size_in word) ∙ table.4 in
+    let size = units_in_table word p h in
     packed_units p.units (pos one) anomalous reset (omega (arith, ints))
     ∙ ap (signed (is_negative p.units)) (size_exact (unsigned_abs p.units) one table.0 table.1 (omega arith) table.2 table.3 (ap (λ x. x * one) size) ∙ sym size)
     ∙ signed_abs p.units

@@ -15,10 +15,6 @@ mod packing;
 mod point;
 mod reading;
 mod step;
-#[cfg(test)]
-mod table;
-#[cfg(test)]
-mod tests;
 
 pub use packing::pack;
 pub use point::Point;

@@ -1,16 +1,14 @@
--- The answer of a store is that of what it has stored.
+-- The answer of a store is that of the beats that it has applied.
 use Rattle.std.proofs.Common.{◌≡◌, ℕ, zero, suc, ◌&&◌, Bool, true, false, cond, List, [], ◌∷◌, map, Some, None, unwrap_or, arith, refl, ap, ◌∙◌}
 use Rattle.std.specs.List.{find, range_with_len}
 use Rattle.tier_rollup.specs.declared.point.Point.{Point}
+use Rattle.beat_tiers.specs.Beats.{TierBeat}
 use Rattle.beat_tiers.specs.State.{tier_floor}
 use Rattle.query_engine.specs.declared.request.Request.{Request}
 use Rattle.query_engine.specs.declared.table.Table.{Table}
 use Rattle.query_engine.specs.Windows.{is_lowest, may_read, row_of, table_of, tier_for}
-use Rattle.host_model.specs.Past.{Event}
 use Rattle.tier_settings.specs.declared.settings.Settings.{Settings}
-use Rattle.store_core.specs.declared.beat.Beat.{Beat}
-use Rattle.store_core.specs.Store.{IsStoreAt, StoreState}
-use Rattle.store_core.specs.Stored.{Stored}
+use Rattle.store_core.specs.Store.{HasApplied, StoreState}
 use Rattle.store_core.specs.Tiers.{floor_at}
 use Rattle.store_core.specs.View.{Tells, points_of}
 use Rattle.tier_settings.specs.Limits.{widths}
@@ -49,11 +47,11 @@ module _ (floor other : ℕ → ℕ) (first : floor 0 ≡ other 0) (second : flo
       let made : ℕ → Table = λ n. record { rows = map (row_of n told request) (range_with_len 0 request.rows) } in
       ap made (same_chosen request.after request.window)
 
--- what a store tells gives the answer by what it has stored
-pub answer_is : (past : List Event) (store : StoreState) (set : Settings) (stored : Stored) (rest : List Beat) → IsStoreAt past store set stored rest → (request : Request) (table : Table)
+-- what a store tells gives the answer by the beats that it has applied
+pub answer_is : (store : StoreState) (set : Settings) (beats : List TierBeat) → HasApplied set beats store → (request : Request) (table : Table)
     → ((told : ℕ → List Point) → Tells store told → table ≡ table_of widths (tier_floor store.tiers) told request)
-    → table ≡ table_of widths (floor_at set stored) (points_of stored) request
-answer_is past store set stored rest is_at request table answered =
-    answered (points_of stored) (record { set = set; stored = stored; has = is_at.tiers; told_is = refl })
-    ∙ same_table (tier_floor store.tiers) (floor_at set stored) (floor_is set stored store.tiers is_at.tiers 0 (omega arith)) (floor_is set stored store.tiers is_at.tiers 1 (omega arith))
-    (floor_is set stored store.tiers is_at.tiers 2 (omega arith)) (points_of stored) request
+    → table ≡ table_of widths (floor_at set beats) (points_of beats) request
+answer_is store set beats has request table answered =
+    let floor_now = floor_is set beats store.tiers has.tiers in
+    answered (points_of beats) (record { set = set; beats = beats; has = has.tiers; told_is = refl })
+    ∙ same_table (tier_floor store.tiers) (floor_at set beats) (floor_now 0 (omega arith)) (floor_now 1 (omega arith)) (floor_now 2 (omega arith)) (points_of beats) request

@@ -7,13 +7,11 @@ use Rattle.host_model.specs.Disks.{EveryDisk, reads_as}
 use Rattle.journal_core.specs.Form.{StandsFor}
 use Rattle.journal_core.specs.Journal.{IsOpen, JournalState}
 use Rattle.journal_core.proofs.GrammarLemmas.{records_once}
-use Rattle.beat_tiers.specs.State.{TiersState, no_beats}
+use Rattle.beat_tiers.specs.State.{no_beats}
 use Rattle.tier_settings.specs.declared.settings.Settings.{Settings}
 use Rattle.store_core.specs.declared.beat.Beat.{Beat}
-use Rattle.store_core.specs.Tiers.{HasTiers}
-use Rattle.tier_settings.specs.Limits.{InLimits}
 use Rattle.tier_settings.specs.Settings.{first_tier, other_tiers}
-use Rattle.store_core.proofs.TierLemmas.{tiers_begin}
+use Rattle.store_core.proofs.TierLemmas.{applied_none}
 use Rattle.store_core.specs.Records.{history_in, records, AreBeats}
 use Rattle.store_core.specs.Stands.{Stands}
 use Rattle.store_core.specs.Store.{IsPlaced, OpensAt, StoreState}
@@ -59,9 +57,9 @@ opens old new store bodies found read count last tiers going set stored stands =
         waiting = ap (λ (p : Settings × List Beat). p.1) same;
         count = count;
         last = last;
-        tiers = subst (λ (s : Settings). HasTiers s (base_of stored) store.tiers) (ap (λ (p : Settings × List Beat). p.0) same)
-            (subst (λ (state : TiersState). HasTiers store.settings (base_of stored) state) (sym tiers) (tiers_begin store.settings (subst InLimits (sym (ap (λ (p : Settings × List Beat). p.0) same)) stands.limits)));
-        before = ap (λ (state : TiersState). state.points.before) tiers;
+        applied =
+            applied_none set store stands.limits
+            (tiers ∙ ap (λ (p : Settings × List Beat). no_beats (first_tier p.0) (other_tiers p.0)) same);
         going = going;
       };
     }

@@ -19,19 +19,20 @@ use Rattle.tier_settings.specs.Limits.{InLimits}
 use Rattle.store_core.specs.Records.{is_later, last_after, last_moment, records, with_all, AreBeats}
 use Rattle.store_core.specs.Stored.{Stored, stored_with, stored_with_all}
 use Rattle.store_core.specs.Stands.{HoldsIfBegun, Stands, StandsAround, StandsIfMade}
-use Rattle.store_core.specs.Store.{counted, raised, IsPlaced, IsReady, IsReplayed, IsStoreAt, IsStoreOf, Replays, StoreState}
+use Rattle.store_core.specs.Store.{counted, raised, HasApplied, IsPlaced, IsReady, IsReplayed, IsStoreAt, IsStoreOf, Replays, StoreState}
 use Rattle.beat_tiers.specs.State.{TiersState, after_beat}
 use Rattle.store_core.proofs.DiskCases.{by_file}
 use Rattle.store_core.proofs.FileLemmas.{WasOrUnbegun}
 use Rattle.store_core.proofs.StandLemmas.{empty_not_begun, made_begun}
-use Rattle.store_core.proofs.TierLemmas.{before_more, first_is, tiers_more}
+use Rattle.store_core.proofs.TierLemmas.{applied_more, first_is, follows}
 use Rattle.beat_tiers.specs.declared.kept.Kept.{Kept}
 use Rattle.beat_tiers.specs.declared.kept.KeptBeat.{KeptBeat}
 use Rattle.tier_settings.specs.declared.tier.Tier.{Tier}
+use Rattle.beat_tiers.specs.Beats.{TierBeat}
 use Rattle.beat_tiers.specs.Floors.{beats_before, kept_beats}
 use Rattle.beat_tiers.specs.Kept.{kept_beat_of, kept_in}
 use Rattle.beat_tiers.proofs.KeptLaws.{beats_are_kept}
-use Rattle.store_core.specs.Tiers.{kept_of, seen}
+use Rattle.store_core.specs.Tiers.{kept_of, seen_beats}
 use Rattle.tier_settings.specs.Settings.{first_tier}
 
 -- what an open journal reads as
@@ -84,12 +85,12 @@ fault_of past store set stored rest is_at = is_at.going
 pub is_replayed : (past : List Event) (store : StoreState) (set : Settings) (stored : Stored) → IsStoreOf past store set stored → IsReplayed store
 is_replayed past store set stored is_of = is_of.waiting
 
-pub kept_by : (past : List Event) (store : StoreState) (set : Settings) (stored : Stored) (rest : List Beat) → IsStoreAt past store set stored rest → kept_in store.tiers.points ≡ kept_of set stored
-kept_by past store set stored rest is_at =
+pub kept_by : (store : StoreState) (set : Settings) (beats : List TierBeat) → HasApplied set beats store → kept_in store.tiers.points ≡ kept_of set beats
+kept_by store set beats has =
     let kept : (before : ℕ) (kept_beats : List KeptBeat) → Kept = λ before kept_beats. record { before = before; beats = kept_beats } in
-    ap (λ (n : ℕ). kept n (kept_in store.tiers.points).beats) is_at.before
-    ∙ ap (kept (beats_before (first_tier set) (map seen stored.after))) (beats_are_kept set.tiers (map seen stored.after) store.tiers is_at.tiers.are
-    ∙ ap (λ (tier : Tier). map kept_beat_of (kept_beats tier (map seen stored.after))) (first_is set stored store.tiers is_at.tiers))
+    ap (λ (n : ℕ). kept n (kept_in store.tiers.points).beats) has.before
+    ∙ ap (kept (beats_before (first_tier set) beats)) (beats_are_kept set.tiers beats store.tiers has.tiers.are
+    ∙ ap (λ (tier : Tier). map kept_beat_of (kept_beats tier beats)) (first_is set beats store.tiers has.tiers))
 
 -- a store that has replayed all is that of all that is stored
 pub all_replayed : (past : List Event) (store : StoreState) (set : Settings) (stored : Stored) (rest : List Beat) → IsStoreAt past store set stored rest → IsReplayed store
@@ -110,8 +111,7 @@ store_elsewhere old new store set stored rest same is_at = record {
   waiting = is_at.waiting;
   count = is_at.count;
   last = is_at.last;
-  tiers = is_at.tiers;
-  before = is_at.before;
+  applied = is_at.applied;
   going = is_at.going;
 }
 
@@ -186,8 +186,9 @@ one_more old new store journal set stored beat is_of form later place is_open = 
   waiting = is_of.waiting;
   count = ap raised is_of.count ∙ counted-more (length stored.after);
   last = ap (λ (l : ℕ). last_after l beat.moment) is_of.last;
-  tiers = tiers_more set stored beat store.tiers is_of.tiers (with_beat set stored.after beat store.last is_of.beats_are form is_of.last later);
-  before = before_more set stored beat store.tiers is_of.tiers (with_beat set stored.after beat store.last is_of.beats_are form is_of.last later) is_of.before;
+  applied =
+      applied_more set (seen_beats stored) beat store (applied store journal beat) is_of.applied
+      (follows stored.after beat (with_beat set stored.after beat store.last is_of.beats_are form is_of.last later)) refl;
   going = is_of.going;
 }
 
@@ -279,8 +280,7 @@ next_applied past store after set stored rest next is_at made = subst (λ (s : S
   waiting = refl;
   count = ap raised is_at.count ∙ counted-more (length stored.after);
   last = ap (λ (l : ℕ). last_after l next.moment) is_at.last;
-  tiers = tiers_more set stored next store.tiers is_at.tiers (prefix_are (stored_with stored next).after rest is_at.beats_are);
-  before = before_more set stored next store.tiers is_at.tiers (prefix_are (stored_with stored next).after rest is_at.beats_are) is_at.before;
+  applied = applied_more set (seen_beats stored) next store _ is_at.applied (follows stored.after next (prefix_are (stored_with stored next).after rest is_at.beats_are)) refl;
   going = is_at.going;
 })
 

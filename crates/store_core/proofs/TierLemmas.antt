@@ -1,5 +1,5 @@
--- The tiers of a store, with a beat more.
-use Rattle.std.proofs.Common.{◌≡◌, ℕ, zero, suc, ◌<◌, ◌≤◌, ◌+◌, ◌^◌, Bool, true, false, nat_lt, min, ◌-◌, List, [], ◌∷◌, map, Option, Some, None, slice_get, refl, ap, sym, subst, ◌∙◌, inl, inr, arith, if◌then◌else◌}
+-- The tiers of a store: of no beats, with a beat more, and their floors.
+use Rattle.std.proofs.Common.{◌≡◌, ℕ, zero, suc, ◌<◌, ◌≤◌, ◌+◌, ◌^◌, true, nat_lt, List, [], ◌∷◌, map, Option, Some, None, slice_get, refl, ap, sym, subst, ◌∙◌, inl, inr, arith}
 use Rattle.std.specs.List.{AllByRecursion, list_all}
 use Rattle.std.specs.Option.{option_map, option_map_or}
 use Rattle.std.proofs.lemmas.Bool.{and_parts, cases_eq, ltb-true, lt-ltb}
@@ -11,16 +11,16 @@ use Rattle.tier_settings.specs.Settings.{first_tier, no_tier, other_tiers, tier_
 use Rattle.tier_settings.proofs.TierLemmas.{each_tier, split, tier_there as settings_have, IsWithin}
 use Rattle.entry_codec.specs.Lists.{is_ascending}
 use Rattle.beat_tiers.specs.declared.item.BeatPoint.{BeatPoint}
-use Rattle.beat_tiers.specs.Floors.{beats_before, cut_after, cuts_of, floor_after, floor_of, items_added}
+use Rattle.beat_tiers.specs.Floors.{beats_before, floor_of}
 use Rattle.beat_tiers.specs.Beats.{AreAbove, Follows, TierBeat, last}
-use Rattle.beat_tiers.specs.State.{RecordTierState, TiersState, after_beat, floor_in, no_beats, tier_floor}
-use Rattle.beat_tiers.specs.Tiers.{AreBeats as AreTierBeats, AreTiersOf, IsTier}
+use Rattle.beat_tiers.specs.State.{RecordTierState, TiersState, after_beat, no_beats, tier_floor}
+use Rattle.beat_tiers.specs.Tiers.{AreTiersOf, IsTier}
 use Rattle.beat_tiers.proofs.KeptLaws.{before_with}
 use Rattle.beat_tiers.proofs.TierLemmas.{tier_at, tiers_none, tiers_with}
 use Rattle.store_core.specs.declared.beat.Beat.{Beat}
 use Rattle.store_core.specs.Beats.{IsMoment, is_point, is_timed, series_of}
 use Rattle.store_core.specs.Records.{is_later, last_after, last_moment, AreBeats}
-use Rattle.store_core.specs.Stored.{Stored, nothing_stored, stored_with}
+use Rattle.store_core.specs.Store.{HasApplied, StoreState}
 use Rattle.store_core.specs.Tiers.{floor_at, seen, HasTiers}
 
 -- ---- settings
@@ -36,7 +36,7 @@ is_first set limits = (are_all set limits).0
 pub are_others : (set : Settings) → InLimits set → AllByRecursion IsTier (other_tiers set)
 are_others set limits = (are_all set limits).1
 
-pub tiers_begin : (set : Settings) → InLimits set → HasTiers set nothing_stored (no_beats (first_tier set) (other_tiers set))
+tiers_begin : (set : Settings) → InLimits set → HasTiers set [] (no_beats (first_tier set) (other_tiers set))
 tiers_begin set limits = record {
   widths = limits.widths;
   are = subst (λ (tiers : List Tier). AreTiersOf tiers [] (no_beats (first_tier set) (other_tiers set))) (sym (split set limits.widths))
@@ -96,67 +96,18 @@ follows beats beat are =
       points = are_above 0 beat.points lists.0 lists.1 (λ point rest is. omega arith);
     }
 
-pub tiers_more : (set : Settings) (stored : Stored) (beat : Beat) (tiers : TiersState) → HasTiers set stored tiers → AreBeats (stored_with stored beat).after
-    → HasTiers set (stored_with stored beat) (after_beat beat.moment beat.points tiers)
-tiers_more set stored beat tiers has are =
-    record { widths = has.widths; are = tiers_with set.tiers (map seen stored.after) beat.moment beat.points tiers has.are (follows stored.after beat are) }
+tiers_more : (set : Settings) (beats : List TierBeat) (beat : Beat) (tiers : TiersState) → HasTiers set beats tiers → Follows (seen beat) beats
+    → HasTiers set (seen beat ∷ beats) (after_beat beat.moment beat.points tiers)
+tiers_more set beats beat tiers has next = record { widths = has.widths; are = tiers_with set.tiers beats beat.moment beat.points tiers has.are next }
 
 -- ---- floors
 
--- the moments at which segments were sealed: each is at most the last one, and all but the latest lie below it
-sealed_low : (number : ℕ) (tier : Tier) (beats : List TierBeat) (place moment : ℕ) → AreTierBeats beats → slice_get (cuts_of number tier beats).sealed place ≡ Some moment
-    → moment + place ≤ last beats
-sealed_low number tier [] place moment are is = absurd (none-some moment is)
-sealed_low number tier (beat ∷ beats) place moment are is =
-    by beat.moment (items_added number tier beat beats) are.0.later (λ at found. sealed_low number tier beats at moment are.1 found) is
-  where
-    more : (b : Bool) (now : ℕ) (count : ℕ) (at : ℕ) → last beats < now → ((at : ℕ) → slice_get (cuts_of number tier beats).sealed at ≡ Some moment → moment + at ≤ last beats)
-        → slice_get (if b then record (cuts_of number tier beats) { since = count } else record { sealed = now ∷ (cuts_of number tier beats).sealed; since = 0 }).sealed at ≡ Some moment → moment + at ≤ now
-    more true now count at less below found = omega (arith, less, below at found)
-    more false now count zero less below found = let same : now ≡ moment = same_Some now moment found in omega (arith, same)
-    more false now count (suc at) less below found = omega (arith, less, below at found)
-
-    by : (at : Option ℕ) (count : ℕ) → option_map_or (λ m. nat_lt (last beats) m) at true ≡ true
-        → ((at : ℕ) → slice_get (cuts_of number tier beats).sealed at ≡ Some moment → moment + at ≤ last beats)
-        → slice_get (cut_after tier at count (cuts_of number tier beats)).sealed place ≡ Some moment → moment + place ≤ option_map_or (λ m. m) at (last beats)
-    by None count later below found = below place found
-    by (Some now) count later below found = more (nat_lt ((cuts_of number tier beats).since + count) tier.items) now ((cuts_of number tier beats).since + count) place (ltb-true (last beats) now later) below found
-
-last_low : (beats : List TierBeat) → AreTierBeats beats → last beats < 2 ^ 32
-last_low [] are = omega arith
-last_low (beat ∷ beats) are = by beat.moment are.0.short (last_low beats are.1)
-  where
-    by : (at : Option ℕ) → option_map_or (λ m. nat_lt m (2 ^ 32)) at true ≡ true → last beats < 2 ^ 32 → option_map_or (λ m. m) at (last beats) < 2 ^ 32
-    by None short low = low
-    by (Some now) short low = ltb-true now (2 ^ 32) short
-
--- the floor of tier 0 is a moment: the beat that sealed what has expired is not the last one
-pub first_low : (tier : Tier) (beats : List TierBeat) → 1 ≤ tier.extents → AreTierBeats beats → floor_of 0 tier beats < 2 ^ 32
-first_low tier beats some are = by (slice_get (cuts_of 0 tier beats).sealed tier.extents) refl
-  where
-    by : (o : Option ℕ) → slice_get (cuts_of 0 tier beats).sealed tier.extents ≡ o → option_map_or (floor_after 0 tier) o 0 < 2 ^ 32
-    by None is = omega arith
-    by (Some moment) is = omega (arith, some, sealed_low 0 tier beats tier.extents moment are is, last_low beats are)
-
-same_floor : (number : ℕ) (tier other : Tier) (beats : List TierBeat) (expired : Option ℕ) → expired ≡ slice_get (cuts_of number tier beats).sealed tier.extents → tier ≡ other
-    → floor_in number tier expired ≡ floor_of number other beats
-same_floor number tier other beats expired is same =
-    ap (λ (o : Option ℕ). option_map_or (floor_after number tier) o 0) is ∙ ap (λ (t : Tier). floor_of number t beats) same
-
-module _ (set : Settings) (stored : Stored) (tiers : TiersState) (has : HasTiers set stored tiers) where
+module _ (set : Settings) (beats : List TierBeat) (tiers : TiersState) (has : HasTiers set beats tiers) where
   pub first_is : tiers.first ≡ first_tier set
   first_is = sym (ap (λ (all : List Tier). option_map_or (λ (tier : Tier). tier) (slice_get all 0) no_tier) has.are.set_is)
 
-  first_floor : tier_floor tiers 0 ≡ floor_at set stored 0
-  first_floor =
-      let floor : floor_in 0 tiers.first tiers.points.expired ≡ floor_of 0 (first_tier set) (map seen stored.after) =
-      same_floor 0 tiers.first (first_tier set) (map seen stored.after) tiers.points.expired has.are.points.expired first_is in
-      let some : 1 ≤ (first_tier set).extents = subst (λ (tier : Tier). 1 ≤ tier.extents) first_is has.are.settings.extents in
-      let low = first_low (first_tier set) (map seen stored.after) some has.are.beats_are in
-      ap (λ (n : ℕ). min n (2 ^ 32 - 1)) floor ∙ min_low (floor_of 0 (first_tier set) (map seen stored.after)) low
-    where
-      min_low : (n : ℕ) → n < 2 ^ 32 → min n (2 ^ 32 - 1) ≡ n
-      min_low n low = omega (arith, low)
+  first_floor : tier_floor tiers 0 ≡ floor_at set beats 0
+  first_floor = has.are.points.floor ∙ ap (λ (tier : Tier). floor_of 0 tier beats) first_is
 
   -- the tier of records with a number
   pub record TierAt (number : ℕ) : Type 0 where
@@ -178,36 +129,51 @@ module _ (set : Settings) (stored : Stored) (tiers : TiersState) (has : HasTiers
       by (Some one) is of_tiers =
           record { place = place; one = one; there = is; number_is = omega arith; tier_is = same_Some one.tier (tier_with set (suc place)) of_tiers }
 
-  record_floor : (number : ℕ) (at : TierAt number) → tier_floor tiers number ≡ floor_at set stored number
+  record_floor : (number : ℕ) (at : TierAt number) → tier_floor tiers number ≡ floor_at set beats number
   record_floor number at =
-      let here = tier_at (map seen stored.after) 1 at.place tiers.records at.one has.are.records at.there in
+      let here = tier_at beats 1 at.place tiers.records at.one has.are.records at.there in
       ap (tier_floor tiers) at.number_is
       ∙ by (at.place + 1) at.place refl (slice_get tiers.records at.place) refl
-      ∙ ap (λ (found : Option RecordTierState). option_map_or (λ (one : RecordTierState). floor_in (at.place + 1) one.tier one.segments.expired) found 0) at.there
-      ∙ same_floor (at.place + 1) at.one.tier (tier_with set number) (map seen stored.after) at.one.segments.expired here.segments.expired at.tier_is
-      ∙ ap (λ (n : ℕ). floor_of n (tier_with set number) (map seen stored.after)) (sym at.number_is)
+      ∙ ap (λ (found : Option RecordTierState). option_map_or (λ (one : RecordTierState). one.segments.floor) found 0) at.there
+      ∙ here.segments.floor
+      ∙ ap (λ (tier : Tier). floor_of (at.place + 1) tier beats) at.tier_is
+      ∙ ap (λ (n : ℕ). floor_of n (tier_with set number) beats) (sym at.number_is)
     where
       by : (n place : ℕ) → n ≡ place + 1 → (found : Option RecordTierState) → slice_get tiers.records place ≡ found
-          → tier_floor tiers n ≡ option_map_or (λ (one : RecordTierState). floor_in (place + 1) one.tier one.segments.expired) found 0
+          → tier_floor tiers n ≡ option_map_or (λ (one : RecordTierState). one.segments.floor) found 0
       by zero place is found e = absurd (omega (arith, is))
       by (suc n) place is found e =
           let same : n ≡ place = omega (arith, is) in
-          ap (λ k. option_map_or (λ (one : RecordTierState). floor_in (k + 1) one.tier one.segments.expired) (slice_get tiers.records k) 0) same
-          ∙ ap (λ (found : Option RecordTierState). option_map_or (λ (one : RecordTierState). floor_in (place + 1) one.tier one.segments.expired) found 0) e
+          ap (λ k. option_map_or (λ (one : RecordTierState). one.segments.floor) (slice_get tiers.records k) 0) same
+          ∙ ap (λ (found : Option RecordTierState). option_map_or (λ (one : RecordTierState). one.segments.floor) found 0) e
 
   -- the floor of each tier that is there
-  pub floor_is : (number : ℕ) → number < 3 → tier_floor tiers number ≡ floor_at set stored number
+  pub floor_is : (number : ℕ) → number < 3 → tier_floor tiers number ≡ floor_at set beats number
   floor_is number few = elim (cases_eq number 0) [
-    | inl none ↦ ap (tier_floor tiers) none ∙ first_floor ∙ ap (floor_at set stored) (sym none)
+    | inl none ↦ ap (tier_floor tiers) none ∙ first_floor ∙ ap (floor_at set beats) (sym none)
     | inr some ↦ record_floor number (tier_there number some few)
   ]
 
--- how many beats with points have expired, with a beat more
-pub before_more : (set : Settings) (stored : Stored) (beat : Beat) (tiers : TiersState) → HasTiers set stored tiers → AreBeats (stored_with stored beat).after
-    → tiers.points.before ≡ beats_before (first_tier set) (map seen stored.after)
-    → (after_beat beat.moment beat.points tiers).points.before ≡ beats_before (first_tier set) (map seen (stored_with stored beat).after)
-before_more set stored beat tiers has are is =
-    let first = first_is set stored tiers has in
-    before_with set.tiers (map seen stored.after) beat.moment beat.points tiers has.are (follows stored.after beat are) (tiers_more set stored beat tiers has are).are
-    (is ∙ ap (λ (tier : Tier). beats_before tier (map seen stored.after)) (sym first))
-    ∙ ap (λ (tier : Tier). beats_before tier (map seen (stored_with stored beat).after)) first
+-- ---- what a store has applied
+
+-- no beats
+pub applied_none : (set : Settings) (store : StoreState) → InLimits set → store.tiers ≡ no_beats (first_tier set) (other_tiers set) → HasApplied set [] store
+applied_none set store limits is = record {
+  tiers = subst (HasTiers set []) (sym is) (tiers_begin set limits);
+  before = ap (λ (tiers : TiersState). tiers.points.before) is;
+}
+
+-- a beat more
+pub applied_more : (set : Settings) (beats : List TierBeat) (beat : Beat) (store now : StoreState) → HasApplied set beats store → Follows (seen beat) beats
+    → now.tiers ≡ after_beat beat.moment beat.points store.tiers → HasApplied set (seen beat ∷ beats) now
+applied_more set beats beat store now has next is =
+    let first = first_is set beats store.tiers has.tiers in
+    let more = tiers_more set beats beat store.tiers has.tiers next in
+    record {
+      tiers = subst (HasTiers set (seen beat ∷ beats)) (sym is) more;
+      before =
+          ap (λ (tiers : TiersState). tiers.points.before) is
+          ∙ before_with set.tiers beats beat.moment beat.points store.tiers has.tiers.are next more.are
+          (has.before ∙ ap (λ (tier : Tier). beats_before tier beats) (sym first))
+          ∙ ap (λ (tier : Tier). beats_before tier (seen beat ∷ beats)) first;
+    }

@@ -1,8 +1,9 @@
 -- What contracts see of a store, and of what a store is.
-use Rattle.std.specs.Prelude.{◌≡◌, ℕ, ◌+◌, ◌-◌, ◌^◌, min, List, [], ◌∷◌, length, map, Option, Some, None}
+use Rattle.std.specs.Prelude.{◌≡◌, ℕ, ◌+◌, ◌-◌, ◌^◌, min, List, [], ◌∷◌, length, Option, Some, None}
 use Rattle.host_model.specs.declared.file.File.TheVariants.{JournalA}
 use Rattle.host_model.specs.Past.{Event, of}
 use Rattle.journal_core.specs.Journal.{JournalState, IsOpen}
+use Rattle.beat_tiers.specs.Beats.{TierBeat}
 use Rattle.beat_tiers.specs.Floors.{beats_before}
 use Rattle.beat_tiers.specs.State.{TiersState, after_beat, no_beats}
 use Rattle.tier_settings.specs.declared.settings.Settings.{Settings}
@@ -11,7 +12,7 @@ use Rattle.store_core.specs.declared.fault.Why.{Why}
 use Rattle.tier_settings.specs.Limits.{InLimits}
 use Rattle.store_core.specs.Records.{last_moment, records, AreBeats}
 use Rattle.store_core.specs.Stored.{Stored, base_of, stored_with, stored_with_all}
-use Rattle.store_core.specs.Tiers.{seen, HasTiers}
+use Rattle.store_core.specs.Tiers.{seen_beats, HasTiers}
 use Rattle.tier_settings.specs.Settings.{first_tier, other_tiers}
 
 pub record StoreState : Type 0 where
@@ -45,6 +46,12 @@ pub record IsPlaced (journal : JournalState) : Type 0 where
   pub file : journal.file ≡ JournalA
   pub generation : journal.generation ≡ 0
 
+-- by these settings the store has applied these beats, as tiers see them
+pub record HasApplied (set : Settings) (beats : List TierBeat) (store : StoreState) : Type 0 where
+  pub tiers : HasTiers set beats store.tiers
+  -- how many beats with points have expired
+  pub before : store.tiers.points.before ≡ beats_before (first_tier set) beats
+
 -- the store is that of these settings, has applied what is stored here, and these beats, the oldest
 -- first, are still to be applied
 pub record IsStoreAt (past : List Event) (store : StoreState) (set : Settings) (stored : Stored) (rest : List Beat) : Type 0 where
@@ -56,9 +63,7 @@ pub record IsStoreAt (past : List Event) (store : StoreState) (set : Settings) (
   pub waiting : store.waiting ≡ rest
   pub count : store.count ≡ counted (length stored.after)
   pub last : store.last ≡ last_moment stored.after
-  pub tiers : HasTiers set stored store.tiers
-  -- how many beats with points have expired
-  pub before : store.tiers.points.before ≡ beats_before (first_tier set) (map seen stored.after)
+  pub applied : HasApplied set (seen_beats stored) store
   pub going : store.fault ≡ None
 
 -- the store is that of these settings, and has applied all that is stored

@@ -1,5 +1,5 @@
--- The tiers of a database: what they see of what is stored. A list of beats has the newest first.
-use Rattle.std.specs.Prelude.{ℕ, map}
+-- The tiers of a database: what they see of a beat, and what they keep of beats. A list of beats has the newest first.
+use Rattle.std.specs.Prelude.{ℕ, List, map}
 use Rattle.beat_tiers.specs.Beats.{TierBeat}
 use Rattle.beat_tiers.specs.Floors.{beats_before, floor_of, kept_beats}
 use Rattle.beat_tiers.specs.Kept.{kept_beat_of}
@@ -16,18 +16,22 @@ use Rattle.store_core.specs.Stored.{Stored}
 abbrev pub seen : Beat → TierBeat
 seen beat = record { moment = beat.moment; points = beat.points }
 
--- the tiers are those of these settings and of what is stored
-pub record HasTiers (set : Settings) (stored : Stored) (tiers : TiersState) : Type 0 where
+-- what tiers see of all that is stored
+abbrev pub seen_beats : Stored → List TierBeat
+seen_beats stored = map seen stored.after
+
+-- the tiers are those of these settings and beats
+pub record HasTiers (set : Settings) (beats : List TierBeat) (tiers : TiersState) : Type 0 where
   pub widths : HasWidths set.tiers
-  pub are : AreTiersOf set.tiers (map seen stored.after) tiers
+  pub are : AreTiersOf set.tiers beats tiers
 
--- the floor of a tier of what is stored
-abbrev pub floor_at : Settings → Stored → ℕ → ℕ
-floor_at set stored number = floor_of number (tier_with set number) (map seen stored.after)
+-- the floor of a tier of these beats
+abbrev pub floor_at : Settings → List TierBeat → ℕ → ℕ
+floor_at set beats number = floor_of number (tier_with set number) beats
 
--- the beats with points that are kept of what is stored, the earliest first, and how many came before them
-abbrev pub kept_of : Settings → Stored → Kept
-kept_of set stored = record {
-  before = beats_before (first_tier set) (map seen stored.after);
-  beats = map kept_beat_of (kept_beats (first_tier set) (map seen stored.after));
+-- those of these beats with points that are kept, the earliest first, and how many came before them
+abbrev pub kept_of : Settings → List TierBeat → Kept
+kept_of set beats = record {
+  before = beats_before (first_tier set) beats;
+  beats = map kept_beat_of (kept_beats (first_tier set) beats);
 }

@@ -1,5 +1,5 @@
 -- The moments of a series' points rise.
-use Rattle.std.specs.Prelude.{◌≡◌, ℕ, ◌+◌, ◌^◌, ◌<◌, ◌≤◌, true, List, [], ◌∷◌, ◌++◌, map, reverse, nat_lt, find, IsTrue, Option, Some, None}
+use Rattle.std.specs.Prelude.{◌≡◌, ℕ, ◌+◌, ◌^◌, ◌<◌, ◌≤◌, true, List, [], ◌∷◌, ◌++◌, reverse, nat_lt, find, IsTrue, Option, Some, None}
 use Rattle.std.specs.List.{cons_option}
 use Rattle.std.specs.Option.{option_map, option_map_or}
 use Rattle.std.proofs.Common.{arith, refl, sym, subst}
@@ -13,7 +13,6 @@ use Rattle.beat_tiers.proofs.GroupLemmas.{reverse_cons}
 use Rattle.query_engine.specs.Points.{are_rising_from, are_series}
 use Rattle.query_engine.proofs.MemberLemmas.{Rises, rises, rising}
 use Rattle.store_core.specs.Store.{StoreState}
-use Rattle.store_core.specs.Tiers.{seen}
 use Rattle.store_core.specs.View.{Tells}
 
 -- every moment is below a limit
@@ -64,4 +63,4 @@ series_rise series (beat ∷ beats) are = by beat.moment beat.points are.0.later
 -- the points of each series that a store tells
 pub told_series : (store : StoreState) (told : ℕ → List Point) → Tells store told → (series : ℕ) → IsTrue (are_series (told series))
 told_series store told tells series =
-    subst (λ (all : ℕ → List Point). IsTrue (are_series (all series))) (sym tells.told_is) (series_rise series (map seen tells.stored.after) tells.has.are.beats_are).rise
+    subst (λ (all : ℕ → List Point). IsTrue (are_series (all series))) (sym tells.told_is) (series_rise series tells.beats tells.has.are.beats_are).rise

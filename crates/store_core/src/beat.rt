@@ -23,7 +23,7 @@ impl Beat {
     pub fn is_in_form(&self) -> bool
         ensures { IsTrue result ↔ InForm self.now }
     {
-        form::is_short(self) && form::has_form(self)
+        form::has_form(self) && form::is_short(self)
     }
 
     /// Whether the record of a journal can hold the beat: it has at most 2^26 bytes, 12 for each

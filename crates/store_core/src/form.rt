@@ -32,8 +32,10 @@ fn are_rising(points: &[BeatPoint]) -> bool
     true
 }
 
+// A number that is read is known to be in the range of its type.
 fn is_point(point: BeatPoint) -> bool
-    ensures { result ≡ is_point point }
+    ensures form { result ≡ is_point point }
+    ensures range { IsTrue result → IsPoint point }
 {
     point.series < 65536
         && 1 <= point.step
@@ -42,7 +44,8 @@ fn is_point(point: BeatPoint) -> bool
 }
 
 fn are_points(points: &[BeatPoint]) -> bool
-    ensures { result ≡ list_all is_point points.now }
+    ensures form { result ≡ list_all is_point points.now }
+    ensures range { IsTrue result → AllByRecursion IsPoint points.now }
 {
     points.iter().all(|point| is_point(*point))
 }
@@ -58,13 +61,12 @@ fn is_timed(moment: Option<u32>, points: &[BeatPoint]) -> bool
 
 /// Whether the series rise, each point is one of a beat, and there are none without a moment.
 pub(crate) fn has_form(beat: &Beat) -> bool
-    ensures { result ≡ has_form beat.now }
+    ensures form { result ≡ has_form beat.now }
+    ensures range { IsTrue result → AllByRecursion IsPoint beat.now.points }
 {
     let points = beat.points.as_slice();
     are_rising(points) && are_points(points) && is_timed(beat.moment, points)
 }
-
-// Below, a number that is read is known to be in the range of its type.
 
 fn is_moment(moment: Option<u32>) -> bool
     ensures { IsTrue result ↔ IsMoment moment }
@@ -75,32 +77,11 @@ fn is_moment(moment: Option<u32>) -> bool
     }
 }
 
-fn is_short_point(point: &BeatPoint) -> bool
-    ensures { IsTrue result ↔ IsPoint point.now }
-{
-    let (_series, _step, _word) = (point.series, point.step, point.word);
-    true
-}
-
-fn are_short(points: &[BeatPoint]) -> bool
-    ensures { IsTrue result ↔ AllByRecursion IsPoint points.now }
-{
-    for point in points {
-        if !is_short_point(point) {
-            return false;
-        }
-    }
-    true
-}
-
 /// Whether the lists are no longer than a u32 counts, and the moment is not 0.
 pub(crate) fn is_short(beat: &Beat) -> bool
+    requires { AllByRecursion IsPoint beat.now.points }
     ensures { IsTrue result ↔ IsShort beat.now }
 {
-    let points = beat.points.as_slice();
     let longest = u32::MAX as usize;
-    is_moment(beat.moment)
-        && points.len() <= longest
-        && are_short(points)
-        && beat.note.len() <= longest
+    is_moment(beat.moment) && beat.points.len() <= longest && beat.note.len() <= longest
 }

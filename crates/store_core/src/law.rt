@@ -1,4 +1,5 @@
 ghost use Rattle.std.specs.Prelude.{◌≡◌, ℕ, ◌<◌, ◌≤◌, List, [], ◌∷◌, true, Some};
+ghost use Rattle.beat_tiers.specs.Beats.{TierBeat};
 ghost use Rattle.beat_tiers.specs.State.{tier_floor};
 ghost use Rattle.query_engine.specs.declared.request.Request.{Request as ARequest};
 ghost use Rattle.query_engine.specs.Tiers.{cell_in_tier};
@@ -13,18 +14,19 @@ ghost use Rattle.store_core.specs.Beats.{beat_bytes, beat_in, InForm};
 ghost use Rattle.store_core.specs.Records.{history_in, records, with_all, AreBeats};
 ghost use Rattle.tier_settings.specs.Limits.{InLimits};
 ghost use Rattle.store_core.specs.Stands.{is_made, Stands};
-ghost use Rattle.store_core.specs.Store.{IsStoreAt, IsStoreOf, StoreState};
+ghost use Rattle.store_core.specs.Store.{HasApplied, IsStoreAt, IsStoreOf, StoreState};
 ghost use Rattle.store_core.specs.Stored.{Stored as AStored};
-ghost use Rattle.store_core.specs.Tiers.{floor_at};
+ghost use Rattle.store_core.specs.Tiers.{floor_at, seen_beats};
 ghost use Rattle.store_core.specs.View.{points_of};
 ghost use Rattle.tier_settings.specs.Limits.{widths};
 
 /// Laws of databases, for any disk and any store; the call does nothing. A disk holds one database
 /// at most, what a store has stored is what each crash leaves, and telling changes nothing of it.
 /// The bytes of a beat in form read as it, what bytes read as has them, and the records of a
-/// database read as it. The floors by which a view answers are those of the beats that were
-/// applied, and two tiers whose floors are at most where a window starts give it equal cells.
-pub fn any_database()
+/// database read as it. A store has applied all that it has stored, as tiers see it. The floors by
+/// which a view answers are those of the beats that were applied, and two tiers whose floors are at
+/// most where a window starts give it equal cells.
+pub fn one_disk_holds_one_history()
     ensures once { (set other : ASettings) (stored others : AStored) (disk : AFile → List ℕ)
         → Stands set stored disk → Stands other others disk → (set ≡ other) × (stored ≡ others) }
     ensures made { (set : ASettings) (stored : AStored) (disk : AFile → List ℕ)
@@ -43,21 +45,22 @@ pub fn any_database()
     ensures records_again { (set : ASettings) (rest : List ABeat) → InLimits set
         → AreBeats (with_all [] rest)
         → history_in (records set (with_all [] rest)) ≡ Some (set, rest) }
-    ensures floors { (past : List Event) (store : StoreState) (set : ASettings)
-        (stored : AStored) (rest : List ABeat) (tier : ℕ)
-        → IsStoreAt past store set stored rest → tier < 3
-        → tier_floor store.tiers tier ≡ floor_at set stored tier }
-    ensures two_tiers { (past : List Event) (store : StoreState) (set : ASettings)
-        (stored : AStored) (rest : List ABeat) (request : ARequest) (i series one other : ℕ)
-        → IsStoreAt past store set stored rest
+    ensures applied { (past : List Event) (store : StoreState) (set : ASettings)
+        (stored : AStored) (rest : List ABeat) → IsStoreAt past store set stored rest
+        → HasApplied set (seen_beats stored) store }
+    ensures floors { (store : StoreState) (set : ASettings) (beats : List TierBeat) (tier : ℕ)
+        → HasApplied set beats store → tier < 3
+        → tier_floor store.tiers tier ≡ floor_at set beats tier }
+    ensures two_tiers { (store : StoreState) (set : ASettings) (beats : List TierBeat)
+        (request : ARequest) (i series one other : ℕ) → HasApplied set beats store
         → may_read widths request.after request.window one ≡ true
         → may_read widths request.after request.window other ≡ true
-        → floor_at set stored one ≤ start_of request i
-        → floor_at set stored other ≤ start_of request i
-        → cell_in_tier widths (floor_at set stored) one request.group
+        → floor_at set beats one ≤ start_of request i
+        → floor_at set beats other ≤ start_of request i
+        → cell_in_tier widths (floor_at set beats) one request.group
         (start_of request i) request.window
-        (points_of stored series)
-        ≡ cell_in_tier widths (floor_at set stored) other request.group
+        (points_of beats series)
+        ≡ cell_in_tier widths (floor_at set beats) other request.group
         (start_of request i) request.window
-        (points_of stored series) }
+        (points_of beats series) }
 {}

@@ -6,6 +6,7 @@ ghost use Rattle.host_model.specs.Disks.{EveryDisk, reads_as};
 ghost use Rattle.host_model.specs.Cause.{HasCause};
 ghost use Rattle.host_model.specs.Moments.{Throughout, EveryImage};
 ghost use Rattle.beat_tiers.specs.Above.{is_above, RiseAbove};
+ghost use Rattle.beat_tiers.specs.Beats.{TierBeat};
 ghost use Rattle.beat_tiers.specs.Room.{tiers_held, HasRoomFor};
 ghost use Rattle.beat_tiers.specs.Kept.{kept_in};
 ghost use Rattle.beat_tiers.specs.State.{after_beat, no_beats, tier_floor};
@@ -83,7 +84,7 @@ fn reserve_first(tiers: &mut Tiers, waiting: &Waiting) -> Result<(), AllocError>
 }
 
 impl Store {
-    ghost use Rattle.store_core.specs.Store.{raised, IsNew, IsPlaced, IsReady, IsReplayed, IsStoreAt, IsStoreOf, OpensAt, Replays, TakesFirst, tiers_after};
+    ghost use Rattle.store_core.specs.Store.{raised, HasApplied, IsNew, IsPlaced, IsReady, IsReplayed, IsStoreAt, IsStoreOf, OpensAt, Replays, TakesFirst, tiers_after};
 
     /// Makes a database with these settings, where there is none: whatever else the file held is
     /// gone.
@@ -245,9 +246,8 @@ impl Store {
     pub fn floor(&self, tier: u8) -> u32
         requires { tier < 3 }
         ensures kept { result ≡ tier_floor self.now.tiers tier }
-        ensures applied { (past : List Event) (set : ASettings) (stored : AStored)
-            (rest : List ABeat)
-            → IsStoreAt past self.now set stored rest → result ≡ floor_at set stored tier }
+        ensures applied { (set : ASettings) (beats : List TierBeat)
+            → HasApplied set beats self.now → result ≡ floor_at set beats tier }
     {
         self.tiers.floor(tier)
     }
@@ -255,9 +255,8 @@ impl Store {
     /// The beats with points that are kept of those that were applied, the earliest first, and how
     /// many came before them. Store and host are as before, whatever the answer.
     pub fn kept<H: Host>(&mut self, _host: &mut H) -> Result<Kept, StoreFault>
-        ensures kept { (past : List Event) (set : ASettings) (stored : AStored) (rest : List ABeat)
-            → IsStoreAt past self.old set stored rest
-            → IfOk result (λ kept. kept ≡ kept_of set stored) }
+        ensures kept { (set : ASettings) (beats : List TierBeat) → HasApplied set beats self.old
+            → IfOk result (λ kept. kept ≡ kept_of set beats) }
         ensures tiers { IfOk result (λ kept. kept ≡ kept_in self.old.tiers.points) }
         ensures reopens { Reopens self.old.fault result }
         ensures faults { IfErr result IsReplayFault }
@@ -282,12 +281,11 @@ impl Store {
         from: u32,
         most: usize,
     ) -> Result<KeptBeatList, StoreFault>
-        ensures kept { (past : List Event) (set : ASettings) (stored : AStored) (rest : List ABeat)
-            → IsStoreAt past self.old set stored rest
+        ensures kept { (set : ASettings) (beats : List TierBeat) → HasApplied set beats self.old
             → IfOk result (λ found.
-            found ≡ take most (filter (is_above from) (kept_of set stored).beats)) }
+            found ≡ take most (filter (is_above from) (kept_of set beats).beats)) }
 
-        // The same, of a store of which it is not known what it has stored.
+        // The same, of a store of which it is not known what it has applied.
         ensures rises { IfOk result (RiseAbove from) }
         ensures few { IfOk result (λ found. length found ≤ most) }
         ensures reopens { Reopens self.old.fault result }

@@ -1,12 +1,10 @@
 //! A view of a store that answers queries.
 
 ghost use Rattle.std.specs.Prelude.{◌≡◌, List, None, refl, IfOk, IsErrOf};
-ghost use Rattle.host_model.specs.Past.{Event};
+ghost use Rattle.beat_tiers.specs.Beats.{TierBeat};
 ghost use Rattle.query_engine.specs.Windows.{table_of};
 ghost use Rattle.tier_settings.specs.declared.settings.Settings.{Settings as ASettings};
-ghost use Rattle.store_core.specs.declared.beat.Beat.{Beat as ABeat};
-ghost use Rattle.store_core.specs.Store.{IsStoreAt};
-ghost use Rattle.store_core.specs.Stored.{Stored as AStored};
+ghost use Rattle.store_core.specs.Store.{HasApplied};
 ghost use Rattle.store_core.specs.Tiers.{floor_at};
 ghost use Rattle.store_core.specs.View.{points_of};
 ghost use Rattle.tier_settings.specs.Limits.{widths};
@@ -46,9 +44,9 @@ pub fn answer_by<H: Host>(
     request: &Request,
 ) -> Result<Table, PointFault>
     requires going { store.old.fault ≡ None }
-    ensures answered { IfOk result (λ table. (past : List Event) (set : ASettings)
-        (stored : AStored) (rest : List ABeat) → IsStoreAt past store.old set stored rest
-        → table ≡ table_of widths (floor_at set stored) (points_of stored) request.now) }
+    ensures answered { IfOk result (λ table. (set : ASettings) (beats : List TierBeat)
+        → HasApplied set beats store.old
+        → table ≡ table_of widths (floor_at set beats) (points_of beats) request.now) }
     ensures same_store { store.new ≡ store.old }
     ensures same_host { H.seen host.new ≡ H.seen host.old }
     ensures no_disk { IsErrOf result PointFault.Disk → ⊥ }

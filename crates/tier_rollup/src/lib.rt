@@ -20,10 +20,8 @@ mod point;
 mod record;
 mod roller;
 mod rolling;
-#[cfg(test)]
-mod tests;
 
-pub use law::{any_bucket, any_points, any_record};
+pub use law::{buckets_are_named_once, moments_have_one_bucket, records_grow_by_one_point};
 pub use point::{Point, PointList};
 pub use record::with_value;
 pub use roller::Roller;

@@ -31,7 +31,7 @@ fn grown(before: Record, units: Units, anomalous: bool) -> Record
 }
 
 /// The record of a bucket with a further point. The sum and the counts stop at the limits of their types,
-/// which no record of points whose moments rise comes near (`any_record`).
+/// which no record of points whose moments rise comes near (`records_grow_by_one_point`).
 pub fn with_value(before: Option<Record>, units: Units, anomalous: bool) -> Record
     ensures { result ≡ with_value before units anomalous }
 {

@@ -56,7 +56,8 @@ impl Roller {
             → IsRollerOf self.old points handed
             → IfSome result (λ closed. bucket_record (width_of self.old) closed.0 points
             ≡ Some closed.1) }
-        ensures rolled { let added : Added = record { moment = moment; units = units; anomalous = anomalous } in
+        ensures rolled { let added : Added =
+            record { moment = moment; units = units; anomalous = anomalous } in
             (points : List Added) (handed : List ℕ) → IsRollerOf self.old points handed
             → IsNext (width_of self.old) moment points handed
             → IsRollerOf self.new (added ∷ points) (numbers result ++ handed) }

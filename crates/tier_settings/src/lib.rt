@@ -14,8 +14,6 @@
 
 mod limits;
 mod settings;
-#[cfg(test)]
-mod tests;
 mod tier;
 
 pub use limits::{MOST_EXTENTS, MOST_ITEMS, WIDTHS, are_tiers, has_widths, is_in_limits, widths};

@@ -6,7 +6,7 @@ ghost use Rattle.words.specs.Quoting.{in_quotes, HasNo};
 
 /// A law of words, for every text; the call does nothing. In quotes of which it has none a text is one
 /// word, whatever follows it. So texts in quotes, one behind the other, are the words of their line.
-pub fn any_quoted_text()
+pub fn quoted_text_is_one_word()
     ensures one { (quote : ℕ) (text : List ℕ) → IsTrue (is_quote quote) → HasNo quote text
         → words (in_quotes quote text) ≡ text ∷ [] }
     ensures first { (quote : ℕ) (text rest : List ℕ) → IsTrue (is_quote quote) → HasNo quote text

@@ -17,5 +17,5 @@ mod law;
 mod reader;
 
 pub use byte::is_blank;
-pub use law::any_quoted_text;
+pub use law::quoted_text_is_one_word;
 pub use reader::{OpenQuote, Words};

@@ -79,7 +79,7 @@ impl Agent {
     fn verdict(&self, message: &Data) -> Verdict
         ensures { result ≡ agent_verdict self.now message.now }
     {
-        Parent::new(self.role.child(), self.last).take(message)
+        Parent::new(self.left.role.child(), self.last).take(message)
     }
 
     fn store_copies<H: Host>(
@@ -138,7 +138,7 @@ impl Agent {
         if !is_stored(verdict) {
             return Ok((verdict, nothing_stored(self.alloc, self.count)));
         }
-        if let Some(reason) = copy_refusal(&self.registry, self.role, message) {
+        if let Some(reason) = copy_refusal(&self.left.registry, self.left.role, message) {
             return Err(AgentFault::Refused(reason));
         }
         match self.add_copies(host, message) {
@@ -185,20 +185,10 @@ impl Agent {
             → OnlyOwn (H.seen host.old).past (H.seen host.new).past }
         ensures tells { (H.seen host.new).tell_faults ≡ (H.seen host.old).tell_faults }
     {
-        let added = add_message(
-            self.alloc,
-            &mut self.store,
-            &mut self.registry,
-            &mut self.last_rows,
-            &mut self.latest,
-            &mut self.alarms,
-            host,
-            message,
-        );
+        let added = add_message(self.alloc, &mut self.store, &mut self.left, host, message);
         match added {
             Ok(told) => {
                 self.last = message.upto;
-                self.role = Role::Copies(message.child);
                 self.count = raised_by(self.count, beats_in(message));
                 Ok(Reply {
                     count: self.count,
@@ -247,7 +237,7 @@ impl Agent {
         if let Some(cause) = self.fault {
             return Err(AgentFault::Reopen(cause));
         }
-        match asking::answer(self.alloc, &mut self.store, &self.registry, host, ask) {
+        match asking::answer(self.alloc, &mut self.store, &self.left.registry, host, ask) {
             Ok(answer) => Ok(answer),
             Err(fault) => {
                 self.fault = fault.cause();
@@ -262,13 +252,13 @@ impl Agent {
         ensures of { (past : List Event) (set : ASettings) (h : List HistoryBeat)
             → IsAgentOf past self.now set h → result ≡ child_of h }
     {
-        self.role.child()
+        self.left.role.child()
     }
 
     /// What it asks a child: the beats above its last moment.
     pub fn ask(&self, child: u64) -> Ask
         ensures { result ≡ record { child = child; last = self.now.last } }
     {
-        Parent::new(self.role.child(), self.last).ask(child)
+        Parent::new(self.left.role.child(), self.last).ask(child)
     }
 }

@@ -726,7 +726,7 @@ fn is_refused(alloc: Global, bytes: &[u8], registry: &Registry) -> bool {
     )
 }
 
-// Each shorter front is refused, and so is a byte more, and a chart that is not there.
+// Each shorter prefix is refused, and so is a byte more, and a chart that is not there.
 #[test]
 fn other_bytes_are_refused(rt: HostRuntime) -> Result<(), Fail> {
     let alloc = rt.alloc();

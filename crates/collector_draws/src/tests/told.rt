@@ -17,7 +17,20 @@ struct Ending {
     told: Vec<u8>,
 }
 
-/// Runs the top call.
+/// Runs the top call. The caller looks at what it left.
+fn hand_over(
+    alloc: Global,
+    words: &WordsList,
+    source: &mut MemorySource,
+    host: &mut MemoryHost,
+    link: &mut MemoryLink,
+    spawner: &mut Cut,
+    clock: &mut MemoryClock,
+) -> Status {
+    agent_main(alloc, words, source, host, link, spawner, clock)
+}
+
+/// Runs the top call over an input, a link on which nothing comes, and these readings of the clock.
 fn call_main(
     alloc: Global,
     words: &WordsList,
@@ -29,7 +42,7 @@ fn call_main(
     let mut source = MemorySource::new(alloc, input, CallList::new(alloc))?;
     let mut link = MemoryLink::new(alloc, b"", CallList::new(alloc))?;
     let mut clock = MemoryClock::new(alloc, readings)?;
-    Ok(agent_main(
+    Ok(hand_over(
         alloc,
         words,
         &mut source,

@@ -45,6 +45,19 @@ pub fn host_of(alloc: Global, fails: &[u64]) -> Result<MemoryHost, Fail> {
     Ok(MemoryHost::new(alloc, calls(alloc, fails)?)?)
 }
 
+/// Runs the top call. The caller looks at what it left.
+fn hand_over(
+    alloc: Global,
+    words: &WordsList,
+    source: &mut MemorySource,
+    host: &mut MemoryHost,
+    link: &mut MemoryLink,
+    spawner: &mut MemorySpawner,
+    clock: &mut MemoryClock,
+) -> Status {
+    agent_main(alloc, words, source, host, link, spawner, clock)
+}
+
 fn call_main(
     alloc: Global,
     words: &[&str],
@@ -56,7 +69,7 @@ fn call_main(
     let mut source = MemorySource::new(alloc, input, CallList::new(alloc))?;
     let mut spawner = MemorySpawner::new(alloc, CallList::new(alloc));
     let mut clock = MemoryClock::new(alloc, &[])?;
-    Ok(agent_main(
+    Ok(hand_over(
         alloc,
         &words,
         &mut source,

@@ -1,10 +1,11 @@
 //! A child whose calls on the host or the link are refused in turn. It sends a part of what it
 //! should, and nothing of it is lost.
 
-use super::ends::{SEND, found, talk, talk_over};
-use super::row::{child_at, second_session};
+use super::ends::{SEND, found, speak, talk, talk_over};
+use super::gaps::honest_gaps;
+use super::row::{child_at, parent_at_three, reply, reply_of, second_session};
 use super::wire::{Says, bytes_of};
-use host_model::{Keep, Status};
+use host_model::{Keep, MemoryHost, Status};
 use std::alloc::Global;
 use std::test::Fail;
 
@@ -20,9 +21,20 @@ fn may_send(status: Status, sent: &[u8], whole: &[u8]) -> bool {
     }
 }
 
+/// Whether a parent with the first three beats hears of the others, and has one gap, which ends one
+/// below the child's floor, the moment 9.
+fn is_copied(alloc: Global, child: &mut MemoryHost) -> Result<bool, Fail> {
+    let mut parent = found(parent_at_three(alloc, &[])?)?;
+    let has_all = speak(alloc, child, &mut parent)?;
+    let gaps = honest_gaps(alloc, &mut parent, &[9])?;
+    let answer = reply(alloc, &mut parent, 13)?;
+    let want = reply_of(alloc, 13, &[1, 2, 3, 9, 10, 11, 12])?;
+    Ok(has_all && gaps == Some(1) && answer.as_str() == want.as_str())
+}
+
 /// How the session ends where this call on the host is refused, whether it sends what it may, and
-/// whether all is sent once the child was stopped. None where the call is one of an earlier
-/// command.
+/// whether all is sent and copied once the child has crashed. None where the call is one of an
+/// earlier command.
 fn ending_at(alloc: Global, fails: u64, keep: Keep) -> Result<Option<(Status, bool, bool)>, Fail> {
     let Some(mut child) = child_at(alloc, &[fails], 12)? else {
         return Ok(None);
@@ -34,7 +46,9 @@ fn ending_at(alloc: Global, fails: u64, keep: Keep) -> Result<Option<(Status, bo
     let again = talk(alloc, &mut child, SEND, heard.as_slice())?;
     let is_front = may_send(end.status, end.sent.as_slice(), whole.as_slice());
     let is_whole = may_send(again.status, again.sent.as_slice(), whole.as_slice());
-    Ok(Some((end.status, is_front, is_whole && again.status == Status::Ok)))
+    let is_copy = end.status == Status::Ok || is_copied(alloc, &mut child)?;
+    let is_done = again.status == Status::Ok;
+    Ok(Some((end.status, is_front, is_whole && is_done && is_copy)))
 }
 
 /// How many of the calls end the session as a failure of the disk. None where one of them does
@@ -60,14 +74,15 @@ fn a_child_whose_host_fails(rt: HostRuntime) -> Result<(), Fail> {
     Ok(())
 }
 
-/// How the session ends where this call on the link is refused, and whether it sends what it may.
+/// How the session ends where this call on the link is refused, and whether it sends what it may
+/// and is copied when it is run again.
 fn link_ending_at(alloc: Global, fails: u64) -> Result<(Status, bool), Fail> {
     let mut child = found(child_at(alloc, &[], 12)?)?;
     let heard = bytes_of(alloc, &[Says::Ask(7, 3), Says::Have(12)])?;
     let whole = second_session(alloc)?;
     let end = talk_over(alloc, &mut child, SEND, heard.as_slice(), &[fails])?;
     let is_front = may_send(end.status, end.sent.as_slice(), whole.as_slice());
-    Ok((end.status, is_front))
+    Ok((end.status, is_front && is_copied(alloc, &mut child)?))
 }
 
 /// Hello is sent, all is received in one piece, and then a Data and a Bye are sent.

@@ -19,6 +19,9 @@ fn last_step(schedule: &mut Schedule) -> Result<Option<&'static str>, Fail> {
     if !schedule.finish()? {
         return Ok(Some("no end"));
     }
+    if schedule.gaps()?.is_none() {
+        return Ok(Some("gap"));
+    }
     schedule.first_wrong(true)
 }
 
@@ -40,14 +43,15 @@ fn try_seed(alloc: Global, seed: u64, is_long: bool) -> Result<Result<Counts, &'
     })
 }
 
-/// The first seed with which something is wrong, and what, or the counts of all.
+/// The first of so many seeds with which something is wrong, and what, or the counts of all.
 fn try_seeds(
     alloc: Global,
+    from: u64,
     seeds: u64,
     is_long: bool,
 ) -> Result<Result<Counts, (u64, &'static str)>, Fail> {
     let (mut has, mut lacks) = (0u64, 0u64);
-    for seed in 0..seeds {
+    for seed in from..from.saturating_add(seeds) {
         match try_seed(alloc, seed, is_long)? {
             Err(wrong) => return Ok(Err((seed, wrong))),
             Ok((more, fewer)) => {
@@ -59,20 +63,80 @@ fn try_seeds(
     Ok(Ok((has, lacks)))
 }
 
+/// What is wrong with 24 histories of a child that forgets, from this seed on.
+fn wrong_short(alloc: Global, from: u64) -> Result<Option<(u64, &'static str)>, Fail> {
+    Ok(match try_seeds(alloc, from, 24, false)? {
+        Err(wrong) => Some(wrong),
+        Ok((has, lacks)) if has < 75 || lacks < 15 => Some((from, "few beats")),
+        Ok(_) => None,
+    })
+}
+
+/// What is wrong with four histories of a child with many beats, from this seed on.
+fn wrong_long(alloc: Global, from: u64) -> Result<Option<(u64, &'static str)>, Fail> {
+    Ok(match try_seeds(alloc, from, 4, true)? {
+        Err(wrong) => Some(wrong),
+        Ok((has, _)) if has < 200 => Some((from, "few beats")),
+        Ok(_) => None,
+    })
+}
+
 #[test]
-fn a_parent_is_a_copy_of_each_child_that_forgets(rt: HostRuntime) -> Result<(), Fail> {
-    let counts = try_seeds(rt.alloc(), 16, false)?;
-    assert!(rt; counts.is_ok(), "{counts:?}");
-    let (has, lacks) = counts.unwrap_or((0, 0));
-    assert!(rt; has >= 50 && lacks >= 10, "{has} and {lacks}");
+fn the_first_24_short_histories(rt: HostRuntime) -> Result<(), Fail> {
+    assert_eq!(rt; wrong_short(rt.alloc(), 0)?, None);
     Ok(())
 }
 
 #[test]
-fn a_parent_is_a_copy_of_each_child_with_many_beats(rt: HostRuntime) -> Result<(), Fail> {
-    let counts = try_seeds(rt.alloc(), 4, true)?;
-    assert!(rt; counts.is_ok(), "{counts:?}");
-    let (has, _) = counts.unwrap_or((0, 0));
-    assert!(rt; has >= 200, "{has}");
+fn the_second_24_short_histories(rt: HostRuntime) -> Result<(), Fail> {
+    assert_eq!(rt; wrong_short(rt.alloc(), 24)?, None);
+    Ok(())
+}
+
+#[test]
+fn the_third_24_short_histories(rt: HostRuntime) -> Result<(), Fail> {
+    assert_eq!(rt; wrong_short(rt.alloc(), 48)?, None);
+    Ok(())
+}
+
+#[test]
+fn the_fourth_24_short_histories(rt: HostRuntime) -> Result<(), Fail> {
+    assert_eq!(rt; wrong_short(rt.alloc(), 72)?, None);
+    Ok(())
+}
+
+#[test]
+fn the_fifth_24_short_histories(rt: HostRuntime) -> Result<(), Fail> {
+    assert_eq!(rt; wrong_short(rt.alloc(), 96)?, None);
+    Ok(())
+}
+
+#[test]
+fn the_sixth_24_short_histories(rt: HostRuntime) -> Result<(), Fail> {
+    assert_eq!(rt; wrong_short(rt.alloc(), 120)?, None);
+    Ok(())
+}
+
+#[test]
+fn the_seventh_24_short_histories(rt: HostRuntime) -> Result<(), Fail> {
+    assert_eq!(rt; wrong_short(rt.alloc(), 144)?, None);
+    Ok(())
+}
+
+#[test]
+fn the_eighth_24_short_histories(rt: HostRuntime) -> Result<(), Fail> {
+    assert_eq!(rt; wrong_short(rt.alloc(), 168)?, None);
+    Ok(())
+}
+
+#[test]
+fn the_first_four_long_histories(rt: HostRuntime) -> Result<(), Fail> {
+    assert_eq!(rt; wrong_long(rt.alloc(), 0)?, None);
+    Ok(())
+}
+
+#[test]
+fn the_second_four_long_histories(rt: HostRuntime) -> Result<(), Fail> {
+    assert_eq!(rt; wrong_long(rt.alloc(), 4)?, None);
     Ok(())
 }

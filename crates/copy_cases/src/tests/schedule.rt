@@ -2,8 +2,9 @@
 
 use super::draws::Draws;
 use super::ends::{Ending, NEW_PARENT, RECEIVE, SEND, enter, found, host_with, speak, talk};
-use super::table::{EMPTY, HIDDEN, MOMENTS, PLACES, Row, Tables, table};
-use super::wire::{DONE, HELLO};
+use super::gaps::{honest_gaps, number_at};
+use super::table::{EMPTY, HIDDEN, MOMENTS, PLACES, Row, Tables, Times, table};
+use super::wire::{DATA, DONE, HELLO, Says, bytes_of};
 use host_model::{MemoryHost, Status};
 use std::alloc::{AllocError, Global};
 use std::fmt::Write;
@@ -17,6 +18,7 @@ pub struct Schedule {
     parent: MemoryHost,
     /// Up to how many beats the child gets at once.
     most: u64,
+    times: Times,
     /// What the child was given, and its last moment.
     given: Vec<Row>,
     last: usize,
@@ -26,6 +28,8 @@ pub struct Schedule {
     asked: Vec<u8>,
     /// What the child has said at some time between Hello and Bye.
     earlier: Vec<u8>,
+    /// The floors that the child had at its sessions.
+    floors: Vec<u32>,
 }
 
 /// A child whose floors rise after a few beats, or one with many beats.
@@ -36,7 +40,7 @@ fn draw_child(alloc: Global, draws: &mut Draws, is_long: bool) -> Result<MemoryH
         draws.below(9).saturating_add(1)
     };
     let items = format!(in alloc; "{items}")?;
-    let extents = format!(in alloc; "{}", draws.below(3).saturating_add(1))?;
+    let extents = format!(in alloc; "{}", draws.below(5).saturating_add(1))?;
     let new = &[
         "new",
         "7",
@@ -98,7 +102,7 @@ fn write_chart(text: &mut String, first: usize, row: &Row) -> Result<(), AllocEr
     text.push_str("END\n")
 }
 
-fn write_beat(text: &mut String, row: &Row, moment: usize) -> Result<(), AllocError> {
+fn write_beat(text: &mut String, row: &Row, time: usize) -> Result<(), AllocError> {
     let (one, two) = row.split_at(3);
     if one.iter().any(|value| *value != 0) {
         write_chart(text, 0, row)?;
@@ -106,7 +110,17 @@ fn write_beat(text: &mut String, row: &Row, moment: usize) -> Result<(), AllocEr
     if two.iter().any(|value| *value != 0) {
         write_chart(text, 3, row)?;
     }
-    writeln!(text, "MOMENT {moment}")
+    writeln!(text, "MOMENT {time}")
+}
+
+/// The floor of the Data that comes first behind Hello: in front of it stand the length, the kind,
+/// the child, prev, from and upto.
+fn floor_said(said: &[u8]) -> Option<u32> {
+    let behind = said.strip_prefix(HELLO)?;
+    if *behind.get(4)? != DATA {
+        return None;
+    }
+    number_at(behind, 25)
 }
 
 /// Bytes on the way to a parent, and whether they are as the child said them.
@@ -123,11 +137,13 @@ impl Schedule {
             child: draw_child(alloc, draws, is_long)?,
             parent: found(host_with(alloc, &[], NEW_PARENT, "")?)?,
             most: if is_long { 90 } else { 9 },
+            times: Times::draw(draws),
             given: vec![in alloc; EMPTY; MOMENTS]?,
             last: 0,
             held: vec![in alloc; EMPTY; MOMENTS]?,
             asked: Vec::new(alloc),
             earlier: Vec::new(alloc),
+            floors: Vec::new(alloc),
         })
     }
 
@@ -141,7 +157,7 @@ impl Schedule {
             return Ok(());
         };
         let row = draw_row(draws);
-        write_beat(text, &row, moment)?;
+        write_beat(text, &row, self.times.time(moment))?;
         *given = row;
         if let Some(hidden) = given.get_mut(HIDDEN) {
             *hidden = 0;
@@ -220,6 +236,14 @@ impl Schedule {
         Ok(())
     }
 
+    /// Notes the floor of the Data that the child said, if it said one.
+    fn note_floor(&mut self, said: &[u8]) -> Result<(), AllocError> {
+        if let Some(floor) = floor_said(said) {
+            self.floors.push(floor)?;
+        }
+        Ok(())
+    }
+
     /// The child answers what the parent said last, of which the end may be cut off.
     fn say(&mut self, draws: &mut Draws) -> Result<Ending, Fail> {
         let mut count = self.asked.len();
@@ -234,6 +258,7 @@ impl Schedule {
     /// with what the parent stored.
     pub fn exchange(&mut self, draws: &mut Draws) -> Result<Option<&'static str>, Fail> {
         let said = self.say(draws)?;
+        self.note_floor(said.sent.as_slice())?;
         let way = self.pass(draws, said.sent.as_slice())?;
         let end = talk(self.alloc, &mut self.parent, RECEIVE, way.bytes.as_slice())?;
         if draws.is_rare(3) {
@@ -255,8 +280,8 @@ impl Schedule {
 
     /// What the parent has otherwise than it should.
     pub fn first_wrong(&mut self, is_whole: bool) -> Result<Option<&'static str>, Fail> {
-        let kept = table(self.alloc, &mut self.child)?;
-        let held = table(self.alloc, &mut self.parent)?;
+        let kept = table(self.alloc, &mut self.child, self.times)?;
+        let held = table(self.alloc, &mut self.parent, self.times)?;
         let wrong = Tables {
             given: self.given.as_slice(),
             kept: kept.as_slice(),
@@ -268,9 +293,18 @@ impl Schedule {
         Ok(wrong)
     }
 
-    /// Both speak until nothing is left.
+    /// Both speak until nothing is left. Before that the child says its floor.
     pub fn finish(&mut self) -> Result<bool, Fail> {
+        let ask = bytes_of(self.alloc, &[Says::Ask(7, 0)])?;
+        let said = talk(self.alloc, &mut self.child, SEND, ask.as_slice())?;
+        self.note_floor(said.sent.as_slice())?;
         speak(self.alloc, &mut self.child, &mut self.parent)
+    }
+
+    /// How many gaps the parent has. None where one of them does not end one below a floor of the
+    /// child, or begins elsewhere than where the copy ended.
+    pub fn gaps(&mut self) -> Result<Option<u64>, Fail> {
+        honest_gaps(self.alloc, &mut self.parent, self.floors.as_slice())
     }
 
     /// How many beats the parent has, and how many of the child's it has not.

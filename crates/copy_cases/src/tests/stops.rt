@@ -1,8 +1,9 @@
 //! A parent whose calls on the host or the link are refused in turn in the midst of a session, and
-//! which is then stopped. What is there is a copy. Run again it has, with gaps that end below
+//! which then crashes. What is there is a copy. Run again it has, with gaps that end below
 //! floors of the child, all that the child has by then.
 
 use super::ends::{Ending, RECEIVE, found, speak, talk, talk_over};
+use super::gaps::honest_gaps;
 use super::row::{child_at, parent_at_three, reply, reply_of, second_session};
 use super::wire::{HELLO, Says, bytes_of};
 use host_model::{Keep, MemoryHost, Status};
@@ -101,7 +102,8 @@ fn catches_up(alloc: Global, parent: &mut MemoryHost, left: Left) -> Result<bool
     if !has_all || told != want.as_bytes() {
         return Ok(false);
     }
-    answers(alloc, parent, left, &[13, 14, 15, 16])
+    let gaps = honest_gaps(alloc, parent, &[9, 13])?;
+    Ok(gaps.is_some() && answers(alloc, parent, left, &[13, 14, 15, 16])?)
 }
 
 /// Whether a parent that told and said this may have come so far only.

@@ -1,5 +1,6 @@
 //! What a database answers for each moment.
 
+use super::draws::Draws;
 use super::ends::told;
 use host_model::MemoryHost;
 use std::alloc::Global;
@@ -18,8 +19,34 @@ pub static PLACES: [(&str, &str); 6] = [
 /// The place of the dimension that no question shows.
 pub const HIDDEN: usize = 4;
 
-/// The moments that questions are for, from 0 on.
+/// How many moments questions are for, from 0 on.
 pub const MOMENTS: usize = 300;
+
+/// At what times the moments of a table are: hours lie before one of them.
+#[derive(Clone, Copy)]
+pub struct Times {
+    /// The first moment behind the hours.
+    behind: usize,
+    hours: usize,
+}
+
+impl Times {
+    /// Up to five hours, before one of the first forty moments.
+    pub fn draw(draws: &mut Draws) -> Times {
+        Times {
+            behind: draws.below(40).saturating_add(1) as usize,
+            hours: draws.below(6) as usize,
+        }
+    }
+
+    /// The time of a moment.
+    pub fn time(self, moment: usize) -> usize {
+        if moment < self.behind {
+            return moment;
+        }
+        moment.saturating_add(self.hours.saturating_mul(3_600))
+    }
+}
 
 /// The values at a moment, by the places of the dimensions. 0 where there is none.
 pub type Row = [u32; 6];
@@ -74,30 +101,55 @@ fn put(alloc: Global, rows: &mut [Row], first: usize, reply: &str) -> Result<(),
     Ok(())
 }
 
-/// Puts the values of a chart. A database may not know it yet.
+/// Puts the values of a chart at these times. A database may not know it yet.
 fn put_chart(
     alloc: Global,
     host: &mut MemoryHost,
     rows: &mut [Row],
     first: usize,
-    chart: &str,
+    times: (&str, &str),
 ) -> Result<(), Fail> {
-    let words = &["query", chart, "0", "300", "1", "sum"];
+    let chart = if first == 0 { "t.one" } else { "t.two" };
+    let words = &["query", chart, times.0, times.1, "1", "sum"];
     let reply = told(alloc, host, words, "")?;
     if reply.as_str() == "ERROR 3\n" {
         return Ok(());
     }
-    if !reply.as_str().starts_with("ROWS 300") {
+    let head = format!(in alloc; "ROWS {}", rows.len())?;
+    if !reply.as_str().starts_with(head.as_str()) {
         return Err(Fail::new("no reply to a question"));
     }
     put(alloc, rows, first, reply.as_str())
 }
 
+/// What a database answers for so many times from one on.
+fn rows_at(
+    alloc: Global,
+    host: &mut MemoryHost,
+    from: usize,
+    count: usize,
+) -> Result<Vec<Row>, Fail> {
+    let mut rows = vec![in alloc; EMPTY; count]?;
+    let before = format!(in alloc; "{}", from.saturating_add(count))?;
+    let from = format!(in alloc; "{from}")?;
+    for first in [0, 3] {
+        let times = (from.as_str(), before.as_str());
+        put_chart(alloc, host, rows.as_mut_slice(), first, times)?;
+    }
+    Ok(rows)
+}
+
 /// What a database answers for all moments and dimensions.
-pub fn table(alloc: Global, host: &mut MemoryHost) -> Result<Vec<Row>, Fail> {
-    let mut rows = vec![in alloc; EMPTY; MOMENTS]?;
-    put_chart(alloc, host, rows.as_mut_slice(), 0, "t.one")?;
-    put_chart(alloc, host, rows.as_mut_slice(), 3, "t.two")?;
+pub fn table(alloc: Global, host: &mut MemoryHost, times: Times) -> Result<Vec<Row>, Fail> {
+    let front = times.behind;
+    let mut rows = rows_at(alloc, host, 0, front)?;
+    let behind = rows_at(
+        alloc,
+        host,
+        times.time(front),
+        MOMENTS.saturating_sub(front),
+    )?;
+    rows.extend_from_slice(behind.as_slice())?;
     Ok(rows)
 }
 

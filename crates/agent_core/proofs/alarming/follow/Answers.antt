@@ -1,22 +1,38 @@
-use Rattle.std.proofs.Common.{◌∷◌, sym, subst}
-use Rattle.alarm_core.specs.Course.{held}
-use Rattle.agent_core.specs.Alarms.{HaveFollowed, IsSteppingOf}
-use Rattle.agent_core.proofs.AlarmLemmas.{beat-followed, both-ok, config-followed, none-followed}
+use Rattle.std.proofs.Common.{◌∷◌, ap, subst, ◌∙◌}
+use Rattle.std.proofs.lemmas.Result.{IfOk-weaker}
+use Rattle.alarm_core.specs.Course.{Outcome}
+use Rattle.agent_core.specs.Alarms.{IsSteppingOf}
+use Rattle.agent_core.specs.Answers.{tier_beats}
+use Rattle.agent_core.proofs.AlarmLemmas.{beat-outcome, config-outcome, left-followed, none-outcome}
+use Rattle.agent_core.proofs.Outcomes.{on_ok}
 use Rattle.agent_core.proofs.alarming.follow.Goals as goal
 
-pub returns-in-Beat-clause-followed : goal.returns-in-Beat-clause-followed
-returns-in-Beat-clause-followed g c =
-    both-ok c.step.result _ _ _ c.step.ensures.held c.step.ensures.events (λ events now told past set h beat stored rest are is_at registry latest before was does.
-    beat-followed set h beat stored c.args.registry.now c.args.latest.now are registry latest before (held c.args.alarms.now) (held c.step.new.alarms) events c.in-Beat.moment c.in-Beat.defines was
-    (subst (IsSteppingOf beat) c.in-Beat.is does) (now past set stored rest is_at) (told past set stored rest is_at))
+pub returns-in-Beat-clause-left_by : goal.returns-in-Beat-clause-left_by
+returns-in-Beat-clause-left_by g c =
+    on_ok _ _ c.step.result c.step.ensures.held (λ now set h beat has awaits does.
+    left-followed set h beat c.args.left.now awaits c.step.new.alarms
+    (now set (tier_beats (beat ∷ h)) has ∙ ap (λ (o : Outcome). o.held) (beat-outcome set h beat c.args.left.now awaits c.in-Beat.moment c.in-Beat.defines (subst (IsSteppingOf beat) c.in-Beat.is does))))
 
-pub returns-in-Configuration-clause-followed : goal.returns-in-Configuration-clause-followed
-returns-in-Configuration-clause-followed g c =
-    both-ok c.configure.result _ _ _ c.configure.ensures.held c.configure.ensures.events (λ events now told past set h beat stored rest are is_at registry latest before was does.
-    config-followed set h beat c.args.registry.now registry (held c.args.alarms.now) (held c.configure.new.alarms) events c.args.latest.now.before c.in-Configuration.config before was
-    (subst (IsSteppingOf beat) c.in-Configuration.is does) now told)
+pub returns-in-Beat-clause-events : goal.returns-in-Beat-clause-events
+returns-in-Beat-clause-events g c =
+    IfOk-weaker c.step.result _ _ (λ events told set h beat has awaits does.
+    told set (tier_beats (beat ∷ h)) has ∙ ap (λ (o : Outcome). o.events) (beat-outcome set h beat c.args.left.now awaits c.in-Beat.moment c.in-Beat.defines (subst (IsSteppingOf beat) c.in-Beat.is does))) c.step.ensures.events
 
-pub returns-in-Nothing-clause-followed : goal.returns-in-Nothing-clause-followed
-returns-in-Nothing-clause-followed g c past set h beat stored rest are is_at registry latest before was does =
-    subst (HaveFollowed set (beat ∷ h) (held c.args.alarms.now)) (sym c.new.ensures)
-    (none-followed set h beat (held c.args.alarms.now) was (subst (IsSteppingOf beat) c.in-Nothing.is does))
+pub returns-in-Configuration-clause-left_by : goal.returns-in-Configuration-clause-left_by
+returns-in-Configuration-clause-left_by g c =
+    on_ok _ _ c.configure.result c.configure.ensures.held (λ now set h beat has awaits does.
+    left-followed set h beat c.args.left.now awaits c.configure.new.alarms
+    (now ∙ ap (λ (o : Outcome). o.held) (config-outcome set h beat c.args.left.now awaits c.in-Configuration.config (subst (IsSteppingOf beat) c.in-Configuration.is does))))
+
+pub returns-in-Configuration-clause-events : goal.returns-in-Configuration-clause-events
+returns-in-Configuration-clause-events g c =
+    IfOk-weaker c.configure.result _ _ (λ events told set h beat has awaits does.
+    told ∙ ap (λ (o : Outcome). o.events) (config-outcome set h beat c.args.left.now awaits c.in-Configuration.config (subst (IsSteppingOf beat) c.in-Configuration.is does))) c.configure.ensures.events
+
+pub returns-in-Nothing-clause-left_by : goal.returns-in-Nothing-clause-left_by
+returns-in-Nothing-clause-left_by g c set h beat has awaits does =
+    left-followed set h beat c.args.left.now awaits c.args.left.now.alarms (ap (λ (o : Outcome). o.held) (none-outcome set h beat c.args.left.now awaits (subst (IsSteppingOf beat) c.in-Nothing.is does)))
+
+pub returns-in-Nothing-clause-events : goal.returns-in-Nothing-clause-events
+returns-in-Nothing-clause-events g c set h beat has awaits does =
+    c.new.ensures ∙ ap (λ (o : Outcome). o.events) (none-outcome set h beat c.args.left.now awaits (subst (IsSteppingOf beat) c.in-Nothing.is does))

@@ -1,5 +1,7 @@
-use Rattle.std.proofs.Common.{[]}
+use Rattle.std.proofs.Common.{◌∙◌}
+use Rattle.agent_core.specs.Answers.{tier_beats}
+use Rattle.agent_core.proofs.AnswerLemmas.{kept-is}
 use Rattle.agent_core.proofs.answering.kept.Goals as goal
 
 pub returns-in-Ok-clause-answered : goal.returns-in-Ok-clause-answered
-returns-in-Ok-clause-answered g c past set stored is_of = c.in-Ok.ensures.kept past set stored [] is_of
+returns-in-Ok-clause-answered g c set h has = c.in-Ok.ensures.kept set (tier_beats h) has ∙ kept-is set h

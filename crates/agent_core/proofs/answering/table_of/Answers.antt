@@ -1,5 +1,4 @@
-use Rattle.std.proofs.Common.{[]}
 use Rattle.agent_core.proofs.answering.table_of.Goals as goal
 
 pub returns-in-Ok-clause-answered : goal.returns-in-Ok-clause-answered
-returns-in-Ok-clause-answered g c past set stored is_of = c.in-Ok.ensures.answered past set stored [] is_of
+returns-in-Ok-clause-answered g c = c.in-Ok.ensures.answered

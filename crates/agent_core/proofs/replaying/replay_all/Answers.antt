@@ -1,12 +1,45 @@
+use Rattle.std.proofs.Common.{refl, rules}
 use Rattle.std.proofs.lemmas.Result.{err_from_is_err_and}
+use Rattle.agent_core.specs.Notes.{noted_in}
+use Rattle.agent_core.specs.Replay.{IsReplaying}
+use Rattle.agent_core.proofs.NoteLemmas.{taken-all, taken-begins, taken-left}
+use Rattle.agent_core.proofs.OpeningLemmas.{replayed-holds, replayed-left}
 use Rattle.agent_core.proofs.replaying.replay_all.Goals as goal
 
+-- ---- a store of a history
 pub returns-in_err-replay_next-clause-stands : goal.returns-in_err-replay_next-clause-stands
 returns-in_err-replay_next-clause-stands g c =
     let error = err_from_is_err_and c.from_residual.result c.from_residual.ensures.1 in
-    rw (error.1, error.2) (λ past set h was. c.in_err-replay_next.ensures.stands past set h (c.loop.invariant.replaying past set h was))
+    rw (error.1, error.2) (λ past set front h at by.
+    let begun : IsReplaying past c.args.store.now c.args.left.now set h = record { prefix = front; at = at; left_by = by } in
+    c.in_err-replay_next.ensures.stands past set h (c.loop.invariant.replaying past set h begun))
 
+pub returns-clause-holds : goal.returns-clause-holds
+returns-clause-holds g c past set front h at by =
+    let begun : IsReplaying past c.args.store.now c.args.left.now set h = record { prefix = front; at = at; left_by = by } in
+    replayed-holds past c.replay_next.new.store c.replay_next.new.left set h (c.in_ok-replay_next.ensures.replaying past set h (c.loop.invariant.replaying past set h begun)) (search rules)
+
+pub returns-clause-left_by : goal.returns-clause-left_by
+returns-clause-left_by g c past set front h at by =
+    let begun : IsReplaying past c.args.store.now c.args.left.now set h = record { prefix = front; at = at; left_by = by } in
+    replayed-left past c.replay_next.new.store c.replay_next.new.left set h (c.in_ok-replay_next.ensures.replaying past set h (c.loop.invariant.replaying past set h begun)) (search rules)
+
+-- ---- whatever the store has stored
 pub returns-in_err-replay_next-clause-broken : goal.returns-in_err-replay_next-clause-broken
 returns-in_err-replay_next-clause-broken g c =
     let error = err_from_is_err_and c.from_residual.result c.from_residual.ensures.1 in
-    rw (error.1, error.2) (λ damaged past set stored was. c.in_err-replay_next.ensures.broken damaged past set stored (c.loop.invariant.notes past set stored was))
+    rw (error.1, error.2) (λ damaged past set stored opens.
+    let start = noted_in c.args.left.now in
+    c.in_err-replay_next.ensures.broken damaged start past set stored (c.loop.invariant.notes start past set stored (taken-begins start past c.args.store.now c.args.left.now set stored opens refl)))
+
+pub returns-clause-notes : goal.returns-clause-notes
+returns-clause-notes g c past set stored opens =
+    let start = noted_in c.args.left.now in
+    taken-all start past c.replay_next.new.store c.replay_next.new.left set stored
+    (c.in_ok-replay_next.ensures.notes start past set stored (c.loop.invariant.notes start past set stored (taken-begins start past c.args.store.now c.args.left.now set stored opens refl))) (search rules)
+
+pub returns-clause-noted : goal.returns-clause-noted
+returns-clause-noted g c past set stored opens =
+    let start = noted_in c.args.left.now in
+    taken-left start past c.replay_next.new.store c.replay_next.new.left set stored
+    (c.in_ok-replay_next.ensures.notes start past set stored (c.loop.invariant.notes start past set stored (taken-begins start past c.args.store.now c.args.left.now set stored opens refl))) (search rules)

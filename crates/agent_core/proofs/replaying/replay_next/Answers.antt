@@ -1,8 +1,7 @@
 use Rattle.std.proofs.Common.{ap, sym, subst, ◌∙◌}
 use Rattle.std.proofs.lemmas.Result.{err_from_is_err_and}
-use Rattle.alarm_core.specs.Course.{held}
 use Rattle.store_core.specs.Store.{Replays, StoreState}
-use Rattle.agent_core.specs.declared.left.Left.{Left}
+use Rattle.agent_core.specs.Notes.{noted_in}
 use Rattle.agent_core.specs.Replay.{HasTaken, IsReplaying}
 use Rattle.agent_core.proofs.NoteLemmas.{taken-broken, taken-more, taken-same}
 use Rattle.agent_core.proofs.OpeningLemmas.{replaying-more, replaying-same, replaying-stands}
@@ -12,43 +11,42 @@ pub returns-in_err-does-in-Some-clause-stands : goal.returns-in_err-does-in-Some
 returns-in_err-does-in-Some-clause-stands g c =
     let error = err_from_is_err_and c.from_residual-in_err-does-in-Some.result c.from_residual-in_err-does-in-Some.ensures.1 in
     rw (error.1, error.2) (λ past set h was.
-    replaying-stands past c.args.store.now c.next_beat.new.store c.args.left.now c.args.last_rows.now c.args.latest.now (held c.args.alarms.now) set h c.in-Some.kept was
+    replaying-stands past c.args.store.now c.next_beat.new.store c.args.left.now set h was c.in-Some.kept
     (λ stored rest is_at. subst (Replays past c.next_beat.new.store set stored rest) c.in-Some.is (c.in_ok-kept.ensures.next past set stored rest is_at))
-    c.in_err-does-in-Some.ensures.stands)
+    (c.in_err-does-in-Some.ensures.stands set))
 
 pub returns-in_ok-follow-in-Some-clause-replaying : goal.returns-in_ok-follow-in-Some-clause-replaying
 returns-in_ok-follow-in-Some-clause-replaying g c past set h was =
-    subst (λ (s : StoreState). IsReplaying past s c.replay_beat.new.left c.replay_beat.new.last_rows c.replay_beat.new.latest (held c.follow.new.alarms) set h) (sym c.follow.ensures.store)
-    (replaying-more past c.args.store.now c.next_beat.new.store c.args.left.now c.replay_beat.new.left c.args.last_rows.now c.replay_beat.new.last_rows c.args.latest.now c.replay_beat.new.latest
-    (held c.args.alarms.now) (held c.follow.new.alarms) set h c.in-Some.kept was
+    subst (λ (s : StoreState). IsReplaying past s c.follow.new.left set h) (sym c.follow.ensures.store)
+    (replaying-more past c.args.store.now c.next_beat.new.store c.args.left.now set h was c.in-Some.kept
     (λ stored rest is_at. subst (Replays past c.next_beat.new.store set stored rest) c.in-Some.is (c.in_ok-kept.ensures.next past set stored rest is_at))
-    c.in_ok-does-in-Some.ensures.taken
-    (λ front stored rest beat of are is_at parts before stood.
-    (c.in_ok-follow-in-Some.ensures.followed past set front beat _ rest are is_at (ap (λ (l : Left). l.registry) parts.left_is) parts.latest_is
-    (c.in_ok-does-in-Some.ensures.before ∙ c.last-before.ensures ∙ before) stood (c.in_ok-does-in-Some.ensures.does front beat of)).held_is))
+    c.follow.new.left
+    (λ g' beats beat all of applied before by.
+    c.in_ok-follow-in-Some.ensures.left_by set g' beat applied (c.in_ok-does-in-Some.ensures.taken set g' beats beat all of (c.last-before.ensures ∙ before) by)
+    (c.in_ok-does-in-Some.ensures.does g' beat of)))
 
 pub returns-in-None-clause-replaying : goal.returns-in-None-clause-replaying
 returns-in-None-clause-replaying g c past set h was =
-    replaying-same past c.args.store.now c.next_beat.new.store c.args.left.now c.args.last_rows.now c.args.latest.now (held c.args.alarms.now) set h was
+    replaying-same past c.args.store.now c.next_beat.new.store c.args.left.now set h was
     (λ stored rest is_at. subst (Replays past c.next_beat.new.store set stored rest) c.in-None.is (c.in_ok-kept.ensures.next past set stored rest is_at))
 
 -- ---- whatever the store has stored
 pub returns-in_err-does-in-Some-clause-broken : goal.returns-in_err-does-in-Some-clause-broken
 returns-in_err-does-in-Some-clause-broken g c =
     let error = err_from_is_err_and c.from_residual-in_err-does-in-Some.result c.from_residual-in_err-does-in-Some.ensures.1 in
-    rw (error.1, error.2) (λ damaged past set stored was.
-    taken-broken past c.args.store.now c.next_beat.new.store c.args.left.now set stored c.in-Some.kept was
+    rw (error.1, error.2) (λ damaged start past set stored was.
+    taken-broken start past c.args.store.now c.next_beat.new.store c.args.left.now set stored c.in-Some.kept was
     (λ applied rest is_at. subst (Replays past c.next_beat.new.store set applied rest) c.in-Some.is (c.in_ok-kept.ensures.next past set applied rest is_at))
     (c.in_err-does-in-Some.ensures.broken damaged))
 
 pub returns-in_ok-follow-in-Some-clause-notes : goal.returns-in_ok-follow-in-Some-clause-notes
-returns-in_ok-follow-in-Some-clause-notes g c past set stored was =
-    subst (λ (s : StoreState). HasTaken past s c.replay_beat.new.left set stored) (sym c.follow.ensures.store)
-    (taken-more past c.args.store.now c.next_beat.new.store c.args.left.now set stored c.in-Some.kept c.replay_beat.new.left was
+returns-in_ok-follow-in-Some-clause-notes g c start past set stored was =
+    subst (λ (s : StoreState). HasTaken start past s c.follow.new.left set stored) (sym c.follow.ensures.store)
+    (taken-more start past c.args.store.now c.next_beat.new.store c.args.left.now set stored c.in-Some.kept c.follow.new.left was
     (λ applied rest is_at. subst (Replays past c.next_beat.new.store set applied rest) c.in-Some.is (c.in_ok-kept.ensures.next past set applied rest is_at))
-    c.in_ok-does-in-Some.ensures.left c.in_ok-does-in-Some.ensures.next)
+    (ap noted_in c.follow.ensures.only ∙ c.in_ok-does-in-Some.ensures.left) c.in_ok-does-in-Some.ensures.next)
 
 pub returns-in-None-clause-notes : goal.returns-in-None-clause-notes
-returns-in-None-clause-notes g c past set stored was =
-    taken-same past c.args.store.now c.next_beat.new.store c.args.left.now set stored was
+returns-in-None-clause-notes g c start past set stored was =
+    taken-same start past c.args.store.now c.next_beat.new.store c.args.left.now set stored was
     (λ applied rest is_at. subst (Replays past c.next_beat.new.store set applied rest) c.in-None.is (c.in_ok-kept.ensures.next past set applied rest is_at))

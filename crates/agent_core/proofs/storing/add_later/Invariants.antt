@@ -1,25 +1,29 @@
 use Rattle.std.proofs.Common.{◌≡◌, List, None, take}
 use Rattle.history.specs.History.{Beat}
-use Rattle.alarm_core.specs.Course.{held}
 use Rattle.alarm_core.specs.UpTo.{IsUpTo}
 use Rattle.tier_settings.specs.declared.settings.Settings.{Settings}
 use Rattle.replication.specs.Copies.{latest as latest_of}
 use Rattle.replication.specs.Names.{beat_moment}
 use Rattle.store_core.specs.Own.{OnlyOwn}
 use Rattle.store_core.specs.Store.{IsReady, IsReplayed}
-use Rattle.agent_core.specs.Storing.{later_copies, ArePartsAt, MayTakeAll}
+use Rattle.agent_core.specs.declared.left.Role.TheVariants.{Copies}
+use Rattle.agent_core.specs.Kept.{HoldsHistory}
+use Rattle.agent_core.specs.Left.{IsLeftBy}
+use Rattle.agent_core.specs.Storing.{later_copies, MayTakeAll}
 use Rattle.agent_core.proofs.FrontLemmas.{HaveStored}
 use Rattle.agent_core.proofs.storing.add_later.Given as goal
 
 abbrev pub invariant-loop-beat : goal.invariant-loop-beat
 invariant-loop-beat g l = record {
-  stored : g.H.Host.honest → (set : Settings) (h : List Beat)
-      → ArePartsAt (g.H.Host.seen l.initial.host).past l.initial.store l.registry l.initial.last_rows l.initial.latest (held l.initial.alarms) set h → MayTakeAll h (later_copies l.registry l.message l.beats)
-      → HaveStored (g.H.Host.seen l.initial.host).past (g.H.Host.seen l.host).past set h (later_copies l.registry l.message l.beats) l.beat-index l.store l.registry l.last_rows l.latest (held l.alarms) l.events;
+  stored : g.H.Host.honest → (set : Settings) (h : List Beat) → let more = later_copies l.initial.left.registry l.message l.beats in
+      HoldsHistory (g.H.Host.seen l.initial.host).past l.initial.store set h → IsLeftBy set h l.initial.left → MayTakeAll h more
+      → HaveStored (g.H.Host.seen l.initial.host).past (g.H.Host.seen l.host).past set h more l.beat-index l.store l.left l.events;
+  registry : l.left.registry ≡ l.initial.left.registry;
+  role : l.initial.left.role ≡ Copies l.message.child → l.left.role ≡ Copies l.message.child;
   ready : IsReady g.H.Host.honest (g.H.Host.seen l.host).past l.store;
   replayed : IsReplayed l.store;
   going : l.store.fault ≡ None;
-  up_to : IsUpTo l.alarms l.registry;
+  up_to : IsUpTo l.left.alarms l.left.registry;
   last : l.store.last ≡ latest_of beat_moment l.initial.store.last (take l.beat-index l.beats);
   settings : l.store.settings ≡ l.initial.store.settings;
   only_here : g.H.Host.honest → OnlyOwn (g.H.Host.seen l.initial.host).past (g.H.Host.seen l.host).past;

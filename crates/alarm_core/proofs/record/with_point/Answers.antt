@@ -4,7 +4,7 @@ use Rattle.fixed_num.specs.declared.units.Record.{Record}
 use Rattle.tier_rollup.specs.Growing.{single}
 use Rattle.query_engine.specs.Joining.{joined, HaveRoom}
 use Rattle.query_engine.proofs.MemberLemmas.{between_from}
-use Rattle.query_engine.proofs.WordLemmas.{word_within}
+use Rattle.storage_number.proofs.Laws.{word_within}
 use Rattle.alarm_core.proofs.ValueLemmas.{point_in}
 use Rattle.alarm_core.proofs.record.with_point.Goals as goal
 

@@ -3,18 +3,19 @@ use Rattle.std.proofs.lemmas.Result.{IfOk-weaker}
 use Rattle.beat_tiers.specs.declared.item.Item.{Item}
 use Rattle.beat_tiers.specs.declared.item.Stepped.{Stepped}
 use Rattle.beat_tiers.specs.declared.kept.KeptBeat.{KeptBeat}
-use Rattle.beat_tiers.specs.declared.segments.Segment.{Segment}
+use Rattle.beat_tiers.specs.declared.parts.Segment.{Segment}
 use Rattle.beat_tiers.specs.Above.{Adds, AddsAbove, RiseFrom, item_above, least_behind}
 use Rattle.beat_tiers.specs.Kept.{behind_all}
 use Rattle.beat_tiers.specs.Searching.{items_in}
-use Rattle.beat_tiers.specs.Segments.{SegmentsOf, items_of}
+use Rattle.beat_tiers.specs.declared.parts.KeptItems.{KeptItems}
+use Rattle.beat_tiers.specs.Segments.{items_of}
 use Rattle.beat_tiers.specs.Tiers.{AreOrdered}
 use Rattle.beat_tiers.proofs.AboveLemmas.{adds-more, all-above-split, part-adds, part-ends, part-rises}
 use Rattle.beat_tiers.proofs.Searches.{parts-ordered}
 use Rattle.beat_tiers.proofs.above.add_all.Goals as goal
 
 -- the parts of all segments, one behind the other
-module _ (from most : ℕ) (old : List KeptBeat) (segments : SegmentsOf Stepped) (early late : List (Segment Stepped)) (split : early ++ late ≡ segments.sealed) (ordered : AreOrdered (items_of segments))
+module _ (from most : ℕ) (old : List KeptBeat) (segments : KeptItems Stepped) (early late : List (Segment Stepped)) (split : early ++ late ≡ segments.sealed) (ordered : AreOrdered (items_of segments))
     (rises : RiseFrom (least_behind (from + 1) old) (filter (item_above from) (items_of segments))) where
   all : List (Item Stepped)
   all = filter (item_above from) (items_of segments)

@@ -1,7 +1,7 @@
 use Rattle.std.proofs.Common.{◌+◌, List, filter, take, drop, ap, sym, subst, ◌∙◌, arith}
 use Rattle.beat_tiers.specs.declared.item.Item.{Item}
 use Rattle.beat_tiers.specs.declared.item.Stepped.{Stepped}
-use Rattle.beat_tiers.specs.declared.segments.Segment.{Segment}
+use Rattle.beat_tiers.specs.declared.parts.Segment.{Segment}
 use Rattle.beat_tiers.specs.Above.{AddsAbove, item_above}
 use Rattle.beat_tiers.specs.Kept.{behind_all}
 use Rattle.beat_tiers.specs.Tiers.{AreOrdered}

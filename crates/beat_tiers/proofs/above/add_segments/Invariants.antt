@@ -1,6 +1,6 @@
 use Rattle.std.proofs.Common.{◌≡◌, ◌+◌, ◌≤◌, filter, flat_map, length, take}
 use Rattle.beat_tiers.specs.declared.item.Stepped.{Stepped}
-use Rattle.beat_tiers.specs.declared.segments.Segment.{Segment}
+use Rattle.beat_tiers.specs.declared.parts.Segment.{Segment}
 use Rattle.beat_tiers.specs.Above.{RiseAbove, RiseFrom, item_above, least_behind}
 use Rattle.beat_tiers.specs.Kept.{behind_all}
 use Rattle.beat_tiers.specs.Tiers.{AreOrdered}

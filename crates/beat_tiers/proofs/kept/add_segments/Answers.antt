@@ -1,7 +1,7 @@
 use Rattle.std.proofs.Common.{◌+◌, flat_map, drop, get_or, ap, sym, ◌∙◌, arith}
 use Rattle.std.proofs.lemmas.List.{drop_more}
 use Rattle.beat_tiers.specs.declared.item.Stepped.{Stepped}
-use Rattle.beat_tiers.specs.declared.segments.Segment.{Segment}
+use Rattle.beat_tiers.specs.declared.parts.Segment.{Segment}
 use Rattle.beat_tiers.specs.Kept.{behind_all}
 use Rattle.beat_tiers.proofs.BeatRuns.{behind-all-append}
 use Rattle.beat_tiers.proofs.kept.add_segments.Goals as goal

@@ -1,6 +1,6 @@
 use Rattle.std.proofs.Common.{◌≡◌, drop, flat_map}
 use Rattle.beat_tiers.specs.declared.item.Stepped.{Stepped}
-use Rattle.beat_tiers.specs.declared.segments.Segment.{Segment}
+use Rattle.beat_tiers.specs.declared.parts.Segment.{Segment}
 use Rattle.beat_tiers.specs.Kept.{behind_all}
 use Rattle.beat_tiers.proofs.kept.add_segments.Given as goal
 

@@ -1,6 +1,6 @@
 use Rattle.std.proofs.Common.{◌≡◌, [], ◌++◌, flat_map, ap, sym, ◌∙◌, append_assoc}
 use Rattle.beat_tiers.specs.declared.item.Stepped.{Stepped}
-use Rattle.beat_tiers.specs.declared.segments.Segment.{Segment}
+use Rattle.beat_tiers.specs.declared.parts.Segment.{Segment}
 use Rattle.beat_tiers.specs.Kept.{beats_in, behind_all}
 use Rattle.beat_tiers.proofs.BeatRuns.{behind-all-in}
 use Rattle.beat_tiers.proofs.Searches.{items-split}

@@ -2,7 +2,7 @@ use Rattle.std.proofs.Common.{List, flat_map, take, ap, sym, subst, ◌∙◌, �
 use Rattle.std.specs.List.{filter_map}
 use Rattle.beat_tiers.specs.declared.item.Item.{Item}
 use Rattle.beat_tiers.specs.declared.item.Stepped.{Stepped}
-use Rattle.beat_tiers.specs.declared.segments.Segment.{Segment}
+use Rattle.beat_tiers.specs.declared.parts.Segment.{Segment}
 use Rattle.beat_tiers.specs.State.{point_at}
 use Rattle.beat_tiers.specs.Tiers.{AreOrdered}
 use Rattle.beat_tiers.proofs.Ordered.{ordered-part}

@@ -1,7 +1,7 @@
 use Rattle.std.proofs.Common.{◌≡◌, ◌++◌, take, flat_map}
 use Rattle.std.specs.List.{filter_map}
 use Rattle.beat_tiers.specs.declared.item.Stepped.{Stepped}
-use Rattle.beat_tiers.specs.declared.segments.Segment.{Segment}
+use Rattle.beat_tiers.specs.declared.parts.Segment.{Segment}
 use Rattle.beat_tiers.specs.State.{point_at}
 use Rattle.beat_tiers.specs.Tiers.{AreOrdered}
 use Rattle.beat_tiers.proofs.searching.add_segments.Given as goal

@@ -2,7 +2,7 @@ use Rattle.std.proofs.Common.{List, ap, sym, subst, ◌∙◌, ◌++◌, flat_ma
 use Rattle.std.specs.List.{find}
 use Rattle.fixed_num.specs.declared.units.Record.{Record}
 use Rattle.beat_tiers.specs.declared.item.Item.{Item}
-use Rattle.beat_tiers.specs.declared.segments.Segment.{Segment}
+use Rattle.beat_tiers.specs.declared.parts.Segment.{Segment}
 use Rattle.beat_tiers.specs.Searching.{is_next}
 use Rattle.beat_tiers.specs.Tiers.{AreOrdered}
 use Rattle.beat_tiers.proofs.Searches.{find-append, find-left, items-split, parts-ordered}

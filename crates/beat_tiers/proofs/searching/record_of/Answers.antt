@@ -3,7 +3,7 @@ use Rattle.std.specs.List.{find}
 use Rattle.std.specs.Option.{option_map}
 use Rattle.fixed_num.specs.declared.units.Record.{Record}
 use Rattle.beat_tiers.specs.declared.item.Item.{Item}
-use Rattle.beat_tiers.specs.declared.segments.Segment.{Segment}
+use Rattle.beat_tiers.specs.declared.parts.Segment.{Segment}
 use Rattle.beat_tiers.specs.State.{is_item}
 use Rattle.beat_tiers.specs.Tiers.{AreOrdered}
 use Rattle.beat_tiers.proofs.Searches.{found-left, found-right, items-split, none-found, parts-ordered}

@@ -33,6 +33,7 @@ returns-then-not-has_multiple c =
           let more = multiple_of c.args.field (place + 1) c.args.bytes.now (omega (arith, inside)) goes in
           false≢true (sym c.if-not-has_multiple.true
           ∙ c.has_multiple.ensures.1 (more.0, rw (c.read_uint-number.ensures, unit) more.1));
+      refused = c.requires.wrong;
     }
 
 pub loop-place-preserved : goal.loop-place-preserved
@@ -61,6 +62,7 @@ returns c =
             reaches = omega arith;
             before = λ some. subst (λ (n : ℕ). GoesOn field n bytes) here (c.loop-place.invariant.goes_on (omega (arith, here, some)));
             here = λ below. absurd (omega (arith, below));
+            refused = c.requires.wrong;
           }
       | inr long ↦
           let here : c.loop-place.place ≡ field.width = omega (arith, long, c.loop-place-test.false, c.loop-place.auto.place-end, c.min-place-end.ensures) in

@@ -1,4 +1,4 @@
-use Rattle.std.proofs.Common.{◌≡◌, ℕ, List, [], ◌∷◌, ◌++◌, length, take, sym, ap, ◌∙◌, arith, rules}
+use Rattle.std.proofs.Common.{◌≡◌, ℕ, ◌+◌, ◌≤◌, List, [], ◌∷◌, ◌++◌, length, take, sym, ap, ◌∙◌, arith, rules}
 use Rattle.std.proofs.lemmas.Result.{on_ok_weaker}
 use Rattle.host_model.specs.Images.{Wrote, Cut, Synced, contents, written}
 use Rattle.host_model.specs.Past.{of}
@@ -72,43 +72,47 @@ returns-clause-whole g c =
     (reads_after file (Wrote 16 1 (written (contents (of file headed)) 16 (0 ∷ []))) headed gated (c.in_ok-write_at-2.ensures.done h)))
     c.sync.ensures.done
 
-pub returns-in_err-cut-clause-short : goal.returns-in_err-cut-clause-short
-returns-in_err-cut-clause-short g c h short =
+-- the header is shorter than an empty journal
+head_fits : (head : List ℕ) (size : ℕ) → length head ≡ 16 → 17 ≤ size → 0 + length head ≤ size
+head_fits head size long fits = omega arith
+
+pub returns-in_err-cut-clause-bound : goal.returns-in_err-cut-clause-bound
+returns-in_err-cut-clause-bound g c size fits h short =
     let file = c.args.file in
     let old = (g.H.Host.seen c.args.host.now).past in
-    within_cut g.H.Host.honest c.cut.result 17 file 0 (take 0 (contents (of file old))) old old (g.H.Host.seen c.cut.new.self).past h c.cut.ensures.done c.cut.ensures.torn
+    within_cut g.H.Host.honest c.cut.result size file 0 (take 0 (contents (of file old))) old old (g.H.Host.seen c.cut.new.self).past h c.cut.ensures.done c.cut.ensures.torn
     (begins short)
 
-pub returns-in_err-write_at-clause-short : goal.returns-in_err-write_at-clause-short
-returns-in_err-write_at-clause-short g c h short =
+pub returns-in_err-write_at-clause-bound : goal.returns-in_err-write_at-clause-bound
+returns-in_err-write_at-clause-bound g c size fits h short =
     let file = c.args.file in
     let old = (g.H.Host.seen c.args.host.now).past in
     let cut = (g.H.Host.seen c.cut.new.self).past in
-    within_write g.H.Host.honest c.write_at.result 17 file 0 (length c.args.head) (written (contents (of file cut)) 0 c.args.head) old cut (g.H.Host.seen c.write_at.new.self).past h (search rules) c.write_at.ensures.done c.write_at.ensures.torn
-    (within_cut g.H.Host.honest c.cut.result 17 file 0 (take 0 (contents (of file old))) old old cut h c.cut.ensures.done c.cut.ensures.torn
+    within_write g.H.Host.honest c.write_at.result size file 0 (length c.args.head) (written (contents (of file cut)) 0 c.args.head) old cut (g.H.Host.seen c.write_at.new.self).past h (head_fits c.args.head size (search rules) fits) c.write_at.ensures.done c.write_at.ensures.torn
+    (within_cut g.H.Host.honest c.cut.result size file 0 (take 0 (contents (of file old))) old old cut h c.cut.ensures.done c.cut.ensures.torn
     (begins short))
 
-pub returns-in_err-write_at-2-clause-short : goal.returns-in_err-write_at-2-clause-short
-returns-in_err-write_at-2-clause-short g c h short =
+pub returns-in_err-write_at-2-clause-bound : goal.returns-in_err-write_at-2-clause-bound
+returns-in_err-write_at-2-clause-bound g c size fits h short =
     let file = c.args.file in
     let old = (g.H.Host.seen c.args.host.now).past in
     let cut = (g.H.Host.seen c.cut.new.self).past in
     let headed = (g.H.Host.seen c.write_at.new.self).past in
-    within_write g.H.Host.honest c.write_at-2.result 17 file 16 1 (written (contents (of file headed)) 16 (0 ∷ [])) old headed (g.H.Host.seen c.write_at-2.new.self).past h (omega arith) c.write_at-2.ensures.done c.write_at-2.ensures.torn
-    (within_write g.H.Host.honest c.write_at.result 17 file 0 (length c.args.head) (written (contents (of file cut)) 0 c.args.head) old cut headed h (search rules) c.write_at.ensures.done c.write_at.ensures.torn
-    (within_cut g.H.Host.honest c.cut.result 17 file 0 (take 0 (contents (of file old))) old old cut h c.cut.ensures.done c.cut.ensures.torn
+    within_write g.H.Host.honest c.write_at-2.result size file 16 1 (written (contents (of file headed)) 16 (0 ∷ [])) old headed (g.H.Host.seen c.write_at-2.new.self).past h (omega arith) c.write_at-2.ensures.done c.write_at-2.ensures.torn
+    (within_write g.H.Host.honest c.write_at.result size file 0 (length c.args.head) (written (contents (of file cut)) 0 c.args.head) old cut headed h (head_fits c.args.head size (search rules) fits) c.write_at.ensures.done c.write_at.ensures.torn
+    (within_cut g.H.Host.honest c.cut.result size file 0 (take 0 (contents (of file old))) old old cut h c.cut.ensures.done c.cut.ensures.torn
     (begins short)))
 
-pub returns-clause-short : goal.returns-clause-short
-returns-clause-short g c h short =
+pub returns-clause-bound : goal.returns-clause-bound
+returns-clause-bound g c size fits h short =
     let file = c.args.file in
     let old = (g.H.Host.seen c.args.host.now).past in
     let cut = (g.H.Host.seen c.cut.new.self).past in
     let headed = (g.H.Host.seen c.write_at.new.self).past in
     let gated = (g.H.Host.seen c.write_at-2.new.self).past in
-    within_sync g.H.Host.honest c.sync.result 17 file old gated (g.H.Host.seen c.sync.new.self).past h c.sync.ensures.done c.sync.ensures.torn
+    within_sync g.H.Host.honest c.sync.result size file old gated (g.H.Host.seen c.sync.new.self).past h c.sync.ensures.done c.sync.ensures.torn
     (g.met.H.Host.reads_an_image c.write_at-2.new.self file h)
-    (within_write g.H.Host.honest c.write_at-2.result 17 file 16 1 (written (contents (of file headed)) 16 (0 ∷ [])) old headed gated h (omega arith) c.write_at-2.ensures.done c.write_at-2.ensures.torn
-    (within_write g.H.Host.honest c.write_at.result 17 file 0 (length c.args.head) (written (contents (of file cut)) 0 c.args.head) old cut headed h (search rules) c.write_at.ensures.done c.write_at.ensures.torn
-    (within_cut g.H.Host.honest c.cut.result 17 file 0 (take 0 (contents (of file old))) old old cut h c.cut.ensures.done c.cut.ensures.torn
+    (within_write g.H.Host.honest c.write_at-2.result size file 16 1 (written (contents (of file headed)) 16 (0 ∷ [])) old headed gated h (omega arith) c.write_at-2.ensures.done c.write_at-2.ensures.torn
+    (within_write g.H.Host.honest c.write_at.result size file 0 (length c.args.head) (written (contents (of file cut)) 0 c.args.head) old cut headed h (head_fits c.args.head size (search rules) fits) c.write_at.ensures.done c.write_at.ensures.torn
+    (within_cut g.H.Host.honest c.cut.result size file 0 (take 0 (contents (of file old))) old old cut h c.cut.ensures.done c.cut.ensures.torn
     (begins short))))

@@ -1,8 +1,8 @@
-use Rattle.std.proofs.Common.{inl}
+use Rattle.std.proofs.Common.{inl, arith}
 use Rattle.std.proofs.lemmas.Result.{on_ok_weaker}
 use Rattle.host_model.specs.Images.{contents}
 use Rattle.host_model.specs.Past.{of}
-use Rattle.host_model.proofs.MomentLemmas.{joined, weakened}
+use Rattle.host_model.proofs.MomentLemmas.{at_end, joined, weakened}
 use Rattle.journal_core.proofs.StoreLemmas.{through_stands, beside_stands, written_stands}
 use Rattle.journal_core.proofs.store.store.Goals as goal
 
@@ -33,3 +33,11 @@ returns-clause-stored g c =
     (λ opened h generation records stands here.
     written_stands generation gate records c.args.body.now old middle new stands here c.requires.size (c.in_ok-stage.ensures.staged h) (opened h))
     c.open_gate.ensures.opened
+
+pub returns-in_err-stage-clause-bound : goal.returns-in_err-stage-clause-bound
+returns-in_err-stage-clause-bound g c size fits h short = c.stage.ensures.bound size fits h short
+
+pub returns-clause-bound : goal.returns-clause-bound
+returns-clause-bound g c size fits h short =
+    let first = c.stage.ensures.bound size fits h short in
+    joined first (c.open_gate.ensures.bound size (omega arith) h (at_end first))

@@ -1,9 +1,9 @@
 use Rattle.std.proofs.Common.{◌≡◌, ℕ, ◌+◌, ◌++◌, List, length, take}
-use Rattle.line_stream.specs.Chain.{acts_of, Chain}
+use Rattle.line_stream.specs.Chain.{Chain}
 use Rattle.line_stream.proofs.stream.hand_over.Given as goal
 
 abbrev pub invariant-loop-at : goal.invariant-loop-at
 invariant-loop-at g l =
-    ((start : g.row.T.Denot) (begin : g.row.H.Denot) (front : List (List ℕ)) → length front ≡ l.fn.count → Chain (acts_of g.T.Taker.takes g.T.Taker.pauses g.T.Taker.ends g.T.Taker.overflows) start begin front l.fn.taker l.fn.host
-    → Chain (acts_of g.T.Taker.takes g.T.Taker.pauses g.T.Taker.ends g.T.Taker.overflows) start begin (front ++ take l.at l.lines) l.taker l.host)
+    ((start : g.row.T.Denot) (begin : g.row.H.Denot) (front : List (List ℕ)) → length front ≡ l.fn.count → Chain g.T.Taker.acts start begin front l.fn.taker l.fn.host
+    → Chain g.T.Taker.acts start begin (front ++ take l.at l.lines) l.taker l.host)
     × (l.count ≡ l.fn.count + l.at) × g.T.Taker.ready l.taker l.host (l.count + 1)

@@ -1,22 +1,20 @@
 use Rattle.std.proofs.Common.{ℕ, [], ◌++◌, refl, sym, subst, length-append, arith}
-use Rattle.line_stream.specs.Chain.{acts_of}
 use Rattle.line_stream.proofs.RunLemmas.{start-taken, rose-later}
 use Rattle.plugin_runner.specs.Collected.{no_turn}
 use Rattle.plugin_runner.specs.Course.{new_course}
 use Rattle.plugin_runner.proofs.collecting.take_collected.Goals as goal
 
 pub loop-taken-init : goal.loop-taken-init
-loop-taken-init g c =
-    let acts = acts_of g.T.Taker.takes g.T.Taker.pauses g.T.Taker.ends g.T.Taker.overflows in (
-      record {
-        text = [];
-        held = start-taken acts c.new-stream.result c.args.taker.now c.args.host.now c.new-stream.ensures.fresh;
-        spent = refl;
-        put = λ words every starts last is. record { course = new_course words every starts last; turns = no_turn; told = refl; reads = refl; is = is };
-      },
-      omega arith,
-      subst (λ (n : ℕ). g.T.Taker.ready c.args.taker.now c.args.host.now n) (sym c.new-stream.ensures.first) c.requires.ready,
-    )
+loop-taken-init g c = (
+  record {
+    text = [];
+    held = start-taken g.T.Taker.acts c.new-stream.result c.args.taker.now c.args.host.now c.new-stream.ensures.fresh;
+    spent = refl;
+    put = λ words every starts last is. record { course = new_course words every starts last; turns = no_turn; told = refl; reads = refl; is = is };
+  },
+  omega arith,
+  subst (λ (n : ℕ). g.T.Taker.ready c.args.taker.now c.args.host.now n) (sym c.new-stream.ensures.first) c.requires.ready,
+)
 
 pub take_turn-requires-clause-room : goal.take_turn-requires-clause-room
 take_turn-requires-clause-room g c =

@@ -1,5 +1,4 @@
 use Rattle.std.proofs.Common.{◌≤◌, ◌+◌, ◌*◌}
-use Rattle.line_stream.specs.Chain.{acts_of}
 use Rattle.line_stream.specs.Stream.{next_number}
 use Rattle.plugin_runner.specs.Collecting.{Going}
 use Rattle.plugin_runner.specs.Patience.{patience}
@@ -7,7 +6,7 @@ use Rattle.plugin_runner.proofs.collecting.take_collected.Given as goal
 
 abbrev pub invariant-loop-taken : goal.invariant-loop-taken
 invariant-loop-taken g l =
-    Going (acts_of g.T.Taker.takes g.T.Taker.pauses g.T.Taker.ends g.T.Taker.overflows) l.budget l.fn.runner l.runner l.stream l.fn.taker l.fn.host l.taker l.host
+    Going g.T.Taker.acts l.budget l.fn.runner l.runner l.stream l.fn.taker l.fn.host l.taker l.host
     (g.P.Spawner.children l.fn.spawner) (g.P.Spawner.children l.spawner) (g.C.Clock.readings l.fn.clock) (g.C.Clock.readings l.clock)
     × (g.P.Spawner.faults l.fn.spawner ≤ g.P.Spawner.faults l.spawner) × g.T.Taker.ready l.taker l.host (next_number l.stream)
 

@@ -1,5 +1,4 @@
 use Rattle.std.proofs.Common.{◌≡◌, ℕ, ◌++◌, min, List, length, take, sym, subst, arith}
-use Rattle.line_stream.specs.Chain.{acts_of}
 use Rattle.line_stream.specs.Run.{Ended}
 use Rattle.line_stream.specs.Stream.{HasTaken}
 use Rattle.host_model.specs.declared.status.Status.TheVariants.{InputLimit}
@@ -11,31 +10,28 @@ use Rattle.plugin_runner.proofs.collecting.take_turn.Goals as goal
 
 pub returns-in-Err-clause-stops : goal.returns-in-Err-clause-stops
 returns-in-Err-clause-stops g c start begin text has spent course before first put =
-    let acts = acts_of g.T.Taker.takes g.T.Taker.pauses g.T.Taker.ends g.T.Taker.overflows in
     let out = c.turn-answer.new.out in
     let size = c.min-taken.result in
     let is : size ≡ min c.args.budget (length out) = omega (arith, c.min-taken.ensures, c.len.ensures) in
     collected course text c.args.runner.now c.turn-answer.new.self c.turn-answer.result before (g.P.Spawner.children c.args.spawner.now) (g.P.Spawner.children c.turn-answer.new.spawner) first (g.C.Clock.readings c.args.clock.now) (g.C.Clock.readings c.turn-answer.new.clock)
     (g.P.Spawner.faults c.args.spawner.now) (g.P.Spawner.faults c.turn-answer.new.spawner) c.clear.new.self out c.clear.ensures put (c.turn-answer.ensures.goes put.course put.is)
-    acts (Within c.in-Err.status) start c.hand_piece.new.taker begin c.hand_piece.new.host c.args.budget size c.turn-answer.ensures.turned.lasting spent is
-    (λ left. subst (λ (b : List ℕ). Ended acts c.in-Err.status start begin (text ++ take size b) c.hand_piece.new.taker c.hand_piece.new.host left ⊥) c.as_slice.ensures (c.in-Err.ensures.stops start begin text has left))
+    g.T.Taker.acts (Within c.in-Err.status) start c.take_piece.new.taker begin c.take_piece.new.host c.args.budget size c.turn-answer.ensures.turned.lasting spent is
+    (λ left. subst (λ (b : List ℕ). Ended g.T.Taker.acts c.in-Err.status start begin (text ++ take size b) c.take_piece.new.taker c.take_piece.new.host left ⊥) c.as_slice.ensures (c.in-Err.ensures.stops start begin text has left))
 
 pub returns-then-taken-budget-clause-stops : goal.returns-then-taken-budget-clause-stops
 returns-then-taken-budget-clause-stops g c start begin text has spent course before first put =
-    let acts = acts_of g.T.Taker.takes g.T.Taker.pauses g.T.Taker.ends g.T.Taker.overflows in
     let out = c.turn-answer.new.out in
     let size = c.min-taken.result in
     let is : size ≡ min c.args.budget (length out) = omega (arith, c.min-taken.ensures, c.len.ensures) in
-    let has' : HasTaken acts c.hand_piece.new.stream start begin (text ++ take size out) c.hand_piece.new.taker c.hand_piece.new.host =
-    subst (λ (b : List ℕ). HasTaken acts c.hand_piece.new.stream start begin (text ++ take size b) c.hand_piece.new.taker c.hand_piece.new.host) c.as_slice.ensures (c.in_default.ensures.goes_on start begin text has) in
+    let has' : HasTaken g.T.Taker.acts c.take_piece.new.self start begin (text ++ take size out) c.take_piece.new.taker c.take_piece.new.host =
+    subst (λ (b : List ℕ). HasTaken g.T.Taker.acts c.take_piece.new.self start begin (text ++ take size b) c.take_piece.new.taker c.take_piece.new.host) c.as_slice.ensures (c.in_default.ensures.goes_on start begin text has) in
     collected course text c.args.runner.now c.turn-answer.new.self c.turn-answer.result before (g.P.Spawner.children c.args.spawner.now) (g.P.Spawner.children c.turn-answer.new.spawner) first (g.C.Clock.readings c.args.clock.now) (g.C.Clock.readings c.turn-answer.new.clock)
     (g.P.Spawner.faults c.args.spawner.now) (g.P.Spawner.faults c.turn-answer.new.spawner) c.clear.new.self out c.clear.ensures put (c.turn-answer.ensures.goes put.course put.is)
-    acts (Within InputLimit) start c.hand_piece.new.taker begin c.hand_piece.new.host c.args.budget size c.turn-answer.ensures.turned.lasting spent is
-    (limit-ended acts c.hand_piece.new.stream start c.hand_piece.new.taker begin c.hand_piece.new.host text out c.args.budget size spent is c.if-taken-budget.true has')
+    g.T.Taker.acts (Within InputLimit) start c.take_piece.new.taker begin c.take_piece.new.host c.args.budget size c.turn-answer.ensures.turned.lasting spent is
+    (limit-ended g.T.Taker.acts c.take_piece.new.self start c.take_piece.new.taker begin c.take_piece.new.host text out c.args.budget size spent is c.if-taken-budget.true has')
 
 pub returns-in-Ok-More-clause-goes_on : goal.returns-in-Ok-More-clause-goes_on
 returns-in-Ok-More-clause-goes_on g c start begin text has =
-    let acts = acts_of g.T.Taker.takes g.T.Taker.pauses g.T.Taker.ends g.T.Taker.overflows in
     let old = c.args.runner.now in
     let new = c.turn-answer.new.self in
     let out = c.turn-answer.new.out in
@@ -44,7 +40,7 @@ returns-in-Ok-More-clause-goes_on g c start begin text has =
     record {
       added = take size out;
       size_is = size_is out c.args.budget size is;
-      held = subst (λ (b : List ℕ). HasTaken acts c.hand_piece.new.stream start begin (text ++ take size b) c.hand_piece.new.taker c.hand_piece.new.host) c.as_slice.ensures (c.in_default.ensures.goes_on start begin text has);
+      held = subst (λ (b : List ℕ). HasTaken g.T.Taker.acts c.take_piece.new.self start begin (text ++ take size b) c.take_piece.new.taker c.take_piece.new.host) c.as_slice.ensures (c.in_default.ensures.goes_on start begin text has);
       put = λ course before first put.
           subst (λ (b : List ℕ). HasPut course new (text ++ b) before (g.P.Spawner.children c.turn-answer.new.spawner) first (g.C.Clock.readings c.turn-answer.new.clock)) (sym (all_is out c.args.budget size is c.if-taken-budget.false))
           (put-next course text old new c.turn-answer.result before (g.P.Spawner.children c.args.spawner.now) (g.P.Spawner.children c.turn-answer.new.spawner) first (g.C.Clock.readings c.args.clock.now) (g.C.Clock.readings c.turn-answer.new.clock)
@@ -53,19 +49,18 @@ returns-in-Ok-More-clause-goes_on g c start begin text has =
 
 pub returns-in-Ok-Ended-clause-stops : goal.returns-in-Ok-Ended-clause-stops
 returns-in-Ok-Ended-clause-stops g c start begin text has spent course before first put =
-    let acts = acts_of g.T.Taker.takes g.T.Taker.pauses g.T.Taker.ends g.T.Taker.overflows in
     let out = c.turn-answer.new.out in
     let size = c.min-taken.result in
     let is : size ≡ min c.args.budget (length out) = omega (arith, c.min-taken.ensures, c.len.ensures) in
-    let has' : HasTaken acts c.hand_piece.new.stream start begin (text ++ take size out) c.hand_piece.new.taker c.hand_piece.new.host =
-    subst (λ (b : List ℕ). HasTaken acts c.hand_piece.new.stream start begin (text ++ take size b) c.hand_piece.new.taker c.hand_piece.new.host) c.as_slice.ensures (c.in_default.ensures.goes_on start begin text has) in
+    let has' : HasTaken g.T.Taker.acts c.take_piece.new.self start begin (text ++ take size out) c.take_piece.new.taker c.take_piece.new.host =
+    subst (λ (b : List ℕ). HasTaken g.T.Taker.acts c.take_piece.new.self start begin (text ++ take size b) c.take_piece.new.taker c.take_piece.new.host) c.as_slice.ensures (c.in_default.ensures.goes_on start begin text has) in
     collected course text c.args.runner.now c.turn-answer.new.self c.turn-answer.result before (g.P.Spawner.children c.args.spawner.now) (g.P.Spawner.children c.turn-answer.new.spawner) first (g.C.Clock.readings c.args.clock.now) (g.C.Clock.readings c.turn-answer.new.clock)
     (g.P.Spawner.faults c.args.spawner.now) (g.P.Spawner.faults c.turn-answer.new.spawner) c.clear.new.self out c.clear.ensures put (c.turn-answer.ensures.goes put.course put.is)
-    acts (AtEnd c.end.result) start c.end.new.taker begin c.end.new.host c.args.budget size c.turn-answer.ensures.turned.lasting spent is (
+    g.T.Taker.acts (AtEnd c.end.result) start c.end.new.taker begin c.end.new.host c.args.budget size c.turn-answer.ensures.turned.lasting spent is (
       ok_is c.turn-answer.result c.in-Ok-Ended.field-0 turn.Ended c.in-Ok-Ended.is (rw c.in-Ok-Ended.is at c.in-Ok-Ended.field-0-is),
       record {
-        taker' = c.hand_piece.new.taker;
-        host' = c.hand_piece.new.host;
+        taker' = c.take_piece.new.taker;
+        host' = c.take_piece.new.host;
         below = below_limit text out c.args.budget size spent is c.if-taken-budget.false;
         took = has'.took;
         ends = c.end.ensures.ends start begin (text ++ take size out) has';
@@ -74,15 +69,14 @@ returns-in-Ok-Ended-clause-stops g c start begin text has spent course before fi
 
 pub returns-in-Err-answer-clause-stops : goal.returns-in-Err-answer-clause-stops
 returns-in-Err-answer-clause-stops g c start begin text has spent course before first put =
-    let acts = acts_of g.T.Taker.takes g.T.Taker.pauses g.T.Taker.ends g.T.Taker.overflows in
     let out = c.turn-answer.new.out in
     let size = c.min-taken.result in
     let is : size ≡ min c.args.budget (length out) = omega (arith, c.min-taken.ensures, c.len.ensures) in
-    let has' : HasTaken acts c.hand_piece.new.stream start begin (text ++ take size out) c.hand_piece.new.taker c.hand_piece.new.host =
-    subst (λ (b : List ℕ). HasTaken acts c.hand_piece.new.stream start begin (text ++ take size b) c.hand_piece.new.taker c.hand_piece.new.host) c.as_slice.ensures (c.in_default.ensures.goes_on start begin text has) in
+    let has' : HasTaken g.T.Taker.acts c.take_piece.new.self start begin (text ++ take size out) c.take_piece.new.taker c.take_piece.new.host =
+    subst (λ (b : List ℕ). HasTaken g.T.Taker.acts c.take_piece.new.self start begin (text ++ take size b) c.take_piece.new.taker c.take_piece.new.host) c.as_slice.ensures (c.in_default.ensures.goes_on start begin text has) in
     collected course text c.args.runner.now c.turn-answer.new.self c.turn-answer.result before (g.P.Spawner.children c.args.spawner.now) (g.P.Spawner.children c.turn-answer.new.spawner) first (g.C.Clock.readings c.args.clock.now) (g.C.Clock.readings c.turn-answer.new.clock)
     (g.P.Spawner.faults c.args.spawner.now) (g.P.Spawner.faults c.turn-answer.new.spawner) c.clear.new.self out c.clear.ensures put (c.turn-answer.ensures.goes put.course put.is)
-    acts (Failed c.in-Err-answer.fault) start c.hand_piece.new.taker begin c.hand_piece.new.host c.args.budget size c.turn-answer.ensures.turned.lasting spent is (
+    g.T.Taker.acts (Failed c.in-Err-answer.fault) start c.take_piece.new.taker begin c.take_piece.new.host c.args.budget size c.turn-answer.ensures.turned.lasting spent is (
       c.in-Err-answer.is,
       record {
         below = below_limit text out c.args.budget size spent is c.if-taken-budget.false;

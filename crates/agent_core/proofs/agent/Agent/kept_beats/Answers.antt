@@ -1,14 +1,15 @@
-use Rattle.std.proofs.Common.{◌≡◌, ◌∙◌, None, sym, subst}
-use Rattle.agent_core.specs.Agent.{AgentState, Holds}
-use Rattle.agent_core.proofs.AnswerLemmas.{kept-is}
+use Rattle.std.proofs.Common.{◌≡◌, None, sym, subst}
+use Rattle.agent_core.specs.Agent.{AgentState}
+use Rattle.agent_core.specs.Kept.{HoldsHistory}
+use Rattle.agent_core.proofs.AnswerLemmas.{applied-all}
 use Rattle.agent_core.proofs.Outcomes.{short-changes, short-reads, short-reopens}
 use Rattle.agent_core.proofs.agent.Agent.kept_beats.Goals as goal
 
 pub returns-in-Ok-clause-answered : goal.returns-in-Ok-clause-answered
 returns-in-Ok-clause-answered g c set h is_of =
     let past = (g.H.Host.seen c.args.host.now).past in
-    let holds = subst (λ (a : AgentState). Holds past a.store a.registry a.last_rows a.latest set h) (sym c.self.view_is) is_of.holds in
-    c.in-Ok.ensures.answered past set holds.stored holds.store_of ∙ kept-is set h holds.stored holds.are
+    let holds = subst (λ (a : AgentState). HoldsHistory past a.store set h) (sym c.self.view_is) is_of.holds in
+    c.in-Ok.ensures.answered set h (applied-all past _ set h holds)
 
 pub returns-in-Err-clause-unchanged : goal.returns-in-Err-clause-unchanged
 returns-in-Err-clause-unchanged g c leaves = absurd (short-changes c.in-Err.fault c.in-Err.ensures.memory leaves)

@@ -26,7 +26,7 @@ returns-in-Ok g c =
     let line = c.args.line.now in
     let free : (every : ℕ) (past : List Line) → IsFeedOf feed every past → CountsAt line feed agent.registry → refusal agent.registry every past (copies agent.role) agent.last line ≡ None
     = subst (λ (a : AgentState). (every : ℕ) (past : List Line) → IsFeedOf feed every past → CountsAt line feed a.registry → refusal a.registry every past (copies a.role) a.last line ≡ None) c.self.view_is
-    (subst (λ (b : Bool). (every : ℕ) (past : List Line) → IsFeedOf feed every past → CountsAt line feed c.self.inside.registry → refusal c.self.inside.registry every past b c.self.inside.last line ≡ None) c.copies.ensures c.in-Ok.ensures.refused) in
+    (subst (λ (b : Bool). (every : ℕ) (past : List Line) → IsFeedOf feed every past → CountsAt line feed c.self.inside.left.registry → refusal c.self.inside.left.registry every past b c.self.inside.last line ≡ None) c.copies-copies.ensures c.in-Ok.ensures.refused) in
     let counts : CountsFor feed agent.registry → CountsPast line c.line.new.self agent.registry
     = subst (λ (a : AgentState). CountsFor feed a.registry → CountsPast line c.line.new.self a.registry) c.self.view_is c.in-Ok.ensures.counts in
     line-taken g.H.Host.honest host host' agent c.take_step.new.self feed c.line.new.self line c.in-Ok.step c.take_step.result c.requires.fed c.requires.limits
@@ -42,18 +42,18 @@ returns-in-Memory g c =
     let line = c.args.line.now in
     let inside : AgentState = record {
       store = c.self.inside.store;
-      registry = c.self.inside.registry;
-      last_rows = c.self.inside.last_rows;
-      latest = c.self.inside.latest;
-      alarms = c.self.inside.alarms;
+      registry = c.self.inside.left.registry;
+      last_rows = c.self.inside.left.last_rows;
+      latest = c.self.inside.left.latest;
+      alarms = c.self.inside.left.alarms;
       last = c.self.inside.last;
       count = c.self.inside.count;
-      role = c.self.inside.role;
+      role = c.self.inside.left.role;
       fault = c.self.inside.fault;
     } in
     let free : (every : ℕ) (past : List Line) → IsFeedOf feed every past → CountsAt line feed inside.registry → refusal inside.registry every past (copies inside.role) inside.last line ≡ None
     = λ every past is_feed at. subst (RefusedBy (refusal inside.registry every past (copies inside.role) inside.last line)) c.in-Memory.is
-    (subst (λ (b : Bool). RefusedBy (refusal inside.registry every past b inside.last line) c.in-Err.fault) c.copies.ensures (c.in-Err.ensures.refused every past is_feed at)) in
+    (subst (λ (b : Bool). RefusedBy (refusal inside.registry every past b inside.last line) c.in-Err.fault) c.copies-copies.ensures (c.in-Err.ensures.refused every past is_feed at)) in
     let fed = c.requires.fed in
     let quiet : (moment : ℕ) → line ≡ Moment moment → ⊥ = λ moment is. subst ClosesNone is (c.in-Err.ensures.short fed.every fed.past fed.feed_of (ap failing c.in-Memory.is)) in
     subst (λ (a : AgentState). Lines g.H.Host.honest host a feed line (Err Memory) host (short_of inside) c.line.new.self) c.self.view_is
@@ -69,7 +69,7 @@ returns-in_default-fault g c =
     let against : (every : ℕ) (past : List Line) → IsFeedOf feed every past → CountsAt line feed agent.registry → refusal agent.registry every past (copies agent.role) agent.last line ≡ Some fault
     = subst (λ (a : AgentState). (every : ℕ) (past : List Line) → IsFeedOf feed every past → CountsAt line feed a.registry → refusal a.registry every past (copies a.role) a.last line ≡ Some fault) c.self.view_is
     (λ every past is_feed at.
-    refused-reason (refusal c.self.inside.registry every past (copies c.self.inside.role) c.self.inside.last line) fault
-    (subst (λ (b : Bool). RefusedBy (refusal c.self.inside.registry every past b c.self.inside.last line) fault) c.copies.ensures (c.in-Err.ensures.refused every past is_feed at)) c.in_default-fault.not-Memory) in
+    refused-reason (refusal c.self.inside.left.registry every past (copies c.self.inside.left.role) c.self.inside.last line) fault
+    (subst (λ (b : Bool). RefusedBy (refusal c.self.inside.left.registry every past b c.self.inside.last line) fault) c.copies-copies.ensures (c.in-Err.ensures.refused every past is_feed at)) c.in_default-fault.not-Memory) in
     let going : agent.fault ≡ None = subst (λ (a : AgentState). a.fault ≡ None) c.self.view_is c.in_default.is in
     line-refused g.H.Host.honest host agent feed c.line.new.self line c.requires.fed c.in-Err.ensures.err fault going c.requires.ready against

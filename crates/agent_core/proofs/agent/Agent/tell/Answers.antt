@@ -1,13 +1,18 @@
-use Rattle.std.proofs.Common.{◌≡◌, [], ◌∷◌, sym, subst}
-use Rattle.history.specs.History.{last}
-use Rattle.alarm_core.specs.Course.{held}
-use Rattle.agent_core.specs.Agent.{AgentState, Holds}
-use Rattle.agent_core.specs.Alarms.{alarms_at}
+use Rattle.std.proofs.Common.{◌∷◌, sym, subst}
+use Rattle.agent_core.specs.Agent.{left_in, AgentState}
+use Rattle.agent_core.specs.Kept.{HoldsHistory}
+use Rattle.agent_core.specs.Left.{AwaitsAlarms}
+use Rattle.agent_core.proofs.AnswerLemmas.{applied-all}
 use Rattle.agent_core.proofs.agent.Agent.tell.Goals as goal
 
-pub returns-in-Ok-clause-followed : goal.returns-in-Ok-clause-followed
-returns-in-Ok-clause-followed g c past set h beat holds before was does =
-    let parts = subst (λ (a : AgentState). Holds past a.store a.registry a.last_rows a.latest set (beat ∷ h)) (sym c.self.view_is) holds in
-    let at = subst (λ (a : AgentState). a.latest.before ≡ last h) (sym c.self.view_is) before in
-    let stood = subst (λ (a : AgentState). held a.alarms ≡ alarms_at set h) (sym c.self.view_is) was in
-    c.in-Ok.ensures.followed past set h beat parts.stored [] parts.are parts.store_of parts.registry_is parts.latest_is at stood does
+pub returns-in-Ok-clause-left_by : goal.returns-in-Ok-clause-left_by
+returns-in-Ok-clause-left_by g c past set h beat holds awaits does =
+    let kept = subst (λ (a : AgentState). HoldsHistory past a.store set (beat ∷ h)) (sym c.self.view_is) holds in
+    let left = subst (λ (a : AgentState). AwaitsAlarms set h beat (left_in a)) (sym c.self.view_is) awaits in
+    c.in-Ok.ensures.left_by set h beat (applied-all past _ set (beat ∷ h) kept) left does
+
+pub returns-in-Ok-clause-events : goal.returns-in-Ok-clause-events
+returns-in-Ok-clause-events g c past set h beat holds awaits does =
+    let kept = subst (λ (a : AgentState). HoldsHistory past a.store set (beat ∷ h)) (sym c.self.view_is) holds in
+    let left = subst (λ (a : AgentState). AwaitsAlarms set h beat (left_in a)) (sym c.self.view_is) awaits in
+    c.in-Ok.ensures.events set h beat (applied-all past _ set (beat ∷ h) kept) left does

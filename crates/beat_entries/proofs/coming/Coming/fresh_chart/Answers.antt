@@ -1,13 +1,14 @@
 use Rattle.std.proofs.Common.{◌≡◌, ◌+◌, ◌<◌, filter, find, length, position, Some, None, is_some, refl, sym, ap, ◌∙◌, arith}
 use Rattle.std.specs.List.{list_any}
 use Rattle.std.specs.Option.{option_map}
+use Rattle.list_lemmas.proofs.Searches.{some-map}
 use Rattle.history.specs.declared.chart.ChartDef.{ChartDef}
 use Rattle.history.specs.Refusal.{is_new_chart}
 use Rattle.history.specs.Registry.{chart_of, is_chart}
 use Rattle.chart_registry.proofs.RegistryLemmas.{chart_of-within}
 use Rattle.chart_registry.proofs.TablesLemmas.{find-nowhere, find-place}
 use Rattle.beat_entries.specs.Rules.{with_beat}
-use Rattle.beat_entries.proofs.ComingLemmas.{any-fresh, chart-fresh, chart-nowhere, find-fresh, some-map}
+use Rattle.beat_entries.proofs.ComingLemmas.{any-fresh, chart-fresh, chart-nowhere, find-fresh}
 use Rattle.beat_entries.proofs.EntryLemmas.{any-find}
 use Rattle.beat_entries.proofs.coming.Coming.fresh_chart.Goals as goal
 

@@ -1,4 +1,4 @@
-use Rattle.std.proofs.Common.{◌≡◌, ℕ, ◌+◌, ◌-◌, List, length, Some, None, slice_get, refl, sym, ap, subst, ◌∙◌, arith}
+use Rattle.std.proofs.Common.{◌≡◌, ℕ, ◌-◌, List, length, Some, None, slice_get, refl, sym, ap, subst, ◌∙◌, arith}
 use Rattle.std.proofs.lemmas.Bool.{ltb-false}
 use Rattle.std.proofs.lemmas.Option.{none-some, same_Some, slice_get-map, slice_get_past, slice_get_read}
 use Rattle.std.specs.Option.{option_map}
@@ -20,8 +20,8 @@ returns-in-Some-clause-kept c = λ place one there number.
     ∙ slice_get_read c.deref.result.now (length c.deref.result.now) (c.from.result - 1) c.in-Some.tier.now refl c.in-Some.ensures.lookup.3.0 c.in-Some.ensures.lookup.1) in
     let same : records_held c.in-Some.tier.now ≡ one = same_Some _ _ (sym read ∙ there) in
     let last : c.self.inside.last ≡ c.args.self.now.last = ap (λ (t : TiersHeld). t.last) c.self.view_is in
-    let given = λ (state : RecordTierState) (n : ℕ). AreOrdered (items_of state.segments) → AreClosed n state → IsFirstRecord (λ bucket. record_in (place + 1) state n c.args.series bucket) c.args.from c.args.to c.next_record.result in
-    let here : given (records_held c.in-Some.tier.now) c.self.inside.last = λ ordered closed. c.next_record.ensures ordered closed place in
+    let given = λ (state : RecordTierState) (n : ℕ). AreOrdered (items_of state.segments) → AreClosed n state → IsFirstRecord (λ bucket. record_in state n c.args.series bucket) c.args.from c.args.to c.next_record.result in
+    let here : given (records_held c.in-Some.tier.now) c.self.inside.last = λ ordered closed. c.next_record.ensures ordered closed in
     subst (λ (state : RecordTierState). given state c.args.self.now.last) same (subst (given (records_held c.in-Some.tier.now)) last here)
 
 pub returns-in-None-clause-kept : goal.returns-in-None-clause-kept

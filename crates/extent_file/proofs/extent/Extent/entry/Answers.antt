@@ -12,4 +12,4 @@ returns c =
     let same : c.as_slice.result.now ≡ now.entries = c.as_slice.ensures ∙ ap (λ (d : Directory). d.entries) c.self.view_is in
     let none : Entry = record { series = 0; first = 0; step = 0; count = 0; place = 0 } in
     let known = entry_known now.file now.start now.entries c.args.index none directory c.requires in
-    rw same (record { entry = slice_get-get_or now.entries c.args.index none c.requires; some = known.0; most = known.1; place = known.2 })
+    rw same (record { entry = slice_get-get_or now.entries c.args.index none c.requires; some = known.0; most = known.1; place = known.2; step = known.3; count = known.4 })

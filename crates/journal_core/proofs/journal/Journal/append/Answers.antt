@@ -1,7 +1,8 @@
-use Rattle.std.proofs.Common.{◌-◌, sym, subst, inl, arith}
+use Rattle.std.proofs.Common.{◌+◌, ◌-◌, ◌≤◌, sym, subst, inl, arith}
 use Rattle.host_model.specs.Past.{of}
-use Rattle.host_model.specs.Images.{contents}
-use Rattle.host_model.specs.Moments.{begins}
+use Rattle.host_model.specs.Images.{contents, greatest}
+use Rattle.host_model.specs.Moments.{Throughout, begins}
+use Rattle.journal_core.specs.Form.{record_size}
 use Rattle.journal_core.specs.Journal.{IsOpen, JournalState}
 use Rattle.journal_core.proofs.StoreLemmas.{gate_inside, open_stands, after_store}
 use Rattle.journal_core.proofs.journal.Journal.append.Goals as goal
@@ -21,3 +22,20 @@ pub returns-clause-stored : goal.returns-clause-stored
 returns-clause-stored g c h records is_open =
     after_store g.H.Host.honest c.store.result (record { file = c.self.inside.file; generation = c.self.inside.generation; bytes = c.self.inside.bytes }) c.args.self.now (g.H.Host.seen c.args.host.now).past (g.H.Host.seen c.store.new.host).past records c.args.body.now
     c.self.view_is (sym c.if-is_err.ensures.value) h c.store.ensures.stored c.store.ensures.synced is_open
+
+pub returns-then-body-gt-LONGEST-clause-bound : goal.returns-then-body-gt-LONGEST-clause-bound
+returns-then-body-gt-LONGEST-clause-bound g c size fits h short = begins short
+
+pub returns-then-is_err-clause-bound : goal.returns-then-is_err-clause-bound
+returns-then-is_err-clause-bound g c size fits h short =
+    let old = (g.H.Host.seen c.args.host.now).past in
+    let new = (g.H.Host.seen c.store.new.host).past in
+    subst (λ (j : JournalState). j.bytes + record_size c.args.body.now ≤ size → greatest (of j.file old) ≤ size → Throughout (λ past. greatest (of j.file past) ≤ size) old new) c.self.view_is
+    (λ room before. c.store.ensures.bound size (omega (arith, room)) h before) fits short
+
+pub returns-clause-bound : goal.returns-clause-bound
+returns-clause-bound g c size fits h short =
+    let old = (g.H.Host.seen c.args.host.now).past in
+    let new = (g.H.Host.seen c.store.new.host).past in
+    subst (λ (j : JournalState). j.bytes + record_size c.args.body.now ≤ size → greatest (of j.file old) ≤ size → Throughout (λ past. greatest (of j.file past) ≤ size) old new) c.self.view_is
+    (λ room before. c.store.ensures.bound size (omega (arith, room)) h before) fits short

@@ -1,7 +1,8 @@
 use Rattle.std.proofs.Common.{◌≡◌, Some, None, sym, ap, ◌∙◌, subst}
 use Rattle.std.specs.Map.{lookup}
 use Rattle.page_cache.specs.Cached.{Cached, same_key, with_given}
-use Rattle.page_cache.proofs.CachedLemmas.{given_promoted, not_promoted, none_from}
+use Rattle.list_lemmas.proofs.Searches.{none-from}
+use Rattle.page_cache.proofs.CachedLemmas.{given_promoted, not_promoted}
 use Rattle.page_cache.proofs.cache.PageCache.promote.Goals as goal
 
 pub returns-clause-there : goal.returns-clause-there
@@ -13,5 +14,5 @@ returns-clause-there c = λ yes page found.
 pub returns-clause-missing : goal.returns-clause-missing
 returns-clause-missing c = λ no.
     let pages : Cached = c.self.inside.pages in let key = c.args.key in
-    let inside : lookup (same_key key) pages.entries ≡ None = none_from (lookup (same_key key) pages.entries) (sym c.promote.ensures.value ∙ no) in
+    let inside : lookup (same_key key) pages.entries ≡ None = none-from (lookup (same_key key) pages.entries) (sym c.promote.ensures.value ∙ no) in
     (subst (λ (p : Cached). lookup (same_key key) p.entries ≡ None) c.self.view_is inside, c.promote.ensures.entries ∙ not_promoted pages key inside ∙ c.self.view_is)

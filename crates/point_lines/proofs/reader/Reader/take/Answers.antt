@@ -16,14 +16,14 @@ take_step-requires c =
     let reason = sym (reason-is c.args.self.now past has c.args.line) ∙ c.in-Ok.ensures.refused every past has.feed (counts-at c.args.self.now.feed c.args.self.now.registry c.args.line has.counts) in (
       past,
       c.args.line,
-      rw (c.count.ensures, c.is_skipped-skipped.ensures) (count-steps c.args.self.now past c.args.line c.in-Ok.step c.take_line.new.self has reason
+      rw (c.count.ensures, c.is_skipped-skipped.ensures) (count-steps c.args.self.now past c.args.line c.in-Ok.step c.take_line.new.self has c.requires.limits reason
           (c.in-Ok.ensures.taken every past has.feed) (c.in-Ok.ensures.counts has.counts) (c.in-Ok.ensures.gives every past has.feed)),
     )
 
 pub returns-in-Ok : goal.returns-in-Ok
 returns-in-Ok c past has =
     let reason = sym (reason-is c.args.self.now past has c.args.line) ∙ c.in-Ok.ensures.refused every past has.feed (counts-at c.args.self.now.feed c.args.self.now.registry c.args.line has.counts) in
-    c.take_step.ensures c.args.line past (rw (c.count.ensures, c.is_skipped-skipped.ensures) (count-steps c.args.self.now past c.args.line c.in-Ok.step c.take_line.new.self has reason
+    c.take_step.ensures c.args.line past (rw (c.count.ensures, c.is_skipped-skipped.ensures) (count-steps c.args.self.now past c.args.line c.in-Ok.step c.take_line.new.self has c.requires.limits reason
     (c.in-Ok.ensures.taken every past has.feed) (c.in-Ok.ensures.counts has.counts) (c.in-Ok.ensures.gives every past has.feed)))
 
 pub returns-in-Err : goal.returns-in-Err

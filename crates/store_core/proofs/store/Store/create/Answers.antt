@@ -6,11 +6,8 @@ use Rattle.host_model.specs.Moments.{Throughout}
 use Rattle.host_model.specs.Disks.{EveryDisk, reads_as}
 use Rattle.host_model.proofs.CallLemmas.{unmoved}
 use Rattle.journal_core.specs.Journal.{IsOpen}
-use Rattle.beat_tiers.specs.State.{TiersState}
 use Rattle.store_core.specs.Stands.{is_begun}
-use Rattle.store_core.specs.Stored.{nothing_stored}
-use Rattle.store_core.specs.Tiers.{HasTiers}
-use Rattle.store_core.proofs.TierLemmas.{tiers_begin}
+use Rattle.store_core.proofs.TierLemmas.{applied_none}
 use Rattle.store_core.proofs.FirstRecordLaw.{length-settings_body}
 use Rattle.store_core.proofs.StandLemmas.{made_begun}
 use Rattle.store_core.proofs.StoreLemmas.{made_moments, WasOrIsNew}
@@ -78,7 +75,6 @@ returns-clause-created g c h = record {
   waiting = c.new.ensures;
   count = refl;
   last = refl;
-  tiers = subst (HasTiers c.args.settings.now nothing_stored) (sym c.in-Ok-new_tiers.ensures) (tiers_begin c.args.settings.now c.requires);
-  before = ap (λ (tiers : TiersState). tiers.points.before) c.in-Ok-new_tiers.ensures;
+  applied = applied_none c.args.settings.now _ c.requires c.in-Ok-new_tiers.ensures;
   going = refl;
 }

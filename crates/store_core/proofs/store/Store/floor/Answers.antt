@@ -5,7 +5,7 @@ use Rattle.store_core.proofs.TierLemmas.{floor_is}
 use Rattle.store_core.proofs.store.Store.floor.Goals as goal
 
 pub returns-clause-applied : goal.returns-clause-applied
-returns-clause-applied c = λ past set stored rest is_at.
+returns-clause-applied c = λ set beats has.
     c.floor.ensures
     ∙ ap (λ (s : StoreState). tier_floor s.tiers c.args.tier) c.self.view_is
-    ∙ floor_is set stored c.args.self.now.tiers is_at.tiers c.args.tier c.requires
+    ∙ floor_is set beats c.args.self.now.tiers has.tiers c.args.tier c.requires

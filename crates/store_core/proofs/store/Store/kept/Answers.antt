@@ -5,5 +5,5 @@ use Rattle.store_core.proofs.StoreLemmas.{kept_by}
 use Rattle.store_core.proofs.store.Store.kept.Goals as goal
 
 pub returns-clause-kept : goal.returns-clause-kept
-returns-clause-kept g c = λ past set stored rest is_at.
-    c.in-Ok.ensures ∙ ap (λ (s : StoreState). kept_in s.tiers.points) c.self.view_is ∙ kept_by past c.args.self.now set stored rest is_at
+returns-clause-kept g c = λ set beats has.
+    c.in-Ok.ensures ∙ ap (λ (s : StoreState). kept_in s.tiers.points) c.self.view_is ∙ kept_by c.args.self.now set beats has

@@ -1,5 +1,0 @@
-use Rattle.beat_entries.proofs.FollowLemmas.{beat-goes-on}
-use Rattle.beat_entries.proofs.law.any_next.Goals as goal
-
-pub returns : goal.returns
-returns c = beat-goes-on

@@ -1,0 +1,13 @@
+pub mod Advancing
+pub mod Beginning
+pub mod Contents
+pub mod Damaged
+pub mod Files
+pub mod Holds
+pub mod Kept
+pub mod Next
+pub mod Opened
+pub mod Opening
+pub mod Reading
+pub mod Shares
+pub mod Standing

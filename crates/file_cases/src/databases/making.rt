@@ -1,0 +1,146 @@
+//! A database on a host in memory: made, appended to, and brought to the next checkpoint.
+
+ghost use Rattle.std.specs.Prelude.{◌≡◌, ◌≤◌, [], IfOk};
+ghost use Rattle.checkpoint_body.specs.Body.{HasSpelling};
+ghost use Rattle.database_files.specs.Advancing.{NamesNone};
+
+use checkpoint::load;
+use checkpoint_body::{Body, read_body};
+use database_files::{FilesFault, Sealed, create};
+use fixed_num::ListOf;
+use host_model::{CallList, File, Host, Keep, MemoryHost};
+use journal_core::Journal;
+use std::alloc::Global;
+use std::process::Abort;
+use std::test::Fail;
+
+/// The bytes of a body that keeps nothing: the version, the id, and of each tier 4 items and 4 extents.
+fn body_bytes() -> [u8; 125] {
+    let mut bytes = [0; 125];
+    bytes[0] = 1;
+    bytes[1] = 7;
+    for place in 2..8usize {
+        bytes[1 + 4 * place] = 4;
+    }
+    bytes
+}
+
+/// The body of these bytes, if it names no extent.
+fn empty_body(alloc: Global) -> Result<Body, FilesFault>
+    ensures spelt { IfOk result HasSpelling }
+    ensures none { IfOk result NamesNone }
+{
+    let Ok(body) = read_body(alloc, body_bytes().as_slice()) else {
+        return Err(FilesFault::Memory);
+    };
+    if !body.points.extents.is_empty() {
+        return Err(FilesFault::Damaged(2));
+    }
+    if !body.minutes.extents.is_empty() {
+        return Err(FilesFault::Damaged(2));
+    }
+    if !body.hours.extents.is_empty() {
+        return Err(FilesFault::Damaged(2));
+    }
+    Ok(body)
+}
+
+fn nothing_sealed(alloc: Global) -> Sealed
+    ensures points { result.points ≡ [] }
+    ensures minutes { result.minutes ≡ [] }
+    ensures hours { result.hours ≡ [] }
+{
+    Sealed {
+        points: ListOf::new(alloc),
+        minutes: ListOf::new(alloc),
+        hours: ListOf::new(alloc),
+    }
+}
+
+/// The number of the checkpoint that is loaded, and how many records its journal has.
+fn loaded(alloc: Global, host: &mut MemoryHost) -> Option<(u64, usize)> {
+    let (number, _body) = load(alloc, host).ok()?;
+    let file = if number % 2 == 0 {
+        File::JournalA
+    } else {
+        File::JournalB
+    };
+    let (_journal, records) = Journal::open(alloc, host, file, number).ok()?;
+    Some((number, records.len()))
+}
+
+/// Makes a database, adds two records, and makes the next checkpoint, while that goes well. It says
+/// how many of the four were told to be done.
+fn run(alloc: Global, host: &mut MemoryHost) -> usize
+    ensures { result ≤ 4 }
+{
+    let Ok(body) = empty_body(alloc) else {
+        return 0;
+    };
+    let Ok(mut files) = create(alloc, host, &body) else {
+        return 0;
+    };
+    if files.journal_bytes() > 1 << 60 || files.append(host, b"one").is_err() {
+        return 1;
+    }
+    if files.journal_bytes() > 1 << 60 || files.append(host, b"").is_err() {
+        return 2;
+    }
+    let sealed = nothing_sealed(alloc);
+    if files.number() == u64::MAX || files.checkpoint(alloc, host, &body, &sealed).is_err() {
+        return 3;
+    }
+    4
+}
+
+/// What may be loaded after so many were told to be done: what was told, or one more.
+fn may_be(told: usize, found: Option<(u64, usize)>) -> bool
+    requires { told ≤ 4 }
+{
+    let steps = [None, Some((0, 0)), Some((0, 1)), Some((0, 2)), Some((1, 0))];
+    found == steps[told] || (told < 4 && found == steps[told + 1])
+}
+
+#[test]
+fn makes_appends_and_goes_on(rt: HostRuntime) -> Result<(), Fail> {
+    let mut host = MemoryHost::new(rt.alloc(), CallList::new(rt.alloc()))?;
+    assert_eq!(rt; run(rt.alloc(), &mut host), 4);
+    assert_eq!(rt; loaded(rt.alloc(), &mut host), Some((1, 0)));
+    assert_eq!(rt; host.len(File::JournalA)?, 17 + 8 + 5);
+    assert_eq!(rt; host.len(File::JournalB)?, 17);
+    assert_eq!(rt; host.len(File::CheckB)?, 17 + 125);
+    assert_eq!(rt; run(rt.alloc(), &mut host), 0);
+    Ok(())
+}
+
+/// Runs until a call fails, crashes, and loads.
+fn survive(
+    rt: &impl Abort,
+    alloc: Global,
+    mut host: MemoryHost,
+    keep: Keep,
+    call: u64,
+) -> Result<(), Fail> {
+    let told = run(alloc, &mut host);
+    let mut host = host.stop(keep)?;
+    let found = loaded(alloc, &mut host);
+    assert!(rt; may_be(told, found), "call {call}, {keep:?}");
+    Ok(())
+}
+
+#[test]
+fn a_crash_leaves_what_was_told_or_one_more(rt: HostRuntime) -> Result<(), Fail> {
+    for call in 0..50u64 {
+        for keep in [
+            Keep::All,
+            Keep::None,
+            Keep::Fill(255),
+            Keep::Fill(1),
+            Keep::Fill(0),
+        ] {
+            let host = MemoryHost::fused(rt.alloc(), call)?;
+            survive(&rt, rt.alloc(), host, keep, call)?;
+        }
+    }
+    Ok(())
+}

@@ -1,5 +1,0 @@
-use Rattle.plugin_text.proofs.LimitLemmas.{limits-of}
-use Rattle.plugin_text.proofs.law.any_limits.Goals as goal
-
-pub returns : goal.returns
-returns c = limits-of

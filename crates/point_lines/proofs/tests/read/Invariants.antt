@@ -1,7 +1,0 @@
-use Rattle.std.proofs.Common.{◌≤◌, List, length}
-use Rattle.history.specs.declared.line.Line.{Line}
-use Rattle.point_lines.specs.Reader.{IsReaderOf}
-use Rattle.point_lines.proofs.tests.read.Given as goal
-
-abbrev pub invariant-loop-line : goal.invariant-loop-line
-invariant-loop-line l = (past : List Line) × IsReaderOf l.reader past × (length past ≤ l.line-index)

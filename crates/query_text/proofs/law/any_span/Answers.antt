@@ -1,5 +1,0 @@
-use Rattle.query_text.proofs.SpanLemmas.{windows_are}
-use Rattle.query_text.proofs.law.any_span.Goals as goal
-
-pub returns : goal.returns
-returns c = windows_are

@@ -1,4 +1,0 @@
-mod answers;
-mod plain;
-mod schedules;
-mod verdicts;

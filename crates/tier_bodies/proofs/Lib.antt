@@ -1,0 +1,12 @@
+pub mod CountLemmas
+pub mod ExtentLemmas
+pub mod FirstLemmas
+pub mod GoingLemmas
+pub mod GoingTier
+pub mod HeldLemmas
+pub mod NextLemmas
+pub mod NextTier
+pub mod OneLemmas
+pub mod ReadLemmas
+pub mod TierLemmas
+pub mod WholeLemmas

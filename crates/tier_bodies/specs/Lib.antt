@@ -1,0 +1,5 @@
+pub mod First
+pub mod Next
+pub mod Reading
+pub mod Segments
+pub mod Tiers

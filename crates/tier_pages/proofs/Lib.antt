@@ -1,0 +1,13 @@
+pub mod Answered
+pub mod FormedLemmas
+pub mod OneOrder
+pub mod PlaceOrder
+pub mod RecordForms
+pub mod RecordRuns
+pub mod RecordSegments
+pub mod RunLemmas
+pub mod SeriesOrder
+pub mod SlotForms
+pub mod SlotRuns
+pub mod SlotSegments
+pub mod WritableLemmas

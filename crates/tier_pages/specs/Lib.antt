@@ -1,0 +1,4 @@
+pub mod Items
+pub mod Pages
+pub mod Ranges
+pub mod Sorting
