@@ -42,7 +42,7 @@ impl StoreFault {
     ghost use Rattle.store_core.specs.Faults.{cause_of};
 
     /// Why the store is of no more use after this fault, if it is not.
-    pub(crate) fn cause(self) -> Option<Why>
+    pub fn cause(self) -> Option<Why>
         ensures { result ≡ cause_of self }
     {
         match self {

@@ -8,6 +8,9 @@
 //! `floor`, `kept`, `kept_above` and a `StoreView` answer by the definition over all beats. A commit takes its
 //! memory before it writes.
 //!
+//! `write_beat` and `read_beat` go between a beat and its record, one spelling each; `next_beat` reads one that may
+//! follow a moment.
+//!
 //! It stands on `journal_core`, `beat_tiers`, `query_engine` for the trait of a view, `host_model` for crashes, and
 //! `entry_codec`.
 #![tactic(auto)]
@@ -30,6 +33,10 @@ pub use beat_tiers::{Kept, KeptBeat, KeptBeatList, KeptPoint, KeptPointList};
 pub use fault::{StoreFault, Why};
 pub use fixed_num::ByteList;
 pub use law::one_disk_holds_one_history;
+pub use reading::read_beat;
+pub use records::{is_later, last_after, next_beat};
 pub use store::Store;
 pub use tier_settings::{Settings, Tier, is_in_limits};
 pub use view::{StoreView, answer_by};
+pub use waiting::Waiting;
+pub use writing::write_beat;

@@ -95,7 +95,7 @@ fn take_beat(alloc: Global, reader: &mut Reader<'_>) -> Result<Beat, FieldFault>
 
 /// The beat in form that has these bytes, if there is one.
 #[tactic(auto, unfolding(crate::specs::Beats::beat_in))]
-pub(crate) fn read_beat(alloc: Global, bytes: &[u8]) -> Result<Option<Beat>, AllocError>
+pub fn read_beat(alloc: Global, bytes: &[u8]) -> Result<Option<Beat>, AllocError>
     ensures { IfOk result (λ found. found ≡ beat_in bytes.now) }
 {
     let mut reader = Reader::new(bytes);

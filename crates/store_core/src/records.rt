@@ -14,7 +14,7 @@ use std::alloc::{AllocError, Global};
 use tier_settings::Settings;
 
 /// The last moment after one more beat.
-pub(crate) fn last_after(last: u32, moment: Option<u32>) -> u32
+pub fn last_after(last: u32, moment: Option<u32>) -> u32
     ensures { result ≡ last_after last moment }
 {
     match moment {
@@ -24,7 +24,7 @@ pub(crate) fn last_after(last: u32, moment: Option<u32>) -> u32
 }
 
 /// Whether a moment may follow the last one.
-pub(crate) fn is_later(last: u32, moment: Option<u32>) -> bool
+pub fn is_later(last: u32, moment: Option<u32>) -> bool
     ensures { result ≡ is_later last moment }
 {
     match moment {
@@ -34,7 +34,7 @@ pub(crate) fn is_later(last: u32, moment: Option<u32>) -> bool
 }
 
 /// The beat that a record is after the last moment, if it is one.
-fn next_beat(alloc: Global, last: u32, body: &[u8]) -> Result<Option<Beat>, AllocError>
+pub fn next_beat(alloc: Global, last: u32, body: &[u8]) -> Result<Option<Beat>, AllocError>
     ensures value { IfOk result (λ found. found ≡ next_beat last body.now) }
     ensures bytes { IsBytes body.now }
 {

@@ -8,7 +8,7 @@ use std::marker::Model;
 
 /// Beats that wait for their replay, the oldest first.
 #[derive(Debug, Drop)]
-pub(crate) struct Waiting {
+pub struct Waiting {
     beats: VecDeque<Beat>,
 }
 
@@ -22,7 +22,7 @@ impl Model for Waiting {
 }
 
 impl Waiting {
-    pub(crate) fn new(alloc: Global) -> Waiting
+    pub fn new(alloc: Global) -> Waiting
         ensures { result ≡ [] }
     {
         Waiting {
@@ -30,14 +30,14 @@ impl Waiting {
         }
     }
 
-    pub(crate) fn is_empty(&self) -> bool
+    pub fn is_empty(&self) -> bool
         ensures { IsTrue result ↔ (self.now ≡ []) }
     {
         self.beats.is_empty()
     }
 
     /// Puts a beat behind the others.
-    pub(crate) fn add(&mut self, beat: Beat) -> Result<(), AllocError>
+    pub fn add(&mut self, beat: Beat) -> Result<(), AllocError>
         ensures { OnOk result (self.new ≡ self.old ++ beat ∷ []) }
     {
         match self.beats.push_back(beat) {
@@ -47,14 +47,14 @@ impl Waiting {
     }
 
     /// The first beat.
-    pub(crate) fn first(&self) -> Option<&Beat>
+    pub fn first(&self) -> Option<&Beat>
         ensures { option_copied result ≡ slice_get self.now 0 }
     {
         self.beats.front()
     }
 
     /// Takes the first beat.
-    pub(crate) fn take_first(&mut self) -> Option<Beat>
+    pub fn take_first(&mut self) -> Option<Beat>
         ensures { TakesFirst self.old result self.new }
     {
         self.beats.pop_front()

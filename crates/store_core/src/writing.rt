@@ -60,8 +60,8 @@ fn put_beat(beat: &Beat, writer: &mut Writer) -> Result<(), FieldFault>
     writer.put_bytes(beat.note.as_slice())
 }
 
-/// The bytes of a beat.
-pub(crate) fn write_beat(alloc: Global, beat: &Beat) -> Result<ByteList, FieldFault>
+/// The bytes of a beat, as a record of a journal has them.
+pub fn write_beat(alloc: Global, beat: &Beat) -> Result<ByteList, FieldFault>
     requires { IsShort beat.now }
     ensures spelling { IfOk result (λ bytes. bytes ≡ beat_bytes beat.now) }
     ensures memory { IsOkUnless result FieldFault.Memory }
