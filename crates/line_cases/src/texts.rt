@@ -316,30 +316,54 @@ impl Reading {
     }
 }
 
-// How many items a text gives, and how it ends.
-fn ending(alloc: Global, text: &str) -> Result<(usize, String), Fail> {
+// The whole lines of a text.
+fn lines_of(alloc: Global, text: &str) -> Result<Vec<Line>, Fail> {
     let mut lines = Vec::new(alloc);
-    let mut rest: &[u8] = b"";
     for part in text.split_inclusive('\n') {
-        match part.strip_suffix('\n') {
-            Some(line) => lines.push(read_line(alloc, line.as_bytes())?)?,
-            None => rest = part.as_bytes(),
+        if let Some(line) = part.strip_suffix('\n') {
+            lines.push(read_line(alloc, line.as_bytes())?)?;
         }
     }
+    Ok(lines)
+}
+
+// What follows the last line feed of a text.
+fn rest_of(text: &str) -> &[u8] {
+    match text.rsplit('\n').next() {
+        Some(rest) => rest.as_bytes(),
+        None => b"",
+    }
+}
+
+// How a text of these whole lines ends.
+fn end_of(reading: &mut Reading, lines: &[Line], rest: &[u8]) -> Result<End, RegistryFault>
+    requires { AreOfText reading.old.feed reading.old.registry }
+{
+    match reading.take_lines(lines)? {
+        Some(end) => Ok(end),
+        None => Ok(reading.end(lines.len(), rest)),
+    }
+}
+
+// How many items a text gives, and how it ends.
+fn ending(alloc: Global, text: &str) -> Result<(usize, End), Fail> {
+    let lines = lines_of(alloc, text)?;
     let mut reading = Reading::new(alloc);
-    let end = match reading.take_lines(lines.as_slice())? {
-        Some(end) => end,
-        None => reading.end(lines.len(), rest),
-    };
-    Ok((reading.items, format!(in alloc; "{end:?}")?))
+    let end = end_of(&mut reading, lines.as_slice(), rest_of(text))?;
+    Ok((reading.items, end))
+}
+
+// Whether a text gives so many items, and ends so.
+fn ends_so(alloc: Global, text: &str, items: usize, end: &str) -> Result<bool, Fail> {
+    let (got, how) = ending(alloc, text)?;
+    let how = format!(in alloc; "{how:?}")?;
+    Ok(got == items && how.as_str() == end)
 }
 
 #[test]
 fn texts_end_where_they_should(rt: HostRuntime) -> Result<(), Fail> {
     for (text, items, end) in TEXTS.iter() {
-        let (got, how) = ending(rt.alloc(), text)?;
-        assert_eq!(rt; got, *items, "{text}");
-        assert_eq!(rt; how.as_str(), *end, "{text}");
+        assert!(rt; ends_so(rt.alloc(), text, *items, end)?, "{text}");
     }
     Ok(())
 }
@@ -404,38 +428,67 @@ fn take_charts(
     Ok(taken)
 }
 
+// A line, and how it is refused.
+type Refusal = (&'static str, Option<BlockFault>);
+
+// The first of these lines that is not refused as it should be.
+fn first_wrong(
+    alloc: Global,
+    feed: &mut Feed,
+    registry: &Registry,
+    lines: &[Refusal],
+) -> Result<Option<&'static str>, Fail> {
+    for (line, want) in lines {
+        if refusal(alloc, feed, registry, line)? != *want {
+            return Ok(Some(*line));
+        }
+    }
+    Ok(None)
+}
+
+// Whether so many charts are taken, each with so many dimensions, and behind them these lines are
+// refused as they should be.
+fn is_full_after(
+    alloc: Global,
+    feed: &mut Feed,
+    charts: u32,
+    dimensions: u32,
+    behind: &[Refusal],
+) -> Result<bool, Fail> {
+    let registry = Registry::new(alloc);
+    let taken = take_charts(alloc, feed, &registry, charts, dimensions)?;
+    let wrong = first_wrong(alloc, feed, &registry, behind)?;
+    Ok(taken && wrong.is_none())
+}
+
+static BEHIND_1024_DIMENSIONS: [Refusal; 4] = [
+    ("DIMENSION 1024", Some(BlockFault::TooManyDimensions)),
+    ("DIMENSION 1023", None),
+    ("CHART chart.63 n t u", None),
+    ("DIMENSION 1024", None),
+];
+
 #[test]
 fn a_chart_takes_1024_dimensions(rt: HostRuntime) -> Result<(), Fail> {
-    let registry = Registry::new(rt.alloc());
     let mut feed = Feed::new(rt.alloc(), 1);
-    assert!(rt; take_charts(rt.alloc(), &mut feed, &registry, 63, 1_024)?);
-    for (line, want) in [
-        ("DIMENSION 1024", Some(BlockFault::TooManyDimensions)),
-        ("DIMENSION 1023", None),
-        ("CHART chart.63 n t u", None),
-        ("DIMENSION 1024", None),
-    ] {
-        let got = refusal(rt.alloc(), &mut feed, &registry, line)?;
-        assert_eq!(rt; got, want, "{line}");
-    }
+    let is_full = is_full_after(rt.alloc(), &mut feed, 63, 1_024, &BEHIND_1024_DIMENSIONS)?;
+    assert!(rt; is_full);
     Ok(())
 }
 
+static BEHIND_THE_WIDEST_BEAT: [Refusal; 6] = [
+    ("CHART chart.4096 n t u", Some(BlockFault::TooManyCharts)),
+    ("CHART chart.4095 n t u", None),
+    ("DIMENSION 15", None),
+    ("DIMENSION 16", Some(BlockFault::TooManyDimensions)),
+    ("BEGIN chart.4095", Some(BlockFault::SecondBlock)),
+    ("MOMENT 1", None),
+];
+
 #[test]
 fn the_widest_beat_is_taken_and_no_more(rt: HostRuntime) -> Result<(), Fail> {
-    let registry = Registry::new(rt.alloc());
     let mut feed = Feed::new(rt.alloc(), 1);
-    assert!(rt; take_charts(rt.alloc(), &mut feed, &registry, 4_096, 16)?);
-    for (line, want) in [
-        ("CHART chart.4096 n t u", Some(BlockFault::TooManyCharts)),
-        ("CHART chart.4095 n t u", None),
-        ("DIMENSION 15", None),
-        ("DIMENSION 16", Some(BlockFault::TooManyDimensions)),
-        ("BEGIN chart.4095", Some(BlockFault::SecondBlock)),
-        ("MOMENT 1", None),
-    ] {
-        let got = refusal(rt.alloc(), &mut feed, &registry, line)?;
-        assert_eq!(rt; got, want, "{line}");
-    }
+    let is_full = is_full_after(rt.alloc(), &mut feed, 4_096, 16, &BEHIND_THE_WIDEST_BEAT)?;
+    assert!(rt; is_full);
     Ok(())
 }
