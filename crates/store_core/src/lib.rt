@@ -35,6 +35,7 @@ pub use fixed_num::ByteList;
 pub use law::one_disk_holds_one_history;
 pub use reading::read_beat;
 pub use records::{is_later, last_after, next_beat};
+pub use settings::new_tiers;
 pub use store::Store;
 pub use tier_settings::{Settings, Tier, is_in_limits};
 pub use view::{StoreView, answer_by};

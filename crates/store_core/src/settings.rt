@@ -20,7 +20,7 @@ use tier_settings::{Settings, are_tiers};
 
 /// The tiers of no beat.
 #[tactic(auto, using(crate::proofs::TierLemmas::is_first, crate::proofs::TierLemmas::are_others))]
-pub(crate) fn new_tiers(alloc: Global, settings: &Settings) -> Result<Tiers, AllocError>
+pub fn new_tiers(alloc: Global, settings: &Settings) -> Result<Tiers, AllocError>
     requires { InLimits settings.now }
     ensures { IfOk result (λ tiers. tiers_held tiers
         ≡ no_beats (first_tier settings.now) (other_tiers settings.now)) }

@@ -37,4 +37,5 @@ mod tiers;
 
 pub use first::first_body;
 pub use next::next_body;
+pub use next_extents::sealed_after;
 pub use tiers::{body_determines_its_tiers, tiers_of};

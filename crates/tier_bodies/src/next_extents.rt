@@ -37,10 +37,7 @@ pub(crate) fn fitting(floor: u32, before: u64, count: u64) -> (u32, u64, u64)
 }
 
 /// The last segment of a tier, where it was sealed after a moment.
-pub(crate) fn sealed_after<T: Copy + Drop>(
-    segments: &Segments<T>,
-    moment: u32,
-) -> Option<&Sealed<T>>
+pub fn sealed_after<T: Copy + Drop>(segments: &Segments<T>, moment: u32) -> Option<&Sealed<T>>
     ensures { option_copied result ≡ sealed_after moment segments.now.kept.sealed }
 {
     let (earlier, later) = segments.sealed();
