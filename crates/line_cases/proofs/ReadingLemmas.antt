@@ -1,5 +1,5 @@
 -- A text whose lines are taken one by one.
-use Rattle.std.proofs.Common.{◌≡◌, ◌<◌, ℕ, Bool, true, false, List, [], ◌∷◌, All, refl, sym, ap, subst, ◌∙◌}
+use Rattle.std.proofs.Common.{◌≡◌, ◌<◌, ℕ, true, List, [], ◌∷◌, All, sym, ap, subst, ◌∙◌}
 use Rattle.history.specs.declared.beat.OpenBeat.{OpenBeat}
 use Rattle.history.specs.declared.beat.OpenDim.{OpenDim}
 use Rattle.history.specs.declared.chart.ChartDef.{ChartDef}
@@ -16,22 +16,6 @@ use Rattle.collect_block.specs.declared.step.Step.TheVariants as step
 use Rattle.collect_block.specs.Feed.{step_of}
 use Rattle.collect_block.proofs.OpenLemmas.{grids, owners}
 use Rattle.line_cases.specs.Reading.{AreOfText, IsLedTo}
-
-abbrev closes_none : Step → Bool
-closes_none (step.Beat closed moment) = false
-closes_none other = true
-
--- a line that closes no beat leaves the history as it is
-stays : (past : List Line) (said : Line) → closes_none (step_of 1 past said) ≡ true → history_at 1 [] (said ∷ past) ≡ history_at 1 [] past
-stays past (line.Moment moment) none = cc
-stays past said none = refl
-
-pub quiet : (leads_to : Step) (feed : Feed) (registry : Registry) → IsLedTo leads_to feed registry → closes_none leads_to ≡ true → AreOfText feed registry
-quiet leads_to feed registry led none = record {
-  past = led.line ∷ led.past;
-  feed_of = led.feed_of;
-  definitions = led.definitions ∙ sym (ap registry_of (stays led.past led.line (sym (ap closes_none led.step_is) ∙ none)));
-}
 
 -- the line that closes a beat is a MOMENT
 said-is : (past : List Line) (said : Line) (closed : OpenBeat) (moment : ℕ) → step.Beat closed moment ≡ step_of 1 past said → said ≡ line.Moment moment

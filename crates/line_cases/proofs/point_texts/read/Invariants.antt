@@ -4,4 +4,4 @@ use Rattle.point_lines.specs.Reader.{IsReaderOf}
 use Rattle.line_cases.proofs.point_texts.read.Given as goal
 
 abbrev pub invariant-loop-line : goal.invariant-loop-line
-invariant-loop-line l = (past : List Line) × IsReaderOf l.reader past × (length past ≤ l.line-index)
+invariant-loop-line g l = (past : List Line) × IsReaderOf l.reader past × (length past ≤ l.line-index)
