@@ -1,0 +1,10 @@
+pub mod AdvanceLemmas
+pub mod AdvancePages
+pub mod CountLemmas
+pub mod FaultLemmas
+pub mod FollowLemmas
+pub mod FollowReplay
+pub mod NextLemmas
+pub mod OpenLemmas
+pub mod RecordLemmas
+pub mod StandLemmas

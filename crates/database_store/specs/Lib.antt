@@ -1,0 +1,5 @@
+pub mod Damaged
+pub mod Faults
+pub mod Stands
+pub mod Store
+pub mod Stored

@@ -1,0 +1,122 @@
+-- What contracts see of a store, and of what a store is.
+use Rattle.std.specs.Prelude.{◌≡◌, ℕ, ◌^◌, Bool, true, ◌&&◌, ◌||◌, nat_le, List, [], ◌∷◌, Option, Some, None}
+use Rattle.host_model.specs.Past.{Event}
+use Rattle.beat_tiers.specs.State.{TiersState}
+use Rattle.checkpoint_body.specs.declared.body.Body.{Body}
+use Rattle.checkpoint_body.specs.Body.{HasSpelling}
+use Rattle.database_files.specs.Contents.{Contents, KeptPages}
+use Rattle.database_files.specs.Files.{FilesState, IsOpenOf, IsPlaced}
+use Rattle.database_files.specs.Kept.{HasPagesOfEach}
+use Rattle.tier_bodies.specs.Next.{HaveCounted}
+use Rattle.tier_bodies.specs.Tiers.{AreTiersOfBody}
+use Rattle.store_core.specs.declared.beat.Beat.{Beat}
+use Rattle.store_core.specs.declared.fault.Why.{Why}
+use Rattle.store_core.specs.Beats.{InForm}
+use Rattle.store_core.specs.Records.{is_later, last_after}
+use Rattle.store_core.specs.Store.{raised}
+use Rattle.database_store.specs.Stands.{records_of, HasStored}
+use Rattle.database_store.specs.Stored.{Stored, count_of, has_sealed, is_numbered, stored_with, stored_with_all, tiers_of, HaveFollowed}
+
+pub record StoreState : Type 0 where
+  pub files : FilesState
+  -- the body of the open checkpoint
+  pub body : Body
+  -- how many beats were applied: the count stands still at 2^64 - 1
+  pub count : ℕ
+  -- the first cause for which the store must be opened again
+  pub fault : Option Why
+  -- the beats that are still to be applied, the oldest first
+  pub waiting : List Beat
+  -- what the tiers keep of the beats that were applied
+  pub tiers : TiersState
+
+-- all beats have been applied
+abbrev pub IsReplayed : StoreState → Type 0
+IsReplayed store = store.waiting ≡ []
+
+-- a segment was sealed since the checkpoint, where there can be a later one
+abbrev pub is_sealed : StoreState → Bool
+is_sealed store = is_numbered store.files.number && has_sealed store.body.last store.tiers
+
+-- a checkpoint is due: a segment was sealed since the last one, or the journal has 2^24 bytes, and there can be a later one
+abbrev pub is_due : StoreState → Bool
+is_due store = is_numbered store.files.number && (has_sealed store.body.last store.tiers || nat_le (2 ^ 24) store.files.journal.bytes)
+
+-- ---- a store of what is stored
+
+-- the store has applied what is stored here, and these beats, the oldest first, are still to be applied
+pub record IsStoreAt (past : List Event) (store : StoreState) (stored : Stored) (rest : List Beat) : Type 0 where
+  pub contents : Contents
+  pub opened : IsOpenOf past store.files contents
+  pub has : HasStored contents (stored_with_all stored rest)
+  pub body : store.body ≡ contents.body
+  pub waiting : store.waiting ≡ rest
+  pub count : store.count ≡ count_of stored
+  pub tiers : store.tiers ≡ tiers_of stored
+  pub going : store.fault ≡ None
+
+-- the store has applied all that is stored
+abbrev pub IsStoreOf : List Event → StoreState → Stored → Type 0
+IsStoreOf past store stored = IsStoreAt past store stored []
+
+-- what is stored up to the checkpoint
+abbrev pub base_of : Stored → Stored
+base_of stored = record stored { after = [] }
+
+-- the store stands at its checkpoint, and the beats since, the oldest first, are still to be applied
+pub record OpensAt (past : List Event) (store : StoreState) (stored : Stored) : Type 0 where
+  pub rest : List Beat
+  pub whole : stored_with_all (base_of stored) rest ≡ stored
+  pub is_at : IsStoreAt past store (base_of stored) rest
+
+-- the count after a replay that gave this beat, or none
+abbrev pub count_after : Option Beat → ℕ → ℕ
+count_after None count = count
+count_after (Some beat) count = raised count
+
+-- a replay gave the next beat and applied it, or there is none
+abbrev pub Replays : List Event → StoreState → Stored → List Beat → Option Beat → Type 0
+Replays past store stored [] None = IsStoreAt past store stored []
+Replays past store stored [] (Some beat) = ⊥
+Replays past store stored (next ∷ rest) None = ⊥
+Replays past store stored (next ∷ rest) (Some beat) = (beat ≡ next) × IsStoreAt past store (stored_with stored beat) rest
+
+-- ---- a store of any disk
+
+-- each of these beats, the oldest first, is in form, and its moment lies above the one before
+abbrev pub AreNext : ℕ → List Beat → Type 0
+AreNext last [] = Unit {0}
+AreNext last (beat ∷ beats) = InForm beat × (is_later last beat.moment ≡ true) × AreNext (last_after last beat.moment) beats
+
+-- The body and the pages are those of the base of what is stored, and the store has applied the beats since, each of which
+-- might follow; others wait.
+pub record IsSound (kept : KeptPages) (stored : Stored) (store : StoreState) : Type 0 where
+  pub spelt : HasSpelling store.body
+  pub paged : HasPagesOfEach store.body kept
+  pub number : store.files.number ≡ stored.base.number
+  pub settings : store.body.settings ≡ stored.base.settings
+  pub base_count : store.body.count ≡ stored.base.count
+  pub side : store.body.side ≡ stored.base.side
+  pub of_body : AreTiersOfBody store.body kept stored.base.tiers
+  pub counted : HaveCounted stored.base.tiers
+  pub followed : HaveFollowed stored.base stored.after
+  pub count : store.count ≡ count_of stored
+  pub tiers : store.tiers ≡ tiers_of stored
+  pub waiting : AreNext store.tiers.last store.waiting
+
+-- the files are open, with the checkpoint of this body and these pages, and the records of all beats since
+pub record AreOpen (past : List Event) (kept : KeptPages) (stored : Stored) (store : StoreState) : Type 0 where
+  pub contents : Contents
+  pub opened : IsOpenOf past store.files contents
+  pub body : contents.body ≡ store.body
+  pub pages : contents.kept ≡ kept
+  pub records : contents.records ≡ records_of (stored_with_all stored store.waiting).after
+
+-- What a call of a store requires of its host: it holds after `open` of every image. The store is of what is stored as far as
+-- it has applied it.
+pub record IsReady (honest : Type 0) (past : List Event) (store : StoreState) : Type 0 where
+  pub kept : KeptPages
+  pub stored : Stored
+  pub sound : IsSound kept stored store
+  pub place : IsPlaced store.files
+  pub opened : store.fault ≡ None → honest → AreOpen past kept stored store

@@ -1,0 +1,30 @@
+//! The database of an agent on a disk: a base, and the beats since.
+//!
+//! A base is what the last checkpoint has of the beats up to it: how many there were, what the tiers keep of them, and a
+//! side, which is bytes of the layer above. The beats since are the records of a journal. `checkpoint` moves the base on
+//! by them, with a new side, and so bounds the journal. A disk holds one database at most.
+//!
+//! Over an honest host a crash leaves at every moment of `commit` what was stored, with the new beat or without it, and
+//! at `Ok` with it; of `checkpoint` what was stored, with the old base or with the new one, and at `Ok` with the new; of
+//! `create` what it might have left before, no database, or the new one. `open` gives just what is on the disk, or says
+//! that there is none or which part is damaged. `replay` then gives the beats since; where one stands behind a beat that
+//! sealed a segment, as no database has it, it says that the journal is damaged. No other file is touched, and each file
+//! stays within its share while there can be a later checkpoint. Once the disk or memory has failed, each call gives the
+//! first cause.
+//!
+//! It stands on `database_files`, `tier_bodies`, `beat_tiers`, on `store_core` for beats and their records, and on
+//! `host_model` for crashes. No other crate uses it yet.
+#![tactic(auto)]
+
+mod checkpointing;
+mod committing;
+mod creating;
+mod fault;
+mod law;
+mod opening;
+mod records;
+mod replaying;
+mod store;
+
+pub use law::one_disk_holds_one_database;
+pub use store::Store;

@@ -1,0 +1,130 @@
+ghost use Rattle.std.specs.Prelude.{◌≡◌, ◌↔◌, IsTrue};
+ghost use Rattle.std.specs.Option.{is_some};
+ghost use Rattle.beat_tiers.specs.Room.{tiers_held};
+ghost use Rattle.tier_bodies.specs.Next.{sealed_after};
+
+use beat_tiers::{Segments, Tiers};
+use checkpoint_body::Body;
+use database_files::Files;
+use std::alloc::Global;
+use std::marker::Model;
+use store_core::{Waiting, Why};
+use tier_bodies::sealed_after;
+use tier_settings::Settings;
+
+/// The bytes of a journal from which a checkpoint is due.
+const LONG_JOURNAL: u64 = 1 << 24;
+
+/// A database that has been made or opened, with the host that it is on. Each call on it is handed
+/// that host, which since then only its calls, and `tell`, have touched.
+#[derive(Debug, Drop)]
+pub struct Store {
+    pub(crate) alloc: Global,
+    pub(crate) files: Files,
+    /// The body of the open checkpoint.
+    pub(crate) body: Body,
+    /// How many beats were applied.
+    pub(crate) count: u64,
+    /// The first cause for which the database must be opened again.
+    pub(crate) fault: Option<Why>,
+    pub(crate) waiting: Waiting,
+    /// What the tiers keep of the beats that were applied.
+    pub(crate) tiers: Tiers,
+}
+
+impl Model for Store {
+    ghost use Rattle.beat_tiers.specs.Room.{tiers_held};
+    ghost use Rattle.database_store.specs.Store.{StoreState};
+
+    ghost Value = { StoreState };
+
+    ghost view = { λ store. record {
+      files = store.files;
+      body = store.body;
+      count = store.count;
+      fault = store.fault;
+      waiting = store.waiting;
+      tiers = tiers_held store.tiers;
+    } };
+}
+
+/// Whether a tier has sealed a segment after a moment.
+fn has_new<T: Copy + Drop>(segments: &Segments<T>, moment: u32) -> bool
+    ensures { result ≡ is_some (sealed_after moment segments.now.kept.sealed) }
+{
+    sealed_after(segments, moment).is_some()
+}
+
+impl Store {
+    ghost use Rattle.database_store.specs.Store.{is_due, is_sealed, IsReplayed};
+    ghost use Rattle.database_store.specs.Stored.{has_sealed, is_numbered};
+
+    /// The settings with which the database was made.
+    pub fn settings(&self) -> &Settings
+        ensures { result.now ≡ self.now.body.settings }
+    {
+        &self.body.settings
+    }
+
+    /// How many beats were applied. The count stands still at 2^64 - 1.
+    pub fn count(&self) -> u64
+        ensures { result ≡ self.now.count }
+    {
+        self.count
+    }
+
+    /// The last moment of a beat that was applied, in seconds, or 0.
+    pub fn last(&self) -> u32
+        ensures { result ≡ self.now.tiers.last }
+    {
+        self.tiers.last()
+    }
+
+    /// What the layer above keeps in the open checkpoint.
+    pub fn side(&self) -> &[u8]
+        ensures { result.now ≡ self.now.body.side }
+    {
+        self.body.side.as_slice()
+    }
+
+    /// What the tiers keep of the beats that were applied.
+    pub fn tiers(&self) -> &Tiers
+        ensures { tiers_held result.now ≡ self.now.tiers }
+    {
+        &self.tiers
+    }
+
+    /// Whether all beats that were there at the opening have been applied.
+    pub fn is_replayed(&self) -> bool
+        ensures { IsTrue result ↔ IsReplayed self.now }
+    {
+        self.waiting.is_empty()
+    }
+
+    /// Whether a checkpoint is due: a segment was sealed since the last one, or the journal has
+    /// 2^24 bytes, and there can be a later one.
+    pub fn due(&self) -> bool
+        ensures { result ≡ is_due self.now }
+    {
+        self.is_numbered() && (self.has_sealed() || self.files.journal_bytes() >= LONG_JOURNAL)
+    }
+
+    /// Whether there can be a later checkpoint.
+    pub(crate) fn is_numbered(&self) -> bool
+        ensures { result ≡ is_numbered self.now.files.number }
+    {
+        self.files.number() < u64::MAX
+    }
+
+    /// Whether a tier has sealed a segment since the last checkpoint.
+    pub(crate) fn has_sealed(&self) -> bool
+        ensures { result ≡ has_sealed self.now.body.last self.now.tiers }
+    {
+        let moment = self.body.last;
+        if has_new(self.tiers.kept_points(), moment) {
+            return true;
+        }
+        let mut records = self.tiers.kept_records().iter();
+        records.any(|one| has_new(one.segments(), moment))
+    }
+}
