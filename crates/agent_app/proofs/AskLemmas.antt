@@ -23,7 +23,7 @@ use Rattle.agent_core.specs.Agent.{AgentState, IsAgentOf}
 use Rattle.agent_core.specs.Answers.{reply_of}
 use Rattle.agent_core.specs.Calls.{Logs, Opens, Queries}
 use Rattle.agent_core.specs.Faults.{IsLogging, IsReading, Reopens, ReopensWith}
-use Rattle.agent_core.specs.Kept.{StandsForHistory}
+use Rattle.agent_core.specs.Stands.{StandsForHistory}
 use Rattle.store_core.specs.declared.fault.Why.{Why}
 use Rattle.link_session.proofs.AckLemmas.{text-front}
 use Rattle.link_session.proofs.StoreLemmas.{stands-all}

@@ -26,7 +26,7 @@ use Rattle.agent_core.specs.declared.fault.AgentFault.{AgentFault}
 use Rattle.agent_core.specs.declared.fault.AgentFault.TheVariants as fault
 use Rattle.agent_core.specs.Agent.{AgentState}
 use Rattle.agent_core.specs.Calls.{Opens}
-use Rattle.agent_core.specs.Kept.{StandsForHistory}
+use Rattle.agent_core.specs.Stands.{StandsForHistory}
 use Rattle.agent_app.specs.declared.collect.Collector.{Collector}
 use Rattle.agent_app.specs.declared.running.Running.{Running}
 use Rattle.agent_app.specs.Collect.{ends_a_collect, halt_status, Collects, CollectsAll, HasCollectCause, HasHeard, HasMadeAll, IsDisabling, Outside}

@@ -22,7 +22,7 @@ use Rattle.agent_core.specs.declared.fault.AgentFault.TheVariants as fault
 use Rattle.agent_core.specs.Agent.{AgentState}
 use Rattle.agent_core.specs.Calls.{Opens}
 use Rattle.agent_core.specs.Health.{health_refusal}
-use Rattle.agent_core.specs.Kept.{StandsForHistory}
+use Rattle.agent_core.specs.Stands.{StandsForHistory}
 use Rattle.link_session.specs.Keeps.{Extends, no_more, one_more, Keeps}
 use Rattle.link_session.proofs.StoreLemmas.{keeps-more, stands-all}
 use Rattle.agent_app.specs.Health.{ends_health, fault_text, health_output, health_status, history_by, history_with_health, is_over, status_of, told_by, Configures, ConfiguresAll, ConfiguresOn, Handled, HasHealthCause, StopsAt, StoresHealth, TellsFault}

@@ -12,15 +12,15 @@ use Rattle.host_model.specs.Past.{told, Event, IsDisk}
 use Rattle.host_model.specs.Seen.{Seen}
 use Rattle.host_model.specs.Source.{Takes}
 use Rattle.host_model.specs.Cause.{Rose}
-use Rattle.host_model.proofs.CallLemmas.{unmoved}
 use Rattle.host_model.proofs.DiskLemmas.{untold}
 use Rattle.host_model.proofs.MomentLemmas.{at_end, full_text, joined, weakened}
 use Rattle.history.specs.History.{Beat, last}
 use Rattle.tier_settings.specs.declared.settings.Settings.{Settings}
 use Rattle.line_stream.proofs.RunLemmas.{Takes-none}
 use Rattle.store_core.specs.Stands.{is_made}
-use Rattle.store_core.proofs.StandLemmas.{stands_made}
-use Rattle.agent_core.specs.Kept.{StandsForHistory, StandsForNew}
+use Rattle.store_core.proofs.StandLemmas.{stands-made}
+use Rattle.agent_core.specs.Stands.{StandsForHistory, StandsForNew}
+use Rattle.agent_core.specs.Calls.{ReadsAsBefore}
 use Rattle.agent_core.specs.Notes.{HasNotes}
 use Rattle.link_session.specs.declared.fault.SessionFault.TheVariants.{Memory}
 use Rattle.link_session.specs.Keeps.{no_more, IsAckedUpTo, Keeps}
@@ -31,7 +31,7 @@ use Rattle.link_session.proofs.ExtendsLemmas.{extends-further, extends-length}
 use Rattle.link_session.proofs.LinkLemmas.{sends-nothing}
 use Rattle.agent_app.specs.declared.collect.Collector.{Collector}
 use Rattle.agent_app.specs.Collect.{CollectsAll, CollectsOn, HasHeard, Outside}
-use Rattle.agent_app.specs.Course.{asked, begun, collected, configured, converted, made_again, no_run, none_found, now_made, one_run, ran, received, sent, AreStored, Course, Database, Gives, HoldsDatabase, HoldsRuns, Input, MayGive, MayHaveMade, OfCollector, OfHealth, OfLink, OfSource, OneRun, WhereWhole}
+use Rattle.agent_app.specs.Course.{asked, begun, collected, configured, converted, made_again, no_run, none_found, now_made, one_run, ran, received, sent, AreStored, Course, Database, Gives, HoldsDatabase, HoldsRuns, Input, MayGive, MayHaveMade, MayMake, OfCollector, OfHealth, OfLink, OfSource, OneRun, WhereWhole}
 use Rattle.agent_app.specs.Health.{history_with_health, ConfiguresAll, ConfiguresFrom}
 use Rattle.agent_app.specs.New.{Makes}
 use Rattle.agent_app.specs.Query.{Asks}
@@ -42,7 +42,7 @@ use Rattle.agent_app.proofs.CollectLemmas.{heard-nothing}
 
 -- a history is no database that is not there
 made-held : (set : Settings) (h : List Beat) (disk : File → List ℕ) → StandsForHistory set h disk → is_made disk ≡ false → ⊥
-made-held set h disk here unmade = true≢false (sym (stands_made set here.stored disk here.stands) ∙ unmade)
+made-held set h disk here unmade = true≢false (sym (stands-made here.stored disk here.stands) ∙ unmade)
 
 abbrev ended_with : Status → Option Status
 ended_with s = Some s
@@ -213,7 +213,7 @@ module _ (starts : List (Option Database)) (tried : List Settings) (runs : List 
   -- ---- there was no database
   module _ (unmade : is_made (reads_as host.past) ≡ false) where
     found : IsHostAsFound honest host host' × GivesNothing input
-    found = all.found h (λ notes. true≢false (sym (stands_made notes.settings notes.stored (reads_as host.past) notes.stands) ∙ unmade))
+    found = all.found h (λ notes. true≢false (sym (stands-made notes.stored (reads_as host.past) notes.stands) ∙ unmade))
 
     not-opened : (t : Status) → Some s ≡ Some t → is_opened t ≡ false
     not-opened t is = by (all.unmade h unmade)
@@ -334,7 +334,7 @@ module _ (starts : List (Option Database)) (tried : List Settings) (runs : List 
 -- `new` was tried
 module _ (starts : List (Option Database)) (tried : List Settings) (runs : List OneRun) (honest : Type 0) (h : honest) (host host' : Seen)
     (held : EveryDisk (HoldsRuns starts tried runs) host.past) (first : IsDisk host.past (reads_as host.past))
-    (set : Settings) (s : Status) (known : MayHaveMade s host → Contains tried set) (makes : Makes honest set s host host') where
+    (set : Settings) (s : Status) (makes : Makes honest set s host host') where
   abbrev Moments : Type 0
   Moments = Throughout (EveryDisk (HoldsRuns starts tried runs)) host.past host'.past
 
@@ -362,24 +362,39 @@ module _ (starts : List (Option Database)) (tried : List Settings) (runs : List 
       holds = stands;
     }
 
-    new-moments : MayHaveMade s host → Moments
-    new-moments may = weakened (λ past left disk images. new-holds (known may) disk (left disk images)) (makes.any_moment h)
+    new-moments : Contains tried set → Moments
+    new-moments of = weakened (λ past left disk images. new-holds of disk (left disk images)) (makes.any_moment h)
 
-  pub course-new : Moments
-  course-new = by (is_made (reads_as host.past)) refl
+  -- whatever moment a crash comes at
+  pub course-new : (MayMake s host → Contains tried set) → Moments
+  course-new known = by (is_made (reads_as host.past)) refl
     where
-      -- nothing has happened
-      stays : host'.past ≡ host.past → Moments
-      stays is = unmoved (EveryDisk (HoldsRuns starts tried runs)) host.past host'.past is held
-
       by : (b : Bool) → is_made (reads_as host.past) ≡ b → Moments
-      by true there = stays (makes.made h there).1
+      by true there = weakened (λ past was disk images. held disk (was disk images)) (makes.made_moment h there)
       by false unmade = which makes.statuses
         where
           which : (s ≡ status.Ok) ⊎ (s ≡ status.Exists) ⊎ (s ≡ status.DiskFault) ⊎ (s ≡ status.Memory) → Moments
-          which (inl is) = new-moments unmade (inl is)
+          which (inl is) = new-moments unmade (known (inl (inl is)))
           which (inr (inl is)) = absurd (true≢false (sym (makes.exists is h) ∙ unmade))
-          which (inr (inr (inl is))) = new-moments unmade (inr (is, unmade))
+          which (inr (inr (inl is))) = new-moments unmade (known (inl (inr (is, unmade))))
+          which (inr (inr (inr is))) = new-moments unmade (known (inr (is, unmade)))
+
+  -- and where none comes before it ends
+  pub course-made : (MayHaveMade s host → Contains tried set) → EveryDisk (HoldsRuns starts tried runs) host'.past
+  course-made known = by (is_made (reads_as host.past)) refl
+    where
+      -- nothing is written
+      stays : ReadsAsBefore host.past host'.past → EveryDisk (HoldsRuns starts tried runs) host'.past
+      stays same disk images = held disk (same.disks disk images)
+
+      by : (b : Bool) → is_made (reads_as host.past) ≡ b → EveryDisk (HoldsRuns starts tried runs) host'.past
+      by true there = stays (makes.made h there).1
+      by false unmade = which makes.statuses
+        where
+          which : (s ≡ status.Ok) ⊎ (s ≡ status.Exists) ⊎ (s ≡ status.DiskFault) ⊎ (s ≡ status.Memory) → EveryDisk (HoldsRuns starts tried runs) host'.past
+          which (inl is) = at_end (new-moments unmade (known (inl is)))
+          which (inr (inl is)) = absurd (true≢false (sym (makes.exists is h) ∙ unmade))
+          which (inr (inr (inl is))) = at_end (new-moments unmade (known (inr (is, unmade))))
           which (inr (inr (inr is))) = stays (makes.memory is h)
 
 -- a question was asked
@@ -416,4 +431,4 @@ module _ {H : Type 0} (honest : Type 0) (seen : H → Seen) (starts : List (Opti
   course-kept runs host (asked before begin end answer s course asks) =
       at_end (course-asked starts tried runs honest h (seen begin) (seen host) (course-kept runs begin course) answer s asks)
   course-kept runs host (made_again before begin end set s course known makes) =
-      at_end (course-new starts tried runs honest h (seen begin) (seen host) (course-kept runs begin course) (first begin h) set s known makes)
+      course-made starts tried runs honest h (seen begin) (seen host) (course-kept runs begin course) (first begin h) set s makes known

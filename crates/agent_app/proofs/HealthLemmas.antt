@@ -19,7 +19,7 @@ use Rattle.history.specs.History.{Beat, health}
 use Rattle.query_text.proofs.ReplyLemmas.{free-append, IsFree}
 use Rattle.tier_settings.specs.declared.settings.Settings.{Settings}
 use Rattle.alarm_events.specs.declared.event.Event.{Event as AlarmEvent}
-use Rattle.store_core.specs.Store.{counted}
+use Rattle.store_core.specs.Counts.{counted}
 use Rattle.agent_core.specs.declared.fault.AgentFault.{AgentFault}
 use Rattle.agent_core.specs.declared.fault.AgentFault.TheVariants as fault
 use Rattle.agent_core.specs.declared.reply.Reply.{Reply}
@@ -28,7 +28,7 @@ use Rattle.agent_core.specs.Alarms.{events_at}
 use Rattle.agent_core.specs.Calls.{SetsHealth}
 use Rattle.agent_core.specs.Faults.{HealthRefusedBy, IsHealthRefusal, LeavesAll}
 use Rattle.agent_core.specs.Health.{health_refusal}
-use Rattle.agent_core.specs.Kept.{StandsForHealth, StandsForHistory}
+use Rattle.agent_core.specs.Stands.{StandsForHealth, StandsForHistory}
 use Rattle.agent_core.specs.Replies.{reply_text}
 use Rattle.agent_core.proofs.StoredLemmas.{were_kept}
 use Rattle.link_session.specs.Keeps.{Extends, no_more, one_more, IsAckedUpTo, Keeps}
@@ -492,7 +492,7 @@ module _ (honest : Type 0) (agent : AgentState) (text : List ℕ) (host : Seen) 
 
       acked : IsAckedUpTo (length (longer h0)) (reply_text reply)
       acked =
-          let kept = were_kept (longer h0) after.holds.stored after.holds.are in
+          let kept = were_kept set (longer h0) after.holds.stored after.holds.are in
           subst (IsAckedUpTo (length (longer h0))) (sym told-is)
           (acked-told (length (longer h0)) agent'.count set (health text) h0 kept.beats kept.are (omega (arith, after.count)) (omega (arith, after.count)))
 

@@ -11,6 +11,7 @@ mod ConvertingLemmas
 mod CourseLemmas
 mod EventLemmas
 mod ExtendsLemmas
+mod FitLemmas
 mod FormLemmas
 mod HasReadLemmas
 mod HealthLemmas

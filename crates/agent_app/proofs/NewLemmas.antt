@@ -35,6 +35,7 @@ made-new honest set host host' agent creates = record {
   memory = λ is. absurd (short is);
   exists = λ is. absurd (there is);
   made = λ h made. absurd (true≢false (sym made ∙ creates.none h));
+  made_moment = creates.made_moment;
   statuses = inl refl;
   disk_cause = cause-as host.disk_faults host'.disk_faults _ (status.Ok ≡ status.DiskFault) (λ is. absurd (failed is)) (λ is. cc) creates.cause;
   only_here = creates.only_here;
@@ -53,6 +54,7 @@ want-new honest set host host' why creates known stored = by why creates.faults 
       memory = λ _ h. creates.memory (ap refused is) h;
       exists = λ e. absurd (found e);
       made = λ h made. (inr (inr refl), (creates.made h made).1);
+      made_moment = creates.made_moment;
       statuses = inr (inr (inr refl));
       disk_cause =
           cause-as host.disk_faults host'.disk_faults (refused why ≡ refused fault.DiskFault) (status.Memory ≡ status.DiskFault) (λ e. absurd (torn e)) (λ e. absurd (stored (fault-is why fault.DiskFault e))) creates.cause;

@@ -22,7 +22,7 @@ use Rattle.agent_core.specs.Agent.{AgentState, IsAgentOf}
 use Rattle.agent_core.specs.Calls.{Opens}
 use Rattle.host_model.specs.Seen.{Seen}
 use Rattle.agent_core.specs.Faults.{IsOpening}
-use Rattle.agent_core.specs.Kept.{StandsForHistory}
+use Rattle.agent_core.specs.Stands.{StandsForHistory}
 use Rattle.link_session.specs.Keeps.{Keeps, no_more}
 use Rattle.link_session.proofs.AckLemmas.{acked-nothing, acked-since, text-front}
 use Rattle.link_session.proofs.StoreLemmas.{stands-all}
@@ -181,7 +181,7 @@ module _ (honest : Type 0) (host host' : Seen) (first : honest → IsDisk host.p
       apart : status.Memory ≡ status.Damaged part → ⊥
       apart e = cc
 
-  unopened-parts : (why : AgentFault) → Opens honest host (Err why) host' → (part : ℕ) → opening_status why ≡ status.Damaged part → (part ≡ 4) ⊎ (part ≡ 5)
+  unopened-parts : (why : AgentFault) → Opens honest host (Err why) host' → (part : ℕ) → opening_status why ≡ status.Damaged part → (1 ≤ part) × (part ≤ 5)
   unopened-parts why opens part is = subst IsOpening (damaged-by why part is) opens.faults
 
   -- no such status says that the database was opened
@@ -243,7 +243,9 @@ module _ (honest : Type 0) (host host' : Seen) (first : honest → IsDisk host.p
     unmade = λ h unmade. unopened-unmade why opens h unmade;
     damaged = λ part is h set g stands. unopened-damaged why opens part is h set g stands;
     parts = λ part is. unopened-parts why opens part is;
-    damaged_records = λ is h. opens.damaged (ap (λ (f : AgentFault). Err f) (damaged-by why 4 is)) h;
+    made = λ part is h. opens.made part (ap (λ (f : AgentFault). Err f) (damaged-by why part is)) h;
+    damaged_files = λ part low is h. opens.damaged part low (ap (λ (f : AgentFault). Err f) (damaged-by why part is)) h;
+    damaged_part = λ part low is h. opens.parts part low (ap (λ (f : AgentFault). Err f) (damaged-by why part is)) h;
     damaged_notes = λ is h. opens.damaged_notes (ap (λ (f : AgentFault). Err f) (damaged-by why 5 is)) h;
     opened = λ is h. absurd (true≢false (sym is ∙ unopened-all why));
   }
@@ -287,7 +289,9 @@ module _ (honest : Type 0) (host : Seen) (agent : AgentState) (middle : Seen) (o
     unmade = λ h unmade. absurd (true≢false (sym (opens.some h) ∙ unmade));
     damaged = λ part is h set g stands. found (ap finds_none is);
     parts = λ part is. absurd (found (ap finds_none is));
-    damaged_records = λ is h. absurd (found (ap finds_none is));
+    made = λ part is h. absurd (found (ap finds_none is));
+    damaged_files = λ part low is h. absurd (found (ap finds_none is));
+    damaged_part = λ part low is h. absurd (found (ap finds_none is));
     damaged_notes = λ is h. absurd (found (ap finds_none is));
     opened = λ is h. opens.notes h;
   }
@@ -314,7 +318,7 @@ module _ {H : Type 0} (honest : Type 0) (seen : H → Seen) (host : Seen) (agent
     begins-at : honest → (set : Settings) (h0 : List Beat) → StandsForHistory set h0 (reads_as host.past) → (start : List Event) → told (seen middle).past ≡ told start
         → Throughout (EveryStop (Keeps set h0 h0 (told start))) start (seen middle).past → IsRunning (seen middle).past running every set h0 [] start
     begins-at h set h0 here start silent stops =
-        let kept = were_kept h0 here.stored here.are in
+        let kept = were_kept set h0 here.stored here.are in
         record {
           read = [];
           made = [];

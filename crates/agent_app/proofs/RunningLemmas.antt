@@ -16,7 +16,7 @@ use Rattle.plugin_text.specs.Lines.{rest}
 use Rattle.collect_block.specs.Feed.{CountsFor, IsFeedOf}
 use Rattle.tier_settings.specs.declared.settings.Settings.{Settings}
 use Rattle.agent_core.specs.Agent.{IsAgentOf}
-use Rattle.agent_core.specs.Kept.{StandsForHistory, StandsForOneOf}
+use Rattle.agent_core.specs.Stands.{StandsForHistory, StandsForOneOf}
 use Rattle.agent_core.specs.Rules.{history_with}
 use Rattle.link_session.specs.Keeps.{Extends, no_more, Keeps, IsAckedUpTo}
 use Rattle.link_session.proofs.AckLemmas.{acked-more, acked-since, acked-weaker, closed-more, text-front}

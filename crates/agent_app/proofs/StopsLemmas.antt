@@ -14,7 +14,7 @@ use Rattle.plugin_text.specs.Lines.{parts}
 use Rattle.point_lines.specs.declared.refusal.Refusal.{Refusal}
 use Rattle.point_lines.specs.Judged.{refusal_number}
 use Rattle.tier_settings.specs.declared.settings.Settings.{Settings}
-use Rattle.agent_core.specs.Kept.{StandsForHistory, StandsForOneOf}
+use Rattle.agent_core.specs.Stands.{StandsForHistory, StandsForOneOf}
 use Rattle.agent_core.specs.Rules.{history_with}
 use Rattle.link_session.specs.Keeps.{Extends, Keeps, no_more, IsAckedUpTo}
 use Rattle.link_session.proofs.StoreLemmas.{keeps-more, stands-all}

@@ -40,12 +40,13 @@ use Rattle.agent_core.specs.Answers.{reply_of}
 use Rattle.agent_core.specs.Calls.{ClosesBeat, Lines}
 use Rattle.host_model.specs.Seen.{Seen}
 use Rattle.agent_core.specs.Faults.{LeavesAll, RefusedBy}
-use Rattle.agent_core.specs.Kept.{AreBeatsOf, StandsForOneOf}
+use Rattle.agent_core.specs.Kept.{AreBeatsOf}
+use Rattle.agent_core.specs.Stands.{StandsForOneOf}
 use Rattle.agent_core.specs.Replies.{reply_text}
 use Rattle.agent_core.specs.Roles.{copies}
 use Rattle.agent_core.specs.Rules.{history_with, line_refusal}
 use Rattle.agent_core.specs.Said.{Answers, IsSaid, TellsEvents}
-use Rattle.store_core.specs.Store.{counted}
+use Rattle.store_core.specs.Counts.{counted}
 use Rattle.link_session.specs.Keeps.{Extends, IsAckedUpTo}
 use Rattle.link_session.proofs.ExtendsLemmas.{extends-length}
 use Rattle.agent_app.specs.declared.running.Running.{Running}
@@ -461,7 +462,7 @@ module _ (honest : Type 0) (running : Running) (host : Seen) (number : ℕ) (byt
           let reply-is : reply ≡ record { count = of-moment.0; events = events_at set closed } = stored-count reply (record { count = of-moment.0; events = events_at set closed }) of-moment.1 in
           let told-is : reply ≡ record { count = agent.count; events = events_at set closed } =
           reply-is ∙ ap (λ (n : ℕ). record { count = n; events = events_at set closed }) (sym (ap (λ (r : Reply). r.count) reply-is) ∙ reply-count) in
-          let kept = were_kept whole after.agent.holds.stored after.agent.holds.are in
+          let kept = were_kept set whole after.agent.holds.stored after.agent.holds.are in
           let are : AreBeatsOf closed kept.beats = subst (λ (g : List Beat). AreBeatsOf g kept.beats) (sym same) kept.are in
           let beat-is = collected moment (beat every read) in
           let before-is = history_at every h0 read in
@@ -484,7 +485,7 @@ module _ (honest : Type 0) (running : Running) (host : Seen) (number : ℕ) (byt
       answer-told : honest → (every : ℕ) (set : Settings) (h0 : List Beat) (start : List Event) (read : List Line) (made : List ℕ) → RunsAt host.past running every set h0 start read made → IsToldOf every set h0 read said answer
       answer-told h every set h0 start read made at =
           let now = history_at every h0 read in
-          let kept = were_kept now at.agent.holds.stored at.agent.holds.are in
+          let kept = were_kept set now at.agent.holds.stored at.agent.holds.are in
           let beats = kept.beats in
           let are = kept.are in
           let answered : Answers set now said (Table answer) =

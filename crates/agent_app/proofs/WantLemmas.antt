@@ -6,7 +6,7 @@ use Rattle.host_model.specs.Moments.{begins}
 use Rattle.host_model.specs.Past.{Event, IsDisk}
 use Rattle.host_model.specs.Seen.{Seen}
 use Rattle.agent_core.specs.declared.fault.AgentFault.TheVariants as fault
-use Rattle.agent_core.specs.Calls.{Opens}
+use Rattle.agent_core.specs.Calls.{Opens, ReadsAsBefore}
 use Rattle.history.specs.History.{Beat}
 use Rattle.tier_settings.specs.declared.settings.Settings.{Settings}
 use Rattle.link_session.specs.Session.{LinkSeen}
@@ -69,7 +69,8 @@ module _ (honest : Type 0) (host : Seen) (first : honest → IsDisk host.past (r
     stands = λ h set g here. inr refl;
     none = λ e h. absurd (no-none (fault-is fault.Memory fault.NotADatabase e));
     some = tt;
-    damaged = λ e h. absurd (no-part 4 (fault-is fault.Memory (fault.Damaged 4) e));
+    damaged = λ part low e h. absurd (no-part part (fault-is fault.Memory (fault.Damaged part) e));
+    parts = λ part low e h. absurd (no-part part (fault-is fault.Memory (fault.Damaged part) e));
     made = λ part e h. absurd (no-part part (fault-is fault.Memory (fault.Damaged part) e));
     notes = tt;
     damaged_notes = λ e h. absurd (no-part 5 (fault-is fault.Memory (fault.Damaged 5) e));
@@ -88,14 +89,18 @@ module _ (honest : Type 0) (host : Seen) (first : honest → IsDisk host.past (r
   pub want-configures : (left : Option (List ℕ)) (faults : ℕ) → ConfiguresAll honest status.Memory left left faults faults host host
   want-configures left faults = unopened-configured honest host host first fault.Memory unopened-want left faults
 
+  reads-same : ReadsAsBefore host.past host.past
+  reads-same = record { same = λ file. refl; disks = λ disk is. is }
+
   pub want-makes : (set : Settings) → Makes honest set status.Memory host host
   want-makes set = record {
     any_moment = λ h. begins (λ disk is. inl is);
     created = λ e. absurd (no-done e);
     none = λ e. absurd (no-done e);
-    memory = λ e h. refl;
+    memory = λ e h. reads-same;
     exists = λ e. absurd (no-exists e);
-    made = λ h made. (inr (inr refl), refl);
+    made = λ h made. (inr (inr refl), reads-same);
+    made_moment = λ h made. begins (λ disk is. is);
     statuses = inr (inr (inr refl));
     disk_cause = stayed host.disk_faults host.disk_faults (status.Memory ≡ status.DiskFault) refl no-failed;
     only_here = λ h. record { others = λ other apart. refl; output = refl };

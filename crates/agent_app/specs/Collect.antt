@@ -24,7 +24,7 @@ use Rattle.plugin_runner.specs.Reads.{Reads}
 use Rattle.plugin_runner.specs.Run.{whole_children}
 use Rattle.plugin_runner.specs.Runner.{IsFault}
 use Rattle.plugin_runner.specs.Text.{Heard, Text, text}
-use Rattle.agent_core.specs.Kept.{StandsForHistory}
+use Rattle.agent_core.specs.Stands.{StandsForHistory}
 use Rattle.agent_core.specs.Notes.{HasNotes}
 use Rattle.agent_app.specs.declared.collect.Collector.{Collector}
 use Rattle.agent_app.specs.Convert.{ending_status, refusal_status, HasStatusCause, LeavesFiles}

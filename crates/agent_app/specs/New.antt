@@ -7,10 +7,11 @@ use Rattle.host_model.specs.Disks.{EveryDisk, reads_as}
 use Rattle.host_model.specs.Moments.{Throughout}
 use Rattle.host_model.specs.Past.{IsDisk}
 use Rattle.tier_settings.specs.declared.settings.Settings.{Settings}
-use Rattle.store_core.specs.Own.{OnlyOwn}
+use Rattle.database_files.specs.Holds.{OnlyOwn}
 use Rattle.store_core.specs.Stands.{is_made}
 use Rattle.host_model.specs.Seen.{Seen}
-use Rattle.agent_core.specs.Kept.{StandsForHistory, StandsForNew}
+use Rattle.agent_core.specs.Calls.{ReadsAsBefore}
+use Rattle.agent_core.specs.Stands.{StandsForHistory, StandsForNew}
 
 abbrev pub IsNewStatus : Status → Type 0
 IsNewStatus status = (status ≡ Done) ⊎ (status ≡ Exists) ⊎ (status ≡ DiskFault) ⊎ (status ≡ Memory)
@@ -22,14 +23,16 @@ pub record Makes (honest : Type 0) (set : Settings) (status : Status) (host host
   -- at Ok it leaves the new one, and there was none
   pub created : status ≡ Done → honest → EveryDisk (StandsForHistory set []) host'.past
   pub none : status ≡ Done → honest → is_made (reads_as host.past) ≡ false
-  -- where memory ran out nothing has happened
-  pub memory : status ≡ Memory → honest → host'.past ≡ host.past
-  -- exactly where there is a database it is refused, or the disk failed, or memory ran out, and nothing has happened
+  -- where memory ran out nothing is written
+  pub memory : status ≡ Memory → honest → ReadsAsBefore host.past host'.past
+  -- exactly where there is a database it is refused, or the disk failed, or memory ran out, and nothing is written: at every
+  -- moment a crash leaves what it might have left before the call
   pub exists : status ≡ Exists → honest → is_made (reads_as host.past) ≡ true
-  pub made : honest → is_made (reads_as host.past) ≡ true → ((status ≡ Exists) ⊎ (status ≡ DiskFault) ⊎ (status ≡ Memory)) × (host'.past ≡ host.past)
+  pub made : honest → is_made (reads_as host.past) ≡ true → ((status ≡ Exists) ⊎ (status ≡ DiskFault) ⊎ (status ≡ Memory)) × ReadsAsBefore host.past host'.past
+  pub made_moment : honest → is_made (reads_as host.past) ≡ true → Throughout (EveryDisk (IsDisk host.past)) host.past host'.past
   pub statuses : IsNewStatus status
   -- the disk counts a failure exactly where that is why it ended
   pub disk_cause : HasCause host.disk_faults host'.disk_faults (status ≡ DiskFault)
-  -- nothing happens to a file but the journal, and nothing is told
+  -- nothing happens to a file that is not the store's own, and nothing is told
   pub only_here : honest → OnlyOwn host.past host'.past
   pub tells : host'.tell_faults ≡ host.tell_faults

@@ -16,7 +16,7 @@ use Rattle.link_frames.specs.declared.frame.Frame.{Frame}
 use Rattle.tier_settings.specs.declared.settings.Settings.{Settings}
 use Rattle.agent_core.specs.declared.fault.AgentFault.TheVariants as agent
 use Rattle.agent_core.specs.Copies.{seen_moment, IsCopyOfChild, SeenBeat}
-use Rattle.agent_core.specs.Kept.{StandsForHistory}
+use Rattle.agent_core.specs.Stands.{StandsForHistory}
 use Rattle.agent_core.specs.Notes.{HasNotes}
 use Rattle.link_session.specs.declared.fault.SessionFault.TheVariants as session
 use Rattle.link_session.specs.Exchange.{exchange, Course, SessionResult}

@@ -24,13 +24,15 @@ use Rattle.plugin_text.specs.Lines.{parts}
 use Rattle.point_lines.specs.declared.refusal.Refusal.{Refusal}
 use Rattle.point_lines.specs.declared.refusal.Refusal.TheVariants as refusal
 use Rattle.tier_settings.specs.declared.settings.Settings.{Settings}
-use Rattle.store_core.specs.Own.{IsForeign}
-use Rattle.store_core.specs.Stands.{is_made, IsDamaged}
-use Rattle.store_core.specs.Store.{counted}
+use Rattle.database_files.specs.Holds.{IsForeign}
+use Rattle.store_core.specs.Damaged.{IsDamagedIn}
+use Rattle.store_core.specs.Stands.{is_made}
+use Rattle.agent_core.specs.Notes.{IsDamaged}
+use Rattle.store_core.specs.Counts.{counted}
 use Rattle.host_model.specs.Seen.{Seen}
 use Rattle.agent_core.specs.Alarms.{events_at}
 use Rattle.agent_core.specs.Answers.{reply_of}
-use Rattle.agent_core.specs.Kept.{StandsForHistory}
+use Rattle.agent_core.specs.Stands.{StandsForHistory}
 use Rattle.agent_core.specs.Notes.{HasNotes}
 use Rattle.agent_core.specs.Replies.{reply_text}
 use Rattle.line_stream.specs.Run.{input_limit}
@@ -227,13 +229,16 @@ pub record Finds (honest : Type 0) (status : Status) (host : Seen) : Type 0 wher
   pub unmade : honest → is_made (reads_as host.past) ≡ false → (status ≡ NotADatabase) ⊎ (status ≡ DiskFault) ⊎ (status ≡ Memory)
   -- and a database that stands for a history is never damaged
   pub damaged : (part : ℕ) → status ≡ Damaged part → honest → (set : Settings) (h : List Beat) → StandsForHistory set h (reads_as host.past) → ⊥
-  -- Damaged says which part: 4 where there is a database that holds no settings and beats, 5 where it holds them
-  -- and a note does not go on or a point is of no series that is there. A disk holds one list of beats at most, so
-  -- that IsDamaged, HasNotes false and HasNotes true exclude each other. So where there is a database, and neither
-  -- the disk nor memory fails, the status is Damaged exactly where one of the first two holds.
-  pub parts : (part : ℕ) → status ≡ Damaged part → (part ≡ 4) ⊎ (part ≡ 5)
-  pub damaged_records : status ≡ Damaged 4 → honest → IsDamaged (reads_as host.past)
-  pub damaged_notes : status ≡ Damaged 5 → honest → HasNotes false (reads_as host.past)
+  -- Damaged says which part: 1 to 4 where there is a database, and it is that of no base and beats. Of these 1 is the
+  -- checkpoint's file, 2 its body and 3 an extent; 4 is the journal, where a record is no beat that may follow. 5 where
+  -- the side is not good, a note does not go on, or a point is of no series that is there. A disk holds one database at
+  -- most, so that IsDamaged, HasNotes false and HasNotes true exclude each other. So where there is a database, and
+  -- neither the disk nor memory fails, the status is Damaged exactly where HasNotes true does not hold.
+  pub parts : (part : ℕ) → status ≡ Damaged part → (1 ≤ part) × (part ≤ 5)
+  pub made : (part : ℕ) → status ≡ Damaged part → honest → is_made (reads_as host.past) ≡ true
+  pub damaged_files : (part : ℕ) → part ≤ 4 → status ≡ Damaged part → honest → IsDamaged (reads_as host.past)
+  pub damaged_part : (part : ℕ) → part ≤ 3 → status ≡ Damaged part → honest → IsDamagedIn part (reads_as host.past)
+  pub damaged_notes : status ≡ Damaged 5 → honest → HasNotes true (reads_as host.past) → ⊥
   pub opened : is_opened status ≡ true → honest → HasNotes true (reads_as host.past)
 
 -- `run` ended with this status, and left the source and the host so

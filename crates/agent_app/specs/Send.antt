@@ -9,7 +9,7 @@ use Rattle.host_model.specs.Seen.{Seen}
 use Rattle.history.specs.History.{Beat}
 use Rattle.tier_settings.specs.declared.settings.Settings.{Settings}
 use Rattle.agent_core.specs.Copies.{data_of_history}
-use Rattle.agent_core.specs.Kept.{StandsForHistory}
+use Rattle.agent_core.specs.Stands.{StandsForHistory}
 use Rattle.agent_core.specs.Notes.{HasNotes}
 use Rattle.link_session.specs.Child.{child_begins, child_does}
 use Rattle.link_session.specs.Exchange.{SessionResult}

@@ -23,11 +23,21 @@ use std::test::Fail;
 mod alarms;
 mod opening;
 
+/// The most items, and the most segments, that a tier may have.
+const MOST: (u32, u32) = (262_144, 1_024);
+
 /// The settings with the id 7, and as much in each tier as may be.
 fn settings(alloc: Global) -> Result<Settings, AllocError>
     ensures { IfOk result InLimits }
 {
-    Settings::new(alloc, 7, [(262_144, 1_024); 3])
+    Settings::new(alloc, 7, [MOST, MOST, MOST])
+}
+
+/// The same, but with two points in a segment, of which one is kept.
+fn small_settings(alloc: Global) -> Result<Settings, AllocError>
+    ensures { IfOk result InLimits }
+{
+    Settings::new(alloc, 7, [(2, 1), MOST, MOST])
 }
 
 /// An agent, and the feed of the text that it takes.
@@ -126,11 +136,17 @@ fn take<H: Host>(
     }
 }
 
-fn make<H: Host>(alloc: Global, host: &mut H) -> Result<Taking, AgentFault>
+/// Makes a database with these settings, or no memory was there for them.
+fn make_with<H: Host>(
+    alloc: Global,
+    host: &mut H,
+    settings: Result<Settings, AllocError>,
+) -> Result<Taking, AgentFault>
+    requires { IfOk settings InLimits }
     ensures { IfOk result
         (λ taking. AreReady H.honest (H.seen host.new).past taking.agent taking.feed) }
 {
-    let Ok(settings) = settings(alloc) else {
+    let Ok(settings) = settings else {
         return Err(AgentFault::Memory);
     };
     match Agent::create(alloc, host, &settings) {
@@ -140,6 +156,13 @@ fn make<H: Host>(alloc: Global, host: &mut H) -> Result<Taking, AgentFault>
         }),
         Err(fault) => Err(fault),
     }
+}
+
+fn make<H: Host>(alloc: Global, host: &mut H) -> Result<Taking, AgentFault>
+    ensures { IfOk result
+        (λ taking. AreReady H.honest (H.seen host.new).past taking.agent taking.feed) }
+{
+    make_with(alloc, host, settings(alloc))
 }
 
 fn open<H: Host>(alloc: Global, host: &mut H) -> Result<Taking, AgentFault>
@@ -188,7 +211,25 @@ fn host_of(alloc: Global, fails: &[u64]) -> Result<MemoryHost, Fail> {
     Ok(MemoryHost::new(alloc, list)?)
 }
 
-/// The text of one value at the moment 60.
+/// The text of one value, whose beat is stored at this moment.
+fn store_value<H: Host>(
+    alloc: Global,
+    taking: &mut Taking,
+    host: &mut H,
+    moment: u32,
+) -> Result<Said, AgentFault>
+    requires ready { AreReady
+        H.honest (H.seen host.old).past taking.old.agent taking.old.feed }
+    ensures ready { AreReady
+        H.honest (H.seen host.new).past taking.new.agent taking.new.feed }
+{
+    take(taking, host, begin_line(alloc))?;
+    take(taking, host, set_line(alloc, "a", 42))?;
+    take(taking, host, Ok(Line::End))?;
+    take(taking, host, Ok(Line::Moment(moment)))
+}
+
+/// The text of a chart and a dimension, and of one value at the moment 60.
 fn store_first<H: Host>(
     alloc: Global,
     taking: &mut Taking,
@@ -205,10 +246,7 @@ fn store_first<H: Host>(
         host,
         dimension_line(alloc, "a", Algorithm::Absolute),
     )?;
-    take(taking, host, begin_line(alloc))?;
-    take(taking, host, set_line(alloc, "a", 42))?;
-    take(taking, host, Ok(Line::End))?;
-    take(taking, host, Ok(Line::Moment(60)))
+    store_value(alloc, taking, host, 60)
 }
 
 /// Stores the text's beat, and says what the agent tells of itself then.
@@ -229,16 +267,8 @@ fn make_first<H: Host>(alloc: Global, host: &mut H) -> Result<Seen, AgentFault> 
     see_first(alloc, &mut taking, host)
 }
 
-/// Opens the database and stores the text's beat.
-fn open_first<H: Host>(alloc: Global, host: &mut H) -> Result<Said, AgentFault> {
-    match open(alloc, host) {
-        Ok(mut taking) => store_first(alloc, &mut taking, host),
-        Err(fault) => Err(fault),
-    }
-}
-
 #[test]
-fn a_first_beat_takes_the_journal_to_219_bytes(rt: HostRuntime) -> Result<(), Fail> {
+fn a_first_beat_takes_the_journal_to_168_bytes(rt: HostRuntime) -> Result<(), Fail> {
     let alloc = rt.alloc();
     let mut host = host_of(alloc, &[])?;
     let one = Seen {
@@ -249,7 +279,7 @@ fn a_first_beat_takes_the_journal_to_219_bytes(rt: HostRuntime) -> Result<(), Fa
         dimensions: 1,
     };
     assert_eq!(rt; make_first(alloc, &mut host)?, one);
-    assert_eq!(rt; host.len(File::JournalA)?, 219);
+    assert_eq!(rt; host.len(File::JournalA)?, 168);
     assert_eq!(rt; opened(alloc, &mut host)?, one);
     Ok(())
 }
@@ -260,30 +290,15 @@ fn is_made(alloc: Global, host: &mut MemoryHost) -> bool {
 }
 
 #[test]
-fn a_new_database_has_68_bytes(rt: HostRuntime) -> Result<(), Fail> {
+fn a_new_database_has_a_checkpoint_of_183_bytes(rt: HostRuntime) -> Result<(), Fail> {
     let alloc = rt.alloc();
     let mut host = host_of(alloc, &[])?;
     assert_eq!(rt; opened(alloc, &mut host), Err(AgentFault::NotADatabase));
     assert!(rt; is_made(alloc, &mut host));
-    assert_eq!(rt; host.len(File::JournalA)?, 68);
+    assert_eq!(rt; host.len(File::CheckA)?, 183);
+    assert_eq!(rt; host.len(File::JournalA)?, 17);
     assert_eq!(rt; make_first(alloc, &mut host), Err(AgentFault::Exists));
     assert_eq!(rt; opened(alloc, &mut host)?.id, 7);
-    Ok(())
-}
-
-/// Why the text's beat is not stored in the database that is opened, where it is not.
-fn refused_at_opening(alloc: Global, host: &mut MemoryHost) -> Option<AgentFault> {
-    open_first(alloc, host).err()
-}
-
-#[test]
-fn a_text_run_twice_is_refused_by_its_moment(rt: HostRuntime) -> Result<(), Fail> {
-    let alloc = rt.alloc();
-    let mut host = host_of(alloc, &[])?;
-    make_first(alloc, &mut host)?;
-    let order = AgentFault::Refused(BlockFault::MomentOrder(60));
-    assert_eq!(rt; refused_at_opening(alloc, &mut host), Some(order));
-    assert_eq!(rt; host.len(File::JournalA)?, 219);
     Ok(())
 }
 
@@ -316,8 +331,8 @@ fn twice<H: Host>(alloc: Global, host: &mut H) -> Result<[Option<AgentFault>; 2]
 #[test]
 fn after_a_fault_it_must_be_opened_again(rt: HostRuntime) -> Result<(), Fail> {
     let alloc = rt.alloc();
-    // The second sync of the first beat.
-    let mut host = host_of(alloc, &[19])?;
+    // The second sync of the first beat, behind the 19 calls by which the database is made.
+    let mut host = host_of(alloc, &[24])?;
     let reopen = AgentFault::Reopen(Why::Disk);
     let answers = [Some(AgentFault::DiskFault), Some(reopen)];
     assert_eq!(rt; twice(alloc, &mut host)?, answers);
@@ -476,8 +491,36 @@ fn writes_the_reply_of_a_stored_beat(rt: HostRuntime) -> Result<(), Fail> {
     Ok(())
 }
 
+/// Stores four beats in a new database with two points in a segment.
+fn store_four<H: Host>(alloc: Global, host: &mut H) -> Result<Seen, AgentFault> {
+    let mut taking = make_with(alloc, host, small_settings(alloc))?;
+    store_first(alloc, &mut taking, host)?;
+    store_value(alloc, &mut taking, host, 61)?;
+    store_value(alloc, &mut taking, host, 62)?;
+    store_value(alloc, &mut taking, host, 63)?;
+    Ok(view_of(&taking))
+}
+
 #[test]
-fn a_journal_that_is_none_is_damage(rt: HostRuntime) -> Result<(), Fail> {
+fn a_checkpoint_keeps_what_beats_left(rt: HostRuntime) -> Result<(), Fail> {
+    let alloc = rt.alloc();
+    let mut host = host_of(alloc, &[])?;
+    let four = Seen {
+        id: 7,
+        count: 4,
+        last: 63,
+        charts: 1,
+        dimensions: 1,
+    };
+    assert_eq!(rt; store_four(alloc, &mut host)?, four);
+    // The journal of the second checkpoint has the last beats.
+    assert!(rt; host.len(File::JournalB)? > 17);
+    assert_eq!(rt; opened(alloc, &mut host)?, four);
+    Ok(())
+}
+
+#[test]
+fn a_file_that_is_changed_is_damage(rt: HostRuntime) -> Result<(), Fail> {
     let alloc = rt.alloc();
     let mut host = host_of(alloc, &[])?;
     make_first(alloc, &mut host)?;

@@ -37,8 +37,8 @@ pub told-by : (store : StoreState) (set : Settings) (beats : List TierBeat) → 
     → ((told : ℕ → List Point) → Tells store told → new ≡ part (stepped_by old (seen_by moment registry latest (tier_floor store.tiers 0) told)))
     → new ≡ part (stepped_by old (seen_by moment registry latest (floor_at set beats 0) (points_of beats)))
 told-by store set beats has moment registry latest old part new says =
-    says (points_of beats) (record { set = set; beats = beats; has = has.tiers; told_is = refl })
-    ∙ ap (λ (floor : ℕ). part (stepped_by old (seen_by moment registry latest floor (points_of beats)))) (floor_is set beats store.tiers has.tiers 0 (omega arith))
+    says (points_of beats) (record { set = set; beats = beats; has = has; told_is = refl })
+    ∙ ap (λ (floor : ℕ). part (stepped_by old (seen_by moment registry latest floor (points_of beats)))) (floor_is set beats store.tiers has 0 (omega arith))
 
 -- ---- what a beat makes of the alarms
 beat-is : (set : Settings) (h : List Beat) (beat : Beat) (registry : Registry) (latest : Latest) → registry ≡ registry_of (beat ∷ h)

@@ -21,14 +21,12 @@ use Rattle.query_text.specs.Asked.{query_read}
 use Rattle.query_text.specs.Fault.{IsFaultFor}
 use Rattle.query_text.specs.Told.{fault_text, table_text}
 use Rattle.tier_settings.specs.declared.settings.Settings.{Settings}
-use Rattle.store_core.specs.declared.beat.Beat.{Beat as StoreBeat}
-use Rattle.store_core.specs.Store.{HasApplied, IsStoreAt, StoreState}
-use Rattle.store_core.specs.Stored.{Stored}
+use Rattle.beat_records.specs.declared.beat.Beat.{Beat as StoreBeat}
 use Rattle.store_core.specs.Tiers.{floor_at, kept_of, seen}
 use Rattle.store_core.specs.View.{points_of}
 use Rattle.tier_settings.specs.Limits.{widths}
 use Rattle.agent_core.specs.Answers.{floor_of_history, kept_of_history, points_of_history, reply_of, reply_to, tier_beat, tier_beats, told_point}
-use Rattle.agent_core.specs.Kept.{copied_point, point_of, AreBeatsOf, HoldsHistory, IsBeatOf, IsStoredOf}
+use Rattle.agent_core.specs.Kept.{copied_point, point_of, AreBeatsOf, IsBeatOf}
 
 -- ---- the points of a series
 find-map : {A B : Type 0} (f : A → B) (p : B → Bool) (xs : List A) → find p (map f xs) ≡ option_map f (find (λ x. p (f x)) xs)
@@ -72,7 +70,7 @@ tier-points (health text ∷ h) series = tier-points h series
 tier-points (missing gap ∷ h) series = tier-points h series
 
 -- ---- the beats of a store
-seen-beat : (h : List Beat) (beat : Beat) (kept : StoreBeat) → IsBeatOf h beat kept → seen kept ≡ tier_beat h beat
+pub seen-beat : (h : List Beat) (beat : Beat) (kept : StoreBeat) → IsBeatOf h beat kept → seen kept ≡ tier_beat h beat
 seen-beat h (collected moment beat) kept of = ap seen of.is_kept
 seen-beat h (copied copy) kept of = ap seen of.is_kept
 seen-beat h (health text) kept of = ap seen of.is_kept
@@ -89,14 +87,6 @@ seen-beats [] [] are = refl
 seen-beats [] (kept ∷ beats) are = absurd are
 seen-beats (beat ∷ h) [] are = absurd are
 seen-beats (beat ∷ h) (kept ∷ beats) are = λ i. seen-beat h beat kept are.0 i ∷ seen-beats h beats are.1 i
-
--- a store of what is stored for a history has applied what tiers see of it
-pub applied-at : (past : List Event) (store : StoreState) (set : Settings) (h : List Beat) (stored : Stored) (rest : List StoreBeat) → IsStoredOf h stored → IsStoreAt past store set stored rest
-    → HasApplied set (tier_beats h) store
-applied-at past store set h stored rest are is_at = subst (λ (beats : List TierBeat). HasApplied set beats store) (seen-beats h stored.after are.after) is_at.applied
-
-pub applied-all : (past : List Event) (store : StoreState) (set : Settings) (h : List Beat) → HoldsHistory past store set h → HasApplied set (tier_beats h) store
-applied-all past store set h holds = applied-at past store set h holds.stored [] holds.are holds.store_of
 
 module _ (set : Settings) (h : List Beat) where
   pub told-is : points_of (tier_beats h) ≡ points_of_history h

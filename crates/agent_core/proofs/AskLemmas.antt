@@ -39,21 +39,23 @@ use Rattle.link_frames.specs.Fields.{FitsBeat}
 use Rattle.link_frames.specs.Frames.{HasSpelling}
 use Rattle.link_frames.proofs.AnswerLaw.{answer-spells}
 use Rattle.link_frames.proofs.PlacesLaw.{of-all}
-use Rattle.store_core.specs.declared.beat.Beat.{Beat as StoreBeat}
-use Rattle.store_core.specs.Beats.{is_point, is_timed, series_of, InForm}
+use Rattle.beat_records.specs.declared.beat.Beat.{Beat as StoreBeat}
+use Rattle.beat_records.specs.Beats.{series_of}
 use Rattle.store_core.specs.Store.{StoreState}
 use Rattle.store_core.specs.Tiers.{floor_at, kept_of, seen}
 use Rattle.tier_settings.specs.Settings.{first_tier}
 use Rattle.agent_core.specs.Answers.{floor_of_history, kept_of_history, tier_beats}
 use Rattle.agent_core.specs.Asking.{AreInUtf8, HaveCharts, IsSendable}
 use Rattle.agent_core.specs.Copies.{data_of_history, names_of, sent_beat, word_of_point}
-use Rattle.agent_core.specs.Kept.{copied_point, point_of, AreBeatsOf, HoldsHistory}
+use Rattle.agent_core.specs.Kept.{copied_point, point_of, AreBeatsOf}
+use Rattle.agent_core.specs.Stands.{HoldsHistory}
 use Rattle.agent_core.specs.Rules.{HasLimits}
 use Rattle.agent_core.proofs.AnswerLemmas.{floor-is, kept-is, seen-beats}
 use Rattle.agent_core.proofs.AnswerTruth.{points-below, sent-rises}
+use Rattle.agent_core.proofs.KeptWords.{all-words, HaveWords}
 use Rattle.agent_core.proofs.NamedLemmas.{grows-same, grows-with}
 use Rattle.agent_core.proofs.SentNames.{names-sent}
-use Rattle.agent_core.proofs.StoredLemmas.{were_kept}
+use Rattle.agent_core.proofs.StoredLemmas.{settings-of, were_kept}
 
 -- ---- a frame
 module _ (registry : Registry) (apart_charts : AreApart same_chart registry.charts) (apart_dimensions : AreApart same_dimension registry.dimensions) (limits : HasLimits registry)
@@ -146,22 +148,19 @@ words-rise points rises = ap is_ascending (same points) ∙ rises
     same [] = refl
     same (point ∷ points) = ap (λ rest. point.series ∷ rest) (same points)
 
-words-numbers : (points : List BeatPoint) → list_all is_point points ≡ true → list_all is_storage_number (words_sent points) ≡ true
-words-numbers [] all = refl
-words-numbers (point ∷ points) all =
-    let parts = and_parts (is_point point) (list_all is_point points) all in
-    let number = (and_parts (nat_lt point.series 65536 && nat_le 1 point.step && nat_le point.step 86400) (is_word point.word) parts.0).1 in
-    λ i. number i && words-numbers points parts.1 i
+words-numbers : (points : List BeatPoint) → list_all (λ (point : BeatPoint). is_word point.word) points ≡ true → list_all is_storage_number (words_sent points) ≡ true
+words-numbers points all = same points ∙ all
+  where
+    same : (points : List BeatPoint) → list_all is_storage_number (words_sent points) ≡ list_all (λ (point : BeatPoint). is_word point.word) points
+    same [] = refl
+    same (point ∷ points) = ap (λ (rest : Bool). is_word point.word && rest) (same points)
 
 module _ (series : ℕ) where
-  beat-sendable : (beat : StoreBeat) → InForm beat → AreBelow series beat → has_points (seen beat) ≡ true → IsSendable series (sent_of beat)
-  beat-sendable beat form below some =
-      let first = and_parts (is_ascending (map series_of beat.points) && list_all is_point beat.points) (is_timed beat.moment beat.points) form.form in
-      let second = and_parts (is_ascending (map series_of beat.points)) (list_all is_point beat.points) first.0 in
-      record {
-        some = has beat.points some;
-        words = record { of = words-of series beat.points below; rise = words-rise beat.points second.0; numbers = words-numbers beat.points second.1 };
-      }
+  beat-sendable : (beat : StoreBeat) → HaveWords beat.points → AreBelow series beat → has_points (seen beat) ≡ true → IsSendable series (sent_of beat)
+  beat-sendable beat have below some = record {
+    some = has beat.points some;
+    words = record { of = words-of series beat.points below; rise = words-rise beat.points have.rise; numbers = words-numbers beat.points have.numbers };
+  }
     where
       has : (points : List BeatPoint) → not (nat_le (length points) 0) ≡ true → 0 < length (words_sent points)
       has [] some = absurd cc
@@ -171,7 +170,7 @@ module _ (series : ℕ) where
   Sends beat = IsSendable series (sent_beat (kept_beat_of beat))
 
   -- those of the beats that have points
-  filter-sendable : (test : TierBeat → Bool) (beats : List StoreBeat) → AllByRecursion InForm beats → AllByRecursion (AreBelow series) beats
+  filter-sendable : (test : TierBeat → Bool) (beats : List StoreBeat) → AllByRecursion (λ (beat : StoreBeat). HaveWords beat.points) beats → AllByRecursion (AreBelow series) beats
       → AllByRecursion Sends (filter (λ beat. has_points beat && test beat) (map seen beats))
   filter-sendable test [] forms below = tt
   filter-sendable test (beat ∷ beats) forms below =
@@ -185,7 +184,7 @@ module _ (series : ℕ) where
   MaySend beat = IsSendable series (sent_beat beat)
 
   -- the kept beats may all be sent
-  kept-sendable : (set : Settings) (beats : List StoreBeat) → AllByRecursion InForm beats → AllByRecursion (AreBelow series) beats → AllByRecursion MaySend (kept_of set (map seen beats)).beats
+  kept-sendable : (set : Settings) (beats : List StoreBeat) → AllByRecursion (λ (beat : StoreBeat). HaveWords beat.points) beats → AllByRecursion (AreBelow series) beats → AllByRecursion MaySend (kept_of set (map seen beats)).beats
   kept-sendable set beats forms below =
       let test = is_kept (floor_of 0 (first_tier set) (map seen beats)) in
       let some = filter (λ (beat : TierBeat). has_points beat && test beat) (map seen beats) in
@@ -194,10 +193,10 @@ module _ (series : ℕ) where
 -- ---- the answer
 module _ (past : List Event) (store : StoreState) (set : Settings) (h : List Beat) (holds : HoldsHistory past store set h) (ask : Ask) where
   -- another history is asked
-  pub not-asked : (ask.child ≡ store.settings.id → ⊥) → None ≡ data_of_history set h ask
+  pub not-asked : (ask.child ≡ store.body.settings.id → ⊥) → None ≡ data_of_history set h ask
   unfolding data_of_history
   not-asked other =
-      let child : store.settings.id ≡ set.id = ap (λ (set : Settings). set.id) holds.store_of.settings in
+      let child : store.body.settings.id ≡ set.id = ap (λ (set : Settings). set.id) (settings-of past store set h holds) in
       sym (cond-false (set.id == ask.child) _ _ (ne_eqb set.id ask.child (λ e. other (sym e ∙ sym child))))
 
   module _ (registry : Registry) (registry_is : registry ≡ registry_of h) (floor : ℕ) (floor_is : floor ≡ floor_at set (tier_beats h) 0)
@@ -206,16 +205,17 @@ module _ (past : List Event) (store : StoreState) (set : Settings) (h : List Bea
     found-sendable =
         let series = length registry.dimensions in
         let least : length (registry_of h).dimensions ≤ series = omega (arith, ap (λ (r : Registry). length r.dimensions) registry_is) in
-        let beats = holds.stored.after in
-        let are = holds.are.after in
+        let all = were_kept set h holds.stored holds.are in
+        let beats = all.beats in
+        let are = all.are in
         let whole = (kept_of set (tier_beats h)).beats in
-        let kept = subst (λ (all : List TierBeat). AllByRecursion (MaySend series) (kept_of set all).beats) (seen-beats h beats are) (kept-sendable series set beats holds.store_of.beats_are.forms (all-below h beats are series least)) in
+        let kept = subst (λ (all : List TierBeat). AllByRecursion (MaySend series) (kept_of set all).beats) (seen-beats h beats are) (kept-sendable series set beats (all-words h beats are) (all-below h beats are series least)) in
         let from = from_of floor ask.last in
         all-of-map (IsSendable series) sent_beat found
         (subst (AllByRecursion (MaySend series)) (sym found_is)
         (all-take (MaySend series) 64 (filter (is_above from) whole) (all-filter (MaySend series) (is_above from) whole kept)))
 
-    pub answer-is : (answer : Option Data) → answer ≡ data_of store.settings.id floor (names_of registry) (map sent_beat found) ask → answer ≡ data_of_history set h ask
+    pub answer-is : (answer : Option Data) → answer ≡ data_of store.body.settings.id floor (names_of registry) (map sent_beat found) ask → answer ≡ data_of_history set h ask
     unfolding data_of_history
     answer-is answer is =
         let from = from_of floor ask.last in
@@ -223,11 +223,11 @@ module _ (past : List Event) (store : StoreState) (set : Settings) (h : List Bea
         let whole = (kept_of_history set h).beats in
         let whole_is : kept ≡ whole = λ i. (kept-is set h i).beats in
         let floor_now : floor ≡ floor_of_history set h 0 = floor_is ∙ floor-is set h 0 in
-        let id : store.settings.id ≡ set.id = ap (λ (set : Settings). set.id) holds.store_of.settings in
+        let id : store.body.settings.id ≡ set.id = ap (λ (set : Settings). set.id) (settings-of past store set h holds) in
         let front : map sent_beat found ≡ take 64 (above beat_moment from (map sent_beat whole)) =
         ap (map sent_beat) found_is ∙ sym (take-map sent_beat 64 (filter (is_above from) kept))
         ∙ ap (take 64) (ap (λ (kept : List KeptBeat). map sent_beat (filter (is_above from) kept)) whole_is ∙ sym (above-map (λ (beat : KeptBeat). beat.moment) beat_moment sent_beat (λ beat. refl) from whole)) in
         is
-        ∙ ap (λ (beats : List SentBeat). data_of store.settings.id floor (names_of registry) beats ask) front
-        ∙ data_of-take store.settings.id floor (names_of registry) (map sent_beat whole) ask (let all = were_kept h holds.stored holds.are in sent-rises set h all.beats all.are ask)
+        ∙ ap (λ (beats : List SentBeat). data_of store.body.settings.id floor (names_of registry) beats ask) front
+        ∙ data_of-take store.body.settings.id floor (names_of registry) (map sent_beat whole) ask (let all = were_kept set h holds.stored holds.are in sent-rises set h all.beats all.are ask)
         ∙ (λ i. data_of (id i) (floor_now i) (names_of (registry_is i)) (map sent_beat whole) ask)

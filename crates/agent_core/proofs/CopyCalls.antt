@@ -12,11 +12,12 @@ use Rattle.alarm_events.specs.declared.event.Event.{Event as AlarmEvent}
 use Rattle.replication.specs.declared.message.Data.{Data}
 use Rattle.replication.specs.Verdict.{is_stored, verdict_by}
 use Rattle.tier_settings.specs.declared.settings.Settings.{Settings}
-use Rattle.store_core.specs.Store.{counted}
+use Rattle.store_core.specs.Counts.{counted}
 use Rattle.agent_core.specs.Agent.{left_in, AgentState, IsAgentOf}
 use Rattle.agent_core.specs.Calls.{agent_adds, agent_verdict}
 use Rattle.agent_core.specs.Copying.{added_by, added_to, beats_of, copy_refusal, definitions_in, events_onto, names_refusal}
-use Rattle.agent_core.specs.Kept.{onto, StandsForFront}
+use Rattle.agent_core.specs.Kept.{onto}
+use Rattle.agent_core.specs.Stands.{StandsForFront}
 use Rattle.agent_core.specs.declared.left.Role.{Role}
 use Rattle.agent_core.specs.Roles.{may_copy}
 use Rattle.agent_core.specs.Storing.{HasAdded}
@@ -57,7 +58,7 @@ counted-by n more = omega arith
 
 -- an agent with a message on its history is of that
 pub agent-copied : (past new : List Event) (agent agent' : AgentState) (set : Settings) (h : List Beat) (message : Data) (events : List AlarmEvent) → IsAgentOf past agent set h
-    → HasAdded new agent'.store (left_in agent') set h (beats_of agent.registry message) events → agent'.last ≡ agent'.store.last → agent'.count ≡ counted (agent.count + length (beats_of agent.registry message))
+    → HasAdded new agent'.store (left_in agent') set h (beats_of agent.registry message) events → agent'.last ≡ agent'.store.tiers.last → agent'.count ≡ counted (agent.count + length (beats_of agent.registry message))
     → agent'.fault ≡ None → IsAgentOf new agent' set (onto h (beats_of agent.registry message))
 agent-copied past new agent agent' set h message events is_of added last_is count going =
     let more = beats_of agent.registry message in

@@ -32,11 +32,12 @@ use Rattle.link_frames.specs.DataForm.{IsData}
 use Rattle.store_core.specs.Store.{StoreState}
 use Rattle.agent_core.specs.Alarms.{events_at}
 use Rattle.agent_core.specs.Copying.{beats_of, copied_of, copy_refusal, definitions_in, events_onto, names_refusal, nothing_defined}
-use Rattle.agent_core.specs.Kept.{onto, HoldsHistory, StandsForFront, StandsForHistory}
+use Rattle.agent_core.specs.Kept.{onto}
+use Rattle.agent_core.specs.Stands.{HoldsHistory, StandsForFront, StandsForHistory}
 use Rattle.agent_core.specs.declared.left.Left.{Left}
 use Rattle.agent_core.specs.Left.{IsLeftBy}
 use Rattle.agent_core.specs.Roles.{may_copy, role_of}
-use Rattle.agent_core.specs.Storing.{gap_beats, later_copies, sent_copies, sent_words, with_names, HasAdded, IsSentAs, MayTake, MayTakeAll}
+use Rattle.agent_core.specs.Storing.{gap_beats, later_copies, sent_copies, sent_words, with_names, AreSent, HasAdded, IsSentAs, MayTake, MayTakeAll}
 use Rattle.agent_core.proofs.AlarmLemmas.{gap-outcome}
 use Rattle.agent_core.proofs.KeptLemmas.{stays}
 use Rattle.agent_core.proofs.StoringLemmas.{gap-none, gap-some}
@@ -103,6 +104,23 @@ module _ (old now new : List Event) (set : Settings) (h more : List Beat) (n : �
     };
   }
 
+-- ---- room for the next of them
+-- the history stands without them
+pub front-none : (set : Settings) (h more : List Beat) (old new : List Event) → Throughout (EveryDisk (StandsForHistory set h)) old new → Throughout (EveryDisk (StandsForFront set h more)) old new
+front-none set h more old new moments = disks_weaker (λ disk stands. (0, stands)) moments
+
+module _ (old now new : List Event) (set : Settings) (h more : List Beat) (n : ℕ) (store : StoreState) (left : Left) (events : List AlarmEvent)
+    (stored : HaveStored old now set h more n store left events) (moments : Throughout (EveryDisk (StandsForHistory set (onto h (take n more)))) now new) where
+  pub room-moments : Throughout (EveryDisk (StandsForFront set h more)) old new
+  room-moments = joined stored.moments (disks_weaker (λ disk stands. (n, stands)) moments)
+
+  -- what was stored so far stays
+  pub stored-room : (store' : StoreState) → HoldsHistory new store' set (onto h (take n more)) → HaveStored old new set h more n store' left events
+  stored-room store' holds = record {
+    moments = room-moments;
+    added = record { holds = holds; left_by = stored.added.left_by; events_are = stored.added.events_are };
+  }
+
 -- ---- the beats of a Data
 pub all-at : {X : Type 0} (p : X → Bool) (xs : List X) (i : ℕ) (x : X) → slice_get xs i ≡ Some x → list_all p xs ≡ true → p x ≡ true
 all-at p [] i x at all = absurd (none-some x at)
@@ -118,6 +136,15 @@ pub latest-next : (low : ℕ) (beats : List SentBeat) (i : ℕ) (beat : SentBeat
 latest-next low [] i beat at = absurd (none-some beat at)
 latest-next low (first ∷ beats) zero beat at = ap (λ (b : SentBeat). b.moment) (sym (same_Some first beat at))
 latest-next low (first ∷ beats) (suc i) beat at = latest-next first.moment beats i beat at
+
+-- those behind the first of them
+pub rest-sent : (low now : ℕ) (message : Data) (first : SentBeat) (rest : List SentBeat) → AreSent low message (first ∷ rest) → now ≡ first.moment → AreSent now message rest
+rest-sent low now message first rest sent is = record {
+  names = sent.names;
+  places = (and_parts _ _ sent.places).1;
+  words = (and_parts _ _ sent.words).1;
+  rises = subst (λ (n : ℕ). RisesFrom beat_moment n rest) (sym is) sent.rises.1;
+}
 
 -- ---- the copies of a Data that define nothing
 abbrev numbered_chart : ℕ → ChartDef → NumberedChart

@@ -5,6 +5,7 @@ use Rattle.host_model.specs.declared.file.File.{File}
 use Rattle.host_model.specs.Past.{Event, Told}
 use Rattle.host_model.specs.Disks.{EveryDisk}
 use Rattle.host_model.specs.Moments.{Throughout}
+use Rattle.host_model.proofs.MomentLemmas.{joined}
 use Rattle.host_model.proofs.DiskLemmas.{disks_weaker}
 use Rattle.algorithms.specs.declared.last.Last.{Last}
 use Rattle.history.specs.declared.beat.OpenBeat.{OpenBeat}
@@ -21,16 +22,19 @@ use Rattle.entry_codec.specs.declared.entry.Entry.TheVariants as entry
 use Rattle.alarm_core.specs.Course.{held, Outcome}
 use Rattle.tier_settings.specs.declared.settings.Settings.{Settings}
 use Rattle.entry_codec.specs.Entries.{entry_bytes, HasSpelling}
-use Rattle.store_core.specs.declared.beat.Beat.{Beat as StoreBeat}
+use Rattle.beat_records.specs.declared.beat.Beat.{Beat as StoreBeat}
 use Rattle.beat_tiers.specs.declared.item.BeatPoint.{BeatPoint}
-use Rattle.store_core.specs.Stands.{StandsAround}
-use Rattle.store_core.specs.Store.{counted, raised, IsStoreOf, StoreState}
-use Rattle.store_core.specs.Stored.{stored_with}
-use Rattle.store_core.proofs.StoreLemmas.{every_image_of, store_told}
+use Rattle.store_core.specs.Stands.{StandsAround, StandsEither}
+use Rattle.store_core.specs.Counts.{counted, raised}
+use Rattle.store_core.specs.Store.{IsStoreOf, StoreState}
+use Rattle.store_core.specs.Stored.{advanced, stored_with}
+use Rattle.store_core.proofs.StandLemmas.{images-at, told-at}
 use Rattle.alarm_core.specs.declared.latest.Latest.{Latest}
 use Rattle.agent_core.specs.Agent.{left_in, AgentState, IsAgentOf}
 use Rattle.agent_core.specs.LastSeen.{IsLatestOf}
-use Rattle.agent_core.specs.Kept.{copied_point, kept_of, note_of, point_of, stored_points, AreBeatsOf, Follows, HoldsHistory, IsBeatOf, IsCopyOf, StandsForHealth, StandsForHistory, StandsForOneOf, IsTakenBeat}
+use Rattle.agent_core.specs.Kept.{copied_point, kept_of, note_of, point_of, stored_points, AreBeatsOf, Follows, IsBeatOf, IsCopyOf, IsTakenBeat}
+use Rattle.agent_core.specs.Sides.{IsSideOf}
+use Rattle.agent_core.specs.Stands.{HoldsHistory, IsStoredOf, StandsForHealth, StandsForHistory, StandsForOneOf}
 use Rattle.agent_core.specs.Left.{AwaitsAlarms, IsLeftBy}
 use Rattle.agent_core.specs.Replay.{HasRoom, HasSeenBeat, HasSeenCopy, HasTakenRows}
 use Rattle.agent_core.specs.declared.left.Left.{Left}
@@ -41,7 +45,7 @@ use Rattle.agent_core.specs.Health.{health_refusal}
 use Rattle.agent_core.proofs.HistoryLemmas.{before-of, child-of, copies-of, follows-passed}
 use Rattle.agent_core.proofs.AlarmLemmas.{gap-outcome}
 use Rattle.agent_core.proofs.LastSeenLemmas.{latest-missing}
-use Rattle.agent_core.proofs.StoredLemmas.{answers, stored_more, were_kept, WereKept}
+use Rattle.agent_core.proofs.StoredLemmas.{answers, stored_advanced, stored_more, were_kept, WereKept}
 
 -- what is kept is put together of its parts
 pub kept-is : (registry : Registry) (lasts : List (Option Last)) (h : List Beat) (moment : ℕ) (beat : OpenBeat) (words : List SeriesWord) (points : List BeatPoint) (note : List ℕ) → IsNext registry lasts h moment beat
@@ -82,32 +86,49 @@ seen-taken registry latest latest' h moment beat numbered kept same seen beats l
 module _ (past : List Event) (store : StoreState) (set : Settings) (h : List Beat) (holds : HoldsHistory past store set h) where
   -- whatever a crash leaves, the disk holds the history
   pub stays : EveryDisk (StandsForHistory set h) past
-  stays disk images = record { stored = holds.stored; are = holds.are; stands = every_image_of past store set holds.stored holds.store_of disk images }
+  stays disk images = record { stored = holds.stored; are = holds.are; stands = images-at past store holds.stored [] holds.store_of disk images }
 
   -- the last moment of the store is that of the history
-  pub store-last : store.last ≡ last h
-  store-last = holds.store_of.last ∙ (answers h holds.stored holds.are).last_is
+  pub store-last : store.tiers.last ≡ last h
+  store-last = (answers past store set h holds.stored [] holds.are holds.store_of).last_is
+
+  -- ---- a checkpoint with the side of the history
+  module _ (side : List ℕ) (is : IsSideOf set h side) where
+    moved-are : IsStoredOf set h (advanced holds.stored side)
+    moved-are = stored_advanced set h holds.stored side holds.are holds.store_of.has.follow is
+
+    -- at every moment the history stands
+    pub moves : (new : List Event) → Throughout (EveryDisk (StandsEither holds.stored (advanced holds.stored side))) past new → Throughout (EveryDisk (StandsForHistory set h)) past new
+    moves new moments = disks_weaker either moments
+      where
+        either : (disk : File → List ℕ) → StandsEither holds.stored (advanced holds.stored side) disk → StandsForHistory set h disk
+        either disk (inl stands) = record { stored = holds.stored; are = holds.are; stands = stands }
+        either disk (inr stands) = record { stored = advanced holds.stored side; are = moved-are; stands = stands }
+
+    -- and then the store still holds it
+    pub holds-moved : (new : List Event) (store' : StoreState) → IsStoreOf new store' (advanced holds.stored side) → HoldsHistory new store' set h
+    holds-moved new store' store_of = record { stored = advanced holds.stored side; are = moved-are; store_of = store_of }
 
   module _ (beat : Beat) (kept : StoreBeat) (of : IsBeatOf h beat kept) where
     -- at every moment of the store the history stands, or that with the beat
-    pub climbs : (new : List Event) → Throughout (EveryDisk (StandsAround set holds.stored kept)) past new
+    pub climbs : (new : List Event) → Throughout (EveryDisk (StandsAround holds.stored kept)) past new
         → Throughout (EveryDisk (λ disk. StandsForHistory set h disk ⊎ StandsForHistory set (beat ∷ h) disk)) past new
     climbs new moments = disks_weaker around moments
       where
-        around : (disk : File → List ℕ) → StandsAround set holds.stored kept disk → StandsForHistory set h disk ⊎ StandsForHistory set (beat ∷ h) disk
+        around : (disk : File → List ℕ) → StandsAround holds.stored kept disk → StandsForHistory set h disk ⊎ StandsForHistory set (beat ∷ h) disk
         around disk (inl stands) = inl (record { stored = holds.stored; are = holds.are; stands = stands })
-        around disk (inr stands) = inr (record { stored = stored_with holds.stored kept; are = stored_more h holds.stored beat kept holds.are of; stands = stands })
+        around disk (inr stands) = inr (record { stored = stored_with holds.stored kept; are = stored_more set h holds.stored beat kept holds.are of; stands = stands })
 
     -- and then the store holds that
-    pub holds-beat : (new : List Event) (store' : StoreState) → IsStoreOf new store' set (stored_with holds.stored kept) → HoldsHistory new store' set (beat ∷ h)
-    holds-beat new store' store_of = record { stored = stored_with holds.stored kept; are = stored_more h holds.stored beat kept holds.are of; store_of = store_of }
+    pub holds-beat : (new : List Event) (store' : StoreState) → IsStoreOf new store' (stored_with holds.stored kept) → HoldsHistory new store' set (beat ∷ h)
+    holds-beat new store' store_of = record { stored = stored_with holds.stored kept; are = stored_more set h holds.stored beat kept holds.are of; store_of = store_of }
 
   -- ---- a beat that was collected, and that the registry has taken
   module _ (before : Registry) (left : Left) (was : IsLeftBy set h (record left { registry = before })) (moment : ℕ) (beat : OpenBeat) (follows : Follows h moment beat)
       (numbered : NumberedBeat) (taken : IsTakenBeat before moment beat left.registry numbered) where
     is-next : IsNext left.registry left.last_rows h moment beat
     is-next =
-        let kept = were_kept h holds.stored holds.are in
+        let kept = were_kept set h holds.stored holds.are in
         record {
           registry_is = taken.applied ∙ ap (λ (r : Registry). with_definitions r beat.charts beat.dimensions) was.registry_is;
           lasts_are = was.last_rows_are;
@@ -131,9 +152,9 @@ module _ (past : List Event) (store : StoreState) (set : Settings) (h : List Bea
 
       -- all but the alarms has taken it
       pub collected-awaits : (lasts' : List (Option Last)) (seen : Left) → seen ≡ record left { last_rows = lasts'; latest = seen.latest } → HasTakenRows left.registry left.last_rows lasts' numbered
-          → HasSeenBeat left.registry left.latest seen.latest numbered kept.points → seen.latest.before ≡ store.last → AwaitsAlarms set h (collected moment beat) (record seen { role = Collects })
+          → HasSeenBeat left.registry left.latest seen.latest numbered kept.points → seen.latest.before ≡ store.tiers.last → AwaitsAlarms set h (collected moment beat) (record seen { role = Collects })
       collected-awaits lasts' seen only rows points at =
-          let all = were_kept h holds.stored holds.are in
+          let all = were_kept set h holds.stored holds.are in
           record {
             registry_is = ap (λ (l : Left). l.registry) only ∙ is-next.registry_is;
             role_is = refl;
@@ -147,10 +168,10 @@ module _ (past : List Event) (store : StoreState) (set : Settings) (h : List Bea
   -- ---- a copied beat, whose definitions the registry has
   pub copy-awaits : (before : Registry) (left : Left) → IsLeftBy set h (record left { registry = before }) → (copy : Copy) (kept : StoreBeat) (moment : ℕ) → IsCopyOf h copy kept
       → left.registry ≡ registry_of (copied copy ∷ h) → kept.moment ≡ Some moment → (lasts' : List (Option Last)) (seen : Left) → seen ≡ record left { last_rows = lasts'; latest = seen.latest }
-      → HasRoom left.registry left.last_rows lasts' → HasSeenCopy left.registry left.latest seen.latest moment kept.points → seen.latest.before ≡ store.last
+      → HasRoom left.registry left.last_rows lasts' → HasSeenCopy left.registry left.latest seen.latest moment kept.points → seen.latest.before ≡ store.tiers.last
       → AwaitsAlarms set h (copied copy) (record seen { role = Copies copy.child })
   copy-awaits before left was copy kept moment of is at lasts' seen only room points before_is =
-      let all = were_kept h holds.stored holds.are in
+      let all = were_kept set h holds.stored holds.are in
       let moment_is : moment ≡ copy.moment = same_Some moment copy.moment (sym at ∙ ap (λ (k : StoreBeat). k.moment) of.is_kept) in
       let points_are : kept.points ≡ map (copied_point left.registry) copy.words = ap (λ (k : StoreBeat). k.points) of.is_kept ∙ ap (λ (r : Registry). map (copied_point r) copy.words) (sym is) in
       record {
@@ -187,18 +208,24 @@ left-gap set h gap left was = record {
   alarms_are = was.alarms_are ∙ ap (λ (o : Outcome). o.held) (gap-outcome set h gap);
 }
 
+-- ---- the history stands, and then it or another
+pub then-either : (old middle new : List Event) (set : Settings) (h more : List Beat) → Throughout (EveryDisk (StandsForHistory set h)) old middle
+    → Throughout (EveryDisk (λ disk. StandsForHistory set h disk ⊎ StandsForHistory set more disk)) middle new
+    → Throughout (EveryDisk (λ disk. StandsForHistory set h disk ⊎ StandsForHistory set more disk)) old new
+then-either old middle new set h more first second = joined (disks_weaker (λ disk stands. inl stands) first) second
+
 -- ---- the agent
 counted-more : (n : ℕ) → raised (counted n) ≡ counted (n + 1)
 counted-more n = omega arith
 
 -- a store has kept beats for its history
 pub agent-kept : (past : List Event) (agent : AgentState) (set : Settings) (h : List Beat) → IsAgentOf past agent set h → WereKept h
-agent-kept past agent set h is_of = were_kept h is_of.holds.stored is_of.holds.are
+agent-kept past agent set h is_of = were_kept set h is_of.holds.stored is_of.holds.are
 
 -- telling changes nothing of it
 pub agent-told : (sent : List ℕ) (past : List Event) (agent : AgentState) (set : Settings) (h : List Beat) → IsAgentOf past agent set h → IsAgentOf (Told sent ∷ past) agent set h
 agent-told sent past agent set h is_of = record {
-  holds = record { stored = is_of.holds.stored; are = is_of.holds.are; store_of = store_told sent past agent.store set is_of.holds.stored [] is_of.holds.store_of };
+  holds = record { stored = is_of.holds.stored; are = is_of.holds.are; store_of = told-at sent past agent.store is_of.holds.stored [] is_of.holds.store_of };
   left_by = is_of.left_by;
   last_is = is_of.last_is;
   count = is_of.count;

@@ -3,46 +3,63 @@ use Rattle.std.proofs.Common.{◌≡◌, ◌⊎◌, ℕ, inl, inr, List, [], Som
 use Rattle.host_model.specs.Cause.{HasCause}
 use Rattle.host_model.specs.declared.file.File.{File}
 use Rattle.host_model.specs.Past.{Event, IsDisk}
-use Rattle.host_model.specs.Disks.{EveryDisk}
+use Rattle.host_model.specs.Disks.{reads_as, EveryDisk}
 use Rattle.host_model.specs.Moments.{Throughout}
 use Rattle.host_model.proofs.DiskLemmas.{disks_weaker}
+use Rattle.host_model.proofs.MomentLemmas.{at_end}
 use Rattle.tier_settings.specs.declared.settings.Settings.{Settings}
+use Rattle.tier_settings.specs.Limits.{InLimits}
 use Rattle.store_core.specs.declared.fault.StoreFault.{StoreFault}
 use Rattle.store_core.specs.declared.fault.StoreFault.TheVariants as store_fault
 use Rattle.store_core.specs.Stands.{StandsIfMade}
 use Rattle.store_core.specs.Store.{IsStoreOf, StoreState}
-use Rattle.store_core.specs.Stored.{nothing_stored}
+use Rattle.store_core.specs.Stored.{new_database}
 use Rattle.agent_core.specs.Agent.{left_in, AgentState, IsAgentOf}
+use Rattle.agent_core.specs.Calls.{ReadsAsBefore}
 use Rattle.agent_core.specs.declared.fault.AgentFault.{AgentFault}
 use Rattle.agent_core.specs.declared.fault.AgentFault.TheVariants as agent_fault
 use Rattle.agent_core.specs.Faults.{fault_of}
-use Rattle.agent_core.specs.Kept.{StandsForNew}
+use Rattle.agent_core.specs.Sides.{IsSideOf}
+use Rattle.agent_core.specs.Stands.{StandsForNew}
 use Rattle.agent_core.specs.Left.{IsLeftBy}
-use Rattle.agent_core.proofs.StoredLemmas.{stored_none}
+use Rattle.agent_core.proofs.StoredLemmas.{stored_new}
 
 -- a crash left this disk before, or it holds no database, or the one with these settings and without beats
 abbrev pub WasOrIsNew : List Event → Settings → (File → List ℕ) → Type 0
 WasOrIsNew old set disk = IsDisk old disk ⊎ StandsForNew set disk
 
-pub new_climbs : (set : Settings) (old new : List Event) → Throughout (EveryDisk (λ disk. IsDisk old disk ⊎ StandsIfMade set disk)) old new
-    → Throughout (EveryDisk (WasOrIsNew old set)) old new
-new_climbs set old new moments = disks_weaker by moments
-  where
-    by : (disk : File → List ℕ) → IsDisk old disk ⊎ StandsIfMade set disk → WasOrIsNew old set disk
-    by disk (inl was) = inl was
-    by disk (inr (inl none)) = inr (inl none)
-    by disk (inr (inr stands)) = inr (inr (record { stored = nothing_stored; are = stored_none; stands = stands }))
+module _ (set : Settings) (side : List ℕ) (limits : InLimits set) (is : IsSideOf set [] side) where
+  pub new_climbs : (old new : List Event) → Throughout (EveryDisk (λ disk. IsDisk old disk ⊎ StandsIfMade set side disk)) old new
+      → Throughout (EveryDisk (WasOrIsNew old set)) old new
+  new_climbs old new moments = disks_weaker by moments
+    where
+      by : (disk : File → List ℕ) → IsDisk old disk ⊎ StandsIfMade set side disk → WasOrIsNew old set disk
+      by disk (inl was) = inl was
+      by disk (inr (inl none)) = inr (inl none)
+      by disk (inr (inr stands)) = inr (inr (record { stored = new_database set side; are = stored_new set side limits is; stands = stands }))
 
--- the agent of a history without beats
-pub new_is_of : (past : List Event) (store : StoreState) (agent : AgentState) (set : Settings) → IsStoreOf past store set nothing_stored → IsLeftBy set [] (left_in agent) → agent.store ≡ store → agent.last ≡ 0 → agent.count ≡ 0 → agent.fault ≡ None
-    → IsAgentOf past agent set []
-new_is_of past store agent set store_of left same last_is count going = record {
-  holds = record { stored = nothing_stored; are = stored_none; store_of = subst (λ (s : StoreState). IsStoreOf past s set nothing_stored) (sym same) store_of };
-  left_by = left;
-  last_is = last_is;
-  count = count;
-  going = going;
-}
+  -- the agent of a history without beats
+  pub new_is_of : (past : List Event) (store : StoreState) (agent : AgentState) → IsStoreOf past store (new_database set side) → IsLeftBy set [] (left_in agent)
+      → agent.store ≡ store → agent.last ≡ 0 → agent.count ≡ 0 → agent.fault ≡ None → IsAgentOf past agent set []
+  new_is_of past store agent store_of left same last_is count going = record {
+    holds = record {
+      stored = new_database set side;
+      are = stored_new set side limits is;
+      store_of = subst (λ (s : StoreState). IsStoreOf past s (new_database set side)) (sym same) store_of;
+    };
+    left_by = left;
+    last_is = last_is;
+    count = count;
+    going = going;
+  }
+
+-- ---- what was there before
+
+pub before-itself : (past : List Event) → ReadsAsBefore past past
+before-itself past = record { same = λ file. refl; disks = λ disk images. images }
+
+pub before-at_end : (old new : List Event) → ((file : File) → reads_as new file ≡ reads_as old file) → Throughout (EveryDisk (IsDisk old)) old new → ReadsAsBefore old new
+before-at_end old new same moments = record { same = same; disks = at_end moments }
 
 -- ---- a failure of the disk under an agent that is made
 told-disk : (fault : StoreFault) → fault_of fault ≡ Some agent_fault.DiskFault → fault ≡ store_fault.DiskFault
@@ -77,3 +94,31 @@ made-cause {A = A} {B = B} old new result fault told is says cause = record {
   failed = λ failed. cause.failed (is ∙ ap (λ (f : StoreFault). store_failed_as f) (told-disk fault (says ∙ ap (λ (f : AgentFault). Some f) (one-fault {A = B} told agent_fault.DiskFault failed))));
   stays = λ other. cause.stays (λ failed. other (ap (λ (f : AgentFault). failed_as f) (same-told told agent_fault.DiskFault (sym says ∙ ap fault_of (one-store {A = A} fault store_fault.DiskFault (sym is ∙ failed))))));
 }
+
+-- ---- where there is a database already
+told-as : (fault known : StoreFault) (told is : AgentFault) → fault_of fault ≡ Some told → fault_of known ≡ Some is → fault ≡ known → told ≡ is
+told-as fault known told is says of same = same-told told is (sym says ∙ ap fault_of same ∙ of)
+
+pub made-told : {A B : Type 0} (result : Result A StoreFault) (fault : StoreFault) (told : AgentFault) → result ≡ store_failed_as fault → fault_of fault ≡ Some told
+    → (result ≡ store_failed_as store_fault.Exists) ⊎ (result ≡ store_failed_as store_fault.DiskFault) ⊎ (result ≡ store_failed_as store_fault.Memory)
+    → (failed_as {A = B} told ≡ failed_as agent_fault.Exists) ⊎ ((failed_as {A = B} told ≡ failed_as agent_fault.DiskFault) ⊎ (failed_as {A = B} told ≡ failed_as agent_fault.Memory))
+made-told {A = A} {B = B} result fault told is says (inl e) =
+    inl (ap (λ (f : AgentFault). failed_as f) (told-as fault store_fault.Exists told agent_fault.Exists says refl (one-store {A = A} fault store_fault.Exists (sym is ∙ e))))
+made-told {A = A} {B = B} result fault told is says (inr (inl e)) =
+    inr (inl (ap (λ (f : AgentFault). failed_as f) (told-as fault store_fault.DiskFault told agent_fault.DiskFault says refl (one-store {A = A} fault store_fault.DiskFault (sym is ∙ e)))))
+made-told {A = A} {B = B} result fault told is says (inr (inr e)) =
+    inr (inr (ap (λ (f : AgentFault). failed_as f) (told-as fault store_fault.Memory told agent_fault.Memory says refl (one-store {A = A} fault store_fault.Memory (sym is ∙ e)))))
+
+told-memory : (fault : StoreFault) → fault_of fault ≡ Some agent_fault.Memory → fault ≡ store_fault.Memory
+told-memory store_fault.DiskFault is = cc
+told-memory store_fault.NotADatabase is = cc
+told-memory (store_fault.Damaged part) is = cc
+told-memory store_fault.MomentOrder is = cc
+told-memory (store_fault.Reopen cause) is = cc
+told-memory store_fault.Exists is = cc
+told-memory store_fault.Memory is = refl
+
+pub made-memory : {A B : Type 0} (result : Result A StoreFault) (fault : StoreFault) (told : AgentFault) → result ≡ store_failed_as fault → fault_of fault ≡ Some told
+    → failed_as {A = B} told ≡ failed_as agent_fault.Memory → result ≡ store_failed_as store_fault.Memory
+made-memory {A = A} {B = B} result fault told is says memory =
+    is ∙ ap (λ (f : StoreFault). store_failed_as f) (told-memory fault (says ∙ ap (λ (f : AgentFault). Some f) (one-fault {A = B} told agent_fault.Memory memory)))

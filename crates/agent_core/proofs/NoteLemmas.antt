@@ -1,19 +1,18 @@
 -- What the notes of kept beats leave as they are replayed, of whatever history they are.
 use Rattle.std.proofs.Common.{◌≡◌, ℕ, Bool, true, false, ◌&&◌, List, [], ◌∷◌, Option, Some, None, Ok, refl, sym, ap, ◌∙◌, true≢false, if◌then◌else◌}
-use Rattle.std.specs.Option.{option_map_or}
+use Rattle.std.specs.Option.{option_map, option_map_or}
 use Rattle.host_model.specs.declared.file.File.{File}
 use Rattle.host_model.specs.Past.{Event}
 use Rattle.entry_codec.specs.declared.entry.Entry.{Entry}
-use Rattle.tier_settings.specs.declared.settings.Settings.{Settings}
 use Rattle.entry_codec.specs.Entries.{read_entry}
 use Rattle.beat_entries.proofs.Steps.{number-yes}
-use Rattle.store_core.specs.declared.beat.Beat.{Beat as StoreBeat}
+use Rattle.beat_records.specs.declared.beat.Beat.{Beat as StoreBeat}
 use Rattle.store_core.specs.Stands.{Stands}
-use Rattle.store_core.specs.Store.{IsReplayed, IsStoreAt, OpensAt, Replays, StoreState}
-use Rattle.store_core.specs.Stored.{base_of, stored_with, stored_with_all, Stored}
-use Rattle.store_core.proofs.StandLemmas.{stands_once}
+use Rattle.store_core.specs.Store.{base_of, IsReplayed, IsStoreAt, OpensAt, Replays, StoreState}
+use Rattle.store_core.specs.Stored.{stored_with, stored_with_all, Stored}
+use Rattle.store_core.proofs.StandLemmas.{stands-once}
 use Rattle.agent_core.specs.declared.left.Left.{Left}
-use Rattle.agent_core.specs.Notes.{beats_go_on, entry_at, entry_goes_on, entry_in, left_after, moment_of, names_series, noted_in, notes_go_on, same_moment, takes_note, with_entry, with_note, HasNotes, Noted}
+use Rattle.agent_core.specs.Notes.{beats_go_on, entry_at, entry_goes_on, entry_in, left_after, left_by, moment_of, names_series, noted_in, noted_in_side, notes_go_on, same_moment, takes_note, with_entry, with_note, HasNotes, Noted}
 use Rattle.agent_core.specs.Replay.{HasTaken}
 
 -- ---- the entry of a note
@@ -80,8 +79,8 @@ module _ (start : Noted) where
 
   -- ---- a store that replays
 
-  pub taken-begins : (past : List Event) (store : StoreState) (left : Left) (set : Settings) (stored : Stored) → OpensAt past store set stored → noted_in left ≡ start → HasTaken start past store left set stored
-  taken-begins past store left set stored opens is = record {
+  pub taken-begins : (past : List Event) (store : StoreState) (left : Left) (stored : Stored) → OpensAt past store stored → noted_in left ≡ start → HasTaken start past store left stored
+  taken-begins past store left stored opens is = record {
     applied = base_of stored;
     rest = opens.rest;
     whole = opens.whole;
@@ -90,10 +89,10 @@ module _ (start : Noted) where
     left_is = is ∙ sym left-none;
   }
 
-  module _ (past : List Event) (store store' : StoreState) (left : Left) (set : Settings) (stored : Stored) where
+  module _ (past : List Event) (store store' : StoreState) (left : Left) (stored : Stored) where
     module _ (kept : StoreBeat) where
-      step-more : (left' : Left) (applied : Stored) (rest : List StoreBeat) → stored_with_all applied rest ≡ stored → Replays past store' set applied rest (Some kept) → beats_go_on start applied.after ≡ true
-          → noted_in left ≡ left_after start applied.after → noted_in left' ≡ with_note (noted_in left) kept → takes_note (noted_in left) kept ≡ true → HasTaken start past store' left' set stored
+      step-more : (left' : Left) (applied : Stored) (rest : List StoreBeat) → stored_with_all applied rest ≡ stored → Replays past store' applied rest (Some kept) → beats_go_on start applied.after ≡ true
+          → noted_in left ≡ left_after start applied.after → noted_in left' ≡ with_note (noted_in left) kept → takes_note (noted_in left) kept ≡ true → HasTaken start past store' left' stored
       step-more left' applied [] whole replays go_on is made takes = absurd replays
       step-more left' applied (first ∷ rest) whole replays go_on is made takes = record {
         applied = stored_with applied kept;
@@ -104,29 +103,29 @@ module _ (start : Noted) where
         left_is = left-more (noted_in left) (noted_in left') applied.after kept is made;
       }
 
-      step-broken : (applied : Stored) (rest : List StoreBeat) → stored_with_all applied rest ≡ stored → Replays past store' set applied rest (Some kept) → beats_go_on start applied.after ≡ true
+      step-broken : (applied : Stored) (rest : List StoreBeat) → stored_with_all applied rest ≡ stored → Replays past store' applied rest (Some kept) → beats_go_on start applied.after ≡ true
           → noted_in left ≡ left_after start applied.after → takes_note (noted_in left) kept ≡ false → beats_go_on start stored.after ≡ false
       step-broken applied [] whole replays go_on is stops = absurd replays
       step-broken applied (first ∷ rest) whole replays go_on is stops =
           ap (λ (s : Stored). beats_go_on start s.after) (sym (ap (λ (next : StoreBeat). stored_with_all (stored_with applied next) rest) replays.0 ∙ whole))
           ∙ never (stored_with applied kept) rest (go-on-more (noted_in left) applied.after kept false go_on is stops)
 
-      pub taken-more : (left' : Left) → HasTaken start past store left set stored
-          → ((applied : Stored) (rest : List StoreBeat) → IsStoreAt past store set applied rest → Replays past store' set applied rest (Some kept))
-          → noted_in left' ≡ with_note (noted_in left) kept → takes_note (noted_in left) kept ≡ true → HasTaken start past store' left' set stored
+      pub taken-more : (left' : Left) → HasTaken start past store left stored
+          → ((applied : Stored) (rest : List StoreBeat) → IsStoreAt past store applied rest → Replays past store' applied rest (Some kept))
+          → noted_in left' ≡ with_note (noted_in left) kept → takes_note (noted_in left) kept ≡ true → HasTaken start past store' left' stored
       taken-more left' was replays made takes = step-more left' was.applied was.rest was.whole (replays was.applied was.rest was.is_at) was.go_on was.left_is made takes
 
-      pub taken-broken : HasTaken start past store left set stored
-          → ((applied : Stored) (rest : List StoreBeat) → IsStoreAt past store set applied rest → Replays past store' set applied rest (Some kept))
+      pub taken-broken : HasTaken start past store left stored
+          → ((applied : Stored) (rest : List StoreBeat) → IsStoreAt past store applied rest → Replays past store' applied rest (Some kept))
           → takes_note (noted_in left) kept ≡ false → beats_go_on start stored.after ≡ false
       taken-broken was replays stops = step-broken was.applied was.rest was.whole (replays was.applied was.rest was.is_at) was.go_on was.left_is stops
 
-    none-left : (applied : Stored) (rest : List StoreBeat) → Replays past store' set applied rest None → IsStoreAt past store' set applied rest
+    none-left : (applied : Stored) (rest : List StoreBeat) → Replays past store' applied rest None → IsStoreAt past store' applied rest
     none-left applied [] replays = replays
     none-left applied (first ∷ rest) replays = absurd replays
 
-    pub taken-same : HasTaken start past store left set stored → ((applied : Stored) (rest : List StoreBeat) → IsStoreAt past store set applied rest → Replays past store' set applied rest None)
-        → HasTaken start past store' left set stored
+    pub taken-same : HasTaken start past store left stored → ((applied : Stored) (rest : List StoreBeat) → IsStoreAt past store applied rest → Replays past store' applied rest None)
+        → HasTaken start past store' left stored
     taken-same was replays = record {
       applied = was.applied;
       rest = was.rest;
@@ -137,31 +136,39 @@ module _ (start : Noted) where
     }
 
   -- at the end all notes have gone on
-  pub taken-all : (past : List Event) (store : StoreState) (left : Left) (set : Settings) (stored : Stored) → HasTaken start past store left set stored → IsReplayed store → beats_go_on start stored.after ≡ true
-  taken-all past store left set stored was done =
+  pub taken-all : (past : List Event) (store : StoreState) (left : Left) (stored : Stored) → HasTaken start past store left stored → IsReplayed store → beats_go_on start stored.after ≡ true
+  taken-all past store left stored was done =
       let none : was.rest ≡ [] = sym was.is_at.waiting ∙ done in
       ap (λ (s : Stored). beats_go_on start s.after) (sym was.whole ∙ ap (stored_with_all was.applied) none) ∙ was.go_on
 
   -- and this is what they leave
-  pub taken-left : (past : List Event) (store : StoreState) (left : Left) (set : Settings) (stored : Stored) → HasTaken start past store left set stored → IsReplayed store → noted_in left ≡ left_after start stored.after
-  taken-left past store left set stored was done =
+  pub taken-left : (past : List Event) (store : StoreState) (left : Left) (stored : Stored) → HasTaken start past store left stored → IsReplayed store → noted_in left ≡ left_after start stored.after
+  taken-left past store left stored was done =
       let none : was.rest ≡ [] = sym was.is_at.waiting ∙ done in
       was.left_is ∙ ap (λ (s : Stored). left_after start s.after) (sym (ap (stored_with_all was.applied) none) ∙ was.whole)
 
--- what is known of what a store has stored is known of a disk that it was opened on
-pub noted : (goes : Bool) (disk : File → List ℕ) (past : List Event) (store : StoreState) → ((set : Settings) (stored : Stored) → Stands set stored disk → OpensAt past store set stored)
-    → (set : Settings) × (stored : Stored) × Stands set stored disk
-    → ((past : List Event) (set : Settings) (stored : Stored) → OpensAt past store set stored → notes_go_on stored ≡ goes) → HasNotes goes disk
-noted goes disk past store opens found all = record {
-  settings = found.0;
-  stored = found.1;
-  stands = found.2;
-  notes = all past found.0 found.1 (opens found.0 found.1 found.2);
-}
+-- ---- what is stored, with its side
+
+-- where the side is good, the notes go on just as the beats since do
+pub goes-by : (start : Noted) (stored : Stored) (goes : Bool) → noted_in_side stored.base.side ≡ Some start → beats_go_on start stored.after ≡ goes → notes_go_on stored ≡ goes
+goes-by start stored goes good e = ap (λ (o : Option Noted). option_map_or (λ (s : Noted). beats_go_on s stored.after) o false) good ∙ e
+
+-- and they leave what those leave
+pub left-is : (start left : Noted) (stored : Stored) → noted_in_side stored.base.side ≡ Some start → left ≡ left_after start stored.after → left_by stored ≡ Some left
+left-is start left stored good e =
+    ap (λ (o : Option Noted). option_map (λ (s : Noted). left_after s stored.after) o) good ∙ ap (λ (l : Noted). Some l) (sym e)
+
+-- and else they do not go on
+pub never-good : (stored : Stored) → noted_in_side stored.base.side ≡ None → notes_go_on stored ≡ false
+never-good stored bad = ap (λ (o : Option Noted). option_map_or (λ (s : Noted). beats_go_on s stored.after) o false) bad
 
 -- ---- a disk
+
+-- what is stored does not go on where a store that was opened on the disk tells so
+pub never-notes : (disk : File → List ℕ) (past : List Event) (store : StoreState) → ((stored : Stored) → Stands stored disk → OpensAt past store stored)
+    → ((past : List Event) (stored : Stored) → OpensAt past store stored → notes_go_on stored ≡ false) → HasNotes true disk → ⊥
+never-notes disk past store opens stops notes = true≢false (sym notes.notes ∙ stops past notes.stored (opens notes.stored notes.stands))
+
 -- a disk holds one database at most
 pub notes-once : (disk : File → List ℕ) → HasNotes true disk → HasNotes false disk → ⊥
-notes-once disk go stop =
-    let same = stands_once go.settings stop.settings go.stored stop.stored disk go.stands stop.stands in
-    true≢false (sym go.notes ∙ ap notes_go_on same.stored_same ∙ stop.notes)
+notes-once disk go stop = true≢false (sym go.notes ∙ ap notes_go_on (stands-once go.stored stop.stored disk go.stands stop.stands) ∙ stop.notes)

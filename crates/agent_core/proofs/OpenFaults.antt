@@ -1,49 +1,162 @@
 -- Why an agent is not opened: the faults of its store, and of its replay.
-use Rattle.std.proofs.Common.{◌≡◌, ◌⊎◌, inl, inr, ℕ, Some, Result, Ok, Err, IfErr, refl, sym, ap, ◌∙◌, arith}
-use Rattle.std.proofs.lemmas.Option.{same_Some}
+use Rattle.std.proofs.Common.{◌≡◌, ◌⊎◌, inl, inr, ℕ, zero, suc, ◌≤◌, true, List, Option, Some, None, IsSome, Result, Ok, Err, IfErr, refl, sym, ap, ◌∙◌, subst, arith}
+use Rattle.std.specs.Option.{is_some}
+use Rattle.std.proofs.lemmas.Option.{none-some, same_Some}
+use Rattle.host_model.specs.declared.file.File.{File}
+use Rattle.store_core.specs.Damaged.{IsDamagedIn}
+use Rattle.store_core.specs.Stands.{is_made}
 use Rattle.store_core.specs.declared.fault.StoreFault.{StoreFault}
 use Rattle.store_core.specs.declared.fault.StoreFault.TheVariants as store
-use Rattle.store_core.specs.Faults.{IsOpenFault}
+use Rattle.store_core.specs.declared.fault.Why.{Why}
+use Rattle.store_core.specs.Faults.{IsOpenFault, IsReplayFault, ReopensWith}
+use Rattle.store_core.proofs.StandLemmas.{is-made, never-damaged}
 use Rattle.agent_core.specs.declared.fault.AgentFault.{AgentFault}
-use Rattle.agent_core.specs.declared.fault.AgentFault.TheVariants.{DiskFault, NotADatabase, Damaged, Memory}
-use Rattle.agent_core.specs.Faults.{fault_of}
+use Rattle.agent_core.specs.declared.fault.AgentFault.TheVariants.{Refused, Health, DiskFault, NotADatabase, Damaged, Reopen, Exists, Memory}
+use Rattle.agent_core.specs.Faults.{fault_of, IsOpening, IsUnopened, IsUnreplayed}
+use Rattle.agent_core.specs.Notes.{IsDamaged}
+
+-- ---- what a fault of a store is for an agent
 
 -- a fault is known by what it is for the agent
 is-fault : (fault known : StoreFault) (answer is : AgentFault) → fault ≡ known → fault_of known ≡ Some is → fault_of fault ≡ Some answer → answer ≡ is
 is-fault fault known answer is same of e = same_Some answer is (sym e ∙ ap fault_of same ∙ of)
 
--- where there is a database that is not damaged
-pub disk-or-memory : (fault : StoreFault) (answer : AgentFault) → fault_of fault ≡ Some answer → IsOpenFault fault → (fault ≡ store.NotADatabase → ⊥) → (fault ≡ store.Damaged 4 → ⊥)
+-- where there is a database of beats
+pub disk-or-memory : (fault : StoreFault) (answer : AgentFault) → fault_of fault ≡ Some answer → (fault ≡ store.DiskFault) ⊎ (fault ≡ store.Memory)
     → (answer ≡ DiskFault) ⊎ (answer ≡ Memory)
-disk-or-memory fault answer of (inl e) made whole = inl (is-fault fault store.DiskFault answer DiskFault e refl of)
-disk-or-memory fault answer of (inr (inl e)) made whole = absurd (made e)
-disk-or-memory fault answer of (inr (inr (inl e))) made whole = absurd (whole e)
-disk-or-memory fault answer of (inr (inr (inr e))) made whole = inr (is-fault fault store.Memory answer Memory e refl of)
+disk-or-memory fault answer of (inl e) = inl (is-fault fault store.DiskFault answer DiskFault e refl of)
+disk-or-memory fault answer of (inr e) = inr (is-fault fault store.Memory answer Memory e refl of)
+
+-- a store that is not opened is so for this reason
+pub opens-said : (fault : StoreFault) → IsOpenFault fault → IsSome (fault_of fault)
+opens-said store.DiskFault is = refl
+opens-said store.NotADatabase is = refl
+opens-said (store.Damaged part) is = refl
+opens-said store.MomentOrder is = absurd is
+opens-said (store.Reopen cause) is = absurd is
+opens-said store.Exists is = absurd is
+opens-said store.Memory is = refl
+
+pub opens-unopened : (fault : StoreFault) (answer : AgentFault) → fault_of fault ≡ Some answer → IsOpenFault fault → IsUnopened answer
+opens-unopened store.DiskFault answer of is = subst IsUnopened (same_Some DiskFault answer of) tt
+opens-unopened store.NotADatabase answer of is = subst IsUnopened (same_Some NotADatabase answer of) tt
+opens-unopened (store.Damaged part) answer of is = subst IsUnopened (same_Some (Damaged part) answer of) is
+opens-unopened store.MomentOrder answer of is = absurd is
+opens-unopened (store.Reopen cause) answer of is = absurd is
+opens-unopened store.Exists answer of is = absurd is
+opens-unopened store.Memory answer of is = subst IsUnopened (same_Some Memory answer of) tt
+
+-- the part that is damaged is that of the store
+pub told-damaged : (fault : StoreFault) (part : ℕ) → fault_of fault ≡ Some (Damaged part) → fault ≡ store.Damaged part
+told-damaged store.DiskFault part of = cc
+told-damaged store.NotADatabase part of = cc
+told-damaged (store.Damaged other) part of = cc
+told-damaged store.MomentOrder part of = cc
+told-damaged (store.Reopen cause) part of = cc
+told-damaged store.Exists part of = cc
+told-damaged store.Memory part of = cc
+
+pub told-none : (fault : StoreFault) → fault_of fault ≡ Some NotADatabase → fault ≡ store.NotADatabase
+told-none store.DiskFault of = cc
+told-none store.NotADatabase of = refl
+told-none (store.Damaged part) of = cc
+told-none store.MomentOrder of = cc
+told-none (store.Reopen cause) of = cc
+told-none store.Exists of = cc
+told-none store.Memory of = cc
+
+-- ---- why a beat is not replayed
+pub replays-said : (fault : StoreFault) → IsReplayFault fault → IsSome (fault_of fault)
+replays-said fault (inl e) = subst (λ (f : StoreFault). IsSome (fault_of f)) (sym e) refl
+replays-said fault (inr (inl e)) = subst (λ (f : StoreFault). IsSome (fault_of f)) (sym e) refl
+replays-said fault (inr (inr reopens)) = subst (λ (f : StoreFault). IsSome (fault_of f)) (sym reopens.1) refl
+
+-- the store was going
+pub replays-unreplayed : (before : Option Why) (fault : StoreFault) (answer : AgentFault) → before ≡ None → ReopensWith before fault → fault_of fault ≡ Some answer → IsReplayFault fault
+    → (answer ≡ Memory) ⊎ (answer ≡ Damaged 4)
+replays-unreplayed before fault answer going reopens of (inl e) = inl (is-fault fault store.Memory answer Memory e refl of)
+replays-unreplayed before fault answer going reopens of (inr (inl e)) = inr (is-fault fault (store.Damaged 4) answer (Damaged 4) e refl of)
+replays-unreplayed before fault answer going reopens of (inr (inr again)) =
+    let earlier : before ≡ Some again.0 = subst (ReopensWith before) again.1 reopens in
+    absurd (none-some again.0 (sym going ∙ earlier))
+
+-- nor is it damaged, where the store is of beats
+pub replays-memory : (answer : AgentFault) → (answer ≡ Memory) ⊎ (answer ≡ Damaged 4) → (answer ≡ Damaged 4 → ⊥) → answer ≡ Memory
+replays-memory answer (inl memory) whole = memory
+replays-memory answer (inr damaged) whole = absurd (whole damaged)
+
+pub memory-whole : (fault : AgentFault) → fault ≡ Damaged 4 → fault ≡ Memory → ⊥
+memory-whole fault damaged memory = absurd cc
+
+same-part : (one other : ℕ) → Damaged one ≡ Damaged other → one ≡ other
+same-part one other e = cc
+
+-- where the side is not read, no beat is damaged
+pub never-four : (fault : AgentFault) → fault ≡ Damaged 4 → (fault ≡ Memory) ⊎ (fault ≡ Damaged 5) → ⊥
+never-four fault damaged (inl memory) = absurd cc
+never-four fault damaged (inr notes) = absurd (omega (arith, same-part 4 5 (sym damaged ∙ notes)))
+
+-- ---- the parts
+
+-- a replay says that part 4 or part 5 is damaged
+pub unreplayed-parts : (part : ℕ) → IsUnreplayed (Damaged part) → (part ≡ 4) ⊎ (part ≡ 5)
+unreplayed-parts part (inl e) = absurd cc
+unreplayed-parts part (inr (inl e)) = inl (same-part part 4 e)
+unreplayed-parts part (inr (inr e)) = inr (same-part part 5 e)
+
+pub never-below : (part : ℕ) → part ≤ 3 → IsUnreplayed (Damaged part) → ⊥
+never-below part below is = elim (unreplayed-parts part is) [ inl e ↦ absurd (omega (arith, below, e)) | inr e ↦ absurd (omega (arith, below, e)) ]
+
+pub only-four : (part : ℕ) → part ≤ 4 → IsUnreplayed (Damaged part) → Damaged part ≡ Damaged 4
+only-four part below is = elim (unreplayed-parts part is) [ inl e ↦ ap (λ (n : ℕ). Damaged n) e | inr e ↦ absurd (omega (arith, below, e)) ]
 
 -- a store is opened without its notes
-pub no-notes : (fault : StoreFault) → IsOpenFault fault → fault_of fault ≡ Some (Damaged 5) → ⊥
-no-notes fault (inl e) is = apart (is-fault fault store.DiskFault (Damaged 5) DiskFault e refl is)
-  where
-    apart : Damaged 5 ≡ DiskFault → ⊥
-    apart e = cc
-no-notes fault (inr (inl e)) is = apart (is-fault fault store.NotADatabase (Damaged 5) NotADatabase e refl is)
-  where
-    apart : Damaged 5 ≡ NotADatabase → ⊥
-    apart e = cc
-no-notes fault (inr (inr (inl e))) is = apart (is-fault fault (store.Damaged 4) (Damaged 5) (Damaged 4) e refl is)
-  where
-    parts : (a b : ℕ) → Damaged a ≡ Damaged b → a ≡ b
-    parts a b e = cc
+pub no-notes : IsUnopened (Damaged 5) → ⊥
+no-notes is = absurd (omega (arith, is.1))
 
-    apart : Damaged 5 ≡ Damaged 4 → ⊥
-    apart e = absurd (omega (arith, parts 5 4 e))
-no-notes fault (inr (inr (inr e))) is = apart (is-fault fault store.Memory (Damaged 5) Memory e refl is)
-  where
-    apart : Damaged 5 ≡ Memory → ⊥
-    apart e = cc
+-- ---- the faults of an agent that is opened
+pub unopened-opening : (fault : AgentFault) → IsUnopened fault → IsOpening fault
+unopened-opening (Refused why) is = is
+unopened-opening (Health why) is = is
+unopened-opening DiskFault is = tt
+unopened-opening NotADatabase is = tt
+unopened-opening (Damaged part) is = (is.0, omega (arith, is.1))
+unopened-opening (Reopen cause) is = is
+unopened-opening Exists is = is
+unopened-opening Memory is = tt
+
+pub unreplayed-opening : (fault : AgentFault) → IsUnreplayed fault → IsOpening fault
+unreplayed-opening fault (inl e) = subst IsOpening (sym e) tt
+unreplayed-opening fault (inr (inl e)) = subst IsOpening (sym e) (omega arith, omega arith)
+unreplayed-opening fault (inr (inr e)) = subst IsOpening (sym e) (omega arith, omega arith)
+
+-- ---- damage
+
+-- what is damaged was made
+pub damaged-made : (part : ℕ) (disk : File → List ℕ) → IsDamagedIn part disk → is_made disk ≡ true
+damaged-made zero disk (inl damaged) = absurd damaged
+damaged-made (suc zero) disk (inl damaged) = is-made disk ∙ ap is_some damaged.ends.early
+damaged-made (suc (suc zero)) disk (inl damaged) = is-made disk ∙ ap is_some damaged.checkpoint
+damaged-made (suc (suc (suc zero))) disk (inl damaged) = is-made disk ∙ ap is_some damaged.checkpoint.checkpoint
+damaged-made (suc (suc (suc (suc zero)))) disk (inl damaged) = is-made disk ∙ ap is_some damaged.checkpoint.checkpoint
+damaged-made (suc (suc (suc (suc (suc part))))) disk (inl damaged) = absurd damaged
+damaged-made part disk (inr found) = is-made disk ∙ ap is_some found.holds.checkpoint.checkpoint
+
+pub damaged-is : (part : ℕ) (disk : File → List ℕ) → IsDamagedIn part disk → IsDamaged disk
+damaged-is part disk damaged = record { made = damaged-made part disk damaged; none_stands = λ stored stands. never-damaged part stored disk stands damaged }
 
 pub same-fault : {T : Type 0} (a b : AgentFault) (result : Result T AgentFault) → result ≡ Err a → result ≡ Err b → a ≡ b
 same-fault a b result e f = cc
+
+-- the fault of a call is given on
+abbrev pub failed_with : {T : Type 0} → AgentFault → Result T AgentFault
+failed_with fault = Err fault
+
+pub one-told : {T : Type 0} (a b : AgentFault) → failed_with {T = T} a ≡ failed_with b → a ≡ b
+one-told a b same = cc
+
+pub told-on : {T U : Type 0} (result : Result T AgentFault) (fault answer : AgentFault) → result ≡ failed_with fault → failed_with {T = U} fault ≡ failed_with answer → result ≡ failed_with answer
+told-on {T = T} {U = U} result fault answer is same = is ∙ ap (λ (f : AgentFault). failed_with {T = T} f) (one-told {T = U} fault answer same)
 
 -- what holds of a fault
 pub err-weaker : {T E : Type 0} (result : Result T E) (P Q : E → Type 0) → ((fault : E) → P fault → Q fault) → IfErr result P → IfErr result Q

@@ -1,38 +1,42 @@
 -- An agent that replays the beats of its store: where it begins, each step, and where it ends.
 use Rattle.std.proofs.Common.{◌≡◌, ℕ, List, [], ◌∷◌, Some, None, refl, sym, ap, ◌∙◌, subst}
 use Rattle.host_model.specs.declared.file.File.{File}
-use Rattle.host_model.specs.Past.{Event}
-use Rattle.host_model.specs.Disks.{EveryDisk}
+use Rattle.host_model.specs.Images.{IsImage}
+use Rattle.host_model.specs.Past.{Event, of}
+use Rattle.host_model.specs.Disks.{reads_as, EveryDisk}
 use Rattle.history.specs.History.{Beat, last}
 use Rattle.tier_settings.specs.declared.settings.Settings.{Settings}
-use Rattle.store_core.specs.declared.beat.Beat.{Beat as StoreBeat}
+use Rattle.checkpoint_body.specs.declared.body.Body.{Body}
+use Rattle.beat_records.specs.declared.beat.Beat.{Beat as StoreBeat}
 use Rattle.store_core.specs.Stands.{Stands}
-use Rattle.store_core.specs.Store.{counted, HasApplied, IsReplayed, IsStoreAt, OpensAt, Replays, StoreState}
-use Rattle.store_core.specs.Stored.{base_of, stored_with, stored_with_all, Stored}
+use Rattle.store_core.specs.Store.{base_of, HasApplied, IsReady, IsReplayed, IsStoreAt, OpensAt, Replays, StoreState}
+use Rattle.store_core.specs.Stored.{stored_with, stored_with_all, Stored}
+use Rattle.store_core.proofs.StandLemmas.{images-at, store-of}
 use Rattle.agent_core.specs.declared.left.Left.{Left}
-use Rattle.agent_core.specs.Agent.{left_in, AgentState, IsAgentOf}
+use Rattle.agent_core.specs.Agent.{left_in, AgentIsReady, AgentState, IsAgentOf}
 use Rattle.agent_core.specs.Answers.{tier_beats}
-use Rattle.agent_core.specs.Kept.{onto, AreBeatsOf, HoldsHistory, IsBeatOf, IsStoredOf, StandsForHistory}
+use Rattle.agent_core.specs.Kept.{onto, AreBeatsOf, IsBeatOf}
+use Rattle.agent_core.specs.Stands.{HoldsHistory, IsStoredOf, StandsForHistory}
+use Rattle.agent_core.specs.Sides.{IsSideOf}
 use Rattle.agent_core.specs.Left.{IsLeftBy}
-use Rattle.agent_core.specs.Replay.{AreNextOf, IsAtPrefix, IsOpenedFor, IsReplaying}
-use Rattle.agent_core.proofs.AnswerLemmas.{applied-at}
-use Rattle.agent_core.proofs.StoredLemmas.{answers, none_stored, stored_less, stored_more, were_kept}
+use Rattle.agent_core.specs.Replay.{AreNextOf, HasReplayed, IsAtPrefix, IsOpenedFor, IsReplaying}
+use Rattle.agent_core.proofs.StoredLemmas.{answers, applied-at, stored_less, stored_more, were_kept}
 
 -- ---- the beginning
 
 -- a history, cut where its store is
-record IsCut (h : List Beat) (stored : Stored) (rest : List StoreBeat) : Type 0 where
+record IsCut (set : Settings) (h : List Beat) (stored : Stored) (rest : List StoreBeat) : Type 0 where
   front : List Beat
   more : List Beat
   whole : onto front more ≡ h
-  are : IsStoredOf front stored
+  are : IsStoredOf set front stored
   next : AreNextOf front more rest
 
 -- the cut one beat earlier
-earlier : (h : List Beat) (kept : StoreBeat) (stored : Stored) (rest : List StoreBeat) (front more : List Beat) → onto front more ≡ h → IsStoredOf front (stored_with stored kept) → AreNextOf front more rest
-    → IsCut h stored (kept ∷ rest)
-earlier h kept stored rest front more whole are next =
-    let less = stored_less front stored kept are in
+cut-earlier : (set : Settings) (h : List Beat) (kept : StoreBeat) (stored : Stored) (rest : List StoreBeat) (front more : List Beat) → onto front more ≡ h
+    → IsStoredOf set front (stored_with stored kept) → AreNextOf front more rest → IsCut set h stored (kept ∷ rest)
+cut-earlier set h kept stored rest front more whole are next =
+    let less = stored_less set front stored kept are in
     record {
       front = less.before;
       more = less.beat ∷ more;
@@ -41,42 +45,59 @@ earlier h kept stored rest front more whole are next =
       next = (less.of, subst (λ (g : List Beat). AreNextOf g more rest) (sym less.whole) next);
     }
 
-cut : (h : List Beat) (stored : Stored) (rest : List StoreBeat) → IsStoredOf h (stored_with_all stored rest) → IsCut h stored rest
-cut h stored [] are = record { front = h; more = []; whole = refl; are = are; next = tt }
-cut h stored (kept ∷ rest) are =
-    let later = cut h (stored_with stored kept) rest are in
-    earlier h kept stored rest later.front later.more later.whole later.are later.next
+cut : (set : Settings) (h : List Beat) (stored : Stored) (rest : List StoreBeat) → IsStoredOf set h (stored_with_all stored rest) → IsCut set h stored rest
+cut set h stored [] are = record { front = h; more = []; whole = refl; are = are; next = tt }
+cut set h stored (kept ∷ rest) are =
+    let later = cut set h (stored_with stored kept) rest are in
+    cut-earlier set h kept stored rest later.front later.more later.whole later.are later.next
 
--- a store that was opened for a history has replayed none of it
-pub opened-at : (past : List Event) (store : StoreState) (set : Settings) (h : List Beat) → IsOpenedFor past store set h → IsAtPrefix past store set [] h
+-- a store that was opened for a history stands at what it has of an earlier one, and has the side of this
+pub record IsOpenedAt (past : List Event) (store : StoreState) (set : Settings) (h : List Beat) : Type 0 where
+  pub earlier : List Beat
+  pub beats : List StoreBeat
+  pub were : AreBeatsOf earlier beats
+  pub side : IsSideOf set earlier store.body.side
+  pub at : IsAtPrefix past store set earlier h
+
+-- the side of a store that stands at its checkpoint
+pub side-is : (past : List Event) (store : StoreState) (stored : Stored) → OpensAt past store stored → store.body.side ≡ stored.base.side
+side-is past store stored opens = ap (λ (b : Body). b.side) opens.is_at.body ∙ opens.is_at.has.base.side
+
+pub opened-at : (past : List Event) (store : StoreState) (set : Settings) (h : List Beat) → IsOpenedFor past store set h → IsOpenedAt past store set h
 opened-at past store set h opened =
     let opens = opened.opens in
-    let found = cut h (base_of opened.stored) opens.rest (subst (IsStoredOf h) (sym opens.whole) opened.are) in
-    subst (λ (g : List Beat). IsAtPrefix past store set g h) (none_stored found.front found.are) (record {
-      more = found.more;
-      stored = base_of opened.stored;
-      rest = opens.rest;
-      whole = found.whole;
-      are = found.are;
-      next = found.next;
-      is_at = opens.is_at;
-    })
+    let found = cut set h (base_of opened.stored) opens.rest (subst (IsStoredOf set h) (sym opens.whole) opened.are) in
+    record {
+      earlier = found.are.earlier;
+      beats = found.are.beats;
+      were = found.are.were;
+      side = subst (IsSideOf set found.are.earlier) (sym (side-is past store opened.stored opens)) found.are.side;
+      at = subst (λ (g : List Beat). IsAtPrefix past store set g h) found.are.since (record {
+        more = found.more;
+        stored = base_of opened.stored;
+        rest = opens.rest;
+        whole = found.whole;
+        are = found.are;
+        next = found.next;
+        is_at = opens.is_at;
+      });
+    }
 
 -- ---- a step
 
 -- the beat that was replayed, and what is left
-pub record IsNextBeat (past : List Event) (store : StoreState) (set : Settings) (h : List Beat) (front : List Beat) (stored : Stored) (kept : StoreBeat) : Type 0 where
+pub record IsNextBeat (past : List Event) (store : StoreState) (h : List Beat) (front : List Beat) (stored : Stored) (kept : StoreBeat) : Type 0 where
   pub beat : Beat
   pub more : List Beat
   pub rest : List StoreBeat
   pub of : IsBeatOf front beat kept
   pub whole : onto (beat ∷ front) more ≡ h
   pub next : AreNextOf (beat ∷ front) more rest
-  pub is_at : IsStoreAt past store set (stored_with stored kept) rest
+  pub is_at : IsStoreAt past store (stored_with stored kept) rest
 
-module _ (past : List Event) (store : StoreState) (set : Settings) (h : List Beat) where
-  step-of : (front more : List Beat) (stored : Stored) (rest : List StoreBeat) (kept : StoreBeat) → onto front more ≡ h → AreNextOf front more rest → Replays past store set stored rest (Some kept)
-      → IsNextBeat past store set h front stored kept
+module _ (past : List Event) (store : StoreState) (h : List Beat) where
+  step-of : (front more : List Beat) (stored : Stored) (rest : List StoreBeat) (kept : StoreBeat) → onto front more ≡ h → AreNextOf front more rest → Replays past store stored rest (Some kept)
+      → IsNextBeat past store h front stored kept
   step-of front more stored [] kept whole next replays = absurd replays
   step-of front [] stored (first ∷ rest) kept whole next replays = absurd next
   step-of front (beat ∷ more) stored (first ∷ rest) kept whole next replays = record {
@@ -89,25 +110,25 @@ module _ (past : List Event) (store : StoreState) (set : Settings) (h : List Bea
     is_at = replays.1;
   }
 
-  none-of : (stored : Stored) (rest : List StoreBeat) → Replays past store set stored rest None → IsStoreAt past store set stored rest
+  none-of : (stored : Stored) (rest : List StoreBeat) → Replays past store stored rest None → IsStoreAt past store stored rest
   none-of stored [] replays = replays
   none-of stored (first ∷ rest) replays = absurd replays
 
 module _ (past : List Event) (store store' : StoreState) (left : Left) (set : Settings) (h : List Beat) (was : IsReplaying past store left set h) where
-  module _ (kept : StoreBeat) (replays : (stored : Stored) (rest : List StoreBeat) → IsStoreAt past store set stored rest → Replays past store' set stored rest (Some kept)) where
+  module _ (kept : StoreBeat) (replays : (stored : Stored) (rest : List StoreBeat) → IsStoreAt past store stored rest → Replays past store' stored rest (Some kept)) where
     -- the next beat of the history
-    next-of : IsNextBeat past store' set h was.prefix was.at.stored kept
-    next-of = step-of past store' set h was.prefix was.at.more was.at.stored was.at.rest kept was.at.whole was.at.next (replays was.at.stored was.at.rest was.at.is_at)
+    next-of : IsNextBeat past store' h was.prefix was.at.stored kept
+    next-of = step-of past store' h was.prefix was.at.more was.at.stored was.at.rest kept was.at.whole was.at.next (replays was.at.stored was.at.rest was.at.is_at)
 
     pub replaying-more : (left' : Left)
-        → ((g : List Beat) (beats : List StoreBeat) (beat : Beat) → AreBeatsOf g beats → IsBeatOf g beat kept → HasApplied set (tier_beats (beat ∷ g)) store' → store.last ≡ last g → IsLeftBy set g left → IsLeftBy set (beat ∷ g) left')
+        → ((g : List Beat) (beats : List StoreBeat) (beat : Beat) → AreBeatsOf g beats → IsBeatOf g beat kept → HasApplied set (tier_beats (beat ∷ g)) store' → store.tiers.last ≡ last g → IsLeftBy set g left → IsLeftBy set (beat ∷ g) left')
         → IsReplaying past store' left' set h
     replaying-more left' followed =
         let step = next-of in
-        let all = were_kept was.prefix was.at.stored was.at.are in
-        let more = stored_more was.prefix was.at.stored step.beat kept was.at.are step.of in
+        let all = were_kept set was.prefix was.at.stored was.at.are in
+        let more = stored_more set was.prefix was.at.stored step.beat kept was.at.are step.of in
         let applied = applied-at past store' set (step.beat ∷ was.prefix) (stored_with was.at.stored kept) step.rest more step.is_at in
-        let before : store.last ≡ last was.prefix = was.at.is_at.last ∙ (answers was.prefix was.at.stored was.at.are).last_is in
+        let before : store.tiers.last ≡ last was.prefix = (answers past store set was.prefix was.at.stored was.at.rest was.at.are was.at.is_at).last_is in
         record {
           prefix = step.beat ∷ was.prefix;
           at = record { more = step.more; stored = stored_with was.at.stored kept; rest = step.rest; whole = step.whole; are = more; next = step.next; is_at = step.is_at };
@@ -118,10 +139,10 @@ module _ (past : List Event) (store store' : StoreState) (left : Left) (set : Se
     pub replaying-stands : {P : Type 0} → ((g : List Beat) (beats : List StoreBeat) (beat : Beat) → AreBeatsOf g beats → IsBeatOf g beat kept → IsLeftBy set g left → P) → P
     replaying-stands stands =
         let step = next-of in
-        let all = were_kept was.prefix was.at.stored was.at.are in
+        let all = were_kept set was.prefix was.at.stored was.at.are in
         stands was.prefix all.beats step.beat all.are step.of was.left_by
 
-  pub replaying-same : ((stored : Stored) (rest : List StoreBeat) → IsStoreAt past store set stored rest → Replays past store' set stored rest None) → IsReplaying past store' left set h
+  pub replaying-same : ((stored : Stored) (rest : List StoreBeat) → IsStoreAt past store stored rest → Replays past store' stored rest None) → IsReplaying past store' left set h
   replaying-same replays = record {
     prefix = was.prefix;
     at = record {
@@ -131,7 +152,7 @@ module _ (past : List Event) (store store' : StoreState) (left : Left) (set : Se
       whole = was.at.whole;
       are = was.at.are;
       next = was.at.next;
-      is_at = none-of past store' set h was.at.stored was.at.rest (replays was.at.stored was.at.rest was.at.is_at);
+      is_at = none-of past store' h was.at.stored was.at.rest (replays was.at.stored was.at.rest was.at.is_at);
     };
     left_by = was.left_by;
   }
@@ -153,35 +174,56 @@ module _ (past : List Event) (store : StoreState) (left : Left) (set : Settings)
   pub replayed-holds : HoldsHistory past store set h
   replayed-holds = record {
     stored = was.at.stored;
-    are = subst (λ (g : List Beat). IsStoredOf g was.at.stored) all was.at.are;
-    store_of = subst (λ (rest : List StoreBeat). IsStoreAt past store set was.at.stored rest) none was.at.is_at;
+    are = subst (λ (g : List Beat). IsStoredOf set g was.at.stored) all was.at.are;
+    store_of = subst (λ (rest : List StoreBeat). IsStoreAt past store was.at.stored rest) none was.at.is_at;
   }
 
   pub replayed-left : IsLeftBy set h left
   replayed-left = subst (λ (g : List Beat). IsLeftBy set g left) all was.left_by
 
 -- an agent of such a store is of the history
-pub replayed-is_of : (past : List Event) (agent : AgentState) (set : Settings) (h : List Beat) → HoldsHistory past agent.store set h → IsLeftBy set h (left_in agent) → agent.last ≡ agent.store.last
+pub replayed-is_of : (past : List Event) (agent : AgentState) (set : Settings) (h : List Beat) → HoldsHistory past agent.store set h → IsLeftBy set h (left_in agent) → agent.last ≡ agent.store.tiers.last
     → agent.count ≡ agent.store.count → agent.fault ≡ None → IsAgentOf past agent set h
 replayed-is_of past agent set h holds left last_is count going =
-    let said = answers h holds.stored holds.are in
+    let said = answers past agent.store set h holds.stored [] holds.are holds.store_of in
     record {
       holds = holds;
       left_by = left;
-      last_is = last_is ∙ holds.store_of.last ∙ said.last_is;
-      count = count ∙ holds.store_of.count ∙ ap counted said.count;
+      last_is = last_is ∙ said.last_is;
+      count = count ∙ said.count;
       going = going;
     }
 
 -- ---- an agent that was opened
 
 -- the store of a disk that stands for a history
-pub opened-for : (disk : File → List ℕ) (past : List Event) (store : StoreState) → ((set : Settings) (stored : Stored) → Stands set stored disk → OpensAt past store set stored)
+pub opened-for : (disk : File → List ℕ) (past : List Event) (store : StoreState) → ((stored : Stored) → Stands stored disk → OpensAt past store stored)
     → (set : Settings) (h : List Beat) → StandsForHistory set h disk → IsOpenedFor past store set h
-opened-for disk past store opens set h stands = record { stored = stands.stored; are = stands.are; opens = opens set stands.stored stands.stands }
+opened-for disk past store opens set h stands = record { stored = stands.stored; are = stands.are; opens = opens stands.stored stands.stands }
 
 -- whatever a crash leaves holds that history
-pub opened-images : (disk : File → List ℕ) (past : List Event) → ((set : Settings) (stored : Stored) → Stands set stored disk → EveryDisk (Stands set stored) past)
+pub opened-images : (disk : File → List ℕ) (past : List Event) → ((stored : Stored) → Stands stored disk → EveryDisk (Stands stored) past)
     → (set : Settings) (h : List Beat) → StandsForHistory set h disk → EveryDisk (StandsForHistory set h) past
 opened-images disk past opens set h stands other images =
-    record { stored = stands.stored; are = stands.are; stands = opens set stands.stored stands.stands other images }
+    record { stored = stands.stored; are = stands.are; stands = opens stands.stored stands.stands other images }
+
+-- what a call of it requires, once all is replayed
+pub opened-ready : (honest : Type 0) (past : List Event) (store : StoreState) (agent : AgentState) → HasReplayed store agent → IsReady honest past agent.store → AgentIsReady honest past agent
+opened-ready honest past store agent has ready going = record {
+  store = ready;
+  replayed = has.replayed;
+  going = has.store_going;
+  same_last = has.same_last;
+  up_to = has.up_to;
+  charts = has.charts;
+  dimensions = has.dimensions;
+  limits = has.limits;
+}
+
+-- on an honest host something stands on the disk, as it read before
+pub opened-stands : (honest : Type 0) (old past : List Event) (store : StoreState) → honest → (ready : IsReady honest past store) → store.fault ≡ None → IsReplayed store
+    → ((file : File) → IsImage (of file past) (reads_as past file)) → ((file : File) → reads_as past file ≡ reads_as old file) → Stands ready.stored (reads_as old)
+opened-stands honest old past store h ready going done reads same =
+    let is_of = store-of past ready.kept ready.stored store ready.sound (ready.opened going h) going done in
+    let disks : reads_as past ≡ reads_as old = λ i file. same file i in
+    subst (Stands ready.stored) disks (images-at past store ready.stored [] is_of (reads_as past) reads)

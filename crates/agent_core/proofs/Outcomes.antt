@@ -2,6 +2,7 @@
 use Rattle.std.proofs.Common.{◌≡◌, ◌⊎◌, inl, inr, ℕ, ◌≤◌, Option, None, Result, Ok, Err, IfErr, IfOk, IsErrOf, OnOk, OnErr, refl, sym, subst, ◌∙◌, le_refl}
 use Rattle.std.proofs.lemmas.Option.{none-some}
 use Rattle.host_model.specs.Cause.{HasCause}
+use Rattle.history.specs.declared.fault.BlockFault.{BlockFault}
 use Rattle.store_core.specs.declared.fault.Why.{Why}
 use Rattle.agent_core.specs.declared.fault.AgentFault.{AgentFault}
 use Rattle.agent_core.specs.declared.fault.AgentFault.TheVariants.{Refused, Health, DiskFault, NotADatabase, Damaged, Reopen, Exists, Memory}
@@ -24,6 +25,16 @@ on_both P Q R (Err fault) first second shows = tt
 pub if_both : {T E : Type 0} (result : Result T E) (Q : Type 0) (P R : T → Type 0) → OnOk result Q → IfOk result P → ((value : T) → Q → P value → R value) → IfOk result R
 if_both (Ok value) Q P R on if shows = shows value on if
 if_both (Err fault) Q P R on if shows = tt
+
+-- two things of its value
+pub both_if : {T E : Type 0} (result : Result T E) (P Q R : T → Type 0) → IfOk result P → IfOk result Q → ((value : T) → P value → Q value → R value) → IfOk result R
+both_if (Ok value) P Q R first second shows = shows value first second
+both_if (Err fault) P Q R first second shows = tt
+
+-- and one more, for what does not speak of it
+pub on_three : {T E : Type 0} (result : Result T E) (P Q : T → Type 0) (R S : Type 0) → IfOk result P → IfOk result Q → OnOk result R → ((value : T) → P value → Q value → R → S) → OnOk result S
+on_three (Ok value) P Q R S first second third shows = shows value first second third
+on_three (Err fault) P Q R S first second third shows = tt
 
 pub on_err : {T E : Type 0} (P Q : Type 0) (result : Result T E) → OnErr result P → (P → Q) → OnErr result Q
 on_err P Q (Ok value) holds shows = tt
@@ -100,3 +111,13 @@ short-disk result old new same short = record { later = subst (λ (n : ℕ). old
     by : {T : Type 0} (result : Result T AgentFault) → IfErr result (λ fault. fault ≡ Memory) → IsErrOf result DiskFault → ⊥
     by (Ok value) short failed = cc
     by (Err fault) short failed = cc
+
+pub spending-refusal : (reason : Option BlockFault) (fault : AgentFault) → reason ≡ None → IsSpending fault → IsRefusal reason fault
+spending-refusal reason (Refused why) free spends = absurd spends
+spending-refusal reason (Health why) free spends = absurd spends
+spending-refusal reason DiskFault free spends = free
+spending-refusal reason NotADatabase free spends = absurd spends
+spending-refusal reason (Damaged part) free spends = absurd spends
+spending-refusal reason (Reopen cause) free spends = absurd spends
+spending-refusal reason Exists free spends = absurd spends
+spending-refusal reason Memory free spends = free

@@ -1,5 +1,5 @@
 -- A kept beat has an entry that goes on from what is before it, and leaves what the beat leaves.
-use Rattle.std.proofs.Common.{◌≡◌, ◌<◌, ◌⊎◌, inl, inr, lt-ltb, true, false, ◌&&◌, nat_lt, List, [], ◌∷◌, length, map, Option, Some, is_none, refl, sym, ap, ◌∙◌, subst, true≢false}
+use Rattle.std.proofs.Common.{◌≡◌, ◌<◌, ◌⊎◌, inl, inr, lt-ltb, true, false, ◌&&◌, nat_lt, List, ◌∷◌, length, map, Option, Some, is_none, refl, sym, ap, ◌∙◌, subst, true≢false}
 use Rattle.std.proofs.lemmas.Bool.{not-false}
 use Rattle.std.proofs.lemmas.List.Elements.{recursion_from_All}
 use Rattle.std.proofs.lemmas.Option.{same_Some}
@@ -23,16 +23,15 @@ use Rattle.beat_entries.proofs.DefinedLemmas.{chart-alike, chart-itself, dimensi
 use Rattle.beat_entries.proofs.FollowLemmas.{beat-goes-on, last-is}
 use Rattle.beat_entries.proofs.PutLemmas.{apart-put_all}
 use Rattle.tier_settings.specs.declared.settings.Settings.{Settings}
-use Rattle.store_core.specs.declared.beat.Beat.{Beat as StoreBeat}
-use Rattle.store_core.specs.Stored.{Stored}
+use Rattle.beat_records.specs.declared.beat.Beat.{Beat as StoreBeat}
 use Rattle.beat_tiers.specs.declared.item.BeatPoint.{BeatPoint}
 use Rattle.agent_core.specs.declared.fault.AgentFault.{AgentFault}
 use Rattle.agent_core.specs.declared.fault.AgentFault.TheVariants.{Damaged, Memory}
 use Rattle.agent_core.specs.declared.left.Left.{Left}
 use Rattle.agent_core.specs.declared.left.Role.TheVariants.{Collects, Copies}
-use Rattle.agent_core.specs.Kept.{copied_entry, copied_point, gap_entry, AreBeatsOf, IsBeatOf, IsStoredOf}
+use Rattle.agent_core.specs.Kept.{copied_entry, copied_point, gap_entry, AreBeatsOf, IsBeatOf}
 use Rattle.agent_core.specs.Left.{AwaitsAlarms, IsLeftBy}
-use Rattle.agent_core.specs.Notes.{beats_go_on, entry_goes_on, entry_in, left_after, moment_of, names_series, nothing_noted, noted_in, noted_of, notes_go_on, takes_note, with_entry, with_note, Noted}
+use Rattle.agent_core.specs.Notes.{entry_goes_on, entry_in, moment_of, names_series, noted_in, noted_of, takes_note, with_entry, with_note, Noted}
 use Rattle.agent_core.specs.declared.alarming.Stepping.{Stepping}
 use Rattle.agent_core.specs.declared.alarming.Stepping.TheVariants as stepping
 use Rattle.agent_core.specs.Alarms.{IsSteppingOf}
@@ -41,7 +40,7 @@ use Rattle.agent_core.specs.Replay.{HasRows, HasSeen, HasSeenNone, IsDoneBy}
 use Rattle.agent_core.specs.Roles.{may_collect, role_of}
 use Rattle.agent_core.proofs.FollowLemmas.{follows-may, follows-owned, follows-regular}
 use Rattle.agent_core.proofs.HistoryLemmas.{copies-of, follows-alone}
-use Rattle.agent_core.proofs.NoteLemmas.{found-in, go-on-more, go-on-none, left-more, left-none, note-left, note-takes}
+use Rattle.agent_core.proofs.NoteLemmas.{found-in, note-left, note-takes}
 use Rattle.agent_core.proofs.PointLemmas.{points-named}
 use Rattle.agent_core.proofs.Within.{within-of}
 
@@ -107,27 +106,6 @@ module _ (g : List Beat) (beats : List StoreBeat) (are : AreBeatsOf g beats) whe
     beat-leaves left left' is made =
         made ∙ ap (λ (l : Noted). with_note l kept) is
         ∙ sym (note-left (noted_of g) kept (entry_for g beat) (note-is g beat kept of) (noted_of (beat ∷ g)) (left-after beat kept of))
-
--- what is stored for a history goes on, and leaves what it leaves
-record Leaves (h : List Beat) (beats : List StoreBeat) : Type 0 where
-  left : left_after nothing_noted beats ≡ noted_of h
-  go_on : beats_go_on nothing_noted beats ≡ true
-
-history-leaves : (h : List Beat) (beats : List StoreBeat) → AreBeatsOf h beats → Leaves h beats
-history-leaves [] [] are = record { left = left-none nothing_noted; go_on = go-on-none nothing_noted }
-history-leaves [] (kept ∷ beats) are = absurd are
-history-leaves (beat ∷ h) [] are = absurd are
-history-leaves (beat ∷ h) (kept ∷ beats) are =
-    let before = history-leaves h beats are.1 in
-    let now : with_note (noted_of h) kept ≡ left_after nothing_noted (kept ∷ beats)
-    = left-more nothing_noted (noted_of h) (with_note (noted_of h) kept) beats kept (sym before.left) refl in
-    record {
-      left = sym now ∙ beat-leaves h beats are.1 beat kept are.0 (noted_of h) (with_note (noted_of h) kept) refl refl;
-      go_on = go-on-more nothing_noted (noted_of h) beats kept true before.go_on (sym before.left) (beat-takes h beats are.1 beat kept are.0 (noted_of h) refl);
-    }
-
-pub history-goes : (h : List Beat) (stored : Stored) → IsStoredOf h stored → notes_go_on stored ≡ true
-history-goes h stored are = (history-leaves h stored.after are.after).go_on
 
 -- ---- the last rows
 

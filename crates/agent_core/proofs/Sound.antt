@@ -20,7 +20,6 @@ use Rattle.tier_settings.specs.declared.settings.Settings.{Settings}
 use Rattle.store_core.specs.declared.fault.Why.{Why}
 use Rattle.store_core.specs.declared.fault.Why.TheVariants as why
 use Rattle.beat_tiers.specs.declared.kept.Kept.{Kept}
-use Rattle.store_core.proofs.StoreLemmas.{settings_of}
 use Rattle.agent_core.specs.declared.fault.AgentFault.{AgentFault}
 use Rattle.agent_core.specs.declared.fault.AgentFault.TheVariants.{Refused, Health, DiskFault, NotADatabase, Damaged, Reopen, Exists, Memory}
 use Rattle.agent_core.specs.declared.reply.Reply.{Reply}
@@ -31,13 +30,15 @@ use Rattle.agent_core.specs.Copying.{added_to, refusal_by}
 use Rattle.host_model.specs.Seen.{Seen}
 use Rattle.agent_core.specs.Faults.{cause_of, fault_after, IsHealthRefusal, IsRefusal, LeavesAll, ReopensWith}
 use Rattle.agent_core.specs.Health.{health_refusal}
-use Rattle.agent_core.specs.Kept.{onto, StandsForFront, StandsForHealth, StandsForHistory, StandsForOneOf}
+use Rattle.agent_core.specs.Kept.{onto}
+use Rattle.agent_core.specs.Stands.{StandsForFront, StandsForHealth, StandsForHistory, StandsForOneOf}
 use Rattle.agent_core.specs.Roles.{copies}
 use Rattle.agent_core.specs.Rules.{beat_refusal, history_with, line_refusal}
 use Rattle.agent_core.specs.Sound.{closed_by, history_after, history_by, tried_after, tried_with}
 use Rattle.agent_core.proofs.CopyCalls.{adds-are}
 use Rattle.agent_core.proofs.KeptLemmas.{stays}
 use Rattle.agent_core.proofs.Outcomes.{fails-free}
+use Rattle.agent_core.proofs.StoredLemmas.{settings-of}
 
 never : (agent : AgentState) (cause : Why) → agent.fault ≡ Some cause → agent.fault ≡ None → ⊥
 never agent cause now none = none-some cause (sym none ∙ now)
@@ -110,7 +111,7 @@ module _ (host : Seen) (agent : AgentState) (host' : Seen) (agent' : AgentState)
         spent = did.spends is_of.going ∙ leaves;
         count = did.count ∙ is_of.count;
         last_is = did.last ∙ is_of.last_is;
-        id = did.id ∙ ap (λ (s : Settings). s.id) (settings_of host.past agent.store set is_of.holds.stored [] is_of.holds.store_of);
+        id = did.id ∙ ap (λ (s : Settings). s.id) (settings-of host.past agent.store set h is_of.holds);
         images = images;
       })
 

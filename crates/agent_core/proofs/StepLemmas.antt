@@ -21,7 +21,7 @@ use Rattle.collect_block.specs.Feed as block_feed
 use Rattle.tier_settings.specs.declared.settings.Settings.{Settings}
 use Rattle.store_core.specs.declared.fault.Why.{Why}
 use Rattle.store_core.specs.declared.fault.Why.TheVariants as why
-use Rattle.store_core.specs.Own.{OnlyOwn}
+use Rattle.database_files.specs.Holds.{OnlyOwn}
 use Rattle.agent_core.specs.declared.fault.AgentFault.{AgentFault}
 use Rattle.agent_core.specs.declared.fault.AgentFault.TheVariants.{Refused, DiskFault, Reopen, Memory}
 use Rattle.agent_core.specs.declared.reply.Reply.{Reply}
@@ -32,7 +32,7 @@ use Rattle.agent_core.specs.Calls.{AsksHost, Beats, ClosesBeat, FeedTakes, Lines
 use Rattle.host_model.specs.Seen.{Seen}
 use Rattle.agent_core.specs.Fed.{IsFed}
 use Rattle.agent_core.specs.Faults.{fault_after, IsReading, RefusedBy}
-use Rattle.agent_core.specs.Kept.{StandsForOneOf}
+use Rattle.agent_core.specs.Stands.{StandsForOneOf}
 use Rattle.agent_core.specs.Roles.{copies}
 use Rattle.agent_core.specs.Rules.{closing_refusal, count_with, history_with, last_with, line_refusal}
 use Rattle.agent_core.specs.Said.{Answers, IsSaid, TellsEvents}

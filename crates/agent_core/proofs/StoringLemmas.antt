@@ -21,12 +21,13 @@ use Rattle.beat_entries.specs.Copied.{definitions_of, told_chart, told_dimension
 use Rattle.beat_tiers.specs.declared.item.BeatPoint.{BeatPoint}
 use Rattle.replication.specs.declared.beats.Beat.{Beat as SentBeat}
 use Rattle.replication.specs.declared.message.Data.{Data}
-use Rattle.store_core.specs.declared.beat.Beat.{Beat as StoreBeat}
-use Rattle.store_core.specs.Beats.{beat_bytes, InForm}
+use Rattle.beat_records.specs.declared.beat.Beat.{Beat as StoreBeat}
+use Rattle.beat_records.specs.Beats.{beat_bytes, InForm}
 use Rattle.store_core.specs.Store.{StoreState}
-use Rattle.store_core.proofs.BeatLaw.{beat_size}
+use Rattle.beat_records.proofs.BeatLaw.{beat_size}
 use Rattle.agent_core.specs.Copying.{gap_beat}
-use Rattle.agent_core.specs.Kept.{copied_entry, copied_point, gap_entry, HoldsHistory, IsCopyOf, IsGapOf}
+use Rattle.agent_core.specs.Kept.{copied_entry, copied_point, gap_entry, IsCopyOf, IsGapOf}
+use Rattle.agent_core.specs.Stands.{HoldsHistory}
 use Rattle.agent_core.specs.Roles.{may_copy, role_of}
 use Rattle.agent_core.specs.Storing.{gap_beats, sent_entry, sent_kept, IsSentAs}
 use Rattle.agent_core.proofs.KeptLemmas.{store-last}
@@ -57,7 +58,7 @@ gap-spelt gap child from to = record { short = record { child = child; from = fr
 
 -- what is kept of a gap that may follow the history
 pub gap-of : (past : List Event) (store : StoreState) (set : Settings) (h : List Beat) → HoldsHistory past store set h → (gap : Gap) (kept : StoreBeat) → kept ≡ record { moment = Some gap.to; points = []; note = entry_bytes (gap_entry gap) }
-    → HasSpelling (gap_entry gap) → may_copy (role_of h) ≡ true → store.last < gap.to → IsGapOf h gap kept
+    → HasSpelling (gap_entry gap) → may_copy (role_of h) ≡ true → store.tiers.last < gap.to → IsGapOf h gap kept
 gap-of past store set h holds gap kept is_kept spelt role later = record { role = role; later = omega (arith, store-last past store set h holds, later); is_kept = is_kept; spelt = spelt }
 
 -- ---- a copied beat

@@ -11,13 +11,14 @@ use Rattle.alarm_core.specs.declared.alarms.Alarms.{Alarms}
 use Rattle.alarm_core.specs.UpTo.{IsUpTo}
 use Rattle.tier_settings.specs.declared.settings.Settings.{Settings}
 use Rattle.store_core.specs.declared.fault.Why.{Why}
-use Rattle.store_core.specs.Store.{counted, IsReady, IsReplayed, StoreState}
+use Rattle.store_core.specs.Counts.{counted}
+use Rattle.store_core.specs.Store.{IsReady, IsReplayed, StoreState}
 use Rattle.store_core.specs.Stored.{Stored}
 use Rattle.agent_core.specs.declared.left.Left.{Left}
 use Rattle.agent_core.specs.declared.left.Role.{Role}
-use Rattle.agent_core.specs.Kept.{HoldsHistory, StandsForFront}
+use Rattle.agent_core.specs.Stands.{HoldsHistory, StandsForFront}
 use Rattle.agent_core.specs.Left.{IsLeftBy}
-use Rattle.agent_core.specs.Notes.{left_by}
+use Rattle.agent_core.specs.Notes.{left_by, noted_in}
 use Rattle.agent_core.specs.Rules.{HasLimits}
 
 pub record AgentState : Type 0 where
@@ -41,7 +42,7 @@ pub record AgentState : Type 0 where
 
 -- the number of the history
 abbrev pub id_of : AgentState → ℕ
-id_of agent = agent.store.settings.id
+id_of agent = agent.store.body.settings.id
 
 -- what beats left an agent
 abbrev pub left_in : AgentState → Left
@@ -66,7 +67,7 @@ pub record Fits (honest : Type 0) (past : List Event) (agent : AgentState) : Typ
   pub store : IsReady honest past agent.store
   pub replayed : IsReplayed agent.store
   pub going : agent.store.fault ≡ None
-  pub same_last : agent.store.last ≡ agent.last
+  pub same_last : agent.store.tiers.last ≡ agent.last
   pub up_to : IsUpTo agent.alarms agent.registry
   pub charts : AreApart same_chart agent.registry.charts
   pub dimensions : AreApart same_dimension agent.registry.dimensions
@@ -93,8 +94,7 @@ IsSoundBy past agent set h tried = IsAgentOf past agent set h ⊎ IsSpentAfter p
 
 -- the agent was opened with what is stored, of whatever history it is: it has what the notes leave
 pub record HasLeft (stored : Stored) (agent : AgentState) : Type 0 where
-  pub registry : agent.registry ≡ (left_by stored).registry
-  pub role : agent.role ≡ (left_by stored).role
+  pub noted : left_by stored ≡ Some (noted_in (left_in agent))
 
 -- an agent that was just made
 pub record IsNewAgent (set : Settings) (agent : AgentState) : Type 0 where

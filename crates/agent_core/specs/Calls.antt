@@ -1,5 +1,5 @@
 -- What each call of an agent promises.
-use Rattle.std.specs.Prelude.{◌≡◌, ◌⊎◌, ℕ, ◌+◌, false, true, List, [], ◌∷◌, length, Option, None, IfSome, Result, IfOk, IfErr, IsErrOf, OnOk, OnErr, if◌then◌else◌}
+use Rattle.std.specs.Prelude.{◌≡◌, ◌⊎◌, ◌≤◌, ℕ, ◌+◌, false, true, List, [], ◌∷◌, length, Option, None, IfSome, Result, IfOk, IfErr, IsErrOf, OnOk, OnErr, if◌then◌else◌}
 use Rattle.host_model.specs.declared.file.File.{File}
 use Rattle.host_model.specs.Past.{Event, IsDisk}
 use Rattle.host_model.specs.Disks.{EveryDisk, reads_as}
@@ -22,9 +22,11 @@ use Rattle.link_frames.specs.Frames.{HasSpelling}
 use Rattle.alarm_events.specs.declared.log.Log.{Log}
 use Rattle.tier_settings.specs.declared.settings.Settings.{Settings}
 use Rattle.beat_tiers.specs.declared.kept.Kept.{Kept}
-use Rattle.store_core.specs.Own.{OnlyOwn}
-use Rattle.store_core.specs.Stands.{is_made, IsDamaged, Stands}
-use Rattle.store_core.specs.Store.{counted, raised}
+use Rattle.database_files.specs.Holds.{OnlyOwn}
+use Rattle.store_core.specs.Damaged.{IsDamagedIn}
+use Rattle.store_core.specs.Stands.{is_made, Stands}
+use Rattle.agent_core.specs.Notes.{IsDamaged}
+use Rattle.store_core.specs.Counts.{counted, raised}
 use Rattle.store_core.specs.Stored.{Stored}
 use Rattle.agent_core.specs.declared.fault.AgentFault.{AgentFault}
 use Rattle.agent_core.specs.declared.fault.AgentFault.TheVariants.{DiskFault, NotADatabase, Damaged, Exists, Memory}
@@ -39,7 +41,8 @@ use Rattle.agent_core.specs.Copying.{added_by, events_onto, refusal_by}
 use Rattle.agent_core.specs.Faults.{fault_after, HealthRefusedBy, IsCreating, IsLogging, IsOpening, IsReading, LeavesAll, RefusedBy, Reopens}
 use Rattle.agent_core.specs.Fed.{IsFed}
 use Rattle.agent_core.specs.Health.{health_refusal}
-use Rattle.agent_core.specs.Kept.{onto, StandsForFront, StandsForHealth, StandsForHistory, StandsForNew, StandsForOneOf}
+use Rattle.agent_core.specs.Kept.{onto}
+use Rattle.agent_core.specs.Stands.{StandsForFront, StandsForHealth, StandsForHistory, StandsForNew, StandsForOneOf}
 use Rattle.agent_core.specs.Notes.{HasNotes}
 use Rattle.agent_core.specs.Roles.{child_in, copies}
 use Rattle.agent_core.specs.Rules.{beat_refusal, count_with, history_with, last_with, line_refusal}
@@ -114,6 +117,11 @@ pub record Logs (agent : AgentState) (result : Result Log AgentFault) : Type 0 w
   pub reopens : Reopens agent.fault result
   pub faults : IfErr result IsLogging
 
+-- each file reads as before, and whatever a crash leaves, it might have left before
+pub record ReadsAsBefore (old new : List Event) : Type 0 where
+  pub same : (file : File) → reads_as new file ≡ reads_as old file
+  pub disks : EveryDisk (IsDisk old) new
+
 -- `create` with this result left the host so
 pub record Creates (honest : Type 0) (host : Seen) (set : Settings) (result : Result AgentState AgentFault) (host' : Seen) : Type 0 where
   -- at every moment a crash leaves what it might have left before the call, no database, or the one without beats
@@ -122,11 +130,13 @@ pub record Creates (honest : Type 0) (host : Seen) (set : Settings) (result : Re
   pub created : IfOk result (λ agent. honest → IsAgentOf host'.past agent set [])
   pub ready : IfOk result (AgentIsReady honest host'.past)
   pub new : IfOk result (IsNewAgent set)
-  -- where there is a database it is refused, or the disk failed, or memory ran out, and nothing has happened
+  -- where there is a database it is refused, or the disk failed, or memory ran out, and nothing is written
   pub exists : IsErrOf result Exists → honest → is_made (reads_as host.past) ≡ true
   pub none : OnOk result (honest → is_made (reads_as host.past) ≡ false)
-  pub made : honest → is_made (reads_as host.past) ≡ true → (IsErrOf result Exists ⊎ (IsErrOf result DiskFault ⊎ IsErrOf result Memory)) × (host'.past ≡ host.past)
-  pub memory : IsErrOf result Memory → honest → host'.past ≡ host.past
+  pub made : honest → is_made (reads_as host.past) ≡ true → (IsErrOf result Exists ⊎ (IsErrOf result DiskFault ⊎ IsErrOf result Memory)) × ReadsAsBefore host.past host'.past
+  pub made_moment : honest → is_made (reads_as host.past) ≡ true → Throughout (EveryDisk (IsDisk host.past)) host.past host'.past
+  -- without memory nothing is written either
+  pub memory : IsErrOf result Memory → honest → ReadsAsBefore host.past host'.past
   pub faults : IfErr result IsCreating
   -- the disk fails exactly where the host counted a failure
   pub cause : HasCause host.disk_faults host'.disk_faults (IsErrOf result DiskFault)
@@ -140,8 +150,8 @@ pub record Opens (honest : Type 0) (host : Seen) (result : Result AgentState Age
   pub opened : IfOk result (λ agent. honest → (set : Settings) (h : List Beat) → StandsForHistory set h (reads_as host.past) → IsAgentOf host'.past agent set h)
   pub ready : IfOk result (AgentIsReady honest host'.past)
   pub going : IfOk result (λ agent. agent.fault ≡ None)
-  -- whatever history that is: its registry is what the notes leave, and it copies where they do
-  pub left : IfOk result (λ agent. honest → (set : Settings) (stored : Stored) → Stands set stored (reads_as host.past) → HasLeft stored agent)
+  -- whatever history that is: its registry and its role are what the side and the notes leave
+  pub left : IfOk result (λ agent. honest → (stored : Stored) → Stands stored (reads_as host.past) → HasLeft stored agent)
   -- at every moment a crash leaves what it might have left before, and all files read as before
   pub any_moment : honest → Throughout (EveryDisk (IsDisk host.past)) host.past host'.past
   pub same : honest → (file : File) → reads_as host'.past file ≡ reads_as host.past file
@@ -151,12 +161,15 @@ pub record Opens (honest : Type 0) (host : Seen) (result : Result AgentState Age
   pub stands : honest → (set : Settings) (h : List Beat) → StandsForHistory set h (reads_as host.past) → IfErr result (λ fault. (fault ≡ DiskFault) ⊎ (fault ≡ Memory))
   pub none : IsErrOf result NotADatabase → honest → is_made (reads_as host.past) ≡ false
   pub some : OnOk result (honest → is_made (reads_as host.past) ≡ true)
-  pub damaged : IsErrOf result (Damaged 4) → honest → IsDamaged (reads_as host.past)
+  -- where a part of the files is damaged, or a beat stands behind one that sealed a segment
+  pub damaged : (part : ℕ) → part ≤ 4 → IsErrOf result (Damaged part) → honest → IsDamaged (reads_as host.past)
+  -- the checkpoint's file, its body, or an extent
+  pub parts : (part : ℕ) → part ≤ 3 → IsErrOf result (Damaged part) → honest → IsDamagedIn part (reads_as host.past)
   pub made : (part : ℕ) → IsErrOf result (Damaged part) → honest → is_made (reads_as host.past) ≡ true
   -- what was opened goes on from beat to beat
   pub notes : OnOk result (honest → HasNotes true (reads_as host.past))
-  -- where a note is no entry that goes on, or a point is of a series that is not there
-  pub damaged_notes : IsErrOf result (Damaged 5) → honest → HasNotes false (reads_as host.past)
+  -- where the side is not good, a note is no entry that goes on, or a point is of a series that is not there
+  pub damaged_notes : IsErrOf result (Damaged 5) → honest → HasNotes true (reads_as host.past) → ⊥
   pub faults : IfErr result IsOpening
   -- the disk fails exactly where the host counted a failure
   pub cause : HasCause host.disk_faults host'.disk_faults (IsErrOf result DiskFault)

@@ -1,5 +1,5 @@
 -- What a fault of an agent leaves it as.
-use Rattle.std.specs.Prelude.{◌≡◌, ◌⊎◌, Option, Some, None, Result, Ok, Err}
+use Rattle.std.specs.Prelude.{◌≡◌, ◌⊎◌, ◌≤◌, Option, Some, None, Result, Ok, Err}
 use Rattle.health_config.specs.declared.fault.ConfigFault.{ConfigFault}
 use Rattle.history.specs.declared.fault.BlockFault.{BlockFault}
 use Rattle.store_core.specs.declared.fault.StoreFault.{StoreFault}
@@ -125,7 +125,7 @@ IsOpening (Refused fault) = ⊥
 IsOpening (Health fault) = ⊥
 IsOpening DiskFault = Unit {0}
 IsOpening NotADatabase = Unit {0}
-IsOpening (Damaged part) = (part ≡ 4) ⊎ (part ≡ 5)
+IsOpening (Damaged part) = (1 ≤ part) × (part ≤ 5)
 IsOpening (Reopen cause) = ⊥
 IsOpening Exists = ⊥
 IsOpening Memory = Unit {0}
@@ -151,3 +151,18 @@ IsLogging (Damaged part) = ⊥
 IsLogging (Reopen cause) = Unit {0}
 IsLogging Exists = ⊥
 IsLogging Memory = Unit {0}
+
+-- why what is stored is not replayed
+abbrev pub IsUnreplayed : AgentFault → Type 0
+IsUnreplayed fault = (fault ≡ Memory) ⊎ ((fault ≡ Damaged 4) ⊎ (fault ≡ Damaged 5))
+
+-- why a store is not opened
+abbrev pub IsUnopened : AgentFault → Type 0
+IsUnopened (Refused fault) = ⊥
+IsUnopened (Health fault) = ⊥
+IsUnopened DiskFault = Unit {0}
+IsUnopened NotADatabase = Unit {0}
+IsUnopened (Damaged part) = (1 ≤ part) × (part ≤ 4)
+IsUnopened (Reopen cause) = ⊥
+IsUnopened Exists = ⊥
+IsUnopened Memory = Unit {0}

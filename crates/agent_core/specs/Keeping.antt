@@ -2,7 +2,7 @@
 use Rattle.std.specs.Prelude.{◌≡◌, None, Result, IfErr, IsErrOf, OnOk}
 use Rattle.host_model.specs.Cause.{HasCause}
 use Rattle.host_model.specs.Seen.{Seen}
-use Rattle.store_core.specs.Own.{OnlyOwn}
+use Rattle.database_files.specs.Holds.{OnlyOwn}
 use Rattle.store_core.specs.Store.{IsReady, IsReplayed, StoreState}
 use Rattle.agent_core.specs.declared.fault.AgentFault.{AgentFault}
 use Rattle.agent_core.specs.declared.fault.AgentFault.TheVariants.{DiskFault}
@@ -14,7 +14,7 @@ pub record KeepsStore {T : Type 0} (honest : Type 0) (host : Seen) (store : Stor
   pub ready : IsReady honest host'.past store'
   pub replayed : IsReplayed store'
   pub going : OnOk result (store'.fault ≡ None)
-  pub settings : store'.settings ≡ store.settings
+  pub settings : store'.body.settings ≡ store.body.settings
   -- the disk failed, or memory ran out
   pub faults : IfErr result IsSpending
   -- the disk fails exactly where the host counted a failure

@@ -1,13 +1,9 @@
--- How a store keeps the beats of a history, and which disks stand for it. A history has its newest beat
--- first, and so has the store.
-use Rattle.std.specs.Prelude.{◌≡◌, ◌⊎◌, ℕ, ◌<◌, true, List, [], ◌∷◌, map, find, slice_get, take, false, Option, Some, None, is_some}
+-- How a store keeps the beats of a history. A history has its newest beat first, and so has the store.
+use Rattle.std.specs.Prelude.{◌≡◌, ℕ, ◌<◌, true, List, [], ◌∷◌, map, find, slice_get, Option, Some, None, is_some}
 use Rattle.std.specs.Option.{option_map_or, option_and_then}
-use Rattle.host_model.specs.declared.file.File.{File}
-use Rattle.host_model.specs.Past.{Event}
 use Rattle.history.specs.declared.beat.OpenBeat.{OpenBeat}
 use Rattle.history.specs.declared.beat.OpenDim.{OpenDim}
 use Rattle.history.specs.declared.chart.ChartDef.{ChartDef}
-use Rattle.history.specs.declared.fault.BlockFault.{BlockFault}
 use Rattle.history.specs.History.{Beat, collected, copied, health, missing, child, last, registry_of, Copy, Gap, Word}
 use Rattle.history.specs.declared.numbered.NumberedBeat.{NumberedBeat}
 use Rattle.history.specs.Registry.{Registry, is_chart, with_definitions}
@@ -16,15 +12,11 @@ use Rattle.beat_points.specs.declared.series_word.SeriesWord.{SeriesWord}
 use Rattle.beat_points.specs.Points.{beat_points}
 use Rattle.entry_codec.specs.declared.entry.Entry.{Entry}
 use Rattle.entry_codec.specs.declared.entry.Entry.TheVariants as entry
-use Rattle.tier_settings.specs.declared.settings.Settings.{Settings}
 use Rattle.entry_codec.specs.Entries.{entry_bytes, HasSpelling}
 use Rattle.beat_entries.specs.Copied.{copied_entry_of, MayCopy}
 use Rattle.history.specs.Numbered.{numbered_beat}
-use Rattle.store_core.specs.declared.beat.Beat.{Beat as StoreBeat}
+use Rattle.beat_records.specs.declared.beat.Beat.{Beat as StoreBeat}
 use Rattle.beat_tiers.specs.declared.item.BeatPoint.{BeatPoint}
-use Rattle.store_core.specs.Stands.{is_made, Stands}
-use Rattle.store_core.specs.Store.{IsStoreOf, StoreState}
-use Rattle.store_core.specs.Stored.{Stored}
 use Rattle.agent_core.specs.Health.{health_refusal}
 use Rattle.agent_core.specs.Roles.{may_copy, role_of}
 use Rattle.agent_core.specs.Rules.{beat_refusal, IsOpenBeat}
@@ -128,39 +120,7 @@ AreBeatsOf [] [] = Unit {0}
 AreBeatsOf (beat ∷ h) (kept ∷ beats) = IsBeatOf h beat kept × AreBeatsOf h beats
 AreBeatsOf h beats = ⊥
 
--- a store has stored this for this history
-pub record IsStoredOf (h : List Beat) (stored : Stored) : Type 0 where
-  pub after : AreBeatsOf h stored.after
-
--- the store is that of these settings, and holds this history: none of its beats waits
-pub record HoldsHistory (past : List Event) (store : StoreState) (set : Settings) (h : List Beat) : Type 0 where
-  pub stored : Stored
-  pub are : IsStoredOf h stored
-  pub store_of : IsStoreOf past store set stored
-
--- the disk holds the database with these settings and this history
-pub record StandsForHistory (set : Settings) (h : List Beat) (disk : File → List ℕ) : Type 0 where
-  pub stored : Stored
-  pub are : IsStoredOf h stored
-  pub stands : Stands set stored disk
-
 -- a history with these beats, the oldest first, on top of it
 abbrev pub onto : List Beat → List Beat → List Beat
 onto g [] = g
 onto g (beat ∷ more) = onto (beat ∷ g) more
-
--- the disk holds this history with the first of these beats, with none or with all of them
-abbrev pub StandsForFront : Settings → List Beat → List Beat → (File → List ℕ) → Type 0
-StandsForFront set h more disk = (n : ℕ) × StandsForHistory set (onto h (take n more)) disk
-
--- the disk holds no database, or the one with these settings and without beats
-abbrev pub StandsForNew : Settings → (File → List ℕ) → Type 0
-StandsForNew set disk = (is_made disk ≡ false) ⊎ StandsForHistory set [] disk
-
--- the disk holds this history, or, where nothing refuses it, with the history after a call
-abbrev pub StandsForOneOf : Settings → List Beat → Option BlockFault → List Beat → (File → List ℕ) → Type 0
-StandsForOneOf set h refusal after disk = StandsForHistory set h disk ⊎ ((refusal ≡ None) × StandsForHistory set after disk)
-
--- the disk holds this history, or, where nothing refuses the text, with this configuration
-abbrev pub StandsForHealth : Settings → List Beat → List ℕ → (File → List ℕ) → Type 0
-StandsForHealth set h text disk = StandsForHistory set h disk ⊎ ((health_refusal text ≡ None) × StandsForHistory set (health text ∷ h) disk)

@@ -19,6 +19,8 @@ pub mod Replies
 pub mod Roles
 pub mod Rules
 pub mod Said
+pub mod Sides
 pub mod Sound
+pub mod Stands
 pub mod Steps
 pub mod Storing

@@ -1,21 +1,27 @@
--- From which kept beats an agent can be opened: the entries in their notes go on, each from what those before it
--- leave, and their points are of series that are there. A store has its newest beat first.
-use Rattle.std.specs.Prelude.{◌≡◌, ℕ, nat_lt, Bool, true, false, ◌&&◌, List, [], ◌∷◌, length, Option, Some, None, is_none, Result, Ok, Err, if◌then◌else◌}
+-- From what is stored an agent can be opened: the side is that of charts and dimensions and of alarms of these, the entries
+-- in the notes go on, each from what those before it leave, and points are of series that are there. A store has its newest
+-- beat first.
+use Rattle.std.specs.Prelude.{◌≡◌, ℕ, nat_lt, Bool, true, false, ◌&&◌, List, [], ◌∷◌, length, Option, Some, None, is_none, is_some, Result, Ok, Err, if◌then◌else◌}
 use Rattle.std.specs.List.{list_all}
-use Rattle.std.specs.Option.{option_map_or}
+use Rattle.std.specs.Option.{option_and_then, option_map, option_map_or}
 use Rattle.host_model.specs.declared.file.File.{File}
 use Rattle.history.specs.History.{Beat, registry_of}
 use Rattle.history.specs.Registry.{Registry, empty}
+use Rattle.history.specs.declared.numbered.NumberedBeat.{NumberedBeat}
+use Rattle.alarm_core.specs.Kept.{of_kept}
+use Rattle.side_codec.specs.declared.role.SideRole.{SideRole}
+use Rattle.side_codec.specs.declared.role.SideRole.TheVariants as side_role
+use Rattle.side_codec.specs.declared.side.Side.{Side}
+use Rattle.side_codec.specs.Sides.{read_side}
 use Rattle.entry_codec.specs.declared.entry.Entry.{Entry}
 use Rattle.entry_codec.specs.declared.entry.Entry.TheVariants as entry
-use Rattle.tier_settings.specs.declared.settings.Settings.{Settings}
 use Rattle.entry_codec.specs.declared.fault.EntryFault.{EntryFault}
 use Rattle.entry_codec.specs.Entries.{read_entry}
 use Rattle.beat_entries.specs.Copied.{copied_goes_on, defined_by}
 use Rattle.beat_entries.specs.Next.{goes_on, is_number, with_numbered}
-use Rattle.store_core.specs.declared.beat.Beat.{Beat as StoreBeat}
+use Rattle.beat_records.specs.declared.beat.Beat.{Beat as StoreBeat}
 use Rattle.beat_tiers.specs.declared.item.BeatPoint.{BeatPoint}
-use Rattle.store_core.specs.Stands.{Stands}
+use Rattle.store_core.specs.Stands.{is_made, Stands}
 use Rattle.store_core.specs.Stored.{Stored}
 use Rattle.agent_core.specs.declared.left.Left.{Left}
 use Rattle.agent_core.specs.declared.left.Role.{Role}
@@ -102,23 +108,58 @@ unfoldable pub left_after : Noted → List StoreBeat → Noted
 left_after start [] = start
 left_after start (kept ∷ beats) = with_note (left_after start beats) kept
 
--- what the entries of all that is stored leave
-abbrev pub left_by : Stored → Noted
-left_by stored = left_after nothing_noted stored.after
-
 -- the beats go on from this: each has an entry that goes on from what those before it leave, and points of series that
 -- are there
 unfoldable pub beats_go_on : Noted → List StoreBeat → Bool
 beats_go_on start [] = true
 beats_go_on start (kept ∷ beats) = beats_go_on start beats && takes_note (left_after start beats) kept
 
--- all that is stored goes on, from nothing
-abbrev pub notes_go_on : Stored → Bool
-notes_go_on stored = beats_go_on nothing_noted stored.after
+-- ---- the side
 
--- the disk holds a database of settings and of what is stored, and whether the notes of this go on
+-- the charts and dimensions of a side, as a beat that defines them
+abbrev pub defined_in : Side → NumberedBeat
+defined_in side = record { moment = 0; charts = side.charts; dimensions = side.dimensions; rows = [] }
+
+abbrev pub role_in : SideRole → Role
+role_in side_role.Undecided = Undecided
+role_in side_role.Collects = Collects
+role_in (side_role.Copies child) = Copies child
+
+-- what it leaves
+abbrev pub noted_by : Side → Noted
+noted_by side = record { registry = with_numbered empty (defined_in side); role = role_in side.role }
+
+-- its charts and dimensions go on from nothing, each id once, and its alarms are of charts that are there, by a health text
+-- that nothing refuses
+abbrev pub is_good : Side → Bool
+is_good side = goes_on empty (defined_in side) && is_some (of_kept (noted_by side).registry side.alarms)
+
+abbrev pub noted_if : Side → Option Noted
+noted_if side = if is_good side then Some (noted_by side) else None
+
+-- what the side with these bytes leaves, if they are a good one's
+unfoldable pub noted_in_side : List ℕ → Option Noted
+noted_in_side bytes = option_and_then noted_if (read_side bytes)
+
+-- ---- all that is stored
+
+-- what the side and the entries of the beats since leave, if the side is good
+abbrev pub left_by : Stored → Option Noted
+left_by stored = option_map (λ start. left_after start stored.after) (noted_in_side stored.base.side)
+
+-- the side is good, and the beats since go on from what it leaves
+abbrev pub notes_go_on : Stored → Bool
+notes_go_on stored = option_map_or (λ start. beats_go_on start stored.after) (noted_in_side stored.base.side) false
+
+-- the disk holds a database with what is stored, and whether the side and the notes of this go on
 pub record HasNotes (goes : Bool) (disk : File → List ℕ) : Type 0 where
-  pub settings : Settings
   pub stored : Stored
-  pub stands : Stands settings stored disk
+  pub stands : Stands stored disk
   pub notes : notes_go_on stored ≡ goes
+
+-- ---- damage
+
+-- there is a database on the disk, and it is that of no base and beats
+pub record IsDamaged (disk : File → List ℕ) : Type 0 where
+  pub made : is_made disk ≡ true
+  pub none_stands : (stored : Stored) → Stands stored disk → ⊥

@@ -15,7 +15,7 @@ use Rattle.entry_codec.specs.declared.entry.Entry.{Entry}
 use Rattle.entry_codec.specs.declared.entry.Entry.TheVariants as entry
 use Rattle.tier_settings.specs.declared.settings.Settings.{Settings}
 use Rattle.beat_tiers.specs.declared.item.BeatPoint.{BeatPoint}
-use Rattle.store_core.specs.declared.beat.Beat.{Beat as StoreBeat}
+use Rattle.beat_records.specs.declared.beat.Beat.{Beat as StoreBeat}
 use Rattle.store_core.specs.Store.{IsReplayed, IsStoreAt, OpensAt, StoreState}
 use Rattle.store_core.specs.Stored.{stored_with_all, Stored}
 use Rattle.agent_core.specs.declared.left.Left.{Left}
@@ -23,7 +23,8 @@ use Rattle.agent_core.specs.Agent.{AgentState}
 use Rattle.agent_core.specs.declared.alarming.Stepping.{Stepping}
 use Rattle.agent_core.specs.declared.alarming.Stepping.TheVariants as stepping
 use Rattle.agent_core.specs.Alarms.{IsReadOf}
-use Rattle.agent_core.specs.Kept.{copied_point, onto, stored_points, AreBeatsOf, IsBeatOf, IsStoredOf}
+use Rattle.agent_core.specs.Kept.{copied_point, onto, stored_points, AreBeatsOf, IsBeatOf}
+use Rattle.agent_core.specs.Stands.{IsStoredOf}
 use Rattle.agent_core.specs.LastSeen.{IsLatestOf}
 use Rattle.agent_core.specs.Left.{IsLeftBy}
 use Rattle.agent_core.specs.Notes.{beats_go_on, left_after, noted_in, Noted}
@@ -103,9 +104,9 @@ pub record IsAtPrefix (past : List Event) (store : StoreState) (set : Settings) 
   pub stored : Stored
   pub rest : List StoreBeat
   pub whole : onto prefix more ≡ h
-  pub are : IsStoredOf prefix stored
+  pub are : IsStoredOf set prefix stored
   pub next : AreNextOf prefix more rest
-  pub is_at : IsStoreAt past store set stored rest
+  pub is_at : IsStoreAt past store stored rest
 
 -- the store has replayed a prefix of the history, and the beats of this left this
 pub record IsReplaying (past : List Event) (store : StoreState) (left : Left) (set : Settings) (h : List Beat) : Type 0 where
@@ -114,26 +115,27 @@ pub record IsReplaying (past : List Event) (store : StoreState) (left : Left) (s
   pub left_by : IsLeftBy set prefix left
 
 -- the store has replayed a prefix of what is stored, whose notes go on from a start, and this is what they leave
-pub record HasTaken (start : Noted) (past : List Event) (store : StoreState) (left : Left) (set : Settings) (stored : Stored) : Type 0 where
+pub record HasTaken (start : Noted) (past : List Event) (store : StoreState) (left : Left) (stored : Stored) : Type 0 where
   pub applied : Stored
   pub rest : List StoreBeat
   pub whole : stored_with_all applied rest ≡ stored
-  pub is_at : IsStoreAt past store set applied rest
+  pub is_at : IsStoreAt past store applied rest
   pub go_on : beats_go_on start applied.after ≡ true
   pub left_is : noted_in left ≡ left_after start applied.after
 
 -- the store was opened, with what it has stored for this history
 pub record IsOpenedFor (past : List Event) (store : StoreState) (set : Settings) (h : List Beat) : Type 0 where
   pub stored : Stored
-  pub are : IsStoredOf h stored
-  pub opens : OpensAt past store set stored
+  pub are : IsStoredOf set h stored
+  pub opens : OpensAt past store stored
 
 -- the agent has replayed all of this store, of whatever beats that is
 pub record HasReplayed (store : StoreState) (agent : AgentState) : Type 0 where
-  pub journal : agent.store.journal ≡ store.journal
+  pub files : agent.store.files ≡ store.files
+  pub body : agent.store.body ≡ store.body
   pub store_going : agent.store.fault ≡ None
   pub replayed : IsReplayed agent.store
-  pub same_last : agent.store.last ≡ agent.last
+  pub same_last : agent.store.tiers.last ≡ agent.last
   pub going : agent.fault ≡ None
   pub up_to : IsUpTo agent.alarms agent.registry
   pub charts : AreApart same_chart agent.registry.charts

@@ -14,7 +14,7 @@ use Rattle.history.specs.Limits.{chart_keeps_limits, dimension_keeps_limits}
 use Rattle.history.specs.Looking.{beat as open_beat}
 use Rattle.history.specs.Refusal.{refusal}
 use Rattle.history.specs.Registry.{Registry}
-use Rattle.store_core.specs.Store.{raised}
+use Rattle.store_core.specs.Counts.{raised}
 
 -- ---- what a line does
 

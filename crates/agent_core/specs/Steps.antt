@@ -10,8 +10,8 @@ use Rattle.collect_block.specs.declared.step.Step.{Step}
 use Rattle.collect_block.specs.declared.step.Step.TheVariants as step
 use Rattle.alarm_events.specs.declared.event.Event.{Event}
 use Rattle.tier_settings.specs.declared.settings.Settings.{Settings}
-use Rattle.store_core.specs.Own.{OnlyOwn}
-use Rattle.store_core.specs.Store.{raised}
+use Rattle.database_files.specs.Holds.{OnlyOwn}
+use Rattle.store_core.specs.Counts.{raised}
 use Rattle.agent_core.specs.declared.fault.AgentFault.{AgentFault}
 use Rattle.agent_core.specs.declared.fault.AgentFault.TheVariants.{DiskFault}
 use Rattle.agent_core.specs.declared.reply.Said.{Said}
@@ -21,7 +21,7 @@ use Rattle.agent_core.specs.Alarms.{events_at}
 use Rattle.agent_core.specs.Answers.{reply_of}
 use Rattle.host_model.specs.Seen.{Seen}
 use Rattle.agent_core.specs.Faults.{fault_after, LeavesAll, RefusedBy, Reopens}
-use Rattle.agent_core.specs.Kept.{StandsForOneOf}
+use Rattle.agent_core.specs.Stands.{StandsForOneOf}
 use Rattle.agent_core.specs.Roles.{copies}
 use Rattle.agent_core.specs.Rules.{beat_refusal, IsOpenBeat}
 

@@ -21,11 +21,12 @@ use Rattle.replication.specs.declared.named.NamedPoint.{NamedPoint}
 use Rattle.replication.specs.Copies.{gap_between, RisesFrom}
 use Rattle.replication.specs.Names.{beat_moment, named_beat, named_beats}
 use Rattle.link_frames.specs.DataForm.{has_rising_places, has_storage_numbers, AreApart}
-use Rattle.store_core.specs.declared.beat.Beat.{Beat as StoreBeat}
+use Rattle.beat_records.specs.declared.beat.Beat.{Beat as StoreBeat}
 use Rattle.store_core.specs.Store.{StoreState}
 use Rattle.agent_core.specs.declared.left.Left.{Left}
 use Rattle.agent_core.specs.Copying.{copied_beats, copied_of, definitions_in, events_onto, gap_beat, nothing_defined, numbered_words}
-use Rattle.agent_core.specs.Kept.{copied_point, onto, CopyFollows, HoldsHistory}
+use Rattle.agent_core.specs.Kept.{copied_point, onto, CopyFollows}
+use Rattle.agent_core.specs.Stands.{HoldsHistory}
 use Rattle.agent_core.specs.Left.{IsLeftBy}
 use Rattle.agent_core.specs.Roles.{may_copy, role_of}
 

@@ -1,4 +1,4 @@
-ghost use Rattle.std.specs.Prelude.{◌≡◌, ◌<◌, ◌^◌, ◌⊎◌, ◌∷◌, [], ℕ, List, None, true, false, IfOk, IfErr, IsErrOf, OnOk, OnErr};
+ghost use Rattle.std.specs.Prelude.{◌≡◌, ◌<◌, ◌≤◌, ◌^◌, ◌⊎◌, ◌∷◌, [], ℕ, List, None, true, false, IfOk, IfErr, IsErrOf, OnOk, OnErr};
 ghost use Rattle.host_model.specs.declared.file.File.{File as AFile};
 ghost use Rattle.host_model.specs.Past.{Event, IsDisk};
 ghost use Rattle.host_model.specs.Disks.{EveryDisk, reads_as};
@@ -8,42 +8,52 @@ ghost use Rattle.history.specs.History.{Beat as HistoryBeat, collected, health};
 ghost use Rattle.history.specs.Limits.{keeps_limits};
 ghost use Rattle.tier_settings.specs.declared.settings.Settings.{Settings as ASettings};
 ghost use Rattle.tier_settings.specs.Limits.{InLimits};
-ghost use Rattle.store_core.specs.Own.{OnlyOwn};
-ghost use Rattle.store_core.specs.Stands.{is_made, IsDamaged, Stands};
-ghost use Rattle.store_core.specs.Store.{raised, OpensAt};
+ghost use Rattle.database_files.specs.Holds.{OnlyOwn};
+ghost use Rattle.store_core.specs.Stands.{is_made, Stands};
+ghost use Rattle.agent_core.specs.Notes.{IsDamaged};
+ghost use Rattle.store_core.specs.Counts.{raised};
+ghost use Rattle.store_core.specs.Damaged.{IsDamagedIn};
+ghost use Rattle.store_core.specs.Store.{IsReady, OpensAt};
 ghost use Rattle.store_core.specs.Stored.{Stored as AStored};
 ghost use Rattle.agent_core.specs.Answers.{floor_of_history, kept_of_history, reply_of};
 ghost use Rattle.agent_core.specs.Agent.{left_in};
 ghost use Rattle.alarm_core.specs.UpTo.{IsUpTo};
 ghost use Rattle.agent_core.specs.Alarms.{events_at, DefinesNothing, IsSteppingOf};
-ghost use Rattle.agent_core.specs.Calls.{Beats, Creates, Keeps, Lines, Logs, Opens, Queries, SetsHealth};
+ghost use Rattle.agent_core.specs.Calls.{Beats, Creates, Keeps, Lines, Logs, Opens, Queries, ReadsAsBefore, SetsHealth};
 ghost use Rattle.agent_core.specs.Fed.{IsFed};
-ghost use Rattle.agent_core.specs.Faults.{fault_after, HealthRefusedBy, IsCreating, IsOpening, IsReading, LeavesAll, RefusedBy, Reopens};
+ghost use Rattle.agent_core.specs.Faults.{fault_after, HealthRefusedBy, IsCreating, IsOpening, IsReading, IsUnreplayed, LeavesAll, RefusedBy, Reopens};
 ghost use Rattle.agent_core.specs.Health.{health_refusal};
-ghost use Rattle.agent_core.specs.Kept.{HoldsHistory, StandsForHealth, StandsForHistory, StandsForNew, StandsForOneOf};
+ghost use Rattle.agent_core.specs.Stands.{HoldsHistory, StandsForHealth, StandsForHistory, StandsForNew, StandsForOneOf};
 ghost use Rattle.agent_core.specs.Left.{AwaitsAlarms, IsLeftBy};
 ghost use Rattle.agent_core.specs.Notes.{notes_go_on, HasNotes};
 ghost use Rattle.agent_core.specs.Replay.{HasReplayed, IsOpenedFor};
 ghost use Rattle.agent_core.specs.Roles.{copies};
-ghost use Rattle.agent_core.specs.Rules.{beat_refusal, IsOpenBeat};
+ghost use Rattle.agent_core.specs.Rules.{beat_refusal, HasLimits, IsOpenBeat};
 ghost use Rattle.agent_core.specs.Steps.{IsOpenStep, Takes};
+ghost use Rattle.history.specs.Numbered.{numbered_beat};
+ghost use Rattle.history.specs.Registry.{same_chart, same_dimension};
+ghost use Rattle.history.specs.Regular.{AreApart};
+ghost use Rattle.beat_entries.specs.Rules.{content_refusal, with_beat};
+ghost use Rattle.agent_core.specs.Keeping.{KeepsStore};
+ghost use Rattle.agent_core.specs.Kept.{Follows};
 
 mod copies;
 
 use crate::alarming::{Stepping, follow};
 use crate::answering;
 use crate::fault::{AgentFault, store_fault};
-use crate::keeping::{add, add_health, defines_some};
+use crate::keeping::{add, add_health, defines_some, make_room};
 use crate::left::Left;
 use crate::replaying::{open_store, replay_all};
 use crate::reply::{Reply, Said};
+use crate::side::{read_left, write_left};
 use alarm_core::Log;
-use beat_entries::{BeatFault, take_beat};
+use beat_entries::{BeatFault, define_beat, judge_beat};
 use chart_registry::Registry;
 use collect_block::{Feed, Step};
 use fixed_num::Text;
 use health_config::{Config, ConfigFault};
-use history::{BlockFault, Line, OpenBeat};
+use history::{BlockFault, Line, NumberedBeat, OpenBeat};
 use host_model::Host;
 use std::alloc::Global;
 use std::marker::Model;
@@ -96,11 +106,11 @@ fn raised(count: u64) -> u64
 }
 
 impl Agent {
-    ghost use Rattle.agent_core.specs.Agent.{id_of, AgentIsReady, HasLeft, IsAgentOf, IsNewAgent};
+    ghost use Rattle.agent_core.specs.Agent.{id_of, AgentIsReady, Fits, HasLeft, IsAgentOf, IsNewAgent};
 
     /// Makes the agent of a history without beats, and its database, where there is none.
     ///
-    /// `Exists` exactly where there is a database, and then nothing has happened. At every moment a crash
+    /// `Exists` exactly where there is a database, and then nothing is written. At every moment a crash
     /// leaves what it might have left before the call, no database, or the one without beats; at `Ok` the last.
     pub fn create<H: Host>(
         alloc: Global,
@@ -129,9 +139,12 @@ impl Agent {
         ensures made { H.honest → is_made (reads_as (H.seen host.old).past) ≡ true
             → (IsErrOf result AgentFault.Exists
             ⊎ (IsErrOf result AgentFault.DiskFault ⊎ IsErrOf result AgentFault.Memory))
-            × ((H.seen host.new).past ≡ (H.seen host.old).past) }
+            × ReadsAsBefore (H.seen host.old).past (H.seen host.new).past }
+        ensures made_moment { H.honest → is_made (reads_as (H.seen host.old).past) ≡ true
+            → Throughout (EveryDisk (IsDisk (H.seen host.old).past)) (H.seen host.old).past
+            (H.seen host.new).past }
         ensures memory { IsErrOf result AgentFault.Memory → H.honest
-            → (H.seen host.new).past ≡ (H.seen host.old).past }
+            → ReadsAsBefore (H.seen host.old).past (H.seen host.new).past }
         ensures faults { IfErr result IsCreating }
         ensures cause { HasCause (H.seen host.old).disk_faults (H.seen host.new).disk_faults
             (IsErrOf result AgentFault.DiskFault) }
@@ -140,7 +153,8 @@ impl Agent {
         ensures tells { (H.seen host.new).tell_faults ≡ (H.seen host.old).tell_faults }
     {
         let left = Left::new(alloc)?;
-        match Store::create(alloc, host, settings) {
+        let side = write_left(alloc, &left)?;
+        match Store::create(alloc, host, settings, side) {
             Ok(store) => Ok(Agent {
                 alloc,
                 store,
@@ -156,10 +170,14 @@ impl Agent {
     /// Opens the database of an agent and goes through all that it holds.
     ///
     /// `NotADatabase` exactly where there is none, and `Damaged` only where what is there stands for no
-    /// history: with 4 where its journal holds no settings and beats, and with 5 where a note or a point in it
-    /// is bad. A note is bad where it is no entry of a beat with the moment of its record, does not go on from
-    /// those before, mixes copies with collected beats, has a definition that does not keep its limits, or is a
-    /// configuration whose text is refused. A point is bad where it names a series that is not there. The words
+    /// history: with 1 to 4 where a part of its files is damaged (1 the checkpoint's file, 2 its body, 3 an
+    /// extent, 4 the journal), and with 5 where the side of the checkpoint, a note or a point is bad. A side is
+    /// bad where it is none, its charts and dimensions do not go on from nothing, or its alarms are of a text
+    /// that is refused or of a chart that is not there. A note is bad where it is no entry of a beat with the
+    /// moment of its record, does not go on from the side and the notes before, mixes copies with collected
+    /// beats, has a definition that does not keep its limits, or is a configuration whose text is refused. A
+    /// point is bad where it names a series that is not there. What a side says of last rows and last points is
+    /// compared with nothing. The words
     /// and steps of points are not compared with their definition, and a gap's child and beginning are compared
     /// with nothing. The alarms are those of that history: each beat steps them as it did when it was stored.
     /// At `Ok` the agent is of just the history that the disk stands for, if it stands for one, and that is all
@@ -180,8 +198,8 @@ impl Agent {
         ensures ready { IfOk result (AgentIsReady H.honest (H.seen host.new).past) }
         ensures going { IfOk result (λ agent. agent.fault ≡ None) }
         ensures left { IfOk result
-            (λ agent. H.honest → (set : ASettings) (stored : AStored)
-            → Stands set stored (reads_as (H.seen host.old).past) → HasLeft stored agent) }
+            (λ agent. H.honest → (stored : AStored)
+            → Stands stored (reads_as (H.seen host.old).past) → HasLeft stored agent) }
         ensures any_moment { H.honest
             → Throughout (EveryDisk (IsDisk (H.seen host.old).past)) (H.seen host.old).past
             (H.seen host.new).past }
@@ -196,13 +214,15 @@ impl Agent {
         ensures none { IsErrOf result AgentFault.NotADatabase → H.honest
             → is_made (reads_as (H.seen host.old).past) ≡ false }
         ensures some { OnOk result (H.honest → is_made (reads_as (H.seen host.old).past) ≡ true) }
-        ensures damaged { IsErrOf result (AgentFault.Damaged 4) → H.honest
-            → IsDamaged (reads_as (H.seen host.old).past) }
+        ensures damaged { (part : ℕ) → part ≤ 4 → IsErrOf result (AgentFault.Damaged part)
+            → H.honest → IsDamaged (reads_as (H.seen host.old).past) }
+        ensures parts { (part : ℕ) → part ≤ 3 → IsErrOf result (AgentFault.Damaged part)
+            → H.honest → IsDamagedIn part (reads_as (H.seen host.old).past) }
         ensures made { (part : ℕ) → IsErrOf result (AgentFault.Damaged part) → H.honest
             → is_made (reads_as (H.seen host.old).past) ≡ true }
         ensures notes { OnOk result (H.honest → HasNotes true (reads_as (H.seen host.old).past)) }
         ensures damaged_notes { IsErrOf result (AgentFault.Damaged 5) → H.honest
-            → HasNotes false (reads_as (H.seen host.old).past) }
+            → HasNotes true (reads_as (H.seen host.old).past) → ⊥ }
         ensures faults { IfErr result IsOpening }
         ensures cause { HasCause (H.seen host.old).disk_faults (H.seen host.new).disk_faults
             (IsErrOf result AgentFault.DiskFault) }
@@ -227,21 +247,22 @@ impl Agent {
             (λ fault. (past : List Event) (set : ASettings) (h : List HistoryBeat)
             → IsOpenedFor past store set h
             → fault ≡ AgentFault.Memory) }
-        ensures left { IfOk result
-            (λ agent. (past : List Event) (set : ASettings) (stored : AStored)
-            → OpensAt past store set stored → HasLeft stored agent) }
-        ensures notes { OnOk result
-            ((past : List Event) (set : ASettings) (stored : AStored)
-            → OpensAt past store set stored → notes_go_on stored ≡ true) }
+        ensures left { IfOk result (λ agent. (past : List Event) (stored : AStored)
+            → OpensAt past store stored → HasLeft stored agent) }
+        ensures notes { OnOk result ((past : List Event) (stored : AStored)
+            → OpensAt past store stored → notes_go_on stored ≡ true) }
         ensures broken { IfErr result
-            (λ fault. fault ≡ AgentFault.Damaged 5
-            → (past : List Event) (set : ASettings) (stored : AStored)
-            → OpensAt past store set stored → notes_go_on stored ≡ false) }
+            (λ fault. fault ≡ AgentFault.Damaged 5 → (past : List Event) (stored : AStored)
+            → OpensAt past store stored → notes_go_on stored ≡ false) }
+        ensures whole { IfErr result
+            (λ fault. fault ≡ AgentFault.Damaged 4 → (past : List Event) (stored : AStored)
+            → OpensAt past store stored → ⊥) }
+        ensures ready { IfOk result (λ agent. (past : List Event) → IsReady H.honest past store
+            → IsReady H.honest past agent.store) }
         ensures host { H.seen host.new ≡ H.seen host.old }
-        ensures faults { IfErr result
-            (λ fault. (fault ≡ AgentFault.Memory) ⊎ (fault ≡ AgentFault.Damaged 5)) }
+        ensures faults { IfErr result IsUnreplayed }
     {
-        let mut left = Left::new(alloc)?;
+        let mut left = read_left(alloc, store.side())?;
         replay_all(alloc, &mut store, host, &mut left)?;
         Ok(Agent {
             alloc,
@@ -404,15 +425,15 @@ impl Agent {
         if let Some(cause) = self.fault {
             return Err(AgentFault::Reopen(cause));
         }
-        let taken = take_beat(
+        let judged = judge_beat(
             self.alloc,
-            &mut self.left.registry,
+            &self.left.registry,
             self.left.role.copies(),
             self.last,
             moment,
             beat,
         );
-        let numbered = match taken {
+        let numbered = match judged {
             Ok(numbered) => numbered,
             Err(BeatFault::Refused(reason)) => return Err(AgentFault::Refused(reason)),
             Err(BeatFault::Memory) => {
@@ -420,7 +441,7 @@ impl Agent {
                 return Err(AgentFault::Memory);
             }
         };
-        match add(self.alloc, &mut self.store, &mut self.left, host, &numbered) {
+        match self.add_beat(host, beat, moment, &numbered) {
             Ok(()) => {
                 let stepping = Stepping::Beat(moment, defines_some(beat));
                 self.tell(host, stepping, moment)
@@ -429,6 +450,58 @@ impl Agent {
                 self.fault = fault.cause();
                 Err(fault)
             }
+        }
+    }
+
+    /// Adds a beat that was judged: first makes a checkpoint where one is due, and then has the registry take what the
+    /// beat defines. The alarms have still to follow it. After an `Err` nothing of the store and of what was left is
+    /// of use.
+    fn add_beat<H: Host>(
+        &mut self,
+        host: &mut H,
+        beat: &OpenBeat,
+        moment: u32,
+        numbered: &NumberedBeat,
+    ) -> Result<(), AgentFault>
+        requires fits { Fits H.honest (H.seen host.old).past self.old }
+        requires is_open { IsOpenBeat beat.now }
+        requires later { self.old.last < moment }
+        requires content { content_refusal self.old.registry moment beat.now ≡ None }
+        requires numbered { numbered.now
+            ≡ numbered_beat (with_beat self.old.registry beat.now) moment beat.now }
+        ensures any_moment { H.honest → (set : ASettings) (h : List HistoryBeat)
+            → HoldsHistory (H.seen host.old).past self.old.store set h
+            → IsLeftBy set h (left_in self.old) → Follows h moment beat.now
+            → Throughout (EveryDisk (λ disk. StandsForHistory set h disk
+            ⊎ StandsForHistory set (collected moment beat.now ∷ h) disk)) (H.seen host.old).past
+            (H.seen host.new).past }
+        ensures done { OnOk result (H.honest → (set : ASettings) (h : List HistoryBeat)
+            → HoldsHistory (H.seen host.old).past self.old.store set h
+            → IsLeftBy set h (left_in self.old) → Follows h moment beat.now
+            → HoldsHistory (H.seen host.new).past self.new.store set
+            (collected moment beat.now ∷ h)
+            × AwaitsAlarms set h (collected moment beat.now) (left_in self.new)) }
+        ensures registry { OnOk result
+            (self.new.registry ≡ with_beat self.old.registry beat.now) }
+        ensures charts { OnOk result (AreApart same_chart self.new.registry.charts) }
+        ensures dimensions { OnOk result
+            (AreApart same_dimension self.new.registry.dimensions) }
+        ensures limits { OnOk result (HasLimits self.new.registry) }
+        ensures keeps { KeepsStore H.honest (H.seen host.old) self.old.store result
+            (H.seen host.new) self.new.store }
+        ensures stored { OnOk result (self.new.store.tiers.last ≡ moment) }
+        ensures stays { self.new ≡ record self.old {
+          store = self.new.store;
+          registry = self.new.registry;
+          last_rows = self.new.last_rows;
+          latest = self.new.latest;
+          role = self.new.role;
+        } }
+    {
+        make_room(self.alloc, &mut self.store, &self.left, host)?;
+        match define_beat(&mut self.left.registry, moment, beat, numbered) {
+            Ok(()) => add(self.alloc, &mut self.store, &mut self.left, host, numbered),
+            Err(_) => Err(AgentFault::Memory),
         }
     }
 
@@ -540,7 +613,7 @@ impl Agent {
             }
             Err(fault) => return Err(AgentFault::Health(fault)),
         };
-        match add_health(self.alloc, &mut self.store, host, text) {
+        match add_health(self.alloc, &mut self.store, &self.left, host, text) {
             Ok(()) => {
                 let last = self.last;
                 self.left.latest.before = last;

@@ -22,7 +22,7 @@ ghost use Rattle.link_frames.specs.Fields.{FitsBeat, FitsWord};
 ghost use Rattle.link_frames.specs.Frames.{HasSpelling};
 ghost use Rattle.agent_core.specs.Asking.{beat_with, AreInUtf8, AreSendable, HasChart, HaveCharts, IsChartInUtf8, IsDimensionInUtf8, IsSendable};
 ghost use Rattle.agent_core.specs.Copies.{chart_name, data_of_history, dimension_name, names_of, sent_beat, sent_word};
-ghost use Rattle.agent_core.specs.Kept.{HoldsHistory};
+ghost use Rattle.agent_core.specs.Stands.{HoldsHistory};
 ghost use Rattle.agent_core.specs.Rules.{HasLimits};
 
 use crate::fault::{AgentFault, store_fault};
@@ -243,7 +243,7 @@ pub(crate) fn answer<H: Host>(
     ensures form { IfOk result
         (λ answer. IfSome answer (λ message. HasSpelling (frame.Data message))) }
     ensures asked { IfOk result (λ answer. IfSome answer
-        (λ message. (message.child ≡ store.old.settings.id) × (message.prev ≡ ask.now.last))) }
+        (λ message. (message.child ≡ store.old.body.settings.id) × (message.prev ≡ ask.now.last))) }
     ensures store { store.new ≡ store.old }
     ensures host { H.seen host.new ≡ H.seen host.old }
     ensures memory { IfErr result (λ fault. fault ≡ AgentFault.Memory) }

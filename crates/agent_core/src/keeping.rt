@@ -12,13 +12,14 @@ ghost use Rattle.history.specs.Numbered.{numbered_beat, IsThere};
 ghost use Rattle.entry_codec.specs.declared.entry.Entry.TheVariants as entry;
 ghost use Rattle.tier_settings.specs.declared.settings.Settings.{Settings as ASettings};
 ghost use Rattle.entry_codec.specs.Entries.{entry_bytes, is_collected_canonical, HasSpelling, IsWithinLimits};
-ghost use Rattle.store_core.specs.Beats.{beat_bytes, InForm};
-ghost use Rattle.store_core.specs.Records.{last_after};
+ghost use Rattle.beat_records.specs.Beats.{beat_bytes, InForm};
+ghost use Rattle.beat_records.specs.Records.{last_after};
 ghost use Rattle.store_core.specs.Stands.{StandsAround};
-ghost use Rattle.store_core.specs.Store.{IsReady, IsReplayed, IsStoreOf};
+ghost use Rattle.store_core.specs.Store.{is_due, IsReady, IsReplayed, IsStoreOf};
 ghost use Rattle.store_core.specs.Stored.{Stored as AStored, stored_with};
 ghost use Rattle.agent_core.specs.Keeping.{KeepsStore};
-ghost use Rattle.agent_core.specs.Kept.{kept_of, Follows, HoldsHistory, IsTakenBeat, StandsForHistory};
+ghost use Rattle.agent_core.specs.Kept.{kept_of, Follows, IsTakenBeat};
+ghost use Rattle.agent_core.specs.Stands.{HoldsHistory, StandsForHistory};
 ghost use Rattle.agent_core.specs.Left.{AwaitsAlarms, IsLeftBy};
 ghost use Rattle.agent_core.specs.Health.{health_refusal};
 ghost use Rattle.agent_core.specs.Notes.{names_series};
@@ -30,6 +31,7 @@ use crate::fault::{AgentFault, store_fault};
 use crate::last_seen::{see_collected, see_copied};
 use crate::left::{Left, Role};
 use crate::points::stored_points;
+use crate::side::write_left;
 use beat_points::LastRows;
 use chart_registry::{Registry, RegistryFault};
 use entry_codec::{Entry, EntryFault, write_collected, write_entry};
@@ -88,7 +90,40 @@ pub(crate) fn untaken(fault: RegistryFault) -> AllocError
     }
 }
 
-/// Adds a beat to a store that is still of use.
+/// Makes a checkpoint of what beats left, where one is due, so that a beat can be added. At every moment a crash leaves
+/// the history.
+pub(crate) fn make_room<H: Host>(
+    alloc: Global,
+    store: &mut Store,
+    left: &Left,
+    host: &mut H,
+) -> Result<(), AgentFault>
+    requires ready { IsReady H.honest (H.seen host.old).past store.old }
+    requires replayed { IsReplayed store.old }
+    requires going { store.old.fault ≡ None }
+    ensures any_moment { H.honest → (set : ASettings) (h : List HistoryBeat)
+        → HoldsHistory (H.seen host.old).past store.old set h → IsLeftBy set h left.now
+        → Throughout (EveryDisk (StandsForHistory set h)) (H.seen host.old).past
+        (H.seen host.new).past }
+    ensures done { OnOk result (H.honest → (set : ASettings) (h : List HistoryBeat)
+        → HoldsHistory (H.seen host.old).past store.old set h → IsLeftBy set h left.now
+        → HoldsHistory (H.seen host.new).past store.new set h) }
+    ensures not_due { OnOk result (is_due store.new ≡ false) }
+    ensures tiers { store.new.tiers ≡ store.old.tiers }
+    ensures keeps { KeepsStore H.honest (H.seen host.old) store.old result (H.seen host.new)
+        store.new }
+{
+    if !store.due() {
+        return Ok(());
+    }
+    let side = write_left(alloc, left)?;
+    match store.checkpoint(host, side) {
+        Ok(()) => Ok(()),
+        Err(fault) => Err(store_fault(fault)),
+    }
+}
+
+/// Adds a beat to a store that is still of use, where no checkpoint is due.
 pub(crate) fn commit<H: Host>(
     store: &mut Store,
     host: &mut H,
@@ -97,20 +132,22 @@ pub(crate) fn commit<H: Host>(
     requires ready { IsReady H.honest (H.seen host.old).past store.old }
     requires replayed { IsReplayed store.old }
     requires going { store.old.fault ≡ None }
-    requires later { IfSome kept.now.moment (λ moment. store.old.last < moment) }
+    requires not_due { is_due store.old ≡ false }
+    requires later { IfSome kept.now.moment (λ moment. store.old.tiers.last < moment) }
     requires form { InForm kept.now }
     requires size { length (beat_bytes kept.now) ≤ 2 ^ 26 }
-    ensures any_moment { H.honest → (set : ASettings) (stored : AStored)
-        → IsStoreOf (H.seen host.old).past store.old set stored
-        → Throughout (EveryDisk (StandsAround set stored kept.now)) (H.seen host.old).past
+    ensures any_moment { H.honest → (stored : AStored)
+        → IsStoreOf (H.seen host.old).past store.old stored
+        → Throughout (EveryDisk (StandsAround stored kept.now)) (H.seen host.old).past
         (H.seen host.new).past }
     ensures stored { OnOk result
-        (H.honest → (set : ASettings) (stored : AStored)
-        → IsStoreOf (H.seen host.old).past store.old set stored
-        → IsStoreOf (H.seen host.new).past store.new set (stored_with stored kept.now)) }
+        (H.honest → (stored : AStored)
+        → IsStoreOf (H.seen host.old).past store.old stored
+        → IsStoreOf (H.seen host.new).past store.new (stored_with stored kept.now)) }
     ensures keeps { KeepsStore H.honest (H.seen host.old) store.old result (H.seen host.new)
         store.new }
-    ensures last { OnOk result (store.new.last ≡ last_after store.old.last kept.now.moment) }
+    ensures last { OnOk result
+        (store.new.tiers.last ≡ last_after store.old.tiers.last kept.now.moment) }
 {
     match store.commit(host, kept) {
         Ok(()) => Ok(()),
@@ -160,6 +197,7 @@ fn health_beat(alloc: Global, text: &[u8]) -> Result<Beat, AllocError>
 pub(crate) fn add_health<H: Host>(
     alloc: Global,
     store: &mut Store,
+    left: &Left,
     host: &mut H,
     text: &[u8],
 ) -> Result<(), AgentFault>
@@ -169,17 +207,18 @@ pub(crate) fn add_health<H: Host>(
     requires accepted { health_refusal text.now ≡ None }
     requires short { length text.now ≤ 2 ^ 20 }
     ensures any_moment { H.honest → (set : ASettings) (h : List HistoryBeat)
-        → HoldsHistory (H.seen host.old).past store.old set h
+        → HoldsHistory (H.seen host.old).past store.old set h → IsLeftBy set h left.now
         → Throughout (EveryDisk (λ disk. StandsForHistory set h disk
         ⊎ StandsForHistory set (health text.now ∷ h) disk)) (H.seen host.old).past
         (H.seen host.new).past }
     ensures done { OnOk result (H.honest → (set : ASettings) (h : List HistoryBeat)
-        → HoldsHistory (H.seen host.old).past store.old set h
+        → HoldsHistory (H.seen host.old).past store.old set h → IsLeftBy set h left.now
         → HoldsHistory (H.seen host.new).past store.new set (health text.now ∷ h)) }
     ensures keeps { KeepsStore H.honest (H.seen host.old) store.old result (H.seen host.new)
         store.new }
-    ensures last { OnOk result (store.new.last ≡ store.old.last) }
+    ensures last { OnOk result (store.new.tiers.last ≡ store.old.tiers.last) }
 {
+    make_room(alloc, store, left, host)?;
     match health_beat(alloc, text) {
         Ok(kept) => commit(store, host, &kept),
         Err(_) => Err(AgentFault::Memory),
@@ -269,6 +308,7 @@ pub(crate) fn add<H: Host>(
     requires ready { IsReady H.honest (H.seen host.old).past store.old }
     requires replayed { IsReplayed store.old }
     requires going { store.old.fault ≡ None }
+    requires not_due { is_due store.old ≡ false }
     requires there { IsThere left.old.registry numbered.now }
     requires canonical { is_collected_canonical numbered.now ≡ true }
     requires limits { IsWithinLimits numbered.now }
@@ -276,7 +316,7 @@ pub(crate) fn add<H: Host>(
         × (numbered.now ≡ numbered_beat left.old.registry numbered.now.moment opened) }
     requires charts { AreApart same_chart left.old.registry.charts }
     requires registry { HasLimits left.old.registry }
-    requires later { store.old.last < numbered.now.moment }
+    requires later { store.old.tiers.last < numbered.now.moment }
     ensures any_moment { H.honest → (before : ARegistry) (moment : ℕ) (opened : AnOpenBeat)
         (set : ASettings) (h : List HistoryBeat)
         → IsTakenBeat before moment opened left.old.registry numbered.now
@@ -297,7 +337,7 @@ pub(crate) fn add<H: Host>(
     ensures alarms { left.new.alarms ≡ left.old.alarms }
     ensures keeps { KeepsStore H.honest (H.seen host.old) store.old result (H.seen host.new)
         store.new }
-    ensures last { OnOk result (store.new.last ≡ numbered.now.moment) }
+    ensures last { OnOk result (store.new.tiers.last ≡ numbered.now.moment) }
 {
     let Ok(kept) = stored_beat(alloc, &left.registry, &left.last_rows, numbered) else {
         return Err(AgentFault::Memory);

@@ -18,8 +18,9 @@ ghost use Rattle.replication.specs.declared.verdict.Verdict.{Verdict};
 ghost use Rattle.replication.specs.Answer.{from_of};
 ghost use Rattle.replication.specs.Copies.{above, had_floor, latest, EndsBy, RisesFrom};
 ghost use Rattle.link_frames.specs.DataForm.{IsData};
-ghost use Rattle.store_core.specs.declared.beat.Beat.{Beat as StoreBeat};
-ghost use Rattle.store_core.specs.Stands.{is_made, IsDamaged};
+ghost use Rattle.beat_records.specs.declared.beat.Beat.{Beat as StoreBeat};
+ghost use Rattle.store_core.specs.Stands.{is_made};
+ghost use Rattle.agent_core.specs.Notes.{IsDamaged};
 ghost use Rattle.collect_block.specs.declared.feed.Feed.{Feed};
 ghost use Rattle.collect_block.specs.Feed.{CountsAt, IsFeedOf};
 ghost use Rattle.agent_core.specs.declared.fault.AgentFault.{AgentFault};
@@ -29,7 +30,8 @@ ghost use Rattle.agent_core.specs.Agent.{AgentState, IsSoundBy};
 ghost use Rattle.agent_core.specs.Alarms.{all_events, log_at};
 ghost use Rattle.agent_core.specs.Calls.{AnswersAsk, Beats, Keeps, Lines, Queries, SetsHealth, TakesData};
 ghost use Rattle.host_model.specs.Seen.{Seen};
-ghost use Rattle.agent_core.specs.Kept.{onto, AreBeatsOf, CopyFollows, StandsForHistory};
+ghost use Rattle.agent_core.specs.Kept.{onto, AreBeatsOf, CopyFollows};
+ghost use Rattle.agent_core.specs.Stands.{StandsForHistory};
 ghost use Rattle.agent_core.specs.Answers.{floor_of_history, points_of_history, tier_beats};
 ghost use Rattle.agent_core.specs.Copies.{data_of_history, seen, seen_moment, span_of, IsCopyOfChild, IsTrueOfChild, SeenBeat};
 ghost use Rattle.agent_core.specs.Copying.{added_to, beats_of, copy_refusal};
@@ -38,6 +40,7 @@ ghost use Rattle.agent_core.specs.Roles.{may_copy, role_of};
 ghost use Rattle.agent_core.specs.Rules.{beat_refusal, line_refusal};
 ghost use Rattle.agent_core.specs.Sound.{closed_by, history_after, history_by, tried_after};
 
+use alarm_core::alarms_stay_whole;
 use host_model::Host;
 
 /// The laws of a text of accepted lines that follows a history; the charts whose line leaves it open have this
@@ -58,9 +61,9 @@ pub fn accepted_text_keeps_the_rules()
         → IsWithin (registry_of (history_at every h past)) }
 {}
 
-/// The laws of the notes of a disk: where it stands for a history, they go on. Where it holds a database of
-/// settings and beats, these are its only ones, so that its beats do not both go on and not, and the database
-/// is not one of no settings and beats. It does nothing.
+/// The laws of the side and the notes of a disk: where it stands for a history, they go on. Where it holds a
+/// database of a base and beats, these are its only ones, so that they do not both go on and not, and the
+/// database is not damaged. It does nothing.
 pub fn history_notes_go_on()
     ensures history { (set : ASettings) (h : List Beat) (disk : AFile → List ℕ)
         → StandsForHistory set h disk → HasNotes true disk }
@@ -69,7 +72,9 @@ pub fn history_notes_go_on()
         → ⊥ }
     ensures made { (goes : Bool) (disk : AFile → List ℕ) → HasNotes goes disk
         → is_made disk ≡ true }
-{}
+{
+    alarms_stay_whole();
+}
 
 /// The laws of an agent on an honest host that is sound by a history: it is of that history, or it was before a
 /// call of it was refused for the disk or for memory, and then a crash leaves the history with the first of the

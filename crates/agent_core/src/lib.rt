@@ -27,6 +27,7 @@ mod notes;
 mod points;
 mod replaying;
 mod reply;
+mod side;
 mod storing;
 
 pub use agent::Agent;

@@ -8,13 +8,15 @@ ghost use Rattle.host_model.specs.Cause.{HasCause};
 ghost use Rattle.host_model.specs.Moments.{Throughout};
 ghost use Rattle.history.specs.History.{Beat as HistoryBeat};
 ghost use Rattle.tier_settings.specs.declared.settings.Settings.{Settings as ASettings};
-ghost use Rattle.store_core.specs.declared.beat.Beat.{Beat as StoreBeat};
-ghost use Rattle.store_core.specs.Own.{OnlyOwn};
-ghost use Rattle.store_core.specs.Stands.{is_made, IsDamaged, Stands};
-ghost use Rattle.store_core.specs.Store.{IsReady, IsReplayed, IsStoreAt, OpensAt, Replays, TakesFirst};
+ghost use Rattle.beat_records.specs.declared.beat.Beat.{Beat as StoreBeat};
+ghost use Rattle.database_files.specs.Holds.{OnlyOwn};
+ghost use Rattle.beat_records.specs.Records.{TakesFirst};
+ghost use Rattle.store_core.specs.Damaged.{IsDamagedIn};
+ghost use Rattle.store_core.specs.Stands.{is_made, Stands};
+ghost use Rattle.store_core.specs.Store.{IsReady, IsReplayed, IsStoreAt, OpensAt, Replays};
 ghost use Rattle.store_core.specs.Stored.{Stored as AStored};
-ghost use Rattle.agent_core.specs.Faults.{IsOpening};
-ghost use Rattle.agent_core.specs.Kept.{HoldsHistory};
+ghost use Rattle.agent_core.specs.Faults.{IsUnopened, IsUnreplayed};
+ghost use Rattle.agent_core.specs.Stands.{HoldsHistory};
 ghost use Rattle.agent_core.specs.Left.{IsFit, IsLeftBy};
 ghost use Rattle.agent_core.specs.Notes.{beats_go_on, left_after, noted_in, Noted};
 ghost use Rattle.agent_core.specs.Replay.{HasTaken, IsAtPrefix, IsReplaying};
@@ -27,11 +29,11 @@ use host_model::Host;
 use std::alloc::Global;
 use store_core::{Beat, Store};
 
-/// Opens the store of an agent, none of whose beats is replayed yet.
+/// Opens the store of an agent, none of whose beats since the checkpoint is replayed yet.
 pub(crate) fn open_store<H: Host>(alloc: Global, host: &mut H) -> Result<Store, AgentFault>
-    ensures opened { IfOk result (λ store. H.honest → (set : ASettings) (stored : AStored)
-        → Stands set stored (reads_as (H.seen host.old).past)
-        → OpensAt (H.seen host.new).past store set stored) }
+    ensures opened { IfOk result (λ store. H.honest → (stored : AStored)
+        → Stands stored (reads_as (H.seen host.old).past)
+        → OpensAt (H.seen host.new).past store stored) }
     ensures ready { IfOk result (IsReady H.honest (H.seen host.new).past) }
     ensures going { IfOk result (λ store. store.fault ≡ None) }
     ensures any_moment { H.honest
@@ -39,26 +41,18 @@ pub(crate) fn open_store<H: Host>(alloc: Global, host: &mut H) -> Result<Store, 
         (H.seen host.new).past }
     ensures same { H.honest → (file : AFile)
         → reads_as (H.seen host.new).past file ≡ reads_as (H.seen host.old).past file }
-    ensures images { OnOk result (H.honest → (set : ASettings) (stored : AStored)
-        → Stands set stored (reads_as (H.seen host.old).past)
-        → EveryDisk (Stands set stored) (H.seen host.new).past) }
-    ensures stands { H.honest → (set : ASettings) (stored : AStored)
-        → Stands set stored (reads_as (H.seen host.old).past)
+    ensures images { OnOk result (H.honest → (stored : AStored)
+        → Stands stored (reads_as (H.seen host.old).past)
+        → EveryDisk (Stands stored) (H.seen host.new).past) }
+    ensures stands { H.honest → (stored : AStored)
+        → Stands stored (reads_as (H.seen host.old).past)
         → IfErr result (λ fault. (fault ≡ AgentFault.DiskFault) ⊎ (fault ≡ AgentFault.Memory)) }
     ensures none { IsErrOf result AgentFault.NotADatabase → H.honest
         → is_made (reads_as (H.seen host.old).past) ≡ false }
     ensures some { OnOk result (H.honest → is_made (reads_as (H.seen host.old).past) ≡ true) }
-    ensures damaged { IsErrOf result (AgentFault.Damaged 4) → H.honest
-        → IsDamaged (reads_as (H.seen host.old).past) }
-    ensures made { (part : ℕ) → IsErrOf result (AgentFault.Damaged part) → H.honest
-        → is_made (reads_as (H.seen host.old).past) ≡ true }
-    ensures found { OnOk result
-        (H.honest → (set : ASettings) × (stored : AStored)
-        × Stands set stored (reads_as (H.seen host.old).past)) }
-
-    // No note is read yet.
-    ensures notes { IsErrOf result (AgentFault.Damaged 5) → ⊥ }
-    ensures faults { IfErr result IsOpening }
+    ensures damaged { (part : ℕ) → IsErrOf result (AgentFault.Damaged part) → H.honest
+        → IsDamagedIn part (reads_as (H.seen host.old).past) }
+    ensures faults { IfErr result IsUnopened }
     ensures cause { HasCause (H.seen host.old).disk_faults (H.seen host.new).disk_faults
         (IsErrOf result AgentFault.DiskFault) }
     ensures only_here { H.honest → OnlyOwn (H.seen host.old).past (H.seen host.new).past }
@@ -71,17 +65,25 @@ pub(crate) fn open_store<H: Host>(alloc: Global, host: &mut H) -> Result<Store, 
 }
 
 /// Gives the next beat that a store has to replay.
-fn next_beat(store: &mut Store) -> Result<Option<Beat>, AgentFault>
+fn next_beat<H: Host>(store: &mut Store, _host: &mut H) -> Result<Option<Beat>, AgentFault>
     requires going { store.old.fault ≡ None }
-    ensures next { (past : List Event) (set : ASettings) (stored : AStored) (rest : List StoreBeat)
-        → IsStoreAt past store.old set stored rest
-        → IfOk result (Replays past store.new set stored rest) }
+    ensures next { (past : List Event) (stored : AStored) (rest : List StoreBeat)
+        → IsStoreAt past store.old stored rest
+        → IfOk result (Replays past store.new stored rest) }
+    ensures whole { (past : List Event) (stored : AStored) (rest : List StoreBeat)
+        → IsStoreAt past store.old stored rest
+        → IfErr result (λ fault. fault ≡ AgentFault.Memory) }
 
     // The same, of a store that is of no beats.
     ensures takes { IfOk result (λ next. TakesFirst store.old.waiting next store.new.waiting) }
-    ensures journal { store.new.journal ≡ store.old.journal }
+    ensures ready { (past : List Event) → IsReady H.honest past store.old
+        → IsReady H.honest past store.new }
+    ensures files { store.new.files ≡ store.old.files }
+    ensures body { store.new.body ≡ store.old.body }
     ensures going { OnOk result (store.new.fault ≡ None) }
-    ensures memory { IfErr result (λ fault. fault ≡ AgentFault.Memory) }
+    ensures host { _host.new ≡ _host.old }
+    ensures faults { IfErr result
+        (λ fault. (fault ≡ AgentFault.Memory) ⊎ (fault ≡ AgentFault.Damaged 4)) }
 {
     match store.replay() {
         Ok(next) => Ok(next),
@@ -109,28 +111,34 @@ fn replay_next<H: Host>(
 
     // Whatever beats the store keeps: they go on so far, and where one does not, it is damaged.
     ensures notes { OnOk result
-        ((start : Noted) (past : List Event) (set : ASettings) (stored : AStored)
-        → HasTaken start past store.old left.old set stored
-        → HasTaken start past store.new left.new set stored) }
+        ((start : Noted) (past : List Event) (stored : AStored)
+        → HasTaken start past store.old left.old stored
+        → HasTaken start past store.new left.new stored) }
     ensures broken { IfErr result
         (λ fault. fault ≡ AgentFault.Damaged 5
-        → (start : Noted) (past : List Event) (set : ASettings) (stored : AStored)
-        → HasTaken start past store.old left.old set stored
+        → (start : Noted) (past : List Event) (stored : AStored)
+        → HasTaken start past store.old left.old stored
         → beats_go_on start stored.after ≡ false) }
+    ensures whole { IfErr result
+        (λ fault. fault ≡ AgentFault.Damaged 4
+        → (start : Noted) (past : List Event) (stored : AStored)
+        → HasTaken start past store.old left.old stored → ⊥) }
 
     // The beats that wait become fewer, until there are none.
     ensures smaller { IfOk result
         (λ went. went ≡ true → length store.new.waiting < length store.old.waiting) }
     ensures done { IfOk result (λ went. went ≡ false → IsReplayed store.new) }
+    ensures ready { (past : List Event) → IsReady H.honest past store.old
+        → OnOk result (IsReady H.honest past store.new) }
     ensures going { OnOk result (store.new.fault ≡ None) }
-    ensures journal { store.new.journal ≡ store.old.journal }
+    ensures files { store.new.files ≡ store.old.files }
+    ensures body { store.new.body ≡ store.old.body }
     ensures fit { OnOk result (IsFit left.new) }
     ensures host { H.seen host.new ≡ H.seen host.old }
-    ensures faults { IfErr result
-        (λ fault. (fault ≡ AgentFault.Memory) ⊎ (fault ≡ AgentFault.Damaged 5)) }
+    ensures faults { IfErr result IsUnreplayed }
 {
     let before = store.last();
-    match next_beat(store)? {
+    match next_beat(store, host)? {
         Some(kept) => {
             let does = replay_beat(alloc, left, &kept, before)?;
             follow(alloc, left, store, host, does)?;
@@ -162,26 +170,30 @@ pub(crate) fn replay_all<H: Host>(
         → fault ≡ AgentFault.Memory) }
 
     // Whatever beats the store keeps: their notes go on, or it is damaged.
-    ensures notes { OnOk result ((past : List Event) (set : ASettings) (stored : AStored)
-        → OpensAt past store.old set stored
+    ensures notes { OnOk result ((past : List Event) (stored : AStored)
+        → OpensAt past store.old stored
         → beats_go_on (noted_in left.old) stored.after ≡ true) }
-    ensures noted { OnOk result ((past : List Event) (set : ASettings) (stored : AStored)
-        → OpensAt past store.old set stored
+    ensures noted { OnOk result ((past : List Event) (stored : AStored)
+        → OpensAt past store.old stored
         → noted_in left.new ≡ left_after (noted_in left.old) stored.after) }
     ensures broken { IfErr result
         (λ fault. fault ≡ AgentFault.Damaged 5
-        → (past : List Event) (set : ASettings) (stored : AStored)
-        → OpensAt past store.old set stored
+        → (past : List Event) (stored : AStored) → OpensAt past store.old stored
         → beats_go_on (noted_in left.old) stored.after ≡ false) }
+    ensures whole { IfErr result
+        (λ fault. fault ≡ AgentFault.Damaged 4
+        → (past : List Event) (stored : AStored) → OpensAt past store.old stored → ⊥) }
 
     // What holds of any store.
     ensures done { OnOk result (IsReplayed store.new) }
+    ensures ready { (past : List Event) → IsReady H.honest past store.old
+        → OnOk result (IsReady H.honest past store.new) }
     ensures going { OnOk result (store.new.fault ≡ None) }
-    ensures journal { store.new.journal ≡ store.old.journal }
+    ensures files { store.new.files ≡ store.old.files }
+    ensures body { store.new.body ≡ store.old.body }
     ensures fit { OnOk result (IsFit left.new) }
     ensures host { H.seen host.new ≡ H.seen host.old }
-    ensures faults { IfErr result
-        (λ fault. (fault ≡ AgentFault.Memory) ⊎ (fault ≡ AgentFault.Damaged 5)) }
+    ensures faults { IfErr result IsUnreplayed }
 {
     while replay_next(alloc, store, host, left)? {}
     Ok(())

@@ -15,11 +15,12 @@ ghost use Rattle.replication.specs.Copies.{latest as latest_of};
 ghost use Rattle.replication.specs.Names.{beat_moment};
 ghost use Rattle.link_frames.specs.DataForm.{has_rising_places, has_storage_numbers, IsData};
 ghost use Rattle.link_frames.specs.DataForm.{AreApart as AreNamesApart};
-ghost use Rattle.store_core.specs.Beats.{beat_bytes, InForm};
-ghost use Rattle.store_core.specs.Store.{IsReady, IsReplayed};
+ghost use Rattle.beat_records.specs.Beats.{beat_bytes, InForm};
+ghost use Rattle.store_core.specs.Store.{is_due, IsReady, IsReplayed};
 ghost use Rattle.agent_core.specs.Copying.{beats_of, definitions_in, names_refusal};
 ghost use Rattle.agent_core.specs.Keeping.{KeepsStore};
-ghost use Rattle.agent_core.specs.Kept.{onto, HoldsHistory, IsCopyOf, StandsForFront, StandsForHistory};
+ghost use Rattle.agent_core.specs.Kept.{onto, IsCopyOf};
+ghost use Rattle.agent_core.specs.Stands.{HoldsHistory, StandsForFront, StandsForHistory};
 ghost use Rattle.agent_core.specs.Left.{AwaitsAlarms, IsLeftBy};
 ghost use Rattle.agent_core.specs.Notes.{names_series};
 ghost use Rattle.agent_core.specs.Roles.{may_copy, role_of};
@@ -29,7 +30,7 @@ ghost use Rattle.agent_core.specs.Storing.{gap_beats, later_copies, sent_copies,
 use crate::alarming::{Stepping, follow};
 use crate::copying::{definitions_in, kept_copy, kept_gap};
 use crate::fault::AgentFault;
-use crate::keeping::{commit, see_copy, take_rows, untaken};
+use crate::keeping::{commit, make_room, see_copy, take_rows, untaken};
 use crate::left::{Left, Role};
 use alarm_core::EventList;
 use beat_entries::number_beat;
@@ -54,7 +55,8 @@ fn add_gap<H: Host>(
     requires ready { IsReady H.honest (H.seen host.old).past store.old }
     requires replayed { IsReplayed store.old }
     requires going { store.old.fault ≡ None }
-    requires later { store.old.last < to }
+    requires not_due { is_due store.old ≡ false }
+    requires later { store.old.tiers.last < to }
     ensures any_moment { H.honest → (set : ASettings) (h : List HistoryBeat)
         → HoldsHistory (H.seen host.old).past store.old set h → may_copy (role_of h) ≡ true
         → let gap = missing (record { child = child; from = from; to = to }) in
@@ -66,7 +68,7 @@ fn add_gap<H: Host>(
         (missing (record { child = child; from = from; to = to }) ∷ h)) }
     ensures keeps { KeepsStore H.honest (H.seen host.old) store.old result (H.seen host.new)
         store.new }
-    ensures last { OnOk result (store.new.last ≡ to) }
+    ensures last { OnOk result (store.new.tiers.last ≡ to) }
 {
     match kept_gap(alloc, child, from, to) {
         Ok(kept) => commit(store, host, &kept),
@@ -89,7 +91,8 @@ fn store_copy<H: Host>(
     requires ready { IsReady H.honest (H.seen host.old).past store.old }
     requires replayed { IsReplayed store.old }
     requires going { store.old.fault ≡ None }
-    requires later { store.old.last < moment }
+    requires not_due { is_due store.old ≡ false }
+    requires later { store.old.tiers.last < moment }
     requires moment { kept.now.moment ≡ Some moment }
     requires no_rows { defines.now.rows ≡ [] }
     requires named { names_series left.old.registry kept.now.points ≡ true }
@@ -112,7 +115,7 @@ fn store_copy<H: Host>(
     ensures alarms { left.new.alarms ≡ left.old.alarms }
     ensures keeps { KeepsStore H.honest (H.seen host.old) store.old result (H.seen host.new)
         store.new }
-    ensures last { OnOk result (store.new.last ≡ moment) }
+    ensures last { OnOk result (store.new.tiers.last ≡ moment) }
 {
     let before = store.last();
     commit(store, host, kept)?;
@@ -136,7 +139,8 @@ fn add_copy<H: Host>(
     requires ready { IsReady H.honest (H.seen host.old).past store.old }
     requires replayed { IsReplayed store.old }
     requires going { store.old.fault ≡ None }
-    requires later { store.old.last < beat.now.moment }
+    requires not_due { is_due store.old ≡ false }
+    requires later { store.old.tiers.last < beat.now.moment }
     requires own { AreApart same_dimension left.old.registry.dimensions }
     requires registry { HasLimits left.old.registry }
     requires names { AreNamesApart message.now.names }
@@ -163,7 +167,7 @@ fn add_copy<H: Host>(
     ensures up_to { OnOk result (IsUpTo left.new.alarms left.new.registry) }
     ensures keeps { KeepsStore H.honest (H.seen host.old) store.old result (H.seen host.new)
         store.new }
-    ensures last { OnOk result (store.new.last ≡ beat.now.moment) }
+    ensures last { OnOk result (store.new.tiers.last ≡ beat.now.moment) }
 {
     let moment = beat.moment;
     let Ok(kept) = kept_copy(alloc, &left.registry, message, defines, beat) else {
@@ -221,7 +225,7 @@ fn add_later<H: Host>(
     requires own { AreApart same_dimension left.old.registry.dimensions }
     requires registry { HasLimits left.old.registry }
     requires up_to { IsUpTo left.old.alarms left.old.registry }
-    requires sent { AreSent store.old.last message.now beats.now }
+    requires sent { AreSent store.old.tiers.last message.now beats.now }
     ensures any_moment { H.honest → (set : ASettings) (g : List HistoryBeat)
         → let more = later_copies left.old.registry message.now beats.now in
         HoldsHistory (H.seen host.old).past store.old set g → IsLeftBy set g left.old
@@ -241,11 +245,12 @@ fn add_later<H: Host>(
     ensures keeps { KeepsStore H.honest (H.seen host.old) store.old result (H.seen host.new)
         store.new }
     ensures last { OnOk result
-        (store.new.last ≡ latest_of beat_moment store.old.last beats.now) }
+        (store.new.tiers.last ≡ latest_of beat_moment store.old.tiers.last beats.now) }
 {
     let defines = nothing_defined(alloc);
     let mut events = EventList::new(alloc);
     for beat in beats {
+        make_room(alloc, store, left, host)?;
         let more = add_copy(alloc, store, left, host, message, &defines, beat, false)?;
         add_events(&mut events, more)?;
     }
@@ -268,9 +273,10 @@ fn add_beats<H: Host>(
     requires ready { IsReady H.honest (H.seen host.old).past store.old }
     requires replayed { IsReplayed store.old }
     requires going { store.old.fault ≡ None }
+    requires not_due { is_due store.old ≡ false }
     requires own { AreApart same_dimension left.old.registry.dimensions }
     requires registry { HasLimits left.old.registry }
-    requires sent { AreSent store.old.last message.now beats.now }
+    requires sent { AreSent store.old.tiers.last message.now beats.now }
     requires charts { defines.now.charts
         ≡ numbered_charts left.old.registry (definitions_in message.now.names) }
     requires dimensions { defines.now.dimensions
@@ -302,7 +308,7 @@ fn add_beats<H: Host>(
     ensures keeps { KeepsStore H.honest (H.seen host.old) store.old result (H.seen host.new)
         store.new }
     ensures last { OnOk result
-        (store.new.last ≡ latest_of beat_moment store.old.last beats.now) }
+        (store.new.tiers.last ≡ latest_of beat_moment store.old.tiers.last beats.now) }
 {
     let Some((first, rest)) = beats.split_first() else {
         return Ok(EventList::new(alloc));
@@ -325,23 +331,26 @@ fn add_gap_before<H: Host>(
     requires ready { IsReady H.honest (H.seen host.old).past store.old }
     requires replayed { IsReplayed store.old }
     requires going { store.old.fault ≡ None }
-    requires at { message.now.prev ≡ store.old.last }
+    requires at { message.now.prev ≡ store.old.tiers.last }
     requires from { message.now.prev ≤ message.now.from }
     ensures any_moment { H.honest → (set : ASettings) (h : List HistoryBeat)
-        → HoldsHistory (H.seen host.old).past store.old set h → may_copy (role_of h) ≡ true
+        → HoldsHistory (H.seen host.old).past store.old set h → IsLeftBy set h left.old
+        → may_copy (role_of h) ≡ true
         → Throughout (EveryDisk (StandsForFront set h (gap_beats message.now)))
         (H.seen host.old).past (H.seen host.new).past }
     ensures done { OnOk result (H.honest → (set : ASettings) (h : List HistoryBeat)
-        → HoldsHistory (H.seen host.old).past store.old set h → may_copy (role_of h) ≡ true
+        → HoldsHistory (H.seen host.old).past store.old set h → IsLeftBy set h left.old
+        → may_copy (role_of h) ≡ true
         → HoldsHistory (H.seen host.new).past store.new set (onto h (gap_beats message.now))) }
     ensures left_by { OnOk result ((set : ASettings) (h : List HistoryBeat)
         → IsLeftBy set h left.old → IsLeftBy set (onto h (gap_beats message.now)) left.new) }
     ensures only { left.new ≡ record left.old { role = left.new.role } }
     ensures keeps { KeepsStore H.honest (H.seen host.old) store.old result (H.seen host.new)
         store.new }
-    ensures last { OnOk result (store.new.last ≡ message.now.from) }
+    ensures last { OnOk result (store.new.tiers.last ≡ message.now.from) }
 {
     if message.prev < message.from {
+        make_room(alloc, store, left, host)?;
         add_gap(
             alloc,
             store,
@@ -409,7 +418,7 @@ pub(crate) fn add_message<H: Host>(
     requires ready { IsReady H.honest (H.seen host.old).past store.old }
     requires replayed { IsReplayed store.old }
     requires going { store.old.fault ≡ None }
-    requires at { message.now.prev ≡ store.old.last }
+    requires at { message.now.prev ≡ store.old.tiers.last }
     requires form { IsData message.now }
     requires free { names_refusal left.old.registry (definitions_in message.now.names) ≡ None }
     requires charts { AreApart same_chart left.old.registry.charts }
@@ -429,7 +438,7 @@ pub(crate) fn add_message<H: Host>(
     ensures role { OnOk result (left.new.role ≡ Role.Copies message.now.child) }
     ensures keeps { KeepsStore H.honest (H.seen host.old) store.old result (H.seen host.new)
         store.new }
-    ensures last { OnOk result (store.new.last ≡ message.now.upto) }
+    ensures last { OnOk result (store.new.tiers.last ≡ message.now.upto) }
     ensures charts { OnOk result (AreApart same_chart left.new.registry.charts) }
     ensures dimensions { OnOk result (AreApart same_dimension left.new.registry.dimensions) }
     ensures limits { OnOk result (HasLimits left.new.registry) }
@@ -439,6 +448,7 @@ pub(crate) fn add_message<H: Host>(
         return Err(AgentFault::Memory);
     };
     add_gap_before(alloc, store, left, host, message)?;
+    make_room(alloc, store, left, host)?;
     let defines = define(alloc, &mut left.registry, &defs)?;
     let beats = message.beats.as_slice();
     add_beats(alloc, store, left, host, message, &defines, beats)

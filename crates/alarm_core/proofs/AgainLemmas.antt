@@ -168,12 +168,15 @@ of_states held registry none at =
     ∙ ap (λ (restored : Restored). Some (held_with (k []) alarms restored)) states
     ∙ ap (λ (lost : List (List ℕ)). Some (record held { lost = lost })) (sym none)
 
+pub kept_again : (held : Held) (registry : Registry) → IsWhole held registry → of_kept registry (kept held) ≡ Some held
+kept_again held registry whole =
+    ap (λ (read : Result Configuration ConfigFault). of_config registry (kept held) read) whole.text.1
+    ∙ of_states held registry whole.none_lost whole.states
+
 pub read_again : (held : Held) (registry : Registry) → IsWhole held registry → HasSpelling (kept held) → restored (alarms_bytes (kept held)) registry ≡ Some held
 unfolding restored
 read_again held registry whole fits =
-    ap (λ (read : Option KeptAlarms). option_and_then (of_kept registry) read) (reads_back (kept held) fits)
-    ∙ ap (λ (read : Result Configuration ConfigFault). of_config registry (kept held) read) whole.text.1
-    ∙ of_states held registry whole.none_lost whole.states
+    ap (λ (read : Option KeptAlarms). option_and_then (of_kept registry) read) (reads_back (kept held) fits) ∙ kept_again held registry whole
 
 -- ---- calls leave whole alarms
 

@@ -44,7 +44,7 @@ pub struct Alarms {
 impl Alarms {
     ghost use Rattle.std.specs.Prelude.{◌≤◌, ◌⊎◌, [], length, Some, None};
     ghost use Rattle.alarm_events.specs.Alarms.{alarms_bytes, HasSpelling, IsShort};
-    ghost use Rattle.alarm_core.specs.Kept.{kept, held_from, restored};
+    ghost use Rattle.alarm_core.specs.Kept.{kept, held_from, of_kept, restored};
     ghost use Rattle.std.specs.Prelude.{ℕ, List, IfOk, IfErr, OnOk, IsErrOf};
     ghost use Rattle.health_config.specs.ConfigOf.{entities_of, text_of};
     ghost use Rattle.host_model.specs.Cause.{HasCause};
@@ -281,8 +281,8 @@ impl Alarms {
         Ok(())
     }
 
-    /// What is kept of the alarms.
-    fn keep(&self) -> Result<KeptAlarms, AlarmFault>
+    /// What is kept of the alarms: the health text, the states with the names of their alarms, and the log.
+    pub fn keep(&self) -> Result<KeptAlarms, AlarmFault>
         ensures kept { IfOk result (λ kept_alarms. kept_alarms ≡ kept (held self.now)) }
         ensures memory { IfErr result (λ fault. fault ≡ Memory) }
     {
@@ -315,7 +315,7 @@ impl Alarms {
     }
 
     /// The alarms of a configuration, with kept states and a kept log.
-    fn from_kept(
+    fn with_kept(
         alloc: Global,
         registry: &Registry,
         config: Config,
@@ -352,6 +352,27 @@ impl Alarms {
         })
     }
 
+    /// The alarms that were kept so, with the charts of a registry: a state's alarm is the one of its name that is
+    /// computed for its chart. A state that has none is removed by the next call that takes charts. `BadBytes` exactly
+    /// where the health text is refused, or a state is of a chart that is not there, unless memory ran out before.
+    pub fn from_kept(
+        alloc: Global,
+        kept: &KeptAlarms,
+        registry: &Registry,
+    ) -> Result<Alarms, AlarmFault>
+        requires { length kept.now.events ≤ 1000 }
+        ensures held { IfOk result (λ alarms. of_kept registry.now kept.now ≡ Some (held alarms)) }
+        ensures up_to { IfOk result (λ alarms. IsUpTo alarms registry.now) }
+        ensures refused { IfErr result (λ fault. (fault ≡ Memory)
+            ⊎ ((fault ≡ AlarmFault.BadBytes) × (of_kept registry.now kept.now ≡ None))) }
+    {
+        let config = read_config(alloc, kept.text.as_slice())?;
+        if !are_known(kept.states.as_slice(), registry) {
+            return Err(AlarmFault::BadBytes);
+        }
+        Alarms::with_kept(alloc, registry, config, kept)
+    }
+
     /// The alarms that bytes stand for, with the charts of a registry: a state's alarm is the one of its name
     /// that is computed for its chart. A state that has none is removed by the next call that takes charts.
     /// `BadBytes` exactly where the bytes are in no form of alarms, their health text is refused, or a
@@ -369,11 +390,7 @@ impl Alarms {
             ⊎ ((fault ≡ AlarmFault.BadBytes) × (restored bytes.now registry.now ≡ None))) }
     {
         let kept = read_alarms(alloc, bytes)?;
-        let config = read_config(alloc, kept.text.as_slice())?;
-        if !are_known(kept.states.as_slice(), registry) {
-            return Err(AlarmFault::BadBytes);
-        }
-        Alarms::from_kept(alloc, registry, config, &kept)
+        Alarms::from_kept(alloc, &kept, registry)
     }
 
     /// What the log shows: the last 1,000 events, and the number of those before them.

@@ -7,7 +7,7 @@ ghost use Rattle.history.specs.Registry.{Registry};
 ghost use Rattle.alarm_events.specs.Alarms.{alarms_bytes, HasSpelling, IsShort};
 ghost use Rattle.alarm_core.specs.Beats.{Beat};
 ghost use Rattle.alarm_core.specs.Course.{Call, Held, nothing, held_after, events_of, configured, stepped_by};
-ghost use Rattle.alarm_core.specs.Kept.{kept, restored};
+ghost use Rattle.alarm_core.specs.Kept.{kept, of_kept, restored};
 ghost use Rattle.alarm_core.specs.Same.{is_same};
 ghost use Rattle.alarm_core.specs.Short.{HaveShortIds, HaveShortNames};
 ghost use Rattle.alarm_core.specs.Whole.{IsTextOf, IsWhole};
@@ -16,7 +16,8 @@ ghost use Rattle.alarm_core.specs.Whole.{IsTextOf, IsWhole};
 /// are numbered from 1; at 2^64 - 1 numbers stand still. Two alarms say the same exactly where they have
 /// the same fields, with expressions as trees. Without a call alarms are whole with any charts. Behind a
 /// configuration that was read, and behind each beat after it, they are whole with the charts of that call;
-/// and whole alarms that have bytes are read again from them. The call does nothing.
+/// and whole alarms are what is kept of them, and are read again from their bytes, if they have some. The call does
+/// nothing.
 pub fn alarms_stay_whole()
     ensures log { (calls : List Call)
         → (held_after nothing calls).log ≡ shown (events_of nothing calls) }
@@ -29,6 +30,8 @@ pub fn alarms_stay_whole()
         → IsWhole (configured held text alarms registry moment).held registry }
     ensures whole_stepped { (held : Held) (beat : Beat) → IsTextOf held.text held.alarms
         → IsWhole (stepped_by held beat).held beat.registry }
+    ensures kept_again { (held : Held) (registry : Registry) → IsWhole held registry
+        → of_kept registry (kept held) ≡ Some held }
     ensures again { (held : Held) (registry : Registry) → IsWhole held registry
         → HasSpelling (kept held) → restored (alarms_bytes (kept held)) registry ≡ Some held }
 {}

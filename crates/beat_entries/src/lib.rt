@@ -1,9 +1,9 @@
 //! A collected beat by number: made of a beat that names charts and dimensions by their ids, and defined in a
 //! registry when it is read again.
 //!
-//! A beat names charts and dimensions by their ids. `take_beat` judges it, gives it by number and defines in
-//! the registry what it defines: its charts, dimensions and rows, and the values of each row, in the order of
-//! their numbers. What it gives is proved to be its definition, which goes once through the registry, while the code
+//! A beat names charts and dimensions by their ids. `judge_beat` judges it and gives it by number: what it defines, its
+//! charts, dimensions and rows, and the values of each row, in the order of their numbers. `define_beat` then defines
+//! in the registry what it defines. What is given is proved to be its definition, which goes once through the registry, while the code
 //! looks up by hashes and sorts what the beat says. A new id's number is known before anything is defined: it is
 //! the id's place among the new ones, behind what the registry has. So each chart and each value is looked up once,
 //! for the judgement and for the number. A beat so numbered is in the one form that has a spelling. `number_beat`
@@ -39,5 +39,5 @@ pub use law::{
     numbered_beat_keeps_limits,
 };
 pub use refusal::EntryRefusal;
-pub use taking::take_beat;
+pub use taking::{define_beat, judge_beat};
 pub use usual::{usual_chart, usual_dimension};

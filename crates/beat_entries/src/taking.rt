@@ -79,48 +79,25 @@ fn number_content<'a>(
     }
 }
 
-/// Why a registry did not take a beat that was tested before: memory ran out.
-fn untaken(fault: RegistryFault) -> BeatFault
-    requires { fault ≡ registry_fault.Memory }
-    ensures { result ≡ BeatFault.Memory }
-{
-    match fault {
-        RegistryFault::Memory => BeatFault::Memory,
-        RegistryFault::GridChanged
-        | RegistryFault::TooManyCharts
-        | RegistryFault::TooManyDimensions => unreachable!(),
-    }
-}
-
-/// What a history with this registry makes of a beat that was collected at `moment`: its refusal, or the beat by
-/// number, defined in the registry. `copies` says that the history has copied beats or gaps, and `last` is its last
-/// moment. Each chart and each value is looked up once, and nothing needs to be looked up after it. After an `Err`,
-/// Memory too, the registry is as it was.
-pub fn take_beat(
+/// What a history with this registry makes of a beat that was collected at `moment`: its refusal, or the beat by the
+/// numbers that it has once the registry takes its definitions. `copies` says that the history has copied beats or gaps,
+/// and `last` is its last moment. Each chart and each value is looked up once, and nothing needs to be looked up after it.
+pub fn judge_beat(
     alloc: Global,
-    registry: &mut Registry,
+    registry: &Registry,
     copies: bool,
     last: u32,
     moment: u32,
     beat: &OpenBeat,
 ) -> Result<NumberedBeat, BeatFault>
     requires is_open { IsOpenBeat beat.now }
-    requires charts { AreApart same_chart registry.old.charts }
-    requires dimensions { AreApart same_dimension registry.old.dimensions }
-    ensures taken { OnOk result (registry.new ≡ with_beat registry.old beat.now) }
-    ensures numbered { IfOk result
-        (λ numbered. numbered ≡ numbered_beat registry.new moment beat.now) }
-    ensures judged { let reason = beat_refusal registry.old copies last moment beat.now in
+    requires charts { AreApart same_chart registry.now.charts }
+    requires dimensions { AreApart same_dimension registry.now.dimensions }
+    ensures numbered { IfOk result (λ numbered. numbered
+        ≡ numbered_beat (with_beat registry.now beat.now) moment beat.now) }
+    ensures judged { let reason = beat_refusal registry.now copies last moment beat.now in
         MatchResult result (λ _. reason ≡ None) (IsFaultOf reason) }
-    ensures unchanged { OnErr result (registry.new ≡ registry.old) }
-
-    // What it leaves is in form.
-    ensures charts { OnOk result (AreApart same_chart registry.new.charts) }
-    ensures dimensions { OnOk result (AreApart same_dimension registry.new.dimensions) }
-    ensures regular { OnOk result (IsRegular registry.new beat.now) }
-    ensures there { IfOk result (IsThere registry.new) }
-    ensures canonical { IfOk result (λ numbered. is_collected_canonical numbered ≡ true) }
-    ensures limits { IfOk result IsWithinLimits }
+    ensures content { OnOk result (content_refusal registry.now moment beat.now ≡ None) }
 {
     if copies {
         return Err(BeatFault::Refused(BlockFault::MixedRoles));
@@ -128,9 +105,48 @@ pub fn take_beat(
     if moment <= last {
         return Err(BeatFault::Refused(BlockFault::MomentOrder(last)));
     }
-    let numbered = number_content(alloc, registry, moment, beat)?;
+    number_content(alloc, registry, moment, beat)
+}
+
+/// Why a registry did not take a beat that was tested before: memory ran out.
+fn untaken(fault: RegistryFault) -> AllocError
+    requires { fault ≡ registry_fault.Memory }
+{
+    match fault {
+        RegistryFault::Memory => AllocError,
+        RegistryFault::GridChanged
+        | RegistryFault::TooManyCharts
+        | RegistryFault::TooManyDimensions => unreachable!(),
+    }
+}
+
+/// The registry takes the definitions of a beat that it was judged by, which is this one by number. After an `Err` it is
+/// as it was.
+pub fn define_beat(
+    registry: &mut Registry,
+    moment: u32,
+    beat: &OpenBeat,
+    numbered: &NumberedBeat,
+) -> Result<(), AllocError>
+    requires is_open { IsOpenBeat beat.now }
+    requires charts { AreApart same_chart registry.old.charts }
+    requires dimensions { AreApart same_dimension registry.old.dimensions }
+    requires content { content_refusal registry.old moment beat.now ≡ None }
+    requires numbered { numbered.now
+        ≡ numbered_beat (with_beat registry.old beat.now) moment beat.now }
+    ensures taken { OnOk result (registry.new ≡ with_beat registry.old beat.now) }
+    ensures unchanged { OnErr result (registry.new ≡ registry.old) }
+
+    // What it leaves is in form.
+    ensures charts { OnOk result (AreApart same_chart registry.new.charts) }
+    ensures dimensions { OnOk result (AreApart same_dimension registry.new.dimensions) }
+    ensures regular { OnOk result (IsRegular registry.new beat.now) }
+    ensures there { OnOk result (IsThere registry.new numbered.now) }
+    ensures canonical { OnOk result (is_collected_canonical numbered.now ≡ true) }
+    ensures limits { OnOk result (IsWithinLimits numbered.now) }
+{
     match registry.apply(beat) {
-        Ok(()) => Ok(numbered),
+        Ok(()) => Ok(()),
         Err(fault) => Err(untaken(fault)),
     }
 }

@@ -31,7 +31,7 @@ mapped-word : {A : Type 0} (f : A → ℕ) (found : Option A) → ((x : A) → i
 mapped-word f None each = tt
 mapped-word f (Some x) each = each x
 
-cell-word : (algorithm : Algorithm) (values rises : ℤ) (cell : Cell) → IsGiven (word_by packed algorithm values rises cell)
+pub cell-word : (algorithm : Algorithm) (values rises : ℤ) (cell : Cell) → IsGiven (word_by packed algorithm values rises cell)
 cell-word Absolute values rises cell = packed-word (cell.value *ℤ cell.multiplier) cell.divisor cell.anomalous false
 cell-word Incremental values rises cell =
     mapped-word (λ before. packed (ratio (rise before.value cell.value *ℤ cell.multiplier) (cell.divisor *ℤ pos before.seconds)) cell.anomalous (is_reset cell)) cell.before

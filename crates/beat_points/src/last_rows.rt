@@ -10,7 +10,7 @@ ghost use Rattle.beat_points.specs.Points.{IsNext, ArePointsIn, AreRising, beat_
 use crate::fault::PointFault;
 use crate::series_word::SeriesWordList;
 use crate::{giving, taking};
-use algorithms::Last;
+use algorithms::{Last, LastList};
 use chart_registry::Registry;
 use history::NumberedBeat;
 use std::alloc::Global;
@@ -40,6 +40,22 @@ impl LastRows {
         LastRows {
             rows: Vec::new(alloc),
         }
+    }
+
+    /// The last rows of a list by the numbers of the series, without a copy.
+    pub fn from_list(rows: LastList) -> LastRows
+        ensures { result ≡ rows }
+    {
+        LastRows {
+            rows: rows.into_vec(),
+        }
+    }
+
+    /// The last rows by the numbers of the series: no more than there are series.
+    pub fn as_slice(&self) -> &[Option<Last>]
+        ensures { result.now ≡ self.now }
+    {
+        self.rows.as_slice()
     }
 
     /// The points that a beat gives, with its definitions in the registry, by ascending series, each

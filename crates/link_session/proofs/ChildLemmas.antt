@@ -1,5 +1,5 @@
 -- What a child does at each frame.
-use Rattle.std.proofs.Common.{◌≡◌, ◌<◌, ◌≤◌, ℕ, Bool, List, Option, Some, None, Result, Ok, Err, IfErr, refl, sym, ap, subst, ◌∙◌, ◌==◌, nat_lt, if◌then◌else◌}
+use Rattle.std.proofs.Common.{◌≡◌, ◌<◌, ◌≤◌, ℕ, Bool, List, [], Option, Some, None, Result, Ok, Err, IfErr, refl, sym, ap, subst, ◌∙◌, ◌==◌, nat_lt, if◌then◌else◌}
 use Rattle.std.proofs.lemmas.Bool.{eq-eqb, le-ltb, lt-ltb, ne_eqb}
 use Rattle.host_model.specs.Past.{Event}
 use Rattle.host_model.specs.Seen.{Seen}
@@ -14,6 +14,7 @@ use Rattle.agent_core.specs.declared.fault.AgentFault.{AgentFault}
 use Rattle.agent_core.specs.Agent.{id_of, AgentIsReady, AgentState, IsAgentOf}
 use Rattle.agent_core.specs.Calls.{AnswersAsk}
 use Rattle.agent_core.specs.Copies.{data_of_history}
+use Rattle.agent_core.proofs.StoredLemmas.{answers as store-answers}
 use Rattle.link_session.specs.declared.fault.PeerFault.TheVariants.{BadFrame, WrongChild}
 use Rattle.link_session.specs.declared.fault.SessionFault.{SessionFault}
 use Rattle.link_session.specs.declared.fault.SessionFault.TheVariants.{Agent, PeerRefused}
@@ -28,7 +29,9 @@ use Rattle.link_session.proofs.StepLemmas.{leaves-does, leaves-refusing, said-do
 
 -- the settings of an agent have its id
 pub id-is : (past : List Event) (agent : AgentState) (set : Settings) (h : List Beat) → IsAgentOf past agent set h → set.id ≡ id_of agent
-id-is past agent set h is_of = ap (λ (s : Settings). s.id) (sym is_of.holds.store_of.settings)
+id-is past agent set h is_of =
+    let holds = is_of.holds in
+    ap (λ (s : Settings). s.id) (sym (store-answers past agent.store set h holds.stored [] holds.are holds.store_of).settings)
 
 -- ---- what it does, by tests
 

@@ -17,10 +17,11 @@ use Rattle.link_frames.specs.declared.frame.Frame.{Frame}
 use Rattle.link_frames.specs.declared.frame.Frame.TheVariants as frame
 use Rattle.link_frames.specs.Frames.{done, wrong_child, HasSpelling}
 use Rattle.tier_settings.specs.declared.settings.Settings.{Settings}
-use Rattle.store_core.specs.declared.beat.Beat.{Beat as StoreBeat}
+use Rattle.beat_records.specs.declared.beat.Beat.{Beat as StoreBeat}
 use Rattle.agent_core.specs.Copies.{seen_moment, IsCopyOfChild, IsTrueOfChild, SeenBeat}
 use Rattle.agent_core.specs.Copying.{added_to, copy_refusal, verdict_of}
-use Rattle.agent_core.specs.Kept.{onto, AreBeatsOf, StandsForHistory}
+use Rattle.agent_core.specs.Kept.{onto, AreBeatsOf}
+use Rattle.agent_core.specs.Stands.{StandsForHistory}
 use Rattle.agent_core.specs.Roles.{role_of}
 use Rattle.agent_core.proofs.CopyLemmas.{added-copy, gaps-end}
 use Rattle.agent_core.proofs.StoredLemmas.{were_kept}
@@ -200,5 +201,5 @@ module _ (set : Settings) (floors : List ℕ) (child : List SeenBeat) (rises : R
   stops-copy h0 frames old new spelt truth copy stops =
       weakened (λ past held disk images.
       let kept = held disk (told past) images (full_text past (told past) refl) in
-      let all = were_kept kept.stored kept.stands.stored kept.stands.are in
+      let all = were_kept set kept.stored kept.stands.stored kept.stands.are in
       (kept.stored, kept.stands, frames-copy frames (parent_begins h0) kept.stored all.beats all.are spelt truth copy kept.since kept.within)) stops

@@ -21,8 +21,7 @@ use Rattle.alarm_events.specs.declared.event.Event.{Event as AlarmEvent}
 use Rattle.tier_settings.specs.declared.settings.Settings.{Settings}
 use Rattle.store_core.specs.declared.fault.Why.{Why}
 use Rattle.store_core.specs.declared.fault.Why.TheVariants as spent_for
-use Rattle.store_core.specs.Store.{counted}
-use Rattle.store_core.proofs.StoreLemmas.{ready_elsewhere}
+use Rattle.store_core.specs.Counts.{counted}
 use Rattle.agent_core.specs.declared.fault.AgentFault.{AgentFault}
 use Rattle.agent_core.specs.declared.fault.AgentFault.TheVariants as agent_fault
 use Rattle.agent_core.specs.declared.left.Role.{Role}
@@ -31,7 +30,8 @@ use Rattle.agent_core.specs.Agent.{AgentIsReady, AgentState, IsAgentOf, IsSpentA
 use Rattle.agent_core.specs.Calls.{agent_adds, agent_verdict, TakesData}
 use Rattle.agent_core.specs.Copying.{added_by, added_to, events_onto, refusal_by, verdict_of}
 use Rattle.agent_core.specs.Faults.{cause_of, fault_after, LeavesAll, RefusedBy, ReopensWith}
-use Rattle.agent_core.specs.Kept.{onto, StandsForFront}
+use Rattle.agent_core.specs.Kept.{onto}
+use Rattle.agent_core.specs.Stands.{StandsForFront}
 use Rattle.agent_core.specs.Replies.{event_lines, reply_text, stored_line}
 use Rattle.agent_core.specs.Roles.{role_of}
 use Rattle.agent_core.proofs.KeptLemmas.{agent-kept, child-is}
@@ -52,6 +52,7 @@ use Rattle.link_session.proofs.EventLemmas.{acked-told, closed-told}
 use Rattle.link_session.proofs.ExtendsLemmas.{extends-onto}
 use Rattle.link_session.proofs.ParentLemmas.{no-cause, still-copies, takes-still, IsStill}
 use Rattle.link_session.proofs.SendingLemmas.{spent-none}
+use Rattle.link_session.proofs.ReadyLemmas.{ready-after}
 use Rattle.link_session.proofs.StepLemmas.{failed-does, said-does, said-unsaid, silent-does}
 use Rattle.link_session.proofs.StoreLemmas.{all-stored, beats-stored, front-stops, gone-on, silent-front, still-stored, stored-since, tells-all, text-told, torn-front, torn-stops, torn-stored}
 
@@ -99,20 +100,6 @@ failing fault = Err fault
 
 abbrev failed : AgentFault → Result Flow SessionFault
 failed fault = Err (Agent fault)
-
-pub ready-after : (honest : Type 0) (old new : List Event) (agent : AgentState) → (honest → (file : File) → of file new ≡ of file old) → AgentIsReady honest old agent → AgentIsReady honest new agent
-ready-after honest old new agent same ready going =
-    let fits = ready going in
-    record {
-      store = ready_elsewhere honest old new agent.store same fits.store;
-      replayed = fits.replayed;
-      going = fits.going;
-      same_last = fits.same_last;
-      charts = fits.charts;
-      dimensions = fits.dimensions;
-      limits = fits.limits;
-      up_to = fits.up_to;
-    }
 
 module _ (honest : Type 0) (host : Seen) (agent : AgentState) (message : Data) (middle : Seen) (agent' : AgentState) (id : ℕ) where
   abbrev taking : Settings → List Beat → Course Parent

@@ -14,5 +14,6 @@ pub mod StoreLemmas
 pub mod TakingLemmas
 pub mod ReceiveLemmas
 pub mod ParentLemmas
+pub mod ReadyLemmas
 pub mod DataLemmas
 pub mod CopyLemmas

@@ -12,7 +12,8 @@ use Rattle.history.specs.History.{Beat}
 use Rattle.plugin_text.specs.Lines.{rest}
 use Rattle.tier_settings.specs.declared.settings.Settings.{Settings}
 use Rattle.agent_core.specs.Agent.{AgentState, IsAgentOf}
-use Rattle.agent_core.specs.Kept.{onto, StandsForFront, StandsForHistory}
+use Rattle.agent_core.specs.Kept.{onto}
+use Rattle.agent_core.specs.Stands.{StandsForFront, StandsForHistory}
 use Rattle.agent_core.proofs.KeptLemmas.{agent-told, stays}
 use Rattle.link_session.specs.Keeps.{no_more, Extends, IsAckedUpTo, Keeps}
 use Rattle.link_session.specs.Receiving.{HasGoneOn, HasStored, StoresAt, TellsFront}

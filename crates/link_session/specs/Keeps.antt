@@ -4,7 +4,7 @@ use Rattle.host_model.specs.declared.file.File.{File}
 use Rattle.history.specs.History.{Beat}
 use Rattle.plugin_text.specs.Lines.{lines}
 use Rattle.tier_settings.specs.declared.settings.Settings.{Settings}
-use Rattle.agent_core.specs.Kept.{StandsForHistory}
+use Rattle.agent_core.specs.Stands.{StandsForHistory}
 
 -- a history goes on from another
 pub data Extends (h : List Beat) : List Beat → Type 0 where

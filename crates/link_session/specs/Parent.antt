@@ -10,7 +10,7 @@ use Rattle.link_frames.specs.declared.frame.Frame.{Frame}
 use Rattle.link_frames.specs.declared.frame.Frame.TheVariants as frame
 use Rattle.link_frames.specs.Frames.{done, wrong_child}
 use Rattle.tier_settings.specs.declared.settings.Settings.{Settings}
-use Rattle.store_core.specs.Store.{counted}
+use Rattle.store_core.specs.Counts.{counted}
 use Rattle.agent_core.specs.declared.fault.AgentFault.TheVariants.{Refused}
 use Rattle.agent_core.specs.Copying.{added_to, copy_refusal, events_onto, verdict_of}
 use Rattle.agent_core.specs.Kept.{onto}

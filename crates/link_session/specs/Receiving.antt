@@ -16,12 +16,13 @@ use Rattle.link_frames.specs.declared.frame.Frame.TheVariants as frame
 use Rattle.link_frames.specs.Frames.{bad_frame, done, frame_bytes}
 use Rattle.tier_settings.specs.declared.settings.Settings.{Settings}
 use Rattle.store_core.specs.declared.fault.Why.{Why}
-use Rattle.store_core.specs.Own.{IsForeign}
+use Rattle.database_files.specs.Holds.{IsForeign}
 use Rattle.agent_core.specs.declared.fault.AgentFault.{AgentFault}
 use Rattle.agent_core.specs.declared.fault.AgentFault.TheVariants as agent_fault
 use Rattle.agent_core.specs.Agent.{id_of, AgentIsReady, AgentState, IsAgentOf, IsSoundBy}
 use Rattle.agent_core.specs.Copies.{seen_moment, IsCopyOfChild, IsTrueOfChild, SeenBeat}
-use Rattle.agent_core.specs.Kept.{onto, StandsForHistory}
+use Rattle.agent_core.specs.Kept.{onto}
+use Rattle.agent_core.specs.Stands.{StandsForHistory}
 use Rattle.link_session.specs.declared.fault.SessionFault.{SessionFault}
 use Rattle.link_session.specs.declared.fault.SessionFault.TheVariants.{LinkFault, Agent, TellFault, Memory}
 use Rattle.link_session.specs.declared.fault.PeerFault.{PeerFault}

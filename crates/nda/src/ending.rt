@@ -57,9 +57,10 @@ impl Ending {
                 &self.program,
             ),
             Status::Damaged(part) => {
+                let name = part_of(part);
                 write!(
                     f,
-                    "the database here is damaged, or none of this program: part {part}"
+                    "the database here is damaged, or none of this program: part {part}, {name}"
                 )
             }
             Status::PeerRefused(kind) => {
@@ -85,7 +86,7 @@ impl Ending {
                 "what came before is stored; see that the other agent can be reached, and run again"
             }
             Status::NotADatabase =>
-                "go to its folder, or make one by nda new, which overwrites a file nda.2 that is none",
+                "go to its folder, or make one by nda new, which overwrites files nda.0 and nda.2 that are none",
             Status::Exists => "nothing was changed; nda run and nda collect store beats in it",
             Status::Damaged(_) => "nothing was changed; go on from a copy, or in another folder",
             Status::PeerRefused(1) => {
@@ -104,6 +105,17 @@ impl Ending {
             Status::InputLimit => advice_on_length(self.text),
             Status::Memory => "what was told as stored is kept; free some, and run again",
         }
+    }
+}
+
+/// The part of a database with this number.
+fn part_of(part: u32) -> &'static str {
+    match part {
+        1 => "the file of its checkpoint",
+        2 => "the body of its checkpoint",
+        3 => "a sealed segment",
+        4 => "its journal",
+        _ => "what a beat or the side of its checkpoint says",
     }
 }
 

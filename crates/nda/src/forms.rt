@@ -25,14 +25,15 @@ usage: nda COMMAND
   nda --help, nda --version
       prints this, or the version
 
-A database is the file nda.2 of the current folder. ID is below 2^64; of each tier P items, 1 to
-262144, make a segment full, and Q segments, 1 to 1024, are kept. collect starts PROGRAM again while
-it ends with 0, STARTS times at most, 1 to 1000; its beats get their moments from the clock and lie
-EVERY seconds apart, 1 to 86400. run and collect print STORED and its number for each beat once it
-is stored, and answer a QUERY line at its place; receive prints it for the last beat of each part
-that came. ADDRESS is a host and a port. AFTER and BEFORE are seconds since 1970; a line has the
-GROUP (average, min, max, sum, count or anomaly-rate) of WINDOW seconds of each dimension whose id
-or name the WORDs accept. No word begins with -, nor does an ARG: a script can add such words.";
+A database is the files nda.0 to nda.6 of the current folder. ID is below 2^64; of each tier P
+items, 1 to 262144, make a segment full, and Q segments, 1 to 1024, are kept. collect starts PROGRAM
+again while it ends with 0, STARTS times at most, 1 to 1000; its beats get their moments from the
+clock and lie EVERY seconds apart, 1 to 86400. run and collect print STORED and its number for each
+beat once it is stored, and answer a QUERY line at its place; receive prints it for the last beat of
+each part that came. ADDRESS is a host and a port. AFTER and BEFORE are seconds since 1970; a line
+has the GROUP (average, min, max, sum, count or anomaly-rate) of WINDOW seconds of each dimension
+whose id or name the WORDs accept. No word begins with -, nor does an ARG: a script can add such
+words.";
 
 /// The program's name and version.
 pub const VERSION: &str = "nda 0.1.0";

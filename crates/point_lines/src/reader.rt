@@ -1,8 +1,12 @@
-ghost use Rattle.std.specs.Prelude.{◌≡◌, ◌+◌, ◌^◌, ◌<◌, ◌≤◌, ◌++◌, ℕ, List, [], ◌∷◌, length, string_bytes, true, IfOk, IfErr, OnOk};
+ghost use Rattle.std.specs.Prelude.{◌≡◌, ◌+◌, ◌^◌, ◌<◌, ◌≤◌, ◌++◌, ℕ, List, [], ◌∷◌, length, string_bytes, true, false, None, IfOk, IfErr, OnOk, MatchResult};
 ghost use Rattle.history.specs.declared.line.Line.{Line as ALine};
 ghost use Rattle.history.specs.declared.line.Line.TheVariants as line;
 ghost use Rattle.history.specs.Limits.{is_one_line, keeps_limits};
-ghost use Rattle.history.specs.Numbered.{IsThere};
+ghost use Rattle.history.specs.Numbered.{numbered_beat, IsThere};
+ghost use Rattle.history.specs.Registry.{same_chart, same_dimension};
+ghost use Rattle.history.specs.Regular.{AreApart, IsRegular};
+ghost use Rattle.beat_entries.specs.Rules.{beat_refusal, with_beat, IsOpenBeat};
+ghost use Rattle.beat_entries.specs.Taking.{IsFaultOf};
 ghost use Rattle.collect_block.specs.declared.step.Step.TheVariants as step;
 ghost use Rattle.plugin_text.specs.Line.{line as line_of};
 ghost use Rattle.point_lines.specs.declared.stop.Stop.TheVariants as stop;
@@ -14,7 +18,7 @@ ghost use Rattle.point_lines.specs.Told.{told_at_end};
 use crate::refusal::Refusal;
 use crate::stop::{Stop, beat_stop, block_stop, line_stop};
 use crate::telling::push_points;
-use beat_entries::take_beat;
+use beat_entries::{BeatFault, define_beat, judge_beat};
 use beat_points::LastRows;
 use chart_registry::Registry;
 use collect_block::{Feed, Step};
@@ -43,6 +47,33 @@ fn is_skipped(line: &Line) -> bool
     ensures { one_if result ≡ skips line.now }
 {
     matches!(line, Line::Skipped | Line::Query(_))
+}
+
+/// What a registry makes of a beat at `moment`, where nothing was copied and `last` is the last moment: its refusal, or
+/// the beat by number, whose definitions it has taken.
+fn take_beat(
+    alloc: Global,
+    registry: &mut Registry,
+    last: u32,
+    moment: u32,
+    beat: &OpenBeat,
+) -> Result<NumberedBeat, BeatFault>
+    requires is_open { IsOpenBeat beat.now }
+    requires charts { AreApart same_chart registry.old.charts }
+    requires dimensions { AreApart same_dimension registry.old.dimensions }
+    ensures taken { OnOk result (registry.new ≡ with_beat registry.old beat.now) }
+    ensures numbered { IfOk result
+        (λ numbered. numbered ≡ numbered_beat registry.new moment beat.now) }
+    ensures judged { let reason = beat_refusal registry.old false last moment beat.now in
+        MatchResult result (λ _. reason ≡ None) (IsFaultOf reason) }
+    ensures regular { OnOk result (IsRegular registry.new beat.now) }
+    ensures there { IfOk result (IsThere registry.new) }
+{
+    let numbered = judge_beat(alloc, registry, false, last, moment, beat)?;
+    match define_beat(registry, moment, beat, &numbered) {
+        Ok(()) => Ok(numbered),
+        Err(_) => Err(BeatFault::Memory),
+    }
 }
 
 impl Reader {
@@ -158,14 +189,7 @@ impl Reader {
         ensures { StepsOr self.old (line.Moment moment) (step.Beat beat.now moment) result self.new
             (string_bytes out.old) (string_bytes out.new) }
     {
-        match take_beat(
-            self.alloc,
-            &mut self.registry,
-            false,
-            self.last,
-            moment,
-            beat,
-        ) {
+        match take_beat(self.alloc, &mut self.registry, self.last, moment, beat) {
             Ok(numbered) => self.take_numbered(&numbered, out),
             Err(fault) => Err(beat_stop(fault)),
         }

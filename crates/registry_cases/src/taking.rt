@@ -1,13 +1,13 @@
 //! The tests of `beat_entries` on beats: what a registry makes of a collected beat.
 
-ghost use Rattle.std.specs.Prelude.{◌≡◌, ◌<◌, true, All, IfOk};
+ghost use Rattle.std.specs.Prelude.{◌≡◌, ◌<◌, true, All, IfOk, OnOk};
 ghost use Rattle.history.specs.Limits.{chart_keeps_limits, dimension_keeps_limits};
 ghost use Rattle.history.specs.Looking.{same_value};
 ghost use Rattle.history.specs.Registry.{same_chart, same_dimension};
 ghost use Rattle.history.specs.Regular.{AreApart, same_row};
 ghost use Rattle.beat_entries.specs.Rules.{IsOpenBeat};
 
-use beat_entries::{BeatFault, take_beat};
+use beat_entries::{BeatFault, define_beat, judge_beat};
 use chart_registry::Registry;
 use fixed_num::Text;
 use history::{
@@ -16,6 +16,28 @@ use history::{
 };
 use std::alloc::{AllocError, Global};
 use std::test::Fail;
+
+/// The registry judges a beat, and takes its definitions.
+fn take_beat(
+    alloc: Global,
+    registry: &mut Registry,
+    copies: bool,
+    last: u32,
+    moment: u32,
+    beat: &OpenBeat,
+) -> Result<NumberedBeat, BeatFault>
+    requires is_open { IsOpenBeat beat.now }
+    requires charts { AreApart same_chart registry.old.charts }
+    requires dimensions { AreApart same_dimension registry.old.dimensions }
+    ensures charts { OnOk result (AreApart same_chart registry.new.charts) }
+    ensures dimensions { OnOk result (AreApart same_dimension registry.new.dimensions) }
+{
+    let numbered = judge_beat(alloc, registry, copies, last, moment, beat)?;
+    match define_beat(registry, moment, beat, &numbered) {
+        Ok(()) => Ok(numbered),
+        Err(_) => Err(BeatFault::Memory),
+    }
+}
 
 fn chart(alloc: Global, id: &str, update_every: u32) -> Result<ChartDef, Fail>
     ensures every { IfOk result (λ def. 0 < def.update_every) }

@@ -12,7 +12,7 @@ const TEXT: &str =
     "CHART test.one '' 'One' 'units'\nDIMENSION a\nBEGIN test.one\nSET a = 42\nEND\n";
 
 /// More calls on the host than the commands before the crash make.
-const CALLS: u64 = 48;
+const CALLS: u64 = 64;
 
 /// More calls on the spawner than three children take.
 const SPAWNER_CALLS: u64 = 16;

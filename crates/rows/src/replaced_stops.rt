@@ -35,7 +35,7 @@ const GONE: (&str, &str) = (
 );
 
 /// More calls on the host than both configurations and the beat between them make.
-const CALLS: u64 = 64;
+const CALLS: u64 = 90;
 
 /// What the second configuration told, if no call of a command before it was refused.
 fn replaced(alloc: Global, host: &mut MemoryHost) -> Result<Option<Ending>, Fail> {

@@ -52,6 +52,6 @@ pub answer_is : (store : StoreState) (set : Settings) (beats : List TierBeat) �
     → ((told : ℕ → List Point) → Tells store told → table ≡ table_of widths (tier_floor store.tiers) told request)
     → table ≡ table_of widths (floor_at set beats) (points_of beats) request
 answer_is store set beats has request table answered =
-    let floor_now = floor_is set beats store.tiers has.tiers in
-    answered (points_of beats) (record { set = set; beats = beats; has = has.tiers; told_is = refl })
+    let floor_now = floor_is set beats store.tiers has in
+    answered (points_of beats) (record { set = set; beats = beats; has = has; told_is = refl })
     ∙ same_table (tier_floor store.tiers) (floor_at set beats) (floor_now 0 (omega arith)) (floor_now 1 (omega arith)) (floor_now 2 (omega arith)) (points_of beats) request

@@ -1,92 +1,149 @@
--- What a store is when it was opened.
-use Rattle.std.proofs.Common.{◌≡◌, ℕ, List, Option, Some, None, sym, ap, ◌∙◌, subst}
-use Rattle.host_model.specs.declared.file.File.TheVariants.{JournalA}
-use Rattle.host_model.specs.Images.{contents}
-use Rattle.host_model.specs.Past.{Event, of}
-use Rattle.host_model.specs.Disks.{EveryDisk, reads_as}
-use Rattle.journal_core.specs.Form.{StandsFor}
-use Rattle.journal_core.specs.Journal.{IsOpen, JournalState}
-use Rattle.journal_core.proofs.GrammarLemmas.{records_once}
-use Rattle.beat_tiers.specs.State.{no_beats}
+-- What a store is when it was made or opened.
+use Rattle.std.proofs.Common.{◌≡◌, ◌⊎◌, ℕ, ◌^◌, ◌<◌, ◌≤◌, ◌+◌, List, [], length, Some, None, inl, inr, arith, refl, sym, ap, ◌∙◌, subst}
+use Rattle.std.proofs.lemmas.Option.{same_Some}
+use Rattle.host_model.specs.declared.file.File.{File}
+use Rattle.host_model.specs.Disks.{EveryDisk}
+use Rattle.host_model.specs.Past.{Event, IsDisk}
+use Rattle.beat_tiers.specs.State.{TiersState, no_beats}
+use Rattle.checkpoint_body.specs.declared.body.Body.{Body}
+use Rattle.checkpoint_body.specs.Body.{body_bytes, HasSpelling}
+use Rattle.database_files.specs.Advancing.{NamesNone}
+use Rattle.database_files.specs.Contents.{no_pages, new_contents, Contents}
+use Rattle.database_files.specs.Files.{IsOpenOf, IsPlaced}
+use Rattle.database_files.specs.Holds.{Holds, HoldsIfMade}
+use Rattle.database_files.specs.Kept.{HasPagesOfEach}
+use Rattle.database_files.specs.Shares.{share, HasRoom}
+use Rattle.database_files.proofs.OneLemmas.{one_contents}
+use Rattle.database_files.proofs.ShareLemmas.{has_room}
+use Rattle.beat_records.specs.declared.beat.Beat.{Beat}
+use Rattle.beat_records.specs.Records.{beats_from, with_all, AreNext}
+use Rattle.store_core.specs.Counts.{counted}
+use Rattle.beat_records.proofs.RecordLaw.{are-read, oldest_first, AreBytes}
+use Rattle.tier_bodies.specs.First.{first_body}
+use Rattle.tier_bodies.specs.Tiers.{AreTiersOfBody}
+use Rattle.tier_bodies.proofs.WholeLemmas.{tiers-one}
 use Rattle.tier_settings.specs.declared.settings.Settings.{Settings}
-use Rattle.store_core.specs.declared.beat.Beat.{Beat}
 use Rattle.tier_settings.specs.Settings.{first_tier, other_tiers}
-use Rattle.store_core.proofs.TierLemmas.{applied_none}
-use Rattle.store_core.specs.Records.{history_in, records, AreBeats}
-use Rattle.store_core.specs.Stands.{Stands}
-use Rattle.store_core.specs.Store.{IsPlaced, OpensAt, StoreState}
-use Rattle.store_core.specs.Stored.{Stored, base_of, nothing_stored, stored_with_all}
-use Rattle.store_core.proofs.RecordLaw.{history_again, history_found, oldest_first, AreBytes}
-use Rattle.store_core.proofs.StoreLemmas.{every_image_at, open_reads}
+use Rattle.store_core.specs.Damaged.{HasCounted}
+use Rattle.store_core.specs.Stands.{records_of, HasStored, Stands, StandsIfMade}
+use Rattle.store_core.specs.Store.{base_of, IsReady, OpensAt, StoreState}
+use Rattle.store_core.specs.Stored.{new_database, stored_with_all, Stored}
+use Rattle.store_core.proofs.CountLemmas.{none-counted, tiers-counted}
+use Rattle.store_core.proofs.RecordLemmas.{records-with_all}
+use Rattle.store_core.proofs.StandLemmas.{has-stored, images-at, none-made, records-read}
 
-abbrev some_history : Settings × List Beat → Option (Settings × List Beat)
-some_history found = Some found
+-- ---- any store
 
--- what was found when the journal was opened
-pub record WasFound (old new : List Event) (journal : JournalState) (bodies : List (List ℕ)) : Type 0 where
-  pub place : IsPlaced journal
-  pub is_open : IsOpen (of JournalA new) journal bodies
-  pub same : contents (of JournalA new) ≡ contents (of JournalA old)
+fits-count : (one count of_base : ℕ) → one ≡ count → count ≡ of_base → count < 2 ^ 64 → one ≡ counted (of_base + 0)
+fits-count one count of_base same is fits = omega (arith, same, is, fits)
 
--- the records are those of the database that the disk held
-found_records : (old new : List Event) (journal : JournalState) (bodies : List (List ℕ)) (set : Settings) (stored : Stored) → WasFound old new journal bodies → Stands set stored (reads_as old)
-    → bodies ≡ records set stored.after
-found_records old new journal bodies set stored found stands =
-    records_once 0 (contents (of JournalA old)) bodies (records set stored.after)
-    (subst (λ (b : List ℕ). StandsFor 0 b bodies) found.same (open_reads (of JournalA new) journal bodies found.place found.is_open))
-    stands.journal
+-- a store that stands at the checkpoint of these contents is ready
+ready-at : (honest : Type 0) (past : List Event) (store : StoreState) (contents : Contents) → HasSpelling store.body → HasPagesOfEach store.body contents.kept
+    → AreTiersOfBody store.body contents.kept store.tiers → HasCounted store.body → IsPlaced store.files → AreNext store.tiers.last store.waiting
+    → contents.body ≡ store.body → store.count ≡ store.body.count → contents.records ≡ records_of (with_all [] store.waiting)
+    → (honest → IsOpenOf past store.files contents) → IsReady honest past store
+ready-at honest past store contents spelt paged tiers counts place next same count records opened = record {
+  kept = contents.kept;
+  stored = record {
+    base = record { number = store.files.number; settings = store.body.settings; count = store.body.count; tiers = store.tiers; side = store.body.side };
+    after = [];
+  };
+  sound = record {
+    spelt = spelt;
+    paged = paged;
+    number = refl;
+    settings = refl;
+    base_count = refl;
+    side = refl;
+    of_body = tiers;
+    counted = tiers-counted store.body contents.kept store.tiers tiers counts;
+    followed = tt;
+    count = fits-count store.count store.body.count store.body.count count refl spelt.fits.count;
+    tiers = refl;
+    waiting = next;
+  };
+  place = place;
+  opened = λ going h. record { contents = contents; opened = opened h; body = same; pages = refl; records = records };
+}
 
-pub opens : (old new : List Event) (store : StoreState) (bodies : List (List ℕ)) → WasFound old new store.journal bodies
-    → Some (store.settings, store.waiting) ≡ history_in bodies → store.count ≡ 0 → store.last ≡ 0 → store.tiers ≡ no_beats (first_tier store.settings) (other_tiers store.settings) → store.fault ≡ None
-    → (set : Settings) (stored : Stored) → Stands set stored (reads_as old) → OpensAt new store set stored
-opens old new store bodies found read count last tiers going set stored stands =
+-- ---- a new store
+
+pub new-stored : (body : Body) (set : Settings) (side : List ℕ) → body ≡ first_body set side → NamesNone body → AreTiersOfBody body no_pages (no_beats (first_tier set) (other_tiers set))
+    → HasStored (new_contents body) (new_database set side)
+new-stored body set side is none tiers = record {
+  base = record {
+    number = refl;
+    settings = ap (λ (b : Body). b.settings) is;
+    count = ap (λ (b : Body). b.count) is;
+    side = ap (λ (b : Body). b.side) is;
+    tiers = tiers;
+    counted = tiers-counted body no_pages (no_beats (first_tier set) (other_tiers set)) tiers (none-counted body none);
+  };
+  records = refl;
+  follow = tt;
+}
+
+none-paged : (body : Body) → NamesNone body → HasPagesOfEach body no_pages
+none-paged body none = record { points = ap length (sym none.points); minutes = ap length (sym none.minutes); hours = ap length (sym none.hours) }
+
+pub new-ready : (honest : Type 0) (past : List Event) (store : StoreState) (set : Settings) → HasSpelling store.body → NamesNone store.body
+    → AreTiersOfBody store.body no_pages (no_beats (first_tier set) (other_tiers set)) → store.tiers ≡ no_beats (first_tier set) (other_tiers set) → store.waiting ≡ []
+    → store.count ≡ store.body.count → IsPlaced store.files → (honest → IsOpenOf past store.files (new_contents store.body)) → IsReady honest past store
+new-ready honest past store set spelt none tiers same waiting count place opened =
+    ready-at honest past store (new_contents store.body) spelt (none-paged store.body none) (subst (λ (state : TiersState). AreTiersOfBody store.body no_pages state) (sym same) tiers)
+    (none-counted store.body none) place (subst (λ (beats : List Beat). AreNext store.tiers.last beats) (sym waiting) tt) refl count
+    (ap (λ (beats : List Beat). records_of (with_all [] beats)) (sym waiting)) opened
+
+-- the first checkpoint fits the shares
+pub new-room : (body : Body) (set : Settings) (side : List ℕ) (most : ℕ) → body ≡ first_body set side → HasSpelling body → length side ≤ most → HasRoom (share set most) 0 (body_bytes body)
+new-room body set side most is spelt short =
+    let beside : body.side ≡ side = ap (λ (b : Body). b.side) is in
+    subst (λ (s : Settings). HasRoom (share s most) 0 (body_bytes body)) (ap (λ (b : Body). b.settings) is)
+    (has_room most 0 body spelt (subst (λ (l : List ℕ). length l ≤ most) (sym beside) short))
+
+-- a crash left this disk before, or there is no database on it, or the new one
+abbrev pub WasOrIsNew : List Event → Settings → List ℕ → (File → List ℕ) → Type 0
+WasOrIsNew old set side disk = IsDisk old disk ⊎ StandsIfMade set side disk
+
+pub was-or-new : (old : List Event) (body : Body) (set : Settings) (side : List ℕ) → HasStored (new_contents body) (new_database set side)
+    → (disk : File → List ℕ) → IsDisk old disk ⊎ HoldsIfMade body disk → WasOrIsNew old set side disk
+was-or-new old body set side has disk (inl was) = inl was
+was-or-new old body set side has disk (inr (inl none)) = inr (inl (none-made disk none))
+was-or-new old body set side has disk (inr (inr holds)) = inr (inr (record { contents = new_contents body; holds = holds; has = has }))
+
+-- ---- an opened store
+
+pub opens-at : (contents : Contents) (disk : File → List ℕ) (new : List Event) (store : StoreState) → Holds contents disk → IsOpenOf new store.files contents → HasSpelling contents.body
+    → store.body ≡ contents.body → store.count ≡ contents.body.count → store.fault ≡ None → AreTiersOfBody contents.body contents.kept store.tiers
+    → beats_from contents.body.last contents.records ≡ Some store.waiting → (stored : Stored) → Stands stored disk → OpensAt new store stored
+opens-at contents disk new store holds opened spelt body count going tiers read stored stands =
+    let has = has-stored contents stored disk stands (one_contents stands.contents contents disk stands.holds holds) in
     let order = oldest_first stored.after in
-    let all = found_records old new store.journal bodies set stored found stands in
-    let again = ap history_in all ∙ history_again set stored.after order.rest order.whole stands.limits stands.beats_are in
-    let pair : (a b : Settings × List Beat) → some_history a ≡ some_history b → a ≡ b = λ a b e. cc in
-    let same = pair (store.settings, store.waiting) (set, order.rest) (read ∙ again) in
+    let all : stored_with_all (base_of stored) order.rest ≡ stored = ap (λ (beats : List Beat). record stored { after = beats }) order.whole in
     record {
       rest = order.rest;
-      whole = ap (λ (beats : List Beat). record stored { after = beats }) order.whole;
+      whole = all;
       is_at = record {
-        place = found.place;
-        journal = subst (IsOpen (of JournalA new) store.journal) (all ∙ ap (records set) (sym order.whole)) found.is_open;
-        limits = stands.limits;
-        beats_are = subst AreBeats (sym order.whole) stands.beats_are;
-        settings = ap (λ (p : Settings × List Beat). p.0) same;
-        waiting = ap (λ (p : Settings × List Beat). p.1) same;
-        count = count;
-        last = last;
-        applied =
-            applied_none set store stands.limits
-            (tiers ∙ ap (λ (p : Settings × List Beat). no_beats (first_tier p.0) (other_tiers p.0)) same);
+        contents = contents;
+        opened = opened;
+        has = subst (λ (s : Stored). HasStored contents s) (sym all) has;
+        body = body;
+        waiting = same_Some store.waiting order.rest (sym read ∙ records-read contents stored has order.rest order.whole);
+        count = fits-count store.count contents.body.count stored.base.count count has.base.count spelt.fits.count;
+        tiers = tiers-one contents.body contents.kept store.tiers stored.base.tiers tiers has.base.tiers;
         going = going;
       };
     }
 
--- records that are no database
-pub damaged : (old new : List Event) (journal : JournalState) (bodies : List (List ℕ)) → WasFound old new journal bodies → None ≡ history_in bodies
-    → (set : Settings) (stored : Stored) → Stands set stored (reads_as old) → ⊥
-damaged old new journal bodies found read set stored stands =
-    let order = oldest_first stored.after in
-    let all = found_records old new journal bodies set stored found stands in
-    let again = ap history_in all ∙ history_again set stored.after order.rest order.whole stands.limits stands.beats_are in
-    let differ : (a : Settings × List Beat) → None ≡ some_history a → ⊥ = λ a e. cc in
-    differ (set, order.rest) (read ∙ again)
+pub opened-ready : (honest : Type 0) (new : List Event) (store : StoreState) (contents : Contents) → HasSpelling store.body → HasPagesOfEach store.body contents.kept
+    → AreTiersOfBody store.body contents.kept store.tiers → HasCounted store.body → IsPlaced store.files → contents.body ≡ store.body → store.count ≡ store.body.count
+    → beats_from store.body.last contents.records ≡ Some store.waiting → AreBytes contents.records → (honest → IsOpenOf new store.files contents) → IsReady honest new store
+opened-ready honest new store contents spelt paged tiers counts place same count read bytes opened =
+    let found = are-read store.body.last contents.records store.waiting bytes read in
+    let next = subst (λ (last : ℕ). AreNext last store.waiting) (sym tiers.last) found.next in
+    ready-at honest new store contents spelt paged tiers counts place next same count (found.spelt ∙ sym (records-with_all [] store.waiting)) opened
 
--- and records that are one
-pub stands_found : (old new : List Event) (journal : JournalState) (bodies : List (List ℕ)) (set : Settings) (rest : List Beat) → WasFound old new journal bodies → AreBytes bodies
-    → Some (set, rest) ≡ history_in bodies → Stands set (stored_with_all nothing_stored rest) (reads_as old)
-stands_found old new journal bodies set rest found fits read =
-    let known = history_found bodies set rest fits (sym read) in
-    record {
-      journal =
-          subst (StandsFor 0 (contents (of JournalA old))) known.spelt
-          (subst (λ (b : List ℕ). StandsFor 0 b bodies) found.same (open_reads (of JournalA new) journal bodies found.place found.is_open));
-      limits = known.limits;
-      beats_are = known.are;
-    }
-
--- a store that was opened leaves what was stored, whatever happens
-pub opens_images : (past : List Event) (store : StoreState) (set : Settings) (stored : Stored) → OpensAt past store set stored → EveryDisk (Stands set stored) past
-opens_images past store set stored opens = subst (λ (all : Stored). EveryDisk (Stands set all) past) opens.whole (every_image_at past store set (base_of stored) opens.rest opens.is_at)
+-- whatever happens to it, what was stored stays
+pub opened-images : (past : List Event) (store : StoreState) (stored : Stored) → OpensAt past store stored → EveryDisk (Stands stored) past
+opened-images past store stored opens =
+    subst (λ (all : Stored). EveryDisk (Stands all) past) opens.whole (images-at past store (base_of stored) opens.rest opens.is_at)

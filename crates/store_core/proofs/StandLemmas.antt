@@ -1,99 +1,207 @@
--- Which disks hold a database: that it is one, and that it is there.
-use Rattle.std.proofs.Common.{◌≡◌, ℕ, ◌<◌, ◌≤◌, Bool, true, false, ◌&&◌, eqb, ltb, eq-eqb, List, [], ◌∷◌, ◌++◌, length, get_or, refl, sym, ap, ◌∙◌, subst, arith, length-append}
-use Rattle.std.proofs.lemmas.Bool.{eqb-true, false_from_ne_true, le-ltb, lt-ltb}
-use Rattle.std.proofs.lemmas.List.{get_or-append_right}
+-- Which disks hold a database: one at most, and none where a part is damaged.
+use Rattle.std.proofs.Common.{◌≡◌, ◌⊎◌, ℕ, zero, suc, Bool, true, false, List, [], ◌∷◌, ◌+◌, length, if◌then◌else◌, Option, Some, None, inl, inr, arith, refl, sym, ap, ◌∙◌, subst}
+use Rattle.std.specs.Option.{is_some}
+use Rattle.std.proofs.lemmas.Option.{none-some, same_Some}
 use Rattle.host_model.specs.declared.file.File.{File}
-use Rattle.host_model.specs.declared.file.File.TheVariants.{JournalA}
-use Rattle.journal_core.specs.Form.{header, length_field, opened, StandsFor}
-use Rattle.journal_core.proofs.FormLemmas.{length-header, length-length_field}
-use Rattle.journal_core.proofs.GrammarLemmas.{records_once}
-use Rattle.tier_settings.specs.declared.settings.Settings.{Settings}
-use Rattle.store_core.specs.declared.beat.Beat.{Beat}
-use Rattle.store_core.specs.Beats.{beat_bytes}
-use Rattle.store_core.specs.FirstRecord.{settings_body}
-use Rattle.store_core.specs.Records.{records}
-use Rattle.store_core.specs.Stands.{is_begun, is_made, Stands}
-use Rattle.store_core.specs.Stored.{Stored}
-use Rattle.store_core.proofs.RecordLaw.{history_once}
+use Rattle.host_model.specs.Disks.{EveryDisk}
+use Rattle.host_model.specs.Past.{Event, Told}
+use Rattle.checkpoint.specs.Files.{checkpoint_in, Slot}
+use Rattle.checkpoint_body.specs.declared.body.Body.{Body}
+use Rattle.database_files.specs.Contents.{Contents, KeptPages}
+use Rattle.database_files.specs.Files.{FilesState, IsOpenOf}
+use Rattle.database_files.proofs.OneLemmas.{never_damaged, one_contents, one_part}
+use Rattle.beat_records.specs.declared.beat.Beat.{Beat}
+use Rattle.beat_records.specs.Records.{beats_from, with_all}
+use Rattle.store_core.specs.Counts.{counted}
+use Rattle.beat_records.proofs.RecordLaw.{oldest_first}
+use Rattle.tier_bodies.specs.Tiers.{AreTiersOfBody}
+use Rattle.tier_bodies.proofs.WholeLemmas.{tiers-one}
+use Rattle.store_core.specs.Damaged.{HasBadPart, HasCounted, HasNoBeats, HasNoTiers, IsDamagedIn}
+use Rattle.store_core.specs.Stands.{is_made, records_of, HasStored, Stands}
+use Rattle.store_core.specs.Store.{AreOpen, IsReady, IsReplayed, IsSound, IsStoreAt, IsStoreOf, StoreState}
+use Rattle.store_core.specs.Stored.{advanced, count_of, is_numbered, next_base, stored_with_all, tiers_of, Stored}
+use Rattle.store_core.proofs.CountLemmas.{body-counted}
+use Rattle.store_core.proofs.RecordLemmas.{read-again}
 
--- the byte behind the header
-byte_behind : (generation byte : ℕ) (rest : List ℕ) → get_or (header generation ++ byte ∷ rest) 16 0 ≡ byte
-byte_behind generation byte rest =
-    get_or-append_right (header generation) (byte ∷ rest) 16 16 0 (length-header generation) (omega arith)
+-- ---- what is stored
 
-pub begun : (bytes : List ℕ) → 17 < length bytes → get_or bytes 16 0 ≡ 1 → is_begun bytes ≡ true
-begun bytes long one = rw (lt-ltb 17 (length bytes) long, eq-eqb (get_or bytes 16 0) 1 one) refl
+-- the records are read as the beats since, the oldest first
+pub records-read : (contents : Contents) (stored : Stored) → HasStored contents stored → (rest : List Beat) → with_all [] rest ≡ stored.after
+    → beats_from contents.body.last contents.records ≡ Some rest
+records-read contents stored has rest whole =
+    ap (λ (last : ℕ). beats_from last contents.records) (sym has.base.tiers.last)
+    ∙ ap (beats_from stored.base.tiers.last) has.records
+    ∙ read-again stored.base stored.after rest whole has.follow
 
--- where there is a record, there is a database
-pub stands_begun : (bytes first : List ℕ) (more : List (List ℕ)) → StandsFor 0 bytes (first ∷ more) → is_begun bytes ≡ true
-stands_begun bytes first more stands =
-    let tail = (length_field (length first) ++ (first ++ opened more)) ++ stands.gate ∷ stands.rest in
-    let form : bytes ≡ header 0 ++ 1 ∷ tail = stands.form in
-    begun bytes
-    (omega (
-      arith,
-      ap length form,
-      length-append (header 0) (1 ∷ tail),
-      length-header 0,
-      length-append (length_field (length first) ++ (first ++ opened more)) (stands.gate ∷ stands.rest),
-      length-append (length_field (length first)) (first ++ opened more),
-      length-length_field (length first),
-    ))
-    (ap (λ (b : List ℕ). get_or b 16 0) form ∙ byte_behind 0 1 tail)
+-- files have stored one thing at most
+stored-once : (contents : Contents) (stored others : Stored) → HasStored contents stored → HasStored contents others → stored ≡ others
+stored-once contents stored others has also =
+    let number : stored.base.number ≡ others.base.number = sym has.base.number ∙ also.base.number in
+    let settings : stored.base.settings ≡ others.base.settings = sym has.base.settings ∙ also.base.settings in
+    let count : stored.base.count ≡ others.base.count = sym has.base.count ∙ also.base.count in
+    let side : stored.base.side ≡ others.base.side = sym has.base.side ∙ also.base.side in
+    let tiers : stored.base.tiers ≡ others.base.tiers = tiers-one contents.body contents.kept stored.base.tiers others.base.tiers has.base.tiers also.base.tiers in
+    let one = oldest_first stored.after in
+    let two = oldest_first others.after in
+    let rest : one.rest ≡ two.rest =
+    same_Some one.rest two.rest
+    (sym (records-read contents stored has one.rest one.whole) ∙ records-read contents others also two.rest two.whole) in
+    let after : stored.after ≡ others.after = sym one.whole ∙ ap (λ (beats : List Beat). with_all [] beats) rest ∙ two.whole in
+    λ i. record { base = record { number = number i; settings = settings i; count = count i; tiers = tiers i; side = side i }; after = after i }
 
-both_false : (long one : Bool) → one ≡ false → (long && one) ≡ false
-both_false true one is = is
-both_false false one is = refl
+-- ---- disks
 
--- where there is none, there is no database
-pub empty_not_begun : (bytes : List ℕ) → StandsFor 0 bytes [] → is_begun bytes ≡ false
-empty_not_begun bytes stands =
-    let byte : get_or bytes 16 0 ≡ stands.gate = ap (λ (b : List ℕ). get_or b 16 0) stands.form ∙ byte_behind 0 stands.gate stands.rest in
-    both_false (ltb 17 (length bytes)) (eqb (get_or bytes 16 0) 1)
-    (false_from_ne_true (eqb (get_or bytes 16 0) 1) (λ one. stands.closed (sym byte ∙ eqb-true (get_or bytes 16 0) 1 one)))
+-- the contents are those that the disk is known to hold
+pub has-stored : (contents : Contents) (stored : Stored) (disk : File → List ℕ) → (stands : Stands stored disk) → stands.contents ≡ contents → HasStored contents stored
+has-stored contents stored disk stands same = subst (λ (c : Contents). HasStored c stored) same stands.has
 
--- where the file has no more bytes than an empty journal, there is no database
-pub short_not_begun : (bytes : List ℕ) → length bytes ≤ 17 → is_begun bytes ≡ false
-short_not_begun bytes short = rw (le-ltb 17 (length bytes) short) refl
+pub stands-once : (stored others : Stored) (disk : File → List ℕ) → Stands stored disk → Stands others disk → stored ≡ others
+stands-once stored others disk stands again =
+    stored-once again.contents stored others
+    (has-stored again.contents stored disk stands (one_contents stands.contents again.contents disk stands.holds again.holds)) again.has
 
--- the records of a database begin with the settings
-record BeginsWith (set : Settings) (beats : List Beat) : Type 0 where
-  first : List ℕ
-  more : List (List ℕ)
-  whole : records set beats ≡ first ∷ more
-
-begins_with : (set : Settings) (beats : List Beat) → BeginsWith set beats
-begins_with set [] = record { first = settings_body set; more = []; whole = refl }
-begins_with set (beat ∷ beats) =
-    let before = begins_with set beats in
-    record {
-      first = before.first;
-      more = before.more ++ beat_bytes beat ∷ [];
-      whole = ap (λ (l : List (List ℕ)). l ++ beat_bytes beat ∷ []) before.whole;
-    }
-
--- a disk that holds a database has one
-pub stands_made : (set : Settings) (stored : Stored) (disk : File → List ℕ) → Stands set stored disk → is_made disk ≡ true
+pub is-made : (disk : File → List ℕ) → is_made disk ≡ is_some (checkpoint_in disk)
 unfolding is_made
-stands_made set stored disk stands =
-    let head = begins_with set stored.after in
-    stands_begun (disk JournalA) head.first head.more (subst (StandsFor 0 (disk JournalA)) head.whole stands.journal)
+is-made disk = refl
 
--- the same was stored with the same settings
-pub record SameStored (set other : Settings) (stored others : Stored) : Type 0 where
-  pub settings : set ≡ other
-  pub stored_same : stored ≡ others
+pub none-made : (disk : File → List ℕ) → checkpoint_in disk ≡ None → is_made disk ≡ false
+none-made disk none = is-made disk ∙ ap (λ (slot : Option Slot). is_some slot) none
 
--- a disk holds one database at most
-pub stands_once : (set other : Settings) (stored others : Stored) (disk : File → List ℕ) → Stands set stored disk → Stands other others disk
-    → SameStored set other stored others
-stands_once set other stored others disk stands again =
-    let same =
-    history_once set other stored.after others.after stands.limits stands.beats_are again.limits again.beats_are
-    (records_once 0 (disk JournalA) (records set stored.after) (records other others.after) stands.journal again.journal) in
-    record { settings = same.settings; stored_same = ap (λ (beats : List Beat). record stored { after = beats }) same.beats_same }
+pub stands-made : (stored : Stored) (disk : File → List ℕ) → Stands stored disk → is_made disk ≡ true
+stands-made stored disk stands = is-made disk ∙ ap (λ (slot : Option Slot). is_some slot) stands.holds.checkpoint.checkpoint
 
--- there is a database where its file begins one
-pub made_begun : (disk : File → List ℕ) → is_made disk ≡ is_begun (disk JournalA)
-unfolding is_made
-made_begun disk = refl
+-- ---- no database where a part is damaged
+
+-- what the files of a database hold has no bad part
+pub never-bad : (part : ℕ) (contents : Contents) (stored : Stored) → HasStored contents stored → HasBadPart part contents → ⊥
+never-bad zero contents stored has bad = bad
+never-bad (suc zero) contents stored has bad = bad
+never-bad (suc (suc zero)) contents stored has bad = bad (body-counted contents.body contents.kept stored.base.tiers has.base.tiers has.base.counted)
+never-bad (suc (suc (suc zero))) contents stored has bad = bad.none stored.base.tiers has.base.tiers
+never-bad (suc (suc (suc (suc zero)))) contents stored has bad =
+    let order = oldest_first stored.after in
+    none-some order.rest (sym bad.none ∙ records-read contents stored has order.rest order.whole)
+never-bad (suc (suc (suc (suc (suc part))))) contents stored has bad = bad
+
+pub never-damaged : (part : ℕ) (stored : Stored) (disk : File → List ℕ) → Stands stored disk → IsDamagedIn part disk → ⊥
+never-damaged part stored disk stands (inl damaged) = never_damaged part stands.contents disk stands.holds damaged
+never-damaged part stored disk stands (inr found) =
+    let same = one_contents stands.contents found.contents disk stands.holds found.holds in
+    never-bad part found.contents stored (has-stored found.contents stored disk stands same) found.bad
+
+-- ---- one part is damaged at most
+
+-- which part is bad, and how
+abbrev IsBad : ℕ → Contents → Type 0
+IsBad part contents = ((part ≡ 2) × (HasCounted contents.body → ⊥)) ⊎ ((part ≡ 3) × HasNoTiers contents) ⊎ ((part ≡ 4) × HasNoBeats contents)
+
+is-bad : (part : ℕ) (contents : Contents) → HasBadPart part contents → IsBad part contents
+is-bad zero contents bad = absurd bad
+is-bad (suc zero) contents bad = absurd bad
+is-bad (suc (suc zero)) contents bad = inl (refl, bad)
+is-bad (suc (suc (suc zero))) contents bad = inr (inl (refl, bad))
+is-bad (suc (suc (suc (suc zero)))) contents bad = inr (inr (refl, bad))
+is-bad (suc (suc (suc (suc (suc part))))) contents bad = absurd bad
+
+one-bad : (part other : ℕ) (contents : Contents) → IsBad part contents → IsBad other contents → part ≡ other
+one-bad part other contents (inl here) (inl there) = here.0 ∙ sym there.0
+one-bad part other contents (inl here) (inr (inl there)) = absurd (here.1 there.1.counted)
+one-bad part other contents (inl here) (inr (inr there)) = absurd (here.1 there.1.counted)
+one-bad part other contents (inr (inl here)) (inl there) = absurd (there.1 here.1.counted)
+one-bad part other contents (inr (inl here)) (inr (inl there)) = here.0 ∙ sym there.0
+one-bad part other contents (inr (inl here)) (inr (inr there)) = absurd (here.1.none there.1.tiers there.1.of_body)
+one-bad part other contents (inr (inr here)) (inl there) = absurd (there.1 here.1.counted)
+one-bad part other contents (inr (inr here)) (inr (inl there)) = absurd (there.1.none here.1.tiers here.1.of_body)
+one-bad part other contents (inr (inr here)) (inr (inr there)) = here.0 ∙ sym there.0
+
+pub one-damaged : (part other : ℕ) (disk : File → List ℕ) → IsDamagedIn part disk → IsDamagedIn other disk → part ≡ other
+one-damaged part other disk (inl here) (inl there) = one_part disk part other here there
+one-damaged part other disk (inl here) (inr there) = absurd (never_damaged part there.contents disk there.holds here)
+one-damaged part other disk (inr here) (inl there) = absurd (never_damaged other here.contents disk here.holds there)
+one-damaged part other disk (inr here) (inr there) =
+    let same = one_contents here.contents there.contents disk here.holds there.holds in
+    let bad = subst (λ (c : Contents). HasBadPart part c) same here.bad in
+    one-bad part other there.contents (is-bad part there.contents bad) (is-bad other there.contents there.bad)
+
+-- ---- stores
+
+-- each crash leaves all that is stored
+pub images-at : (past : List Event) (store : StoreState) (stored : Stored) (rest : List Beat) → IsStoreAt past store stored rest
+    → EveryDisk (Stands (stored_with_all stored rest)) past
+images-at past store stored rest is_at disk images = record { contents = is_at.contents; holds = is_at.opened.holds disk images; has = is_at.has }
+
+-- a ready store that has applied all beats is one of what is stored
+pub store-of : (past : List Event) (kept : KeptPages) (stored : Stored) (store : StoreState) → IsSound kept stored store → AreOpen past kept stored store → store.fault ≡ None
+    → IsReplayed store → IsStoreOf past store stored
+store-of past kept stored store sound are going replayed = record {
+  contents = are.contents;
+  opened = are.opened;
+  has = record {
+    base = record {
+      number = sym are.opened.number ∙ sound.number;
+      settings = ap (λ (b : Body). b.settings) are.body ∙ sound.settings;
+      count = ap (λ (b : Body). b.count) are.body ∙ sound.base_count;
+      side = ap (λ (b : Body). b.side) are.body ∙ sound.side;
+      tiers =
+          subst (λ (b : Body). AreTiersOfBody b are.contents.kept stored.base.tiers) (sym are.body)
+          (subst (λ (pages : KeptPages). AreTiersOfBody store.body pages stored.base.tiers) (sym are.pages) sound.of_body);
+      counted = sound.counted;
+    };
+    records = are.records ∙ ap (λ (beats : List Beat). records_of (with_all stored.after beats)) replayed;
+    follow = sound.followed;
+  };
+  body = sym are.body;
+  waiting = replayed;
+  count = sound.count;
+  tiers = sound.tiers;
+  going = going;
+}
+
+told-open : (sent : List ℕ) (past : List Event) (files : FilesState) (contents : Contents) → IsOpenOf past files contents → IsOpenOf (Told sent ∷ past) files contents
+told-open sent past files contents opened = record { number = opened.number; place = opened.place; journal = opened.journal; holds = opened.holds }
+
+pub told-ready : (honest : Type 0) (sent : List ℕ) (past : List Event) (store : StoreState) → IsReady honest past store → IsReady honest (Told sent ∷ past) store
+told-ready honest sent past store ready = record {
+  kept = ready.kept;
+  stored = ready.stored;
+  sound = ready.sound;
+  place = ready.place;
+  opened = λ going h.
+      let was = ready.opened going h in
+      record {
+        contents = was.contents;
+        opened = told-open sent past store.files was.contents was.opened;
+        body = was.body;
+        pages = was.pages;
+        records = was.records;
+      };
+}
+
+pub told-at : (sent : List ℕ) (past : List Event) (store : StoreState) (stored : Stored) (rest : List Beat) → IsStoreAt past store stored rest
+    → IsStoreAt (Told sent ∷ past) store stored rest
+told-at sent past store stored rest is_at = record {
+  contents = is_at.contents;
+  opened = told-open sent past store.files is_at.contents is_at.opened;
+  has = is_at.has;
+  body = is_at.body;
+  waiting = is_at.waiting;
+  count = is_at.count;
+  tiers = is_at.tiers;
+  going = is_at.going;
+}
+
+-- ---- a checkpoint keeps what is stored
+
+counted-once : (n : ℕ) → counted (counted n + 0) ≡ counted n
+counted-once n = omega arith
+
+abbrev advanced_if : Bool → Stored → List ℕ → Stored
+advanced_if test stored side = if test then record { base = next_base stored side; after = [] } else stored
+
+keeps-if : (test : Bool) (stored : Stored) (side : List ℕ)
+    → (tiers_of (advanced_if test stored side) ≡ tiers_of stored) × (count_of (advanced_if test stored side) ≡ count_of stored)
+keeps-if true stored side = (refl, counted-once (stored.base.count + length stored.after))
+keeps-if false stored side = (refl, refl)
+
+pub advanced-keeps : (stored : Stored) (side : List ℕ) → (tiers_of (advanced stored side) ≡ tiers_of stored) × (count_of (advanced stored side) ≡ count_of stored)
+advanced-keeps stored side = keeps-if (is_numbered stored.base.number) stored side

@@ -1,8 +1,9 @@
 -- The tiers of a store: of no beats, with a beat more, and their floors.
-use Rattle.std.proofs.Common.{◌≡◌, ℕ, zero, suc, ◌<◌, ◌≤◌, ◌+◌, ◌^◌, true, nat_lt, List, [], ◌∷◌, map, Option, Some, None, slice_get, refl, ap, sym, subst, ◌∙◌, inl, inr, arith}
+use Rattle.std.proofs.Common.{◌≡◌, ℕ, zero, suc, ◌<◌, ◌≤◌, ◌+◌, ◌^◌, true, nat_lt, List, [], ◌∷◌, ◌++◌, length, map, Option, Some, None, slice_get, refl, ap, sym, subst, ◌∙◌, inl, inr, arith}
 use Rattle.std.specs.List.{AllByRecursion, list_all}
 use Rattle.std.specs.Option.{option_map, option_map_or}
 use Rattle.std.proofs.lemmas.Bool.{and_parts, cases_eq, ltb-true, lt-ltb}
+use Rattle.std.proofs.lemmas.List.{length-append, length-map}
 use Rattle.std.proofs.lemmas.Option.{none-some, same_Some, slice_get-map}
 use Rattle.tier_settings.specs.declared.settings.Settings.{Settings}
 use Rattle.tier_settings.specs.declared.tier.Tier.{Tier}
@@ -17,11 +18,16 @@ use Rattle.beat_tiers.specs.State.{RecordTierState, TiersState, after_beat, no_b
 use Rattle.beat_tiers.specs.Tiers.{AreTiersOf, IsTier}
 use Rattle.beat_tiers.proofs.KeptLaws.{before_with}
 use Rattle.beat_tiers.proofs.TierLemmas.{tier_at, tiers_none, tiers_with}
-use Rattle.store_core.specs.declared.beat.Beat.{Beat}
-use Rattle.store_core.specs.Beats.{IsMoment, is_point, is_timed, series_of}
-use Rattle.store_core.specs.Records.{is_later, last_after, last_moment, AreBeats}
-use Rattle.store_core.specs.Store.{HasApplied, StoreState}
+use Rattle.beat_records.specs.declared.beat.Beat.{Beat}
+use Rattle.beat_records.specs.Beats.{IsMoment, is_point, is_timed, series_of}
+use Rattle.beat_records.specs.Beats.{InForm}
+use Rattle.beat_records.specs.Records.{is_later}
+use Rattle.host_model.specs.Past.{Event}
+use Rattle.store_core.specs.Counts.{counted}
+use Rattle.store_core.specs.Store.{HasApplied, IsStoreAt, StoreState}
+use Rattle.store_core.specs.Stored.{Base, HaveFollowed, IsBaseOf, Stored, new_database, next_base, tiers_of}
 use Rattle.store_core.specs.Tiers.{floor_at, seen, HasTiers}
+use Rattle.store_core.proofs.RecordLemmas.{front-followed}
 
 -- ---- settings
 wide_enough : (tier : Tier) → 1 ≤ tier.width → IsWithin tier → IsTier tier
@@ -39,19 +45,12 @@ are_others set limits = (are_all set limits).1
 tiers_begin : (set : Settings) → InLimits set → HasTiers set [] (no_beats (first_tier set) (other_tiers set))
 tiers_begin set limits = record {
   widths = limits.widths;
+  before = refl;
   are = subst (λ (tiers : List Tier). AreTiersOf tiers [] (no_beats (first_tier set) (other_tiers set))) (sym (split set limits.widths))
       (tiers_none (first_tier set) (other_tiers set) (is_first set limits) (are_others set limits));
 }
 
 -- ---- a beat more
-same_last : (beats : List Beat) → last (map seen beats) ≡ last_moment beats
-same_last [] = refl
-same_last (beat ∷ beats) = by beat.moment (same_last beats)
-  where
-    by : (moment : Option ℕ) → last (map seen beats) ≡ last_moment beats → option_map_or (λ m. m) moment (last (map seen beats)) ≡ last_after (last_moment beats) moment
-    by None same = same
-    by (Some moment) same = refl
-
 is_behind : (before now : ℕ) (moment : Option ℕ) → now ≡ before → is_later before moment ≡ true → option_map_or (λ m. nat_lt now m) moment true ≡ true
 is_behind before now None same later = refl
 is_behind before now (Some moment) same later = ap (λ (n : ℕ). nat_lt n moment) same ∙ later
@@ -84,21 +83,16 @@ are_above least (point ∷ next ∷ points) rises all low =
         let number : next.series ≡ first.series = ap series_of same in
         omega (arith, less, number)
 
-pub follows : (beats : List Beat) (beat : Beat) → AreBeats (beat ∷ beats) → Follows (seen beat) (map seen beats)
-follows beats beat are =
-    let form = are.forms.0 in
+pub follows : (beats : List TierBeat) (beat : Beat) (final : ℕ) → final ≡ last beats → InForm beat → is_later final beat.moment ≡ true → Follows (seen beat) beats
+follows beats beat final same form later =
     let parts = and_parts _ _ form.form in
     let lists = and_parts _ _ parts.0 in
     record {
-      later = is_behind (last_moment beats) (last (map seen beats)) beat.moment (same_last beats) are.rises.0;
+      later = is_behind final (last beats) beat.moment (sym same) later;
       short = is_short beat.moment form.short.moment;
       timed = has_none beat.moment beat.points parts.1;
       points = are_above 0 beat.points lists.0 lists.1 (λ point rest is. omega arith);
     }
-
-tiers_more : (set : Settings) (beats : List TierBeat) (beat : Beat) (tiers : TiersState) → HasTiers set beats tiers → Follows (seen beat) beats
-    → HasTiers set (seen beat ∷ beats) (after_beat beat.moment beat.points tiers)
-tiers_more set beats beat tiers has next = record { widths = has.widths; are = tiers_with set.tiers beats beat.moment beat.points tiers has.are next }
 
 -- ---- floors
 
@@ -154,26 +148,53 @@ module _ (set : Settings) (beats : List TierBeat) (tiers : TiersState) (has : Ha
     | inr some ↦ record_floor number (tier_there number some few)
   ]
 
--- ---- what a store has applied
+-- ---- a beat more
 
--- no beats
-pub applied_none : (set : Settings) (store : StoreState) → InLimits set → store.tiers ≡ no_beats (first_tier set) (other_tiers set) → HasApplied set [] store
-applied_none set store limits is = record {
-  tiers = subst (HasTiers set []) (sym is) (tiers_begin set limits);
-  before = ap (λ (tiers : TiersState). tiers.points.before) is;
-}
-
--- a beat more
-pub applied_more : (set : Settings) (beats : List TierBeat) (beat : Beat) (store now : StoreState) → HasApplied set beats store → Follows (seen beat) beats
-    → now.tiers ≡ after_beat beat.moment beat.points store.tiers → HasApplied set (seen beat ∷ beats) now
-applied_more set beats beat store now has next is =
-    let first = first_is set beats store.tiers has.tiers in
-    let more = tiers_more set beats beat store.tiers has.tiers next in
+tiers_more : (set : Settings) (beats : List TierBeat) (beat : Beat) (tiers : TiersState) → HasTiers set beats tiers → Follows (seen beat) beats
+    → HasTiers set (seen beat ∷ beats) (after_beat beat.moment beat.points tiers)
+tiers_more set beats beat tiers has next =
+    let first = first_is set beats tiers has in
+    let more = tiers_with set.tiers beats beat.moment beat.points tiers has.are next in
     record {
-      tiers = subst (HasTiers set (seen beat ∷ beats)) (sym is) more;
+      widths = has.widths;
+      are = more;
       before =
-          ap (λ (tiers : TiersState). tiers.points.before) is
-          ∙ before_with set.tiers beats beat.moment beat.points store.tiers has.tiers.are next more.are
+          before_with set.tiers beats beat.moment beat.points tiers has.are next more
           (has.before ∙ ap (λ (tier : Tier). beats_before tier beats) (sym first))
           ∙ ap (λ (tier : Tier). beats_before tier (seen beat ∷ beats)) first;
     }
+
+-- the tiers of a base and of the beats since
+pub tiers_since : (set : Settings) (before : List TierBeat) (base : Base) (after : List Beat) → HasTiers set before base.tiers → HaveFollowed base after
+    → HasTiers set (map seen after ++ before) (tiers_of (record { base = base; after = after }))
+tiers_since set before base [] has followed = has
+tiers_since set before base (beat ∷ after) has followed =
+    let was : TiersState = tiers_of (record { base = base; after = after }) in
+    let rest = tiers_since set before base after has followed.1 in
+    tiers_more set (map seen after ++ before) beat was rest (follows (map seen after ++ before) beat was.last rest.are.last_is followed.0.form followed.0.later)
+
+-- ---- what is stored
+
+-- a database that was just made
+pub new_base : (set : Settings) (side : List ℕ) → InLimits set → IsBaseOf set [] (new_database set side).base
+new_base set side limits = record { settings = refl; count = refl; tiers = tiers_begin set limits }
+
+pub has_applied : (past : List Event) (store : StoreState) (stored : Stored) (rest : List Beat) (set : Settings) (before : List TierBeat) → IsStoreAt past store stored rest
+    → IsBaseOf set before stored.base → HasApplied set (map seen stored.after ++ before) store
+has_applied past store stored rest set before is_at base =
+    subst (HasTiers set (map seen stored.after ++ before)) (sym is_at.tiers)
+    (tiers_since set before stored.base stored.after base.tiers (front-followed stored.base stored.after rest is_at.has.follow))
+
+count_since : (count before after : ℕ) → count ≡ counted before → counted (count + after) ≡ counted (after + before)
+count_since count before after same = omega (arith, same)
+
+-- what the next checkpoint has
+pub base_next : (stored : Stored) (side : List ℕ) (set : Settings) (before : List TierBeat) → HaveFollowed stored.base stored.after → IsBaseOf set before stored.base
+    → IsBaseOf set (map seen stored.after ++ before) (next_base stored side)
+base_next stored side set before followed base = record {
+  settings = base.settings;
+  count =
+      count_since stored.base.count (length before) (length stored.after) base.count
+      ∙ ap counted (ap (λ n. n + length before) (sym (length-map stored.after seen)) ∙ sym (length-append (map seen stored.after) before));
+  tiers = tiers_since set before stored.base stored.after base.tiers followed;
+}

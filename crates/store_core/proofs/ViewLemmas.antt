@@ -1,5 +1,5 @@
 -- What a view of a store answers is what it tells.
-use Rattle.std.proofs.Common.{◌≡◌, ℕ, ◌+◌, ◌*◌, ◌<◌, cond, nat_lt, List, [], ◌∷◌, ◌++◌, filter, reverse, slice_get, Option, Some, None, arith, refl, sym, ap, subst, ◌∙◌}
+use Rattle.std.proofs.Common.{◌≡◌, ℕ, ◌+◌, ◌*◌, ◌<◌, cond, nat_lt, List, [], ◌∷◌, ◌++◌, filter, map, reverse, slice_get, Option, Some, None, arith, refl, sym, ap, subst, ◌∙◌}
 use Rattle.std.specs.List.{cons_option, slice_index}
 use Rattle.std.proofs.lemmas.List.{append-nil}
 use Rattle.std.proofs.lemmas.List.Elements.{filter_map-append}
@@ -8,18 +8,23 @@ use Rattle.tier_rollup.specs.Buckets.{Added, bucket_record}
 use Rattle.tier_rollup.specs.declared.point.Point.{Point}
 use Rattle.tier_settings.specs.declared.tier.Tier.{Tier}
 use Rattle.beat_tiers.specs.Beats.{TierBeat, series_points}
-use Rattle.beat_tiers.specs.Floors.{floor_of}
+use Rattle.beat_tiers.specs.declared.kept.Kept.{Kept}
+use Rattle.beat_tiers.specs.declared.kept.KeptBeat.{KeptBeat}
+use Rattle.beat_tiers.specs.Floors.{beats_before, floor_of, kept_beats}
+use Rattle.beat_tiers.specs.Kept.{kept_beat_of, kept_in}
 use Rattle.beat_tiers.specs.Segments.{items_of}
 use Rattle.beat_tiers.specs.State.{AreClosed, RecordTierState, TiersState, points_in, record_in, tier_floor}
 use Rattle.beat_tiers.specs.Tiers as kept
 use Rattle.beat_tiers.specs.Tiers.{AreOrdered, is_between, record_above}
 use Rattle.beat_tiers.proofs.GroupLemmas.{reverse_cons}
+use Rattle.beat_tiers.proofs.KeptLaws.{beats_are_kept}
 use Rattle.beat_tiers.proofs.StateLaws.{points_are, points_ordered, records_are, records_closed, records_ordered}
 use Rattle.query_engine.specs.Points.{IsFirstRecord, points_between, record_at, value_of, values}
 use Rattle.query_engine.proofs.SeriesLemmas.{reversed_record}
 use Rattle.tier_settings.specs.declared.settings.Settings.{Settings}
-use Rattle.store_core.specs.Store.{StoreState}
-use Rattle.store_core.specs.Tiers.{HasTiers}
+use Rattle.store_core.specs.Store.{HasApplied, StoreState}
+use Rattle.store_core.specs.Tiers.{kept_of, HasTiers}
+use Rattle.tier_settings.specs.Settings.{first_tier}
 use Rattle.tier_settings.proofs.TierLemmas.{width_is}
 use Rattle.store_core.specs.View.{Tells, points_of}
 use Rattle.tier_settings.specs.Limits.{widths}
@@ -121,3 +126,12 @@ module _ (store : StoreState) (told : ℕ → List Point) (tells : Tells store t
     next_found from to found is =
         first_told (λ bucket. record_in at.one tiers.last series bucket) (slice_index widths number) (tier_floor store.tiers number) from to (told series) each_told found
         (is at.place at.one at.there at.number_is ordered closed)
+
+-- ---- what is kept
+
+pub kept_by : (store : StoreState) (set : Settings) (beats : List TierBeat) → HasApplied set beats store → kept_in store.tiers.points ≡ kept_of set beats
+kept_by store set beats has =
+    let kept : (before : ℕ) (kept_beats : List KeptBeat) → Kept = λ before kept_beats. record { before = before; beats = kept_beats } in
+    ap (λ (n : ℕ). kept n (kept_in store.tiers.points).beats) has.before
+    ∙ ap (kept (beats_before (first_tier set) beats)) (beats_are_kept set.tiers beats store.tiers has.are
+    ∙ ap (λ (tier : Tier). map kept_beat_of (kept_beats tier beats)) (first_is set beats store.tiers has))

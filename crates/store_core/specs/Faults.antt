@@ -1,5 +1,7 @@
--- What a fault of a store leaves it as.
-use Rattle.std.specs.Prelude.{◌≡◌, ◌⊎◌, Option, Some, None, Result, Ok, Err}
+-- The faults of each call of a store, and what a fault leaves it as.
+use Rattle.std.specs.Prelude.{◌≡◌, ◌⊎◌, ◌≤◌, Option, Some, None, Result, Ok, Err}
+use Rattle.database_files.specs.declared.fault.FilesFault.{FilesFault}
+use Rattle.database_files.specs.declared.fault.FilesFault.TheVariants as files
 use Rattle.store_core.specs.declared.fault.StoreFault.{StoreFault}
 use Rattle.store_core.specs.declared.fault.StoreFault.TheVariants.{DiskFault, NotADatabase, Damaged, MomentOrder, Reopen, Exists, Memory}
 use Rattle.store_core.specs.declared.fault.Why.{Why}
@@ -36,16 +38,49 @@ abbrev pub Reopens : {T : Type 0} → Option Why → Result T StoreFault → Typ
 Reopens before (Ok value) = before ≡ None
 Reopens before (Err fault) = ReopensWith before fault
 
--- the faults of each call
+-- ---- the faults of each call
+
+-- why a database is not opened
+abbrev pub IsOpenFault : StoreFault → Type 0
+IsOpenFault DiskFault = Unit {0}
+IsOpenFault NotADatabase = Unit {0}
+IsOpenFault (Damaged part) = (1 ≤ part) × (part ≤ 4)
+IsOpenFault MomentOrder = ⊥
+IsOpenFault (Reopen cause) = ⊥
+IsOpenFault Exists = ⊥
+IsOpenFault Memory = Unit {0}
+
+-- why what the files hold is not read
+abbrev pub IsReadFault : StoreFault → Type 0
+IsReadFault DiskFault = ⊥
+IsReadFault NotADatabase = ⊥
+IsReadFault (Damaged part) = (2 ≤ part) × (part ≤ 4)
+IsReadFault MomentOrder = ⊥
+IsReadFault (Reopen cause) = ⊥
+IsReadFault Exists = ⊥
+IsReadFault Memory = Unit {0}
+
+-- why a beat is not replayed
+abbrev pub IsReplayFault : StoreFault → Type 0
+IsReplayFault fault = (fault ≡ Memory) ⊎ (fault ≡ Damaged 4) ⊎ ((cause : Why) × (fault ≡ Reopen cause))
+
+-- why a checkpoint is not made
+abbrev pub IsCheckpointFault : StoreFault → Type 0
+IsCheckpointFault fault = (fault ≡ DiskFault) ⊎ (fault ≡ Memory) ⊎ ((cause : Why) × (fault ≡ Reopen cause))
+
+-- what a fault of the files is of the store
+abbrev pub fault_of_files : FilesFault → StoreFault
+fault_of_files files.DiskFault = DiskFault
+fault_of_files files.Exists = Exists
+fault_of_files files.NotADatabase = NotADatabase
+fault_of_files (files.Damaged part) = Damaged part
+fault_of_files files.Memory = Memory
+
+-- why a database is not made
 abbrev pub IsCreateFault : StoreFault → Type 0
 IsCreateFault fault = (fault ≡ DiskFault) ⊎ (fault ≡ Exists) ⊎ (fault ≡ Memory)
 
-abbrev pub IsOpenFault : StoreFault → Type 0
-IsOpenFault fault = (fault ≡ DiskFault) ⊎ (fault ≡ NotADatabase) ⊎ (fault ≡ Damaged 4) ⊎ (fault ≡ Memory)
-
-abbrev pub IsReplayFault : StoreFault → Type 0
-IsReplayFault fault = (fault ≡ Memory) ⊎ ((cause : Why) × (fault ≡ Reopen cause))
-
+-- why a beat is not added
 abbrev pub IsCommitFault : StoreFault → Type 0
 IsCommitFault fault = (fault ≡ DiskFault) ⊎ (fault ≡ MomentOrder) ⊎ (fault ≡ Memory) ⊎ ((cause : Why) × (fault ≡ Reopen cause))
 
@@ -57,5 +92,6 @@ LeavesAll fault = (fault ≡ MomentOrder) ⊎ ((cause : Why) × (fault ≡ Reope
 abbrev pub IsStepFault : StoreFault → Type 0
 IsStepFault fault = (fault ≡ DiskFault) ⊎ (fault ≡ Memory)
 
-abbrev pub IsReadFault : StoreFault → Type 0
-IsReadFault fault = (fault ≡ DiskFault) ⊎ (fault ≡ Damaged 4) ⊎ (fault ≡ Memory)
+-- why what is kept is not told
+abbrev pub IsKeptFault : StoreFault → Type 0
+IsKeptFault fault = (fault ≡ Memory) ⊎ ((cause : Why) × (fault ≡ Reopen cause))

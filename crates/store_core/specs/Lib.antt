@@ -1,8 +1,6 @@
-pub mod Beats
+pub mod Counts
+pub mod Damaged
 pub mod Faults
-pub mod FirstRecord
-pub mod Own
-pub mod Records
 pub mod Stands
 pub mod Store
 pub mod Stored

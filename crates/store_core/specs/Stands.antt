@@ -1,41 +1,55 @@
 -- Which disks hold a database, and which.
-use Rattle.std.specs.Prelude.{◌≡◌, ◌⊎◌, ℕ, Bool, true, false, ◌&&◌, ◌==◌, nat_lt, List, [], ◌∷◌, length, slice_index}
+use Rattle.std.specs.Prelude.{◌≡◌, ◌⊎◌, ℕ, Bool, false, List, [], ◌∷◌, ◌++◌}
+use Rattle.std.specs.Option.{is_some}
 use Rattle.host_model.specs.declared.file.File.{File}
-use Rattle.host_model.specs.declared.file.File.TheVariants.{JournalA}
-use Rattle.journal_core.specs.Form.{StandsFor}
+use Rattle.checkpoint.specs.Files.{checkpoint_in}
+use Rattle.database_files.specs.Contents.{Contents}
+use Rattle.database_files.specs.Holds.{Holds}
+use Rattle.tier_bodies.specs.Next.{HaveCounted}
+use Rattle.tier_bodies.specs.Tiers.{AreTiersOfBody}
 use Rattle.tier_settings.specs.declared.settings.Settings.{Settings}
-use Rattle.store_core.specs.declared.beat.Beat.{Beat}
-use Rattle.tier_settings.specs.Limits.{InLimits}
-use Rattle.store_core.specs.Records.{records, AreBeats}
-use Rattle.store_core.specs.Stored.{Stored, nothing_stored, stored_with}
-
--- the bytes of the journal have more than 17 bytes, and the first gate is open
-abbrev pub is_begun : List ℕ → Bool
-is_begun bytes = nat_lt 17 (length bytes) && (slice_index bytes 16 == 1)
+use Rattle.beat_records.specs.declared.beat.Beat.{Beat}
+use Rattle.beat_records.specs.Beats.{beat_bytes}
+use Rattle.store_core.specs.Stored.{Base, Stored, new_database, stored_with, HaveFollowed}
 
 -- there is a database on the disk
 unfoldable pub is_made : (File → List ℕ) → Bool
-is_made disk = is_begun (disk JournalA)
+is_made disk = is_some (checkpoint_in disk)
 
--- the disk holds the database with these settings, which has stored this
-pub record Stands (set : Settings) (stored : Stored) (disk : File → List ℕ) : Type 0 where
-  pub journal : StandsFor 0 (disk JournalA) (records set stored.after)
-  pub limits : InLimits set
-  pub beats_are : AreBeats stored.after
+-- the checkpoint of these contents, with the pages of its extents, has the base
+pub record HasBase (contents : Contents) (base : Base) : Type 0 where
+  pub number : contents.number ≡ base.number
+  pub settings : contents.body.settings ≡ base.settings
+  pub count : contents.body.count ≡ base.count
+  pub side : contents.body.side ≡ base.side
+  pub tiers : AreTiersOfBody contents.body contents.kept base.tiers
+  pub counted : HaveCounted base.tiers
+
+-- the records of beats, the oldest first
+abbrev pub records_of : List Beat → List (List ℕ)
+records_of [] = []
+records_of (beat ∷ beats) = records_of beats ++ beat_bytes beat ∷ []
+
+-- the files with these contents have stored this
+pub record HasStored (contents : Contents) (stored : Stored) : Type 0 where
+  pub base : HasBase contents stored.base
+  pub records : contents.records ≡ records_of stored.after
+  pub follow : HaveFollowed stored.base stored.after
+
+-- the disk holds the database that has stored this
+pub record Stands (stored : Stored) (disk : File → List ℕ) : Type 0 where
+  pub contents : Contents
+  pub holds : Holds contents disk
+  pub has : HasStored contents stored
+
+-- one of these two
+abbrev pub StandsEither : Stored → Stored → (File → List ℕ) → Type 0
+StandsEither stored next disk = Stands stored disk ⊎ Stands next disk
 
 -- the same, with one more beat or without it
-abbrev pub StandsAround : Settings → Stored → Beat → (File → List ℕ) → Type 0
-StandsAround set stored beat disk = Stands set stored disk ⊎ Stands set (stored_with stored beat) disk
+abbrev pub StandsAround : Stored → Beat → (File → List ℕ) → Type 0
+StandsAround stored beat disk = StandsEither stored (stored_with stored beat) disk
 
--- the disk holds no database, or the one with these settings that has stored nothing
-abbrev pub StandsIfMade : Settings → (File → List ℕ) → Type 0
-StandsIfMade set disk = (is_made disk ≡ false) ⊎ Stands set nothing_stored disk
-
--- there is a database on the disk, and it is that of no settings and beats
-pub record IsDamaged (disk : File → List ℕ) : Type 0 where
-  pub made : is_made disk ≡ true
-  pub no_beats : (set : Settings) (stored : Stored) → Stands set stored disk → ⊥
-
--- the bytes begin no database, or hold this one record
-abbrev pub HoldsIfBegun : List ℕ → List ℕ → Type 0
-HoldsIfBegun body bytes = (is_begun bytes ≡ false) ⊎ StandsFor 0 bytes (body ∷ [])
+-- the disk holds no database, or the one of no beats with these settings and this side
+abbrev pub StandsIfMade : Settings → List ℕ → (File → List ℕ) → Type 0
+StandsIfMade set side disk = (is_made disk ≡ false) ⊎ Stands (new_database set side) disk

@@ -1,3 +1,7 @@
+ghost use Rattle.std.specs.Prelude.{◌≡◌};
+ghost use Rattle.store_core.specs.Faults.{fault_of_files};
+
+use database_files::FilesFault;
 use thiserror::Error;
 
 /// Why a store is of no more use.
@@ -54,5 +58,18 @@ impl StoreFault {
             | StoreFault::Reopen(_)
             | StoreFault::Exists => None,
         }
+    }
+}
+
+/// What a fault of the files is of the store.
+pub(crate) fn of_files(fault: FilesFault) -> StoreFault
+    ensures { result ≡ fault_of_files fault }
+{
+    match fault {
+        FilesFault::DiskFault => StoreFault::DiskFault,
+        FilesFault::Exists => StoreFault::Exists,
+        FilesFault::NotADatabase => StoreFault::NotADatabase,
+        FilesFault::Damaged(part) => StoreFault::Damaged(part),
+        FilesFault::Memory => StoreFault::Memory,
     }
 }

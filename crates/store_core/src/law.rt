@@ -1,53 +1,65 @@
-ghost use Rattle.std.specs.Prelude.{◌≡◌, ℕ, ◌<◌, ◌≤◌, List, [], ◌∷◌, true, Some};
+ghost use Rattle.std.specs.Prelude.{◌≡◌, ◌<◌, ◌≤◌, ℕ, List, [], ◌∷◌, ◌++◌, map, None, true};
 ghost use Rattle.beat_tiers.specs.Beats.{TierBeat};
 ghost use Rattle.beat_tiers.specs.State.{tier_floor};
 ghost use Rattle.query_engine.specs.declared.request.Request.{Request as ARequest};
 ghost use Rattle.query_engine.specs.Tiers.{cell_in_tier};
 ghost use Rattle.query_engine.specs.Windows.{may_read, start_of};
-ghost use Rattle.host_model.specs.declared.file.File.{File as AFile};
-ghost use Rattle.host_model.specs.Past.{Event, Told};
-ghost use Rattle.host_model.specs.Disks.{EveryDisk};
-ghost use Rattle.field_codec.specs.Field.{IsBytes};
 ghost use Rattle.tier_settings.specs.declared.settings.Settings.{Settings as ASettings};
-ghost use Rattle.store_core.specs.declared.beat.Beat.{Beat as ABeat};
-ghost use Rattle.store_core.specs.Beats.{beat_bytes, beat_in, InForm};
-ghost use Rattle.store_core.specs.Records.{history_in, records, with_all, AreBeats};
-ghost use Rattle.tier_settings.specs.Limits.{InLimits};
-ghost use Rattle.store_core.specs.Stands.{is_made, Stands};
-ghost use Rattle.store_core.specs.Store.{HasApplied, IsStoreAt, IsStoreOf, StoreState};
-ghost use Rattle.store_core.specs.Stored.{Stored as AStored};
-ghost use Rattle.store_core.specs.Tiers.{floor_at, seen_beats};
+ghost use Rattle.tier_settings.specs.Limits.{widths, InLimits};
+ghost use Rattle.store_core.specs.Tiers.{floor_at, seen};
 ghost use Rattle.store_core.specs.View.{points_of};
-ghost use Rattle.tier_settings.specs.Limits.{widths};
+ghost use Rattle.host_model.specs.declared.file.File.{File as AFile};
+ghost use Rattle.host_model.specs.Disks.{EveryDisk};
+ghost use Rattle.host_model.specs.Past.{Event, Told};
+ghost use Rattle.beat_records.specs.declared.beat.Beat.{Beat as ABeat};
+ghost use Rattle.store_core.specs.Damaged.{IsDamagedIn};
+ghost use Rattle.store_core.specs.Stands.{is_made, Stands};
+ghost use Rattle.store_core.specs.Store.{HasApplied, IsReady, IsReplayed, IsStoreAt, IsStoreOf, StoreState};
+ghost use Rattle.store_core.specs.Stored.{advanced, count_of, new_database, next_base, tiers_of, HaveFollowed, IsBaseOf, Stored as AStored};
 
 /// Laws of databases, for any disk and any store; the call does nothing. A disk holds one database
-/// at most, what a store has stored is what each crash leaves, and telling changes nothing of it.
-/// The bytes of a beat in form read as it, what bytes read as has them, and the records of a
-/// database read as it. A store has applied all that it has stored, as tiers see it. The floors by
-/// which a view answers are those of the beats that were applied, and two tiers whose floors are at
+/// at most, and none where a part of it is damaged as `open` tells, which is one part then. A store
+/// that is ready and has applied all beats is one of what is stored. That is what each crash
+/// leaves, and telling changes nothing of it. A checkpoint keeps what is stored: the count and what
+/// the tiers have.
+pub fn one_disk_holds_one_database()
+    ensures once { (stored others : AStored) (disk : AFile → List ℕ) → Stands stored disk
+        → Stands others disk → stored ≡ others }
+    ensures made { (stored : AStored) (disk : AFile → List ℕ) → Stands stored disk
+        → is_made disk ≡ true }
+    ensures whole { (part : ℕ) (stored : AStored) (disk : AFile → List ℕ) → Stands stored disk
+        → IsDamagedIn part disk → ⊥ }
+    ensures one_part { (part other : ℕ) (disk : AFile → List ℕ) → IsDamagedIn part disk
+        → IsDamagedIn other disk → part ≡ other }
+    ensures ready { (past : List Event) (store : StoreState)
+        → (ready : IsReady (Unit {0}) past store) → store.fault ≡ None → IsReplayed store
+        → IsStoreOf past store ready.stored }
+    ensures told_ready { (sent : List ℕ) (past : List Event) (store : StoreState)
+        → IsReady (Unit {0}) past store → IsReady (Unit {0}) (Told sent ∷ past) store }
+    ensures images { (past : List Event) (store : StoreState) (stored : AStored)
+        → IsStoreOf past store stored → EveryDisk (Stands stored) past }
+    ensures told { (sent : List ℕ) (past : List Event) (store : StoreState) (stored : AStored)
+        (rest : List ABeat) → IsStoreAt past store stored rest
+        → IsStoreAt (Told sent ∷ past) store stored rest }
+    ensures kept { (stored : AStored) (side : List ℕ)
+        → (tiers_of (advanced stored side) ≡ tiers_of stored)
+        × (count_of (advanced stored side) ≡ count_of stored) }
+{}
+
+/// Laws of what is stored, by lists of beats as tiers see them; the call does nothing. A database that was just made has
+/// no beats. A store has applied the beats of its base and those since, and the next checkpoint has what all of them
+/// leave. The floors by which a view answers are those of the beats that were applied, and two tiers whose floors are at
 /// most where a window starts give it equal cells.
-pub fn one_disk_holds_one_history()
-    ensures once { (set other : ASettings) (stored others : AStored) (disk : AFile → List ℕ)
-        → Stands set stored disk → Stands other others disk → (set ≡ other) × (stored ≡ others) }
-    ensures made { (set : ASettings) (stored : AStored) (disk : AFile → List ℕ)
-        → Stands set stored disk → is_made disk ≡ true }
-    ensures images { (past : List Event) (store : StoreState) (set : ASettings) (stored : AStored)
-        → IsStoreOf past store set stored → EveryDisk (Stands set stored) past }
-    ensures told { (sent : List ℕ) (past : List Event) (store : StoreState) (set : ASettings)
-        (stored : AStored) (rest : List ABeat)
-        → IsStoreAt past store set stored rest
-        → IsStoreAt (Told sent ∷ past) store set stored rest }
-    ensures beat_again { (beat : ABeat) → InForm beat → beat_in (beat_bytes beat) ≡ Some beat }
-    ensures beat_form { (bytes : List ℕ) (beat : ABeat) → IsBytes bytes → beat_in bytes ≡ Some beat
-        → InForm beat }
-    ensures beat_spelt { (bytes : List ℕ) (beat : ABeat) → IsBytes bytes → beat_in bytes ≡ Some beat
-        → bytes ≡ beat_bytes beat }
-    ensures records_again { (set : ASettings) (rest : List ABeat) → InLimits set
-        → AreBeats (with_all [] rest)
-        → history_in (records set (with_all [] rest)) ≡ Some (set, rest) }
-    ensures applied { (past : List Event) (store : StoreState) (set : ASettings)
-        (stored : AStored) (rest : List ABeat) → IsStoreAt past store set stored rest
-        → HasApplied set (seen_beats stored) store }
+pub fn base_has_what_beats_leave()
+    ensures new { (set : ASettings) (side : List ℕ) → InLimits set
+        → IsBaseOf set [] (new_database set side).base }
+    ensures applied { (past : List Event) (store : StoreState) (stored : AStored)
+        (rest : List ABeat) (set : ASettings) (before : List TierBeat)
+        → IsStoreAt past store stored rest → IsBaseOf set before stored.base
+        → HasApplied set (map seen stored.after ++ before) store }
+    ensures next { (stored : AStored) (side : List ℕ) (set : ASettings) (before : List TierBeat)
+        → HaveFollowed stored.base stored.after → IsBaseOf set before stored.base
+        → IsBaseOf set (map seen stored.after ++ before) (next_base stored side) }
     ensures floors { (store : StoreState) (set : ASettings) (beats : List TierBeat) (tier : ℕ)
         → HasApplied set beats store → tier < 3
         → tier_floor store.tiers tier ≡ floor_at set beats tier }

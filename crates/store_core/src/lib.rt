@@ -1,43 +1,38 @@
-//! The database of an agent on a disk: its settings, and its beats in order. A beat is a moment, points and a note,
-//! which is bytes of the layer above. A disk holds one database at most.
+//! The database of an agent on a disk: a base, and the beats since.
 //!
-//! Over an honest host a crash leaves at every moment of `commit` what was stored, with the new beat or without it,
-//! and at `Ok` with it. Of `create` it leaves what it might have left before, no database, or the new one. `open`
-//! gives just what is on the disk, or says that there is none or that it is damaged; `replay` then gives its beats.
-//! No other file is touched. Once the disk or memory has failed, each call gives the first cause. Until then
-//! `floor`, `kept`, `kept_above` and a `StoreView` answer by the definition over all beats. A commit takes its
-//! memory before it writes.
+//! A base is what the last checkpoint has of the beats up to it: how many there were, what the tiers keep of them, and a
+//! side, which is bytes of the layer above. The beats since are the records of a journal. `checkpoint` moves the base on
+//! by them, with a new side, and so bounds the journal. A disk holds one database at most.
 //!
-//! `write_beat` and `read_beat` go between a beat and its record, one spelling each; `next_beat` reads one that may
-//! follow a moment.
+//! Over an honest host a crash leaves at every moment of `commit` what was stored, with the new beat or without it, and
+//! at `Ok` with it; of `checkpoint` what was stored, with the old base or with the new one, and at `Ok` with the new; of
+//! `create` what it might have left before, no database, or the new one. `open` gives just what is on the disk, or says
+//! that there is none or which part is damaged. `replay` then gives the beats since; where one stands behind a beat that
+//! sealed a segment, as no database has it, it says that the journal is damaged. No other file is touched, and each file
+//! stays within its share while there can be a later checkpoint. Once the disk or memory has failed, each call gives the
+//! first cause. Until then `floor`, `kept`, `kept_above` and a `StoreView` answer by the definition over all beats,
+//! those of the base too.
 //!
-//! It stands on `journal_core`, `beat_tiers`, `query_engine` for the trait of a view, `host_model` for crashes, and
-//! `entry_codec`.
+//! It stands on `database_files`, `tier_bodies`, `beat_tiers`, on `beat_records` for beats, on `query_engine` for the
+//! trait of a view, and on `host_model` for crashes.
 #![tactic(auto)]
 
-mod beat;
+mod answering;
+mod checkpointing;
+mod committing;
+mod creating;
 mod fault;
-mod file;
-mod form;
 mod law;
-mod reading;
-mod records;
-mod settings;
+mod opening;
+mod replaying;
 mod store;
+mod tiers;
 mod view;
-mod waiting;
-mod writing;
 
-pub use beat::{Beat, BeatPoint, BeatPointList};
+pub use beat_records::{Beat, BeatPoint, BeatPointList, ByteList};
 pub use beat_tiers::{Kept, KeptBeat, KeptBeatList, KeptPoint, KeptPointList};
 pub use fault::{StoreFault, Why};
-pub use fixed_num::ByteList;
-pub use law::one_disk_holds_one_history;
-pub use reading::read_beat;
-pub use records::{is_later, last_after, next_beat};
-pub use settings::new_tiers;
+pub use law::{base_has_what_beats_leave, one_disk_holds_one_database};
 pub use store::Store;
 pub use tier_settings::{Settings, Tier, is_in_limits};
 pub use view::{StoreView, answer_by};
-pub use waiting::Waiting;
-pub use writing::write_beat;

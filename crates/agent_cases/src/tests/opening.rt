@@ -1,7 +1,9 @@
-//! Which databases open, by their notes.
+//! Which databases open, by their side and their notes.
 
 ghost use Rattle.std.specs.Prelude.{◌<◌, ◌≤◌, ◌^◌, length, IfOk};
-ghost use Rattle.store_core.specs.Beats.{beat_bytes, InForm};
+ghost use Rattle.agent_cases.specs.Ready.{IsReadyOn};
+ghost use Rattle.beat_records.specs.Beats.{beat_bytes, InForm};
+ghost use Rattle.store_core.specs.Store.{IsReplayed};
 
 use super::*;
 use store_core::{Beat, BeatPoint, BeatPointList, ByteList, Store, StoreFault};
@@ -35,6 +37,37 @@ fn kept(alloc: Global, moment: Option<u32>, note: &[u8], points: &[BeatPoint]) -
     }
 }
 
+/// The side of no history.
+const NOTHING: &[u8; 41] = &[0; 41];
+
+/// Makes a database without beats that has this side.
+fn make_side(alloc: Global, host: &mut MemoryHost, side: &[u8]) -> Result<Store, Fail>
+    ensures ready { IfOk result (IsReadyOn host.new) }
+    ensures replayed { IfOk result IsReplayed }
+{
+    if side.len() > 100 {
+        return Err(Fail::new("a long side"));
+    }
+    let bytes = ByteList::from_slice(alloc, side)?;
+    let store = Store::create(alloc, host, &settings(alloc)?, bytes)?;
+    Ok(store)
+}
+
+/// Stores a beat where no checkpoint is due.
+fn add(store: &mut Store, host: &mut MemoryHost, beat: &Beat) -> Result<(), StoreFault>
+    requires ready { IsReadyOn host.old store.old }
+    requires replayed { IsReplayed store.old }
+    requires form { InForm beat.now }
+    requires size { length (beat_bytes beat.now) ≤ 2 ^ 26 }
+    ensures ready { IsReadyOn host.new store.new }
+    ensures replayed { IsReplayed store.new }
+{
+    if store.due() {
+        return Err(StoreFault::Memory);
+    }
+    store.commit(host, beat)
+}
+
 /// Makes a database with one beat, which has this note and these points.
 fn note(
     alloc: Global,
@@ -43,8 +76,8 @@ fn note(
     points: &[BeatPoint],
 ) -> Result<(), Fail> {
     let beat = kept(alloc, Some(60), bytes, points)?;
-    let mut store = Store::create(alloc, host, &settings(alloc)?)?;
-    store.commit(host, &beat)?;
+    let mut store = make_side(alloc, host, NOTHING.as_slice())?;
+    add(&mut store, host, &beat)?;
     Ok(())
 }
 
@@ -54,9 +87,32 @@ fn two_notes(alloc: Global, host: &mut MemoryHost, first: &Beat, second: &Beat) 
     requires sizes { (length (beat_bytes first.now) ≤ 2 ^ 26)
         × (length (beat_bytes second.now) ≤ 2 ^ 26) }
 {
-    let mut store = Store::create(alloc, host, &settings(alloc)?)?;
-    store.commit(host, first)?;
-    store.commit(host, second)?;
+    let mut store = make_side(alloc, host, NOTHING.as_slice())?;
+    add(&mut store, host, first)?;
+    add(&mut store, host, second)?;
+    Ok(())
+}
+
+/// What opening answers where the side is this.
+fn sided(alloc: Global, side: &[u8]) -> Result<Option<AgentFault>, Fail> {
+    let mut host = host_of(alloc, &[])?;
+    make_side(alloc, &mut host, side)?;
+    Ok(opened(alloc, &mut host).err())
+}
+
+#[test]
+fn a_side_that_is_none_is_damage(rt: HostRuntime) -> Result<(), Fail> {
+    let alloc = rt.alloc();
+    assert_eq!(rt; sided(alloc, NOTHING.as_slice())?, None);
+    let damaged = Some(AgentFault::Damaged(5));
+    assert_eq!(rt; sided(alloc, b"")?, damaged);
+    // A collector of no chart, and a child where nothing was copied.
+    let collects =
+        b"\x01\0\0\0\0\0\0\0\0\0\0\0\0\0\0\0\0\0\0\0\0\0\0\0\0\0\0\0\0\0\0\0\0\0\0\0\0\0\0\0\0";
+    assert_eq!(rt; sided(alloc, collects)?, None);
+    let copies =
+        b"\0\x01\0\0\0\0\0\0\0\0\0\0\0\0\0\0\0\0\0\0\0\0\0\0\0\0\0\0\0\0\0\0\0\0\0\0\0\0\0\0\0";
+    assert_eq!(rt; sided(alloc, copies)?, damaged);
     Ok(())
 }
 
@@ -198,7 +254,7 @@ fn a_configuration_has_no_moment(rt: HostRuntime) -> Result<(), Fail> {
 }
 
 #[test]
-fn a_gap_behind_a_collected_beat_is_damage(rt: HostRuntime) -> Result<(), Fail> {
+fn copied_and_collected_beats_do_not_mix(rt: HostRuntime) -> Result<(), Fail> {
     let alloc = rt.alloc();
     let mut bytes = *GAP;
     bytes[13] = 61;
@@ -206,20 +262,6 @@ fn a_gap_behind_a_collected_beat_is_damage(rt: HostRuntime) -> Result<(), Fail> 
     let beat = kept(alloc, Some(60), EMPTY.as_slice(), &[])?;
     assert_eq!(rt;
         opened_two(alloc, &beat, &gap)?,
-        Some(AgentFault::Damaged(5))
-    );
-    Ok(())
-}
-
-#[test]
-fn a_collected_beat_behind_a_gap_is_damage(rt: HostRuntime) -> Result<(), Fail> {
-    let alloc = rt.alloc();
-    let mut bytes = *EMPTY;
-    bytes[1] = 61;
-    let gap = kept(alloc, Some(60), GAP.as_slice(), &[])?;
-    let beat = kept(alloc, Some(61), bytes.as_slice(), &[])?;
-    assert_eq!(rt;
-        opened_two(alloc, &gap, &beat)?,
         Some(AgentFault::Damaged(5))
     );
     Ok(())

@@ -7,8 +7,8 @@ ghost use Rattle.host_model.specs.Cause.{HasCause};
 ghost use Rattle.host_model.specs.Moments.{Throughout};
 ghost use Rattle.history.specs.History.{Beat as HistoryBeat, child as child_of};
 ghost use Rattle.tier_settings.specs.declared.settings.Settings.{Settings as ASettings};
-ghost use Rattle.store_core.specs.Own.{OnlyOwn};
-ghost use Rattle.store_core.specs.Store.{counted};
+ghost use Rattle.database_files.specs.Holds.{OnlyOwn};
+ghost use Rattle.store_core.specs.Counts.{counted};
 ghost use Rattle.replication.specs.Verdict.{is_stored};
 ghost use Rattle.link_frames.specs.declared.frame.Frame.TheVariants as frame;
 ghost use Rattle.link_frames.specs.DataForm.{IsData};
@@ -17,7 +17,8 @@ ghost use Rattle.agent_core.specs.Calls.{agent_adds, agent_verdict, AnswersAsk, 
 ghost use Rattle.agent_core.specs.Copies.{data_of_history};
 ghost use Rattle.agent_core.specs.Copying.{beats_of, copy_refusal, events_onto, refusal_by};
 ghost use Rattle.agent_core.specs.Faults.{fault_after, IsReading, IsSpending, LeavesAll, RefusedBy, Reopens};
-ghost use Rattle.agent_core.specs.Kept.{onto, StandsForFront};
+ghost use Rattle.agent_core.specs.Kept.{onto};
+ghost use Rattle.agent_core.specs.Stands.{StandsForFront};
 ghost use Rattle.agent_core.specs.Roles.{child_in};
 
 use super::Agent;

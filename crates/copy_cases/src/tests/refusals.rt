@@ -59,20 +59,6 @@ fn a_database_that_collects_takes_no_copies(rt: HostRuntime) -> Result<(), Fail>
 }
 
 #[test]
-fn a_chart_keeps_its_update_every(rt: HostRuntime) -> Result<(), Fail> {
-    let alloc = rt.alloc();
-    let mut host = found(parent_at_three(alloc, &[])?)?;
-    let end = hear(alloc, &mut host, &[Says::Hello(7), Says::Data(behind(2))])?;
-    let status = Status::Refused(0, 31);
-    assert!(rt;
-        is_ending(alloc, &end, &[Says::Ask(7, 3)], "REFUSED 0 31\n", status)?,
-        "{end:?}"
-    );
-    assert!(rt; is_as_before(alloc, &mut host)?);
-    Ok(())
-}
-
-#[test]
 fn a_parent_keeps_to_its_child(rt: HostRuntime) -> Result<(), Fail> {
     let alloc = rt.alloc();
     let mut host = found(parent_at_three(alloc, &[])?)?;

@@ -2,7 +2,7 @@
 
 use super::ends::{Ending, NEW_CHILD, NEW_PARENT, RECEIVE, SEND, found, host_with, talk, told};
 use super::wire::{Message, Says, VALUE, WORD, bytes_of};
-use host_model::{MemoryHost, Status};
+use host_model::{File, Host, MemoryHost, Status};
 use std::alloc::{AllocError, Global};
 use std::fmt::Write;
 use std::test::Fail;
@@ -123,6 +123,33 @@ fn a_parent_keeps_the_loss_as_a_gap(rt: HostRuntime) -> Result<(), Fail> {
     // Three beats, the gap and four more.
     assert_eq!(rt; end.told.as_str(), "STORED 8\n");
     let want = bytes_of(alloc, &[Says::Ask(7, 3), Says::Have(12)])?;
+    assert_eq!(rt; end.sent.as_slice(), want.as_slice());
+    let answer = reply(alloc, &mut parent, 13)?;
+    let want = reply_of(alloc, 13, &[1, 2, 3, 9, 10, 11, 12])?;
+    assert_eq!(rt; answer.as_str(), want.as_str());
+    Ok(())
+}
+
+/// A parent with four points in a segment, of which one is kept: it makes a checkpoint within the second session.
+const SMALL_PARENT: &[&str] = &["new", "8", "4", "1", "100", "1", "100", "1"];
+
+/// That parent, once it has heard both sessions.
+fn small_parent(alloc: Global) -> Result<MemoryHost, Fail> {
+    let mut host = found(host_with(alloc, &[], SMALL_PARENT, "")?)?;
+    let heard = bytes_of(alloc, &[Says::Hello(7), Says::Data(FIRST), Says::Bye(0)])?;
+    talk(alloc, &mut host, RECEIVE, heard.as_slice())?;
+    heard_at_three(alloc, &mut host)?;
+    Ok(host)
+}
+
+#[test]
+fn a_checkpoint_keeps_whom_a_parent_copies(rt: HostRuntime) -> Result<(), Fail> {
+    let alloc = rt.alloc();
+    let mut parent = small_parent(alloc)?;
+    assert!(rt; parent.len(File::JournalB)? > 17);
+    let heard = bytes_of(alloc, &[Says::Hello(7), Says::Bye(0)])?;
+    let end = talk(alloc, &mut parent, RECEIVE, heard.as_slice())?;
+    let want = bytes_of(alloc, &[Says::Ask(7, 12)])?;
     assert_eq!(rt; end.sent.as_slice(), want.as_slice());
     let answer = reply(alloc, &mut parent, 13)?;
     let want = reply_of(alloc, 13, &[1, 2, 3, 9, 10, 11, 12])?;

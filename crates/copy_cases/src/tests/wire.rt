@@ -27,19 +27,19 @@ pub enum Says {
     Bytes(&'static [u8]),
 }
 
-pub fn put_u32(out: &mut Vec<u8>, number: u32) -> Result<(), AllocError> {
+fn put_u32(out: &mut Vec<u8>, number: u32) -> Result<(), AllocError> {
     out.extend_from_slice(&number.to_le_bytes())
 }
 
-pub fn put_u64(out: &mut Vec<u8>, number: u64) -> Result<(), AllocError> {
+fn put_u64(out: &mut Vec<u8>, number: u64) -> Result<(), AllocError> {
     out.extend_from_slice(&number.to_le_bytes())
 }
 
-pub fn put_count(out: &mut Vec<u8>, count: usize) -> Result<(), AllocError> {
+fn put_count(out: &mut Vec<u8>, count: usize) -> Result<(), AllocError> {
     put_u32(out, u32::try_from(count).unwrap_or(u32::MAX))
 }
 
-pub fn put_text(out: &mut Vec<u8>, text: &str) -> Result<(), AllocError> {
+fn put_text(out: &mut Vec<u8>, text: &str) -> Result<(), AllocError> {
     let size = u16::try_from(text.len()).unwrap_or(u16::MAX);
     out.extend_from_slice(&size.to_le_bytes())?;
     out.extend_from_slice(text.as_bytes())
@@ -125,11 +125,8 @@ pub fn bytes_of(alloc: Global, said: &[Says]) -> Result<Vec<u8>, AllocError> {
 /// The Hello of the child 7, as the format's page has its bytes.
 pub const HELLO: &[u8] = b"\x09\0\0\0\x01\x07\0\0\0\0\0\0\0";
 
-/// The Bye of a child that has nothing more to send.
-pub const DONE: &[u8] = b"\x02\0\0\0\x05\0";
-
 /// The kind of a Data.
-pub const DATA: u8 = 3;
+const DATA: u8 = 3;
 
 /// The value of a beat of these tests is this and its moment. The word of a whole number from
 /// 1,677,722 to 16,777,215 is 2^24 and the number.

@@ -56,15 +56,19 @@ fn each_status_of_a_folder_has_its_line(rt: HostRuntime) -> Result<(), Fail> {
         ),
         (
             Status::NotADatabase,
-            "there is no database in this folder; go to its folder, or make one by nda new, which overwrites a file nda.2 that is none",
+            "there is no database in this folder; go to its folder, or make one by nda new, which overwrites files nda.0 and nda.2 that are none",
         ),
         (
             Status::Exists,
             "there is a database in this folder already; nothing was changed; nda run and nda collect store beats in it",
         ),
         (
+            Status::Damaged(1),
+            "the database here is damaged, or none of this program: part 1, the file of its checkpoint; nothing was changed; go on from a copy, or in another folder",
+        ),
+        (
             Status::Damaged(4),
-            "the database here is damaged, or none of this program: part 4; nothing was changed; go on from a copy, or in another folder",
+            "the database here is damaged, or none of this program: part 4, its journal; nothing was changed; go on from a copy, or in another folder",
         ),
     ];
     for (status, line) in table {

@@ -1,80 +1,12 @@
-ghost use Rattle.std.specs.Prelude.{◌≡◌};
-ghost use Rattle.store_core.specs.Store.{IsReady, IsReplayed};
-
 use super::*;
-use fixed_num::{Frac, Units};
 use query_engine::{
     Group, ListPoints, MomentList, Point, PointList, Points, Request, SeriesList, SeriesPointsList,
     Table, answer,
 };
-use std::process::Abort;
-use storage_number::pack;
-use store_core::{KeptPoint, StoreView};
-
-/// Few points in a segment, of which one is kept.
-const FEW: [(u32, u32); 3] = [(4, 1), (100, 1), (100, 1)];
+use store_core::StoreView;
 
 /// How many ten-millionths one has.
-pub(super) const ONE: Units = 10_000_000;
-
-/// The storage number of a whole number.
-pub(super) fn word(value: i32) -> u32 {
-    pack(
-        Frac {
-            num: Units::from(value),
-            den: 1,
-        },
-        false,
-        false,
-    )
-}
-
-/// Stores a beat of these points.
-pub(super) fn put_points<H: Host>(
-    alloc: Global,
-    store: &mut Store,
-    host: &mut H,
-    moment: u32,
-    points: BeatPointList,
-) -> Result<(), Fail>
-    requires ready { IsReady H.honest (H.seen host.old).past store.old }
-    requires replayed { IsReplayed store.old }
-    ensures ready { IsReady H.honest (H.seen host.new).past store.new }
-    ensures replayed { IsReplayed store.new }
-{
-    let beat = Beat {
-        moment: Some(moment),
-        points,
-        note: ByteList::new(alloc),
-    };
-    if !beat.is_in_form() || !beat.fits_a_record() {
-        return Err(Fail::from("a beat out of form"));
-    }
-    store.commit(host, &beat)?;
-    Ok(())
-}
-
-/// Stores a beat with a point of series 0.
-fn put<H: Host>(
-    alloc: Global,
-    store: &mut Store,
-    host: &mut H,
-    moment: u32,
-    value: i32,
-) -> Result<(), Fail>
-    requires ready { IsReady H.honest (H.seen host.old).past store.old }
-    requires replayed { IsReplayed store.old }
-    ensures ready { IsReady H.honest (H.seen host.new).past store.new }
-    ensures replayed { IsReplayed store.new }
-{
-    let mut points = BeatPointList::new(alloc);
-    points.push(BeatPoint {
-        series: 0,
-        step: 1,
-        word: word(value),
-    })?;
-    put_points(alloc, store, host, moment, points)
-}
+const ONE: Units = 10_000_000;
 
 fn request(alloc: Global, window: u32, rows: u32, group: Group) -> Result<Request, Fail> {
     let mut series = SeriesList::new(alloc);
@@ -94,31 +26,6 @@ fn check_cell(rt: &impl Abort, table: &Table, cell: Option<Units>) {
     assert_eq!(rt; rows.len(), 1);
     assert_eq!(rt; rows[0].start, 0);
     assert_eq!(rt; rows[0].cells.as_slice(), [cell].as_slice());
-}
-
-/// Stores a beat for each of these moments and values.
-fn put_all<H: Host>(
-    alloc: Global,
-    store: &mut Store,
-    host: &mut H,
-    values: &[(u32, i32)],
-) -> Result<(), Fail>
-    requires ready { IsReady H.honest (H.seen host.old).past store.old }
-    requires replayed { IsReplayed store.old }
-    ensures ready { IsReady H.honest (H.seen host.new).past store.new }
-    ensures replayed { IsReplayed store.new }
-{
-    for value in values {
-        put(alloc, store, host, value.0, value.1)?;
-    }
-    Ok(())
-}
-
-/// A database that keeps few points, with these.
-fn store_of(alloc: Global, host: &mut MemoryHost, values: &[(u32, i32)]) -> Result<Store, Fail> {
-    let mut store = create_with(alloc, host, FEW)?;
-    put_all(alloc, &mut store, host, values)?;
-    Ok(store)
 }
 
 /// The answer of a view of the store.
@@ -163,8 +70,9 @@ const EIGHT: [(u32, i32); 8] = [
 #[test]
 fn a_minute_and_a_half(rt: HostRuntime) -> Result<(), Fail> {
     let alloc = rt.alloc();
-    let mut host = host_of(alloc, &[])?;
-    let mut store = store_of(alloc, &mut host, &EIGHT[..6])?;
+    let mut host = new_host(alloc)?;
+    let (six, _) = EIGHT.as_slice().split_at(6);
+    let mut store = made(alloc, &mut host, six)?;
     check_averages(
         &rt,
         alloc,
@@ -174,77 +82,41 @@ fn a_minute_and_a_half(rt: HostRuntime) -> Result<(), Fail> {
     )
 }
 
-#[test]
-fn what_expired_is_answered_by_its_record(rt: HostRuntime) -> Result<(), Fail> {
-    let alloc = rt.alloc();
-    let mut host = host_of(alloc, &[])?;
-    let mut store = store_of(alloc, &mut host, &EIGHT)?;
+/// Checks that of eight beats the first four expired, which the record of their minute answers.
+fn check_expired(
+    rt: &impl Abort,
+    alloc: Global,
+    store: &mut Store,
+    host: &mut MemoryHost,
+) -> Result<(), Fail> {
     assert_eq!(rt;
         [store.floor(0), store.floor(1), store.floor(2)],
         [41, 0, 0]
     );
-    check_averages(&rt, alloc, &mut store, &mut host, [Some(3 * ONE), None])
-}
-
-/// Checks the kept beats, which have a point at each of these moments, and how many came before.
-fn check_kept(
-    rt: &impl Abort,
-    store: &mut Store,
-    host: &mut MemoryHost,
-    before: u64,
-    moments: &[u32],
-) -> Result<(), Fail>
-    ensures same { store.new ≡ store.old }
-    ensures same_host { host.new ≡ host.old }
-{
-    let kept = store.kept(host)?;
-    assert_eq!(rt; kept.before, before);
-    assert_eq!(rt; kept.beats.len(), moments.len());
-    for (beat, moment) in kept.beats.as_slice().iter().zip(moments) {
-        assert_eq!(rt; beat.moment, *moment);
-        let points = [KeptPoint {
-            series: 0,
-            word: word(1),
-        }];
-        assert_eq!(rt; beat.points.as_slice(), points.as_slice());
-    }
-    Ok(())
-}
-
-/// Stores a beat of a point at each of these moments.
-fn put_each<H: Host>(
-    alloc: Global,
-    store: &mut Store,
-    host: &mut H,
-    moments: &[u32],
-) -> Result<(), Fail>
-    requires ready { IsReady H.honest (H.seen host.old).past store.old }
-    requires replayed { IsReplayed store.old }
-    ensures ready { IsReady H.honest (H.seen host.new).past store.new }
-    ensures replayed { IsReplayed store.new }
-{
-    for moment in moments {
-        put(alloc, store, host, *moment, 1)?;
-    }
-    Ok(())
+    check_averages(rt, alloc, store, host, [Some(3 * ONE), None])
 }
 
 #[test]
-fn floors_and_kept_beats(rt: HostRuntime) -> Result<(), Fail> {
+fn what_expired_is_answered_by_its_record(rt: HostRuntime) -> Result<(), Fail> {
     let alloc = rt.alloc();
-    let mut host = host_of(alloc, &[])?;
-    let mut store = create_with(alloc, &mut host, FEW)?;
-    put_each(alloc, &mut store, &mut host, &[1, 2, 3, 4, 5, 6, 7])?;
-    assert_eq!(rt; store.floor(0), 0);
-    put_each(alloc, &mut store, &mut host, &[8])?;
-    assert_eq!(rt; store.floor(0), 5);
-    put_each(alloc, &mut store, &mut host, &[9])?;
-    check_kept(&rt, &mut store, &mut host, 4, &[5, 6, 7, 8, 9])?;
-    put_each(alloc, &mut store, &mut host, &[10, 11])?;
-    assert_eq!(rt; store.floor(0), 5);
-    put_each(alloc, &mut store, &mut host, &[12])?;
-    assert_eq!(rt; store.floor(0), 9);
-    check_kept(&rt, &mut store, &mut host, 8, &[9, 10, 11, 12])
+    let mut host = new_host(alloc)?;
+    let mut store = made(alloc, &mut host, EIGHT.as_slice())?;
+    check_expired(&rt, alloc, &mut store, &mut host)
+}
+
+/// The floor of the first tier after so many of the nine beats.
+fn floor_after(alloc: Global, count: usize) -> Result<u32, Fail> {
+    let mut host = new_host(alloc)?;
+    let some = NINE.as_slice().get(..count).unwrap_or(&[]);
+    let store = made(alloc, &mut host, some)?;
+    Ok(store.floor(0))
+}
+
+#[test]
+fn floors_rise_where_segments_are_sealed(rt: HostRuntime) -> Result<(), Fail> {
+    assert_eq!(rt; floor_after(rt.alloc(), 7)?, 0);
+    assert_eq!(rt; floor_after(rt.alloc(), 8)?, 5);
+    Ok(())
 }
 
 /// The rows of two tables are the same.
@@ -308,12 +180,21 @@ fn check_view(
     Ok(())
 }
 
+/// Checks what a view of this store answers.
+fn check_answers(
+    rt: &impl Abort,
+    alloc: Global,
+    store: &mut Store,
+    host: &mut MemoryHost,
+) -> Result<(), Fail> {
+    check_as_lists(rt, alloc, store, host)?;
+    check_view(rt, alloc, store, host)
+}
+
 #[test]
 fn a_store_answers_as_a_list(rt: HostRuntime) -> Result<(), Fail> {
     let alloc = rt.alloc();
-    let mut host = host_of(alloc, &[])?;
-    let mut store = create(alloc, &mut host, 7)?;
-    put_all(alloc, &mut store, &mut host, &[(59, 10), (60, 20)])?;
-    check_as_lists(&rt, alloc, &mut store, &mut host)?;
-    check_view(&rt, alloc, &mut store, &mut host)
+    let mut host = new_host(alloc)?;
+    let mut store = made(alloc, &mut host, &[(59, 10), (60, 20)])?;
+    check_answers(&rt, alloc, &mut store, &mut host)
 }

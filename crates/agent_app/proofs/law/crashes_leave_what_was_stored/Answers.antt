@@ -48,4 +48,4 @@ pub returns-clause-makes_moments : goal.returns-clause-makes_moments
 returns-clause-makes_moments g c h starts tried runs host host' set status course known makes =
     course-new starts tried runs g.H.Host.honest h (g.H.Host.seen host) (g.H.Host.seen host')
     (course-kept g.H.Host.honest g.H.Host.seen starts tried (λ at h file. g.met.H.Host.reads_an_image at file h) h runs host course)
-    (λ file. g.met.H.Host.reads_an_image host file h) set status known makes
+    (λ file. g.met.H.Host.reads_an_image host file h) set status makes known

@@ -6,7 +6,7 @@ use Rattle.tier_settings.specs.declared.settings.Settings.{Settings}
 use Rattle.store_core.specs.Tiers.{kept_of}
 use Rattle.agent_core.specs.Answers.{tier_beats}
 use Rattle.agent_core.specs.Copies.{names_of, sent_beat}
-use Rattle.agent_core.proofs.AnswerLemmas.{applied-all}
+use Rattle.agent_core.proofs.StoredLemmas.{applied-all}
 use Rattle.agent_core.proofs.AskLemmas.{answer-is, found-sendable, not-asked}
 use Rattle.agent_core.proofs.SentBeats.{rise-lower}
 use Rattle.agent_core.proofs.asking.answer.Goals as goal

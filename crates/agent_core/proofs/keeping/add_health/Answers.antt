@@ -1,22 +1,38 @@
-use Rattle.std.proofs.Common.{inl}
-use Rattle.host_model.specs.Moments.{begins}
+use Rattle.std.proofs.Common.{◌∷◌, inl}
+use Rattle.host_model.proofs.DiskLemmas.{disks_weaker}
 use Rattle.history.specs.History.{health}
-use Rattle.agent_core.proofs.KeptLemmas.{climbs, health-of, holds-beat, stays}
+use Rattle.agent_core.proofs.KeepsLemmas.{keeps-both}
+use Rattle.agent_core.proofs.KeptLemmas.{climbs, health-of, holds-beat, then-either}
 use Rattle.agent_core.proofs.Outcomes.{on_ok}
 use Rattle.agent_core.proofs.keeping.add_health.Goals as goal
 
+pub returns-in_err-make_room-clause-any_moment : goal.returns-in_err-make_room-clause-any_moment
+returns-in_err-make_room-clause-any_moment g c true_host set h holds by = disks_weaker (λ disk stands. inl stands) (c.make_room.ensures.any_moment true_host set h holds by)
+
 pub returns-in-Err-clause-any_moment : goal.returns-in-Err-clause-any_moment
-returns-in-Err-clause-any_moment g c true_host set h holds = begins (λ disk images. inl (stays (g.H.Host.seen c.args.host.now).past c.args.store.now set h holds disk images))
+returns-in-Err-clause-any_moment g c true_host set h holds by = disks_weaker (λ disk stands. inl stands) (c.make_room.ensures.any_moment true_host set h holds by)
 
 pub returns-in-Ok-clause-any_moment : goal.returns-in-Ok-clause-any_moment
-returns-in-Ok-clause-any_moment g c true_host set h holds =
+returns-in-Ok-clause-any_moment g c true_host set h holds by =
     let past = (g.H.Host.seen c.args.host.now).past in
-    let of = health-of past c.args.store.now set h holds c.args.text.now c.in-Ok.kept c.requires.accepted c.in-Ok.ensures.kept c.in-Ok.ensures.spelt in
-    climbs past c.args.store.now set h holds (health c.args.text.now) c.in-Ok.kept of (g.H.Host.seen c.commit.new.host).past (c.commit.ensures.any_moment true_host set holds.stored holds.store_of)
+    let middle = (g.H.Host.seen c.make_room.new.host).past in
+    let new = (g.H.Host.seen c.commit.new.host).past in
+    let store = c.make_room.new.store in
+    let room = c.in_ok-make_room.ensures.done true_host set h holds by in
+    let of = health-of middle store set h room c.args.text.now c.in-Ok.kept c.requires.accepted c.in-Ok.ensures.kept c.in-Ok.ensures.spelt in
+    then-either past middle new set h (health c.args.text.now ∷ h) (c.make_room.ensures.any_moment true_host set h holds by)
+    (climbs middle store set h room (health c.args.text.now) c.in-Ok.kept of new (c.commit.ensures.any_moment true_host room.stored room.store_of))
 
 pub returns-in-Ok-clause-done : goal.returns-in-Ok-clause-done
 returns-in-Ok-clause-done g c =
-    on_ok _ _ c.commit.result c.commit.ensures.stored (λ stored true_host set h holds.
-    let past = (g.H.Host.seen c.args.host.now).past in
-    let of = health-of past c.args.store.now set h holds c.args.text.now c.in-Ok.kept c.requires.accepted c.in-Ok.ensures.kept c.in-Ok.ensures.spelt in
-    holds-beat past c.args.store.now set h holds (health c.args.text.now) c.in-Ok.kept of (g.H.Host.seen c.commit.new.host).past c.commit.new.store (stored true_host set holds.stored holds.store_of))
+    on_ok _ _ c.commit.result c.commit.ensures.stored (λ stored true_host set h holds by.
+    let middle = (g.H.Host.seen c.make_room.new.host).past in
+    let store = c.make_room.new.store in
+    let room = c.in_ok-make_room.ensures.done true_host set h holds by in
+    let of = health-of middle store set h room c.args.text.now c.in-Ok.kept c.requires.accepted c.in-Ok.ensures.kept c.in-Ok.ensures.spelt in
+    holds-beat middle store set h room (health c.args.text.now) c.in-Ok.kept of (g.H.Host.seen c.commit.new.host).past c.commit.new.store (stored true_host room.stored room.store_of))
+
+pub returns-in-Ok-clause-keeps : goal.returns-in-Ok-clause-keeps
+returns-in-Ok-clause-keeps g c =
+    keeps-both g.H.Host.honest (g.H.Host.seen c.args.host.now) (g.H.Host.seen c.make_room.new.host) (g.H.Host.seen c.commit.new.host) c.args.store.now c.make_room.new.store c.commit.new.store
+    c.in_ok-make_room.field-0 c.commit.result c.in_ok-make_room.ensures.keeps c.commit.ensures.keeps

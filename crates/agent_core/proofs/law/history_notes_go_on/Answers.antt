@@ -1,21 +1,28 @@
-use Rattle.store_core.proofs.StandLemmas.{stands_made}
+use Rattle.store_core.proofs.StandLemmas.{stands-made}
 use Rattle.agent_core.proofs.NoteLemmas.{notes-once}
-use Rattle.agent_core.proofs.ReplayLemmas.{history-goes}
+use Rattle.agent_core.proofs.SideAlarms.{StayWhole}
+use Rattle.agent_core.proofs.StoredNotes.{history-goes}
 use Rattle.agent_core.proofs.law.history_notes_go_on.Goals as goal
 
 pub returns-clause-once : goal.returns-clause-once
 returns-clause-once c = notes-once
 
 pub returns-clause-records : goal.returns-clause-records
-returns-clause-records c goes disk notes damaged = damaged.no_beats notes.settings notes.stored notes.stands
+returns-clause-records c goes disk notes damaged = damaged.none_stands notes.stored notes.stands
 
 pub returns-clause-made : goal.returns-clause-made
-returns-clause-made c goes disk notes = stands_made notes.settings notes.stored disk notes.stands
+returns-clause-made c goes disk notes = stands-made notes.stored disk notes.stands
 
 pub returns-clause-history : goal.returns-clause-history
-returns-clause-history c set h disk stands = record {
-  settings = set;
-  stored = stands.stored;
-  stands = stands.stands;
-  notes = history-goes h stands.stored stands.are;
-}
+returns-clause-history c set h disk stands =
+    let law : StayWhole = record {
+      none = c.alarms_stay_whole.ensures.whole_nothing;
+      after_text = c.alarms_stay_whole.ensures.whole_configured;
+      after_beat = c.alarms_stay_whole.ensures.whole_stepped;
+      again = c.alarms_stay_whole.ensures.kept_again;
+    } in
+    record {
+      stored = stands.stored;
+      stands = stands.stands;
+      notes = history-goes law set h stands.stored stands.are;
+    }

@@ -1,20 +1,24 @@
-use Rattle.std.proofs.Common.{Err, Some, refl, sym, ap, ◌∙◌, true≢false}
-use Rattle.host_model.specs.Disks.{reads_as}
-use Rattle.store_core.proofs.StandLemmas.{stands_made}
+use Rattle.std.proofs.Common.{Err, Some, refl, ap, ◌∙◌}
 use Rattle.agent_core.specs.declared.fault.AgentFault.TheVariants as fault
-use Rattle.agent_core.proofs.OpenFaults.{disk-or-memory, no-notes, same-fault}
+use Rattle.agent_core.proofs.OpenFaults.{disk-or-memory, opens-said, opens-unopened, same-fault, told-damaged, told-none}
 use Rattle.agent_core.proofs.replaying.open_store.Goals as goal
 
+pub store_fault-requires : goal.store_fault-requires
+store_fault-requires g c = opens-said c.in-Err.fault c.in-Err.ensures.faults
+
 pub returns-in-Err-clause-stands : goal.returns-in-Err-clause-stands
-returns-in-Err-clause-stands g c true_host set stored stands =
-    let disk = reads_as (g.H.Host.seen c.args.host.now).past in
-    disk-or-memory c.in-Err.fault c.store_fault.result c.store_fault.ensures c.in-Err.ensures.faults
-    (λ e. true≢false (sym (stands_made set stored disk stands) ∙ c.in-Err.ensures.none (ap Err e) true_host))
-    (λ e. (c.in-Err.ensures.damaged 4 (ap Err e) true_host).no_beats set stored stands)
+returns-in-Err-clause-stands g c true_host stored stands =
+    disk-or-memory c.in-Err.fault c.store_fault.result c.store_fault.ensures (c.in-Err.ensures.complete true_host stored stands)
 
-pub returns-in-Ok-clause-found : goal.returns-in-Ok-clause-found
-returns-in-Ok-clause-found g c = c.in-Ok.ensures.stands
+pub returns-in-Err-clause-none : goal.returns-in-Err-clause-none
+returns-in-Err-clause-none g c is =
+    c.open.ensures.none
+    (c.in-Err.is ∙ ap Err (told-none c.in-Err.fault (c.store_fault.ensures ∙ ap Some (same-fault c.store_fault.result fault.NotADatabase _ refl is))))
 
-pub returns-in-Err-clause-notes : goal.returns-in-Err-clause-notes
-returns-in-Err-clause-notes g c is =
-    no-notes c.in-Err.fault c.in-Err.ensures.faults (c.store_fault.ensures ∙ ap Some (same-fault c.store_fault.result (fault.Damaged 5) _ refl is))
+pub returns-in-Err-clause-damaged : goal.returns-in-Err-clause-damaged
+returns-in-Err-clause-damaged g c part is =
+    c.open.ensures.damaged part
+    (c.in-Err.is ∙ ap Err (told-damaged c.in-Err.fault part (c.store_fault.ensures ∙ ap Some (same-fault c.store_fault.result (fault.Damaged part) _ refl is))))
+
+pub returns-in-Err-clause-faults : goal.returns-in-Err-clause-faults
+returns-in-Err-clause-faults g c = opens-unopened c.in-Err.fault c.store_fault.result c.store_fault.ensures c.in-Err.ensures.faults

@@ -28,18 +28,25 @@ returns-clause-left_by g c past set front h at by =
 pub returns-in_err-replay_next-clause-broken : goal.returns-in_err-replay_next-clause-broken
 returns-in_err-replay_next-clause-broken g c =
     let error = err_from_is_err_and c.from_residual.result c.from_residual.ensures.1 in
-    rw (error.1, error.2) (λ damaged past set stored opens.
+    rw (error.1, error.2) (λ damaged past stored opens.
     let start = noted_in c.args.left.now in
-    c.in_err-replay_next.ensures.broken damaged start past set stored (c.loop.invariant.notes start past set stored (taken-begins start past c.args.store.now c.args.left.now set stored opens refl)))
+    c.in_err-replay_next.ensures.broken damaged start past stored (c.loop.invariant.notes start past stored (taken-begins start past c.args.store.now c.args.left.now stored opens refl)))
+
+pub returns-in_err-replay_next-clause-whole : goal.returns-in_err-replay_next-clause-whole
+returns-in_err-replay_next-clause-whole g c =
+    let error = err_from_is_err_and c.from_residual.result c.from_residual.ensures.1 in
+    rw (error.1, error.2) (λ damaged past stored opens.
+    let start = noted_in c.args.left.now in
+    c.in_err-replay_next.ensures.whole damaged start past stored (c.loop.invariant.notes start past stored (taken-begins start past c.args.store.now c.args.left.now stored opens refl)))
 
 pub returns-clause-notes : goal.returns-clause-notes
-returns-clause-notes g c past set stored opens =
+returns-clause-notes g c past stored opens =
     let start = noted_in c.args.left.now in
-    taken-all start past c.replay_next.new.store c.replay_next.new.left set stored
-    (c.in_ok-replay_next.ensures.notes start past set stored (c.loop.invariant.notes start past set stored (taken-begins start past c.args.store.now c.args.left.now set stored opens refl))) (search rules)
+    taken-all start past c.replay_next.new.store c.replay_next.new.left stored
+    (c.in_ok-replay_next.ensures.notes start past stored (c.loop.invariant.notes start past stored (taken-begins start past c.args.store.now c.args.left.now stored opens refl))) (search rules)
 
 pub returns-clause-noted : goal.returns-clause-noted
-returns-clause-noted g c past set stored opens =
+returns-clause-noted g c past stored opens =
     let start = noted_in c.args.left.now in
-    taken-left start past c.replay_next.new.store c.replay_next.new.left set stored
-    (c.in_ok-replay_next.ensures.notes start past set stored (c.loop.invariant.notes start past set stored (taken-begins start past c.args.store.now c.args.left.now set stored opens refl))) (search rules)
+    taken-left start past c.replay_next.new.store c.replay_next.new.left stored
+    (c.in_ok-replay_next.ensures.notes start past stored (c.loop.invariant.notes start past stored (taken-begins start past c.args.store.now c.args.left.now stored opens refl))) (search rules)

@@ -1,12 +1,14 @@
-use Rattle.std.proofs.Common.{◌≡◌, List, ◌∷◌, [], rules, sym, ap, subst}
+use Rattle.std.proofs.Common.{◌≡◌, List, ◌∷◌, [], Ok, Err, refl, rules, sym, ap, subst}
+use Rattle.std.proofs.lemmas.Result.{err_from_is_err_and}
 use Rattle.host_model.specs.Disks.{EveryDisk}
 use Rattle.host_model.specs.Moments.{begins, Throughout}
 use Rattle.host_model.proofs.MomentLemmas.{joined}
 use Rattle.history.specs.History.{Beat, copied}
 use Rattle.history.specs.Registry.{Registry}
-use Rattle.agent_core.specs.Kept.{StandsForFront}
-use Rattle.agent_core.specs.Storing.{later_copies, HasAdded, MayTakeAll}
-use Rattle.agent_core.proofs.FrontLemmas.{added-behind, copies-are, first_copy, first-moments, rest-moments, sent-first}
+use Rattle.agent_core.specs.Stands.{StandsForFront}
+use Rattle.agent_core.specs.Storing.{later_copies, AreSent, HasAdded, MayTakeAll}
+use Rattle.agent_core.proofs.FrontLemmas.{added-behind, copies-are, first_copy, first-moments, rest-moments, rest-sent, sent-first}
+use Rattle.agent_core.proofs.KeepsLemmas.{keeps-after, keeps-both}
 use Rattle.agent_core.proofs.KeptLemmas.{stays}
 use Rattle.agent_core.proofs.storing.add_beats.Goals as goal
 
@@ -119,3 +121,26 @@ returns-clause-done g c true_host before set h holds was is all some =
     (c.in_ok-more.ensures.done true_host set (copied copy ∷ h) stored.holds stored.left_by takes) in
     subst (λ (more : List Beat). HasAdded new c.add_later.new.store c.add_later.new.left set h more c.add_events.new.events) (sym same)
     (added-behind new c.add_later.new.store c.add_later.new.left set h (copied copy ∷ []) later c.in_ok-events.events c.in_ok-more.more c.add_events.new.events stored.events_are followed c.in_ok-add_events.ensures.added)
+
+pub add_later-requires-clause-sent : goal.add_later-requires-clause-sent
+add_later-requires-clause-sent g c =
+    let first = c.in-Some.first.now in
+    let rest = c.in-Some.rest.now in
+    let beats : c.args.beats.now ≡ first ∷ rest = search rules in
+    rest-sent c.args.store.now.tiers.last c.add_copy.new.store.tiers.last c.args.message.now first rest (subst (AreSent c.args.store.now.tiers.last c.args.message.now) beats c.requires.sent) c.in_ok-events.ensures.last
+
+pub returns-in_err-more-clause-keeps : goal.returns-in_err-more-clause-keeps
+returns-in_err-more-clause-keeps g c =
+    let p = err_from_is_err_and c.from_residual-in_err-more.result c.from_residual-in_err-more.ensures.1 in
+    rw (p.1, p.2) (keeps-both g.H.Host.honest (g.H.Host.seen c.args.host.now) (g.H.Host.seen c.add_copy.new.host) (g.H.Host.seen c.add_later.new.host) c.args.store.now c.add_copy.new.store c.add_later.new.store c.in_ok-events.events (Err c.in_err-more.field-0.0) c.in_ok-events.ensures.keeps c.in_err-more.ensures.keeps)
+
+pub returns-in_err-add_events-clause-keeps : goal.returns-in_err-add_events-clause-keeps
+returns-in_err-add_events-clause-keeps g c =
+    let p = err_from_is_err_and c.from_residual-in_err-add_events.result c.from_residual-in_err-add_events.ensures.1 in
+    rw (p.1, p.2) (keeps-after g.H.Host.honest (g.H.Host.seen c.args.host.now) (g.H.Host.seen c.add_later.new.host) (g.H.Host.seen c.add_later.new.host) c.args.store.now c.add_later.new.store c.add_later.new.store c.in_ok-more.more (Err c.in_err-add_events.field-0.0)
+    (keeps-both g.H.Host.honest (g.H.Host.seen c.args.host.now) (g.H.Host.seen c.add_copy.new.host) (g.H.Host.seen c.add_later.new.host) c.args.store.now c.add_copy.new.store c.add_later.new.store c.in_ok-events.events (Ok c.in_ok-more.more) c.in_ok-events.ensures.keeps c.in_ok-more.ensures.keeps) refl refl c.in_err-add_events.ensures.memory)
+
+pub returns-clause-keeps : goal.returns-clause-keeps
+returns-clause-keeps g c =
+    keeps-after g.H.Host.honest (g.H.Host.seen c.args.host.now) (g.H.Host.seen c.add_later.new.host) (g.H.Host.seen c.add_later.new.host) c.args.store.now c.add_later.new.store c.add_later.new.store c.in_ok-more.more (Ok c.add_events.new.events)
+    (keeps-both g.H.Host.honest (g.H.Host.seen c.args.host.now) (g.H.Host.seen c.add_copy.new.host) (g.H.Host.seen c.add_later.new.host) c.args.store.now c.add_copy.new.store c.add_later.new.store c.in_ok-events.events (Ok c.in_ok-more.more) c.in_ok-events.ensures.keeps c.in_ok-more.ensures.keeps) refl refl tt

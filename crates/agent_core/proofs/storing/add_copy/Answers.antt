@@ -1,14 +1,16 @@
 use Rattle.std.proofs.Common.{ℕ, ◌∷◌, ◌⊎◌, inl, sym, subst}
+use Rattle.std.proofs.lemmas.Result.{err_from_is_err_and}
 use Rattle.host_model.specs.Disks.{EveryDisk}
 use Rattle.host_model.specs.Moments.{begins, Throughout}
 use Rattle.host_model.specs.Seen.{Seen}
 use Rattle.history.specs.History.{copied}
 use Rattle.store_core.specs.Store.{StoreState}
 use Rattle.agent_core.specs.declared.left.Role.TheVariants.{Copies}
-use Rattle.agent_core.specs.Kept.{HoldsHistory, StandsForHistory}
+use Rattle.agent_core.specs.Stands.{HoldsHistory, StandsForHistory}
 use Rattle.agent_core.specs.Left.{AwaitsAlarms}
-use Rattle.agent_core.proofs.AnswerLemmas.{applied-all}
+use Rattle.agent_core.proofs.StoredLemmas.{applied-all}
 use Rattle.agent_core.proofs.FrontLemmas.{added-one}
+use Rattle.agent_core.proofs.KeepsLemmas.{keeps-after, keeps-err}
 use Rattle.agent_core.proofs.KeptLemmas.{stays}
 use Rattle.agent_core.proofs.Outcomes.{if_both}
 use Rattle.agent_core.proofs.StoringLemmas.{copy-of}
@@ -41,3 +43,13 @@ returns-clause-done g c =
     (subst (λ (s : Seen). HoldsHistory s.past c.follow.new.store set (copied copy ∷ h)) (sym c.follow.ensures.host) (subst (λ (s : StoreState). HoldsHistory now s set (copied copy ∷ h)) (sym c.follow.ensures.store) stored))
     (by set h (copied copy) applied awaits (sym sent.moment))
     (told set h (copied copy) applied awaits (sym sent.moment)))
+
+pub returns-in_err-store_copy-clause-keeps : goal.returns-in_err-store_copy-clause-keeps
+returns-in_err-store_copy-clause-keeps g c =
+    let p = err_from_is_err_and c.from_residual.result c.from_residual.ensures.1 in
+    rw (p.1, p.2) (keeps-err g.H.Host.honest (g.H.Host.seen c.args.host.now) (g.H.Host.seen c.store_copy.new.host) c.args.store.now c.store_copy.new.store c.in_err-store_copy.field-0.0 c.in_err-store_copy.ensures.keeps)
+
+pub returns-clause-keeps : goal.returns-clause-keeps
+returns-clause-keeps g c =
+    keeps-after g.H.Host.honest (g.H.Host.seen c.args.host.now) (g.H.Host.seen c.store_copy.new.host) (g.H.Host.seen c.follow.new.host) c.args.store.now c.store_copy.new.store c.follow.new.store
+    c.in_ok-store_copy.field-0 c.follow.result c.in_ok-store_copy.ensures.keeps c.follow.ensures.host c.follow.ensures.store c.follow.ensures.memory

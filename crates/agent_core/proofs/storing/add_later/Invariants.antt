@@ -4,10 +4,10 @@ use Rattle.alarm_core.specs.UpTo.{IsUpTo}
 use Rattle.tier_settings.specs.declared.settings.Settings.{Settings}
 use Rattle.replication.specs.Copies.{latest as latest_of}
 use Rattle.replication.specs.Names.{beat_moment}
-use Rattle.store_core.specs.Own.{OnlyOwn}
+use Rattle.database_files.specs.Holds.{OnlyOwn}
 use Rattle.store_core.specs.Store.{IsReady, IsReplayed}
 use Rattle.agent_core.specs.declared.left.Role.TheVariants.{Copies}
-use Rattle.agent_core.specs.Kept.{HoldsHistory}
+use Rattle.agent_core.specs.Stands.{HoldsHistory}
 use Rattle.agent_core.specs.Left.{IsLeftBy}
 use Rattle.agent_core.specs.Storing.{later_copies, MayTakeAll}
 use Rattle.agent_core.proofs.FrontLemmas.{HaveStored}
@@ -24,8 +24,8 @@ invariant-loop-beat g l = record {
   replayed : IsReplayed l.store;
   going : l.store.fault ≡ None;
   up_to : IsUpTo l.left.alarms l.left.registry;
-  last : l.store.last ≡ latest_of beat_moment l.initial.store.last (take l.beat-index l.beats);
-  settings : l.store.settings ≡ l.initial.store.settings;
+  last : l.store.tiers.last ≡ latest_of beat_moment l.initial.store.tiers.last (take l.beat-index l.beats);
+  settings : l.store.body.settings ≡ l.initial.store.body.settings;
   only_here : g.H.Host.honest → OnlyOwn (g.H.Host.seen l.initial.host).past (g.H.Host.seen l.host).past;
   faults : (g.H.Host.seen l.host).disk_faults ≡ (g.H.Host.seen l.initial.host).disk_faults;
   tells : (g.H.Host.seen l.host).tell_faults ≡ (g.H.Host.seen l.initial.host).tell_faults;

@@ -1,5 +1,5 @@
-use Rattle.std.proofs.Common.{◌≡◌, ◌<◌, List, length, sym, ap, subst, ◌∙◌}
-use Rattle.std.proofs.lemmas.Result.{IfOk-weaker}
+use Rattle.std.proofs.Common.{◌≡◌, ◌<◌, List, Ok, Err, length, refl, sym, ap, subst, ◌∙◌}
+use Rattle.std.proofs.lemmas.Result.{err_from_is_err_and, IfOk-weaker}
 use Rattle.host_model.specs.Disks.{EveryDisk}
 use Rattle.host_model.specs.Moments.{begins, Throughout}
 use Rattle.host_model.proofs.MomentLemmas.{joined}
@@ -8,11 +8,15 @@ use Rattle.history.specs.History.{Beat}
 use Rattle.history.specs.Registry.{Registry, with_definitions}
 use Rattle.replication.specs.declared.beats.Beat.{Beat as SentBeat}
 use Rattle.agent_core.specs.declared.left.Left.{Left}
-use Rattle.agent_core.specs.Kept.{onto, StandsForFront}
+use Rattle.agent_core.specs.Copying.{definitions_in, names_refusal}
+use Rattle.agent_core.specs.Kept.{onto}
+use Rattle.agent_core.specs.Stands.{StandsForFront}
 use Rattle.agent_core.specs.Rules.{lacks_chart, IsOpenBeat}
 use Rattle.agent_core.specs.Storing.{gap_beats, sent_copies, with_names, HasAdded, MayTakeAll}
-use Rattle.agent_core.proofs.FrontLemmas.{message-added, message-before, message-behind, message-takes}
+use Rattle.agent_core.proofs.FrontLemmas.{front-none, message-added, message-before, message-behind, message-takes}
+use Rattle.agent_core.proofs.KeepsLemmas.{keeps-after, keeps-both, keeps-err}
 use Rattle.agent_core.proofs.KeptLemmas.{stays, store-last}
+use Rattle.agent_core.proofs.Outcomes.{on_ok}
 use Rattle.agent_core.proofs.StoredLemmas.{were_kept}
 use Rattle.agent_core.proofs.TakenLemmas.{defined-has, defined-open}
 use Rattle.agent_core.proofs.Within.{within-of}
@@ -35,11 +39,33 @@ define-requires-clause-has_charts g c =
 
 pub returns-in_err-add_gap_before-clause-any_moment : goal.returns-in_err-add_gap_before-clause-any_moment
 returns-in_err-add_gap_before-clause-any_moment g c true_host set h holds was role =
-    message-before set h c.args.left.now.registry c.args.message.now (g.H.Host.seen c.args.host.now).past (g.H.Host.seen c.add_gap_before.new.host).past (c.add_gap_before.ensures.any_moment true_host set h holds role)
+    message-before set h c.args.left.now.registry c.args.message.now (g.H.Host.seen c.args.host.now).past (g.H.Host.seen c.add_gap_before.new.host).past (c.add_gap_before.ensures.any_moment true_host set h holds was role)
+
+pub returns-in_err-make_room-clause-any_moment : goal.returns-in_err-make_room-clause-any_moment
+returns-in_err-make_room-clause-any_moment g c true_host set h holds was role =
+    let past = (g.H.Host.seen c.args.host.now).past in
+    let middle = (g.H.Host.seen c.add_gap_before.new.host).past in
+    let roomed = (g.H.Host.seen c.make_room.new.host).past in
+    let registry = c.args.left.now.registry in
+    let message = c.args.message.now in
+    let behind = onto h (gap_beats message) in
+    let kept = c.in_ok-add_gap_before.ensures.done true_host set h holds was role in
+    let left = c.in_ok-add_gap_before.ensures.left_by set h was in
+    joined (message-before set h registry message past middle (c.add_gap_before.ensures.any_moment true_host set h holds was role))
+    (message-behind set h registry message middle roomed (front-none set behind (sent_copies (with_names registry message) message message.beats) middle roomed (c.make_room.ensures.any_moment true_host set behind kept left)))
 
 pub returns-in_err-defines-clause-any_moment : goal.returns-in_err-defines-clause-any_moment
 returns-in_err-defines-clause-any_moment g c true_host set h holds was role =
-    message-before set h c.args.left.now.registry c.args.message.now (g.H.Host.seen c.args.host.now).past (g.H.Host.seen c.add_gap_before.new.host).past (c.add_gap_before.ensures.any_moment true_host set h holds role)
+    let past = (g.H.Host.seen c.args.host.now).past in
+    let middle = (g.H.Host.seen c.add_gap_before.new.host).past in
+    let roomed = (g.H.Host.seen c.make_room.new.host).past in
+    let registry = c.args.left.now.registry in
+    let message = c.args.message.now in
+    let behind = onto h (gap_beats message) in
+    let kept = c.in_ok-add_gap_before.ensures.done true_host set h holds was role in
+    let left = c.in_ok-add_gap_before.ensures.left_by set h was in
+    joined (message-before set h registry message past middle (c.add_gap_before.ensures.any_moment true_host set h holds was role))
+    (message-behind set h registry message middle roomed (front-none set behind (sent_copies (with_names registry message) message message.beats) middle roomed (c.make_room.ensures.any_moment true_host set behind kept left)))
 
 pub returns-clause-any_moment : goal.returns-clause-any_moment
 returns-clause-any_moment g c true_host set h holds was role =
@@ -56,13 +82,16 @@ returns-clause-any_moment g c true_host set h holds was role =
     let prev = c.requires.at ∙ store-last past c.args.store.now set h holds in
     let behind = onto h (gap_beats message) in
     let all = subst (MayTakeAll behind) (sym same)
-    (message-takes set h registry message c.requires.form (let all = were_kept h holds.stored holds.are in within-of h all.beats all.are) was.registry_is role c.requires.free prev) in
-    let kept = c.in_ok-add_gap_before.ensures.done true_host set h holds role in
+    (message-takes set h registry message c.requires.form (let all = were_kept set h holds.stored holds.are in within-of h all.beats all.are) was.registry_is role c.requires.free prev) in
+    let roomed = (g.H.Host.seen c.make_room.new.host).past in
+    let was_kept = c.in_ok-add_gap_before.ensures.done true_host set h holds was role in
     let left = c.in_ok-add_gap_before.ensures.left_by set h was in
+    let kept = c.in_ok-make_room.ensures.done true_host set behind was_kept left in
     let new = (g.H.Host.seen c.add_beats.new.host).past in
-    let begun = message-before set h registry message past middle (c.add_gap_before.ensures.any_moment true_host set h holds role) in
-    let went = subst (λ (more : List Beat). Throughout (EveryDisk (StandsForFront set behind more)) middle new) same (c.add_beats.ensures.any_moment true_host gone.registry set behind kept left defined all) in
-    joined begun (message-behind set h registry message middle new went)
+    let begun = message-before set h registry message past middle (c.add_gap_before.ensures.any_moment true_host set h holds was role) in
+    let room = front-none set behind (sent_copies (with_names registry message) message message.beats) middle roomed (c.make_room.ensures.any_moment true_host set behind was_kept left) in
+    let went = subst (λ (more : List Beat). Throughout (EveryDisk (StandsForFront set behind more)) roomed new) same (c.add_beats.ensures.any_moment true_host gone.registry set behind kept left defined all) in
+    joined begun (message-behind set h registry message middle new (joined room went))
 
 pub returns-clause-done : goal.returns-clause-done
 returns-clause-done g c =
@@ -80,10 +109,42 @@ returns-clause-done g c =
     let prev = c.requires.at ∙ store-last past c.args.store.now set h holds in
     let behind = onto h (gap_beats message) in
     let all = subst (MayTakeAll behind) (sym same)
-    (message-takes set h registry message c.requires.form (let all = were_kept h holds.stored holds.are in within-of h all.beats all.are) was.registry_is role c.requires.free prev) in
-    let kept = c.in_ok-add_gap_before.ensures.done true_host set h holds role in
+    (message-takes set h registry message c.requires.form (let all = were_kept set h holds.stored holds.are in within-of h all.beats all.are) was.registry_is role c.requires.free prev) in
+    let was_kept = c.in_ok-add_gap_before.ensures.done true_host set h holds was role in
     let left = c.in_ok-add_gap_before.ensures.left_by set h was in
+    let kept = c.in_ok-make_room.ensures.done true_host set behind was_kept left in
     let some : 0 < length beats = subst (λ (bs : List SentBeat). 0 < length bs) (sym c.as_slice-beats.ensures) c.requires.form.moments.some in
     message-added set h registry message (g.H.Host.seen c.add_beats.new.host).past c.add_beats.new.store c.add_beats.new.left events
     (subst (λ (more : List Beat). HasAdded (g.H.Host.seen c.add_beats.new.host).past c.add_beats.new.store c.add_beats.new.left set behind more events) same (did true_host gone.registry set behind kept left defined all some)))
     c.add_beats.ensures.done
+
+pub define-requires-clause-free : goal.define-requires-clause-free
+define-requires-clause-free g c =
+    ap (names_refusal c.add_gap_before.new.left.registry) c.in-Ok.ensures ∙ ap (λ (l : Left). names_refusal l.registry (definitions_in c.args.message.now.names)) c.add_gap_before.ensures.only ∙ c.requires.free
+
+pub returns-clause-role : goal.returns-clause-role
+returns-clause-role g c =
+    let some : 0 < length c.as_slice-beats.result.now = subst (λ (bs : List SentBeat). 0 < length bs) (sym c.as_slice-beats.ensures) c.requires.form.moments.some in
+    on_ok _ _ c.add_beats.result c.add_beats.ensures.role (λ role. role some)
+
+pub returns-clause-up_to : goal.returns-clause-up_to
+returns-clause-up_to g c =
+    let some : 0 < length c.as_slice-beats.result.now = subst (λ (bs : List SentBeat). 0 < length bs) (sym c.as_slice-beats.ensures) c.requires.form.moments.some in
+    on_ok _ _ c.add_beats.result c.add_beats.ensures.up_to (λ up_to. up_to some)
+
+pub returns-in_err-make_room-clause-keeps : goal.returns-in_err-make_room-clause-keeps
+returns-in_err-make_room-clause-keeps g c =
+    let p = err_from_is_err_and c.from_residual-in_err-make_room.result c.from_residual-in_err-make_room.ensures.1 in
+    rw (p.1, p.2) (keeps-err g.H.Host.honest (g.H.Host.seen c.args.host.now) (g.H.Host.seen c.make_room.new.host) c.args.store.now c.make_room.new.store c.in_err-make_room.field-0.0
+    (keeps-both g.H.Host.honest (g.H.Host.seen c.args.host.now) (g.H.Host.seen c.add_gap_before.new.host) (g.H.Host.seen c.make_room.new.host) c.args.store.now c.add_gap_before.new.store c.make_room.new.store c.in_ok-add_gap_before.field-0 (Err c.in_err-make_room.field-0.0) c.in_ok-add_gap_before.ensures.keeps c.in_err-make_room.ensures.keeps))
+
+pub returns-in_err-defines-clause-keeps : goal.returns-in_err-defines-clause-keeps
+returns-in_err-defines-clause-keeps g c =
+    let p = err_from_is_err_and c.from_residual-in_err-defines.result c.from_residual-in_err-defines.ensures.1 in
+    rw (p.1, p.2) (keeps-after g.H.Host.honest (g.H.Host.seen c.args.host.now) (g.H.Host.seen c.make_room.new.host) (g.H.Host.seen c.make_room.new.host) c.args.store.now c.make_room.new.store c.make_room.new.store c.in_ok-make_room.field-0 (Err c.in_err-defines.field-0.0)
+    (keeps-both g.H.Host.honest (g.H.Host.seen c.args.host.now) (g.H.Host.seen c.add_gap_before.new.host) (g.H.Host.seen c.make_room.new.host) c.args.store.now c.add_gap_before.new.store c.make_room.new.store c.in_ok-add_gap_before.field-0 (Ok c.in_ok-make_room.field-0) c.in_ok-add_gap_before.ensures.keeps c.in_ok-make_room.ensures.keeps) refl refl c.in_err-defines.ensures.memory)
+
+pub returns-clause-keeps : goal.returns-clause-keeps
+returns-clause-keeps g c =
+    keeps-both g.H.Host.honest (g.H.Host.seen c.args.host.now) (g.H.Host.seen c.make_room.new.host) (g.H.Host.seen c.add_beats.new.host) c.args.store.now c.make_room.new.store c.add_beats.new.store c.in_ok-make_room.field-0 c.add_beats.result
+    (keeps-both g.H.Host.honest (g.H.Host.seen c.args.host.now) (g.H.Host.seen c.add_gap_before.new.host) (g.H.Host.seen c.make_room.new.host) c.args.store.now c.add_gap_before.new.store c.make_room.new.store c.in_ok-add_gap_before.field-0 (Ok c.in_ok-make_room.field-0) c.in_ok-add_gap_before.ensures.keeps c.in_ok-make_room.ensures.keeps) c.add_beats.ensures.keeps

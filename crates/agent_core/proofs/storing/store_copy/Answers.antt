@@ -11,21 +11,21 @@ take_rows-requires g c = no-rows-there c.args.left.now.registry c.args.defines.n
 
 pub returns-in_err-commit-clause-any_moment : goal.returns-in_err-commit-clause-any_moment
 returns-in_err-commit-clause-any_moment g c true_host set h copy holds of =
-    climbs (g.H.Host.seen c.args.host.now).past c.args.store.now set h holds (copied copy) c.args.kept.now of (g.H.Host.seen c.commit.new.host).past (c.commit.ensures.any_moment true_host set holds.stored holds.store_of)
+    climbs (g.H.Host.seen c.args.host.now).past c.args.store.now set h holds (copied copy) c.args.kept.now of (g.H.Host.seen c.commit.new.host).past (c.commit.ensures.any_moment true_host holds.stored holds.store_of)
 
 pub returns-in_err-take_rows-clause-any_moment : goal.returns-in_err-take_rows-clause-any_moment
 returns-in_err-take_rows-clause-any_moment g c true_host set h copy holds of =
-    climbs (g.H.Host.seen c.args.host.now).past c.args.store.now set h holds (copied copy) c.args.kept.now of (g.H.Host.seen c.commit.new.host).past (c.commit.ensures.any_moment true_host set holds.stored holds.store_of)
+    climbs (g.H.Host.seen c.args.host.now).past c.args.store.now set h holds (copied copy) c.args.kept.now of (g.H.Host.seen c.commit.new.host).past (c.commit.ensures.any_moment true_host holds.stored holds.store_of)
 
 pub returns-clause-any_moment : goal.returns-clause-any_moment
 returns-clause-any_moment g c true_host set h copy holds of =
-    climbs (g.H.Host.seen c.args.host.now).past c.args.store.now set h holds (copied copy) c.args.kept.now of (g.H.Host.seen c.commit.new.host).past (c.commit.ensures.any_moment true_host set holds.stored holds.store_of)
+    climbs (g.H.Host.seen c.args.host.now).past c.args.store.now set h holds (copied copy) c.args.kept.now of (g.H.Host.seen c.commit.new.host).past (c.commit.ensures.any_moment true_host holds.stored holds.store_of)
 
 pub returns-clause-done : goal.returns-clause-done
 returns-clause-done g c =
     always _ c.see_copy.result (λ true_host set h copy holds of.
     holds-beat (g.H.Host.seen c.args.host.now).past c.args.store.now set h holds (copied copy) c.args.kept.now of (g.H.Host.seen c.commit.new.host).past c.commit.new.store
-    (c.in_ok-commit.ensures.stored true_host set holds.stored holds.store_of))
+    (c.in_ok-commit.ensures.stored true_host holds.stored holds.store_of))
 
 pub returns-clause-awaits : goal.returns-clause-awaits
 returns-clause-awaits g c =

@@ -7,6 +7,7 @@ use Rattle.agent_core.specs.declared.reply.Said.{Said}
 use Rattle.agent_core.specs.declared.reply.Said.TheVariants.{Disabled, Nothing}
 use Rattle.agent_core.specs.Said.{IsSaid}
 use Rattle.host_model.specs.Seen.{Seen}
+use Rattle.agent_app.proofs.FitLemmas.{fit-told}
 use Rattle.agent_app.proofs.TakeLemmas.{answer-line, block-line, disabled-said, last-line, nothing-said, quiet-line, stored-line, stored-said, table-said, torn-line}
 use Rattle.agent_app.proofs.running.Running.take.Goals as goal
 
@@ -74,3 +75,13 @@ returns-in-Err g c = record {
       torn-line g.H.Host.honest c.args.self.now host c.args.number bytes short c.args.said is c.take_line.result middle c.take_line.new.self c.take_line.new.feed c.take_line.ensures Memory refl tt (λ e. cc) (λ e. cc) (λ failed. absurd (other failed)) (λ ended ending text. tt);
   ready = tt;
 }
+
+pub returns-in-Ok-Stored-clause-ready : goal.returns-in-Ok-Stored-clause-ready
+returns-in-Ok-Stored-clause-ready g c =
+    fit-told g.H.Host.honest _ (g.H.Host.seen c.take_line.new.host) (g.H.Host.seen c.tell_stored.new.host) _ c.tell_stored.result
+    (record { agent = c.take_line.ensures.ready; feed = c.take_line.ensures.fed }) c.tell_stored.ensures.done
+
+pub returns-in-Ok-Table-clause-ready : goal.returns-in-Ok-Table-clause-ready
+returns-in-Ok-Table-clause-ready g c =
+    fit-told g.H.Host.honest _ (g.H.Host.seen c.take_line.new.host) (g.H.Host.seen c.tell_whole.new.host) _ c.tell_whole.result
+    (record { agent = c.take_line.ensures.ready; feed = c.take_line.ensures.fed }) c.tell_whole.ensures.done

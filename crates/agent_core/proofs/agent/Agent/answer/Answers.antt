@@ -1,6 +1,6 @@
 use Rattle.std.proofs.Common.{◌≡◌, ◌∙◌, None, ap, sym, subst}
 use Rattle.agent_core.specs.Agent.{AgentState}
-use Rattle.agent_core.specs.Kept.{HoldsHistory}
+use Rattle.agent_core.specs.Stands.{HoldsHistory}
 use Rattle.agent_core.proofs.Outcomes.{short-changes, short-reads, short-reopens}
 use Rattle.agent_core.proofs.agent.Agent.answer.Goals as goal
 

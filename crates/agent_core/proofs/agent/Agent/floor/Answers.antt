@@ -1,8 +1,9 @@
 use Rattle.std.proofs.Common.{sym, subst, ◌∙◌}
 use Rattle.agent_core.specs.Agent.{AgentState}
 use Rattle.agent_core.specs.Answers.{tier_beats}
-use Rattle.agent_core.specs.Kept.{HoldsHistory}
-use Rattle.agent_core.proofs.AnswerLemmas.{applied-all, floor-is}
+use Rattle.agent_core.specs.Stands.{HoldsHistory}
+use Rattle.agent_core.proofs.AnswerLemmas.{floor-is}
+use Rattle.agent_core.proofs.StoredLemmas.{applied-all}
 use Rattle.agent_core.proofs.agent.Agent.floor.Goals as goal
 
 pub returns : goal.returns

@@ -1,35 +1,73 @@
-use Rattle.std.proofs.Common.{[], refl, sym, ap, ◌∙◌}
+use Rattle.std.proofs.Common.{false, true, refl, sym, ap, subst, ◌∙◌}
 use Rattle.std.proofs.lemmas.Result.{err_from_is_err_and}
-use Rattle.agent_core.specs.Notes.{beats_go_on, left_after, Noted}
-use Rattle.agent_core.proofs.OpeningLemmas.{opened-at, replayed-is_of}
-use Rattle.agent_core.proofs.ReplayLemmas.{noted-is}
+use Rattle.agent_core.specs.Notes.{noted_in, noted_in_side}
+use Rattle.agent_core.specs.Sides.{IsSideOf}
+use Rattle.agent_core.proofs.NoteLemmas.{goes-by, left-is, never-good}
+use Rattle.agent_core.proofs.OpenFaults.{never-four}
+use Rattle.agent_core.proofs.OpeningLemmas.{opened-at, replayed-is_of, side-is}
 use Rattle.agent_core.proofs.agent.Agent.replayed.Goals as goal
+
+-- ---- a store of a history
+pub returns-in_err-left-clause-stands : goal.returns-in_err-left-clause-stands
+returns-in_err-left-clause-stands g c =
+    let error = err_from_is_err_and c.from_residual.result c.from_residual.ensures.1 in
+    rw (error.1, error.2) (λ past set h opened.
+    let at = opened-at past c.args.store set h opened in
+    c.in_err-left.ensures.stands set at.earlier at.beats at.were (subst (IsSideOf set at.earlier) (sym c.side.ensures) at.side))
 
 pub returns-in_err-replay_all-clause-stands : goal.returns-in_err-replay_all-clause-stands
 returns-in_err-replay_all-clause-stands g c =
     let error = err_from_is_err_and c.from_residual-in_err-replay_all.result c.from_residual-in_err-replay_all.ensures.1 in
-    rw (error.1, error.2) (λ past set h opened. c.in_err-replay_all.ensures.stands past set [] h (opened-at past c.args.store set h opened) (c.in_ok-left.ensures.left set))
+    rw (error.1, error.2) (λ past set h opened.
+    let at = opened-at past c.args.store set h opened in
+    let start = c.in_ok-left.ensures.left set at.earlier at.beats at.were (subst (IsSideOf set at.earlier) (sym c.side.ensures) at.side) in
+    c.in_err-replay_all.ensures.stands past set at.earlier h at.at start)
 
 pub returns-clause-of : goal.returns-clause-of
 returns-clause-of g c past set h opened =
     let at = opened-at past c.args.store set h opened in
-    let start = c.in_ok-left.ensures.left set in
-    replayed-is_of past _ set h (c.in_ok-replay_all.ensures.holds past set [] h at start) (c.in_ok-replay_all.ensures.left_by past set [] h at start) c.last.ensures c.count.ensures refl
+    let start = c.in_ok-left.ensures.left set at.earlier at.beats at.were (subst (IsSideOf set at.earlier) (sym c.side.ensures) at.side) in
+    replayed-is_of past _ set h (c.in_ok-replay_all.ensures.holds past set at.earlier h at.at start) (c.in_ok-replay_all.ensures.left_by past set at.earlier h at.at start) c.last.ensures c.count.ensures refl
+
+-- ---- whatever the store has stored
+pub returns-in_err-left-clause-broken : goal.returns-in_err-left-clause-broken
+returns-in_err-left-clause-broken g c =
+    let error = err_from_is_err_and c.from_residual.result c.from_residual.ensures.1 in
+    rw (error.1, error.2) (λ damaged past stored opens.
+    never-good stored (ap noted_in_side (sym (c.side.ensures ∙ side-is past c.args.store stored opens)) ∙ c.in_err-left.ensures.broken damaged))
+
+pub returns-in_err-left-clause-whole : goal.returns-in_err-left-clause-whole
+returns-in_err-left-clause-whole g c =
+    let error = err_from_is_err_and c.from_residual.result c.from_residual.ensures.1 in
+    rw (error.1, error.2) (λ damaged past stored opens. never-four _ damaged c.in_err-left.ensures.faults)
 
 pub returns-in_err-replay_all-clause-broken : goal.returns-in_err-replay_all-clause-broken
 returns-in_err-replay_all-clause-broken g c =
     let error = err_from_is_err_and c.from_residual-in_err-replay_all.result c.from_residual-in_err-replay_all.ensures.1 in
-    rw (error.1, error.2) (λ damaged past set stored opens.
-    ap (λ (start : Noted). beats_go_on start stored.after) (sym (noted-is set [] c.in_ok-left.left (c.in_ok-left.ensures.left set))) ∙ c.in_err-replay_all.ensures.broken damaged past set stored opens)
+    rw (error.1, error.2) (λ damaged past stored opens.
+    goes-by (noted_in c.in_ok-left.left) stored false
+    (ap noted_in_side (sym (c.side.ensures ∙ side-is past c.args.store stored opens)) ∙ c.in_ok-left.ensures.noted)
+    (c.in_err-replay_all.ensures.broken damaged past stored opens))
+
+pub returns-in_err-replay_all-clause-whole : goal.returns-in_err-replay_all-clause-whole
+returns-in_err-replay_all-clause-whole g c =
+    let error = err_from_is_err_and c.from_residual-in_err-replay_all.result c.from_residual-in_err-replay_all.ensures.1 in
+    rw (error.1, error.2) c.in_err-replay_all.ensures.whole
+
+pub returns-in_err-replay_all-clause-faults : goal.returns-in_err-replay_all-clause-faults
+returns-in_err-replay_all-clause-faults g c =
+    let error = err_from_is_err_and c.from_residual-in_err-replay_all.result c.from_residual-in_err-replay_all.ensures.1 in
+    rw (error.1, error.2) c.in_err-replay_all.ensures.faults
 
 pub returns-clause-notes : goal.returns-clause-notes
-returns-clause-notes g c past set stored opens =
-    ap (λ (start : Noted). beats_go_on start stored.after) (sym (noted-is set [] c.in_ok-left.left (c.in_ok-left.ensures.left set))) ∙ c.in_ok-replay_all.ensures.notes past set stored opens
+returns-clause-notes g c past stored opens =
+    goes-by (noted_in c.in_ok-left.left) stored true
+    (ap noted_in_side (sym (c.side.ensures ∙ side-is past c.args.store stored opens)) ∙ c.in_ok-left.ensures.noted)
+    (c.in_ok-replay_all.ensures.notes past stored opens)
 
 pub returns-clause-left : goal.returns-clause-left
-returns-clause-left g c past set stored opens =
-    let left = c.in_ok-replay_all.ensures.noted past set stored opens ∙ ap (λ (start : Noted). left_after start stored.after) (noted-is set [] c.in_ok-left.left (c.in_ok-left.ensures.left set)) in
-    record {
-      registry = ap (λ (n : Noted). n.registry) left;
-      role = ap (λ (n : Noted). n.role) left;
-    }
+returns-clause-left g c past stored opens = record {
+  noted = left-is (noted_in c.in_ok-left.left) (noted_in c.replay_all.new.left) stored
+      (ap noted_in_side (sym (c.side.ensures ∙ side-is past c.args.store stored opens)) ∙ c.in_ok-left.ensures.noted)
+      (c.in_ok-replay_all.ensures.noted past stored opens);
+}

@@ -1,7 +1,7 @@
 use Rattle.std.proofs.Common.{◌≡◌, ◌∙◌, None, ap, sym, subst}
 use Rattle.agent_core.specs.Agent.{AgentState}
-use Rattle.agent_core.specs.Kept.{HoldsHistory}
-use Rattle.agent_core.proofs.AnswerLemmas.{applied-all}
+use Rattle.agent_core.specs.Stands.{HoldsHistory}
+use Rattle.agent_core.proofs.StoredLemmas.{applied-all}
 use Rattle.agent_core.proofs.Outcomes.{short-changes, short-reads, short-reopens}
 use Rattle.agent_core.proofs.agent.Agent.reply.Goals as goal
 

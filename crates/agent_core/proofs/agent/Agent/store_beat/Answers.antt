@@ -1,20 +1,19 @@
-use Rattle.std.proofs.Common.{◌≡◌, ◌∷◌, ◌∙◌, Bool, Option, None, ap, arith, refl, rules, sym, subst}
-use Rattle.std.proofs.lemmas.Grind.{common_steps}
+use Rattle.std.proofs.Common.{◌≡◌, ◌∷◌, ◌∙◌, Bool, None, ap, refl, sym, subst}
 use Rattle.std.proofs.lemmas.Result.{IfOk-weaker}
-use Rattle.agent_core.specs.Agent.{left_in, AgentState, IsAgentOf}
-use Rattle.agent_core.specs.Roles.{copies}
 use Rattle.host_model.specs.Disks.{EveryDisk}
 use Rattle.host_model.specs.Moments.{begins, Throughout}
 use Rattle.host_model.specs.Seen.{Seen}
-use Rattle.history.specs.declared.fault.BlockFault.{BlockFault}
 use Rattle.history.specs.History.{collected}
-use Rattle.history.specs.declared.numbered.NumberedBeat.{NumberedBeat}
-use Rattle.agent_core.specs.Kept.{HoldsHistory, IsTakenBeat, StandsForOneOf}
-use Rattle.agent_core.specs.Left.{IsLeftBy}
-use Rattle.agent_core.specs.Rules.{beat_refusal, HasLimits}
-use Rattle.agent_core.proofs.LimitLemmas.{limits-after}
+use Rattle.history.specs.Registry.{Registry, with_definitions}
+use Rattle.alarm_core.specs.declared.alarms.Alarms.{Alarms}
+use Rattle.alarm_core.specs.UpTo.{IsUpTo}
+use Rattle.agent_core.specs.Agent.{AgentIsReady, AgentState, IsAgentOf}
+use Rattle.agent_core.specs.Roles.{copies}
+use Rattle.agent_core.specs.Rules.{beat_refusal, content_refusal}
+use Rattle.agent_core.specs.Stands.{StandsForOneOf}
 use Rattle.agent_core.proofs.HistoryLemmas.{passes}
-use Rattle.agent_core.proofs.KeptLemmas.{agent-more, beat_moments, follows-of, nothing_done}
+use Rattle.agent_core.proofs.KeepsLemmas.{spent-never, told-ready}
+use Rattle.agent_core.proofs.KeptLemmas.{agent-more, follows-of, nothing_done, one_of}
 use Rattle.agent_core.proofs.Outcomes.{on_both}
 use Rattle.agent_core.proofs.agent.Agent.store_beat.Goals as goal
 
@@ -24,97 +23,99 @@ returns-in-Err-Refused-clause-any_moment g c true_host set h is_of = begins (not
 pub returns-in-Err-Memory-clause-any_moment : goal.returns-in-Err-Memory-clause-any_moment
 returns-in-Err-Memory-clause-any_moment g c true_host set h is_of = begins (nothing_done (g.H.Host.seen c.args.host.now).past c.args.self.now set h is_of _ _)
 
-pub add-requires-clause-registry : goal.add-requires-clause-registry
-add-requires-clause-registry g c =
-    let free : beat_refusal c.self.inside.left.registry (copies c.self.inside.left.role) c.self.inside.last c.args.moment c.args.beat.now ≡ None
-    = ap (λ (b : Bool). beat_refusal c.self.inside.left.registry b c.self.inside.last c.args.moment c.args.beat.now) (sym c.copies.ensures) ∙ c.in-Ok.ensures.judged in
-    let passed = passes c.self.inside.left.registry (copies c.self.inside.left.role) c.self.inside.last c.args.moment c.args.beat.now free in
+pub add_beat-requires-clause-later : goal.add_beat-requires-clause-later
+add_beat-requires-clause-later g c =
+    let agent : AgentState = c.args.self.now in
+    let moment = c.args.moment in
+    let beat = c.args.beat.now in
+    let inside = c.self.inside in
+    let free : beat_refusal agent.registry (copies agent.role) agent.last moment beat ≡ None =
+    ap (λ (a : AgentState). beat_refusal a.registry (copies a.role) a.last moment beat) (sym c.self.view_is)
+    ∙ (ap (λ (b : Bool). beat_refusal inside.left.registry b inside.last moment beat) (sym c.copies.ensures) ∙ c.in-Ok.ensures.judged) in
+    (passes agent.registry (copies agent.role) agent.last moment beat free).later
+
+pub add_beat-requires-clause-content : goal.add_beat-requires-clause-content
+add_beat-requires-clause-content g c = ap (λ (a : AgentState). content_refusal a.registry c.args.moment c.args.beat.now) (sym c.self.view_is) ∙ c.in-Ok.ensures.content
+
+pub tell-requires-clause-same : goal.tell-requires-clause-same
+tell-requires-clause-same g c none =
     let going : c.args.self.now.fault ≡ None = ap (λ (a : AgentState). a.fault) (sym c.self.view_is) ∙ c.in_default.is in
-    let limits : HasLimits c.self.inside.left.registry = subst (λ (a : AgentState). HasLimits a.registry) (sym c.self.view_is) (c.requires.ready going).limits in
-    subst HasLimits (sym c.in-Ok.ensures.taken) (limits-after c.self.inside.left.registry limits c.args.beat.now c.requires.is_open passed.few_charts passed.few)
+    let old = c.args.self.now in
+    let new = c.add_beat.new.self in
+    let empty = c.defines_some.ensures.0 none in
+    let registry_is : new.registry ≡ old.registry = c.in-Ok-add_beat.ensures.registry ∙ (λ i. with_definitions old.registry (empty.0 i) (empty.1 i)) in
+    let alarms_are : new.alarms ≡ old.alarms = ap (λ (a : AgentState). a.alarms) c.add_beat.ensures.stays in
+    subst (λ (r : Registry). IsUpTo new.alarms r) (sym registry_is) (subst (λ (alarms : Alarms). IsUpTo alarms old.registry) (sym alarms_are) (c.requires.ready going).up_to)
 
-pub add-requires-clause-later : goal.add-requires-clause-later
-add-requires-clause-later g c =
-    let free : beat_refusal c.self.inside.left.registry (copies c.self.inside.left.role) c.self.inside.last c.args.moment c.args.beat.now ≡ None
-    = ap (λ (b : Bool). beat_refusal c.self.inside.left.registry b c.self.inside.last c.args.moment c.args.beat.now) (sym c.copies.ensures) ∙ c.in-Ok.ensures.judged in
-    let passed = passes c.self.inside.left.registry (copies c.self.inside.left.role) c.self.inside.last c.args.moment c.args.beat.now free in
-    let at : c.in-Ok.numbered.moment ≡ c.args.moment = ap (λ (n : NumberedBeat). n.moment) c.in-Ok.ensures.numbered in
-    grind (arith, passed.later, at)
-
-pub returns-in-Ok-add-clause-ready : goal.returns-in-Ok-add-clause-ready
-returns-in-Ok-add-clause-ready g c =
-    let free : beat_refusal c.self.inside.left.registry (copies c.self.inside.left.role) c.self.inside.last c.args.moment c.args.beat.now ≡ None
-    = ap (λ (b : Bool). beat_refusal c.self.inside.left.registry b c.self.inside.last c.args.moment c.args.beat.now) (sym c.copies.ensures) ∙ c.in-Ok.ensures.judged in
-    let passed = passes c.self.inside.left.registry (copies c.self.inside.left.role) c.self.inside.last c.args.moment c.args.beat.now free in
-    let going : c.args.self.now.fault ≡ None = ap (λ (a : AgentState). a.fault) (sym c.self.view_is) ∙ c.in_default.is in
-    let before : HasLimits c.self.inside.left.registry = subst (λ (a : AgentState). HasLimits a.registry) (sym c.self.view_is) (c.requires.ready going).limits in
-    let limits : HasLimits c.take_beat-taken.new.registry
-    = subst HasLimits (sym c.in-Ok.ensures.taken) (limits-after c.self.inside.left.registry before c.args.beat.now c.requires.is_open passed.few_charts passed.few) in
-    first_of (search (rules, limits), grind (arith, common_steps, limits))
-
-pub returns-in-Ok-add-clause-any_moment : goal.returns-in-Ok-add-clause-any_moment
-returns-in-Ok-add-clause-any_moment g c true_host set h is_of =
-    let free : beat_refusal c.self.inside.left.registry (copies c.self.inside.left.role) c.self.inside.last c.args.moment c.args.beat.now ≡ None
-    = ap (λ (b : Bool). beat_refusal c.self.inside.left.registry b c.self.inside.last c.args.moment c.args.beat.now) (sym c.copies.ensures) ∙ c.in-Ok.ensures.judged in
-    let taken : IsTakenBeat c.self.inside.left.registry c.args.moment c.args.beat.now c.take_beat-taken.new.registry c.in-Ok.numbered
-    = record { applied = c.in-Ok.ensures.taken; numbered_is = c.in-Ok.ensures.numbered; regular = c.in-Ok.ensures.regular } in
-    let agent = c.args.self.now in
-    let leaves : Option BlockFault = beat_refusal agent.registry (copies agent.role) agent.last c.args.moment c.args.beat.now in
-    subst (λ (s : Seen). Throughout (EveryDisk (StandsForOneOf set h leaves (collected c.args.moment c.args.beat.now ∷ h))) (g.H.Host.seen c.args.host.now).past s.past) (sym c.tell.ensures.host)
-    (beat_moments (g.H.Host.seen c.args.host.now).past (g.H.Host.seen c.add.new.host).past c.args.self.now _ set h c.args.moment c.args.beat.now c.self.view_is c.requires.is_open free is_of
-    (c.add.ensures.any_moment true_host c.self.inside.left.registry c.args.moment c.args.beat.now set h taken))
+pub returns-in-Ok-add_beat-clause-any_moment : goal.returns-in-Ok-add_beat-clause-any_moment
+returns-in-Ok-add_beat-clause-any_moment g c true_host set h is_of =
+    let agent : AgentState = c.args.self.now in
+    let moment = c.args.moment in
+    let beat = c.args.beat.now in
+    let inside = c.self.inside in
+    let free : beat_refusal agent.registry (copies agent.role) agent.last moment beat ≡ None =
+    ap (λ (a : AgentState). beat_refusal a.registry (copies a.role) a.last moment beat) (sym c.self.view_is)
+    ∙ (ap (λ (b : Bool). beat_refusal inside.left.registry b inside.last moment beat) (sym c.copies.ensures) ∙ c.in-Ok.ensures.judged) in
+    let past = (g.H.Host.seen c.args.host.now).past in
+    let new = (g.H.Host.seen c.add_beat.new.host).past in
+    subst (λ (s : Seen). Throughout (EveryDisk (StandsForOneOf set h (beat_refusal agent.registry (copies agent.role) agent.last moment beat) (collected moment beat ∷ h))) past s.past) (sym c.tell.ensures.host)
+    (one_of past agent set h is_of (beat_refusal agent.registry (copies agent.role) agent.last moment beat) (collected moment beat ∷ h) new free
+    (c.add_beat.ensures.any_moment true_host set h is_of.holds is_of.left_by (follows-of past agent set h is_of moment beat c.requires.is_open free)))
 
 pub returns-clause-any_moment : goal.returns-clause-any_moment
 returns-clause-any_moment g c true_host set h is_of =
-    let free : beat_refusal c.self.inside.left.registry (copies c.self.inside.left.role) c.self.inside.last c.args.moment c.args.beat.now ≡ None
-    = ap (λ (b : Bool). beat_refusal c.self.inside.left.registry b c.self.inside.last c.args.moment c.args.beat.now) (sym c.copies.ensures) ∙ c.in-Ok.ensures.judged in
-    let taken : IsTakenBeat c.self.inside.left.registry c.args.moment c.args.beat.now c.take_beat-taken.new.registry c.in-Ok.numbered
-    = record { applied = c.in-Ok.ensures.taken; numbered_is = c.in-Ok.ensures.numbered; regular = c.in-Ok.ensures.regular } in
-    beat_moments (g.H.Host.seen c.args.host.now).past (g.H.Host.seen c.add.new.host).past c.args.self.now _ set h c.args.moment c.args.beat.now c.self.view_is c.requires.is_open free is_of
-    (c.add.ensures.any_moment true_host c.self.inside.left.registry c.args.moment c.args.beat.now set h taken)
+    let agent : AgentState = c.args.self.now in
+    let moment = c.args.moment in
+    let beat = c.args.beat.now in
+    let inside = c.self.inside in
+    let free : beat_refusal agent.registry (copies agent.role) agent.last moment beat ≡ None =
+    ap (λ (a : AgentState). beat_refusal a.registry (copies a.role) a.last moment beat) (sym c.self.view_is)
+    ∙ (ap (λ (b : Bool). beat_refusal inside.left.registry b inside.last moment beat) (sym c.copies.ensures) ∙ c.in-Ok.ensures.judged) in
+    let past = (g.H.Host.seen c.args.host.now).past in
+    let new = (g.H.Host.seen c.add_beat.new.host).past in
+    one_of past agent set h is_of (beat_refusal agent.registry (copies agent.role) agent.last moment beat) (collected moment beat ∷ h) new free
+    (c.add_beat.ensures.any_moment true_host set h is_of.holds is_of.left_by (follows-of past agent set h is_of moment beat c.requires.is_open free))
 
-pub returns-in-Ok-add-clause-done : goal.returns-in-Ok-add-clause-done
-returns-in-Ok-add-clause-done g c =
+pub returns-in-Ok-add_beat-clause-done : goal.returns-in-Ok-add_beat-clause-done
+returns-in-Ok-add_beat-clause-done g c =
     on_both _ _ _ c.tell.result c.tell.ensures.told c.tell.ensures.left_by (λ told followed true_host set h is_of.
-    let past = (g.H.Host.seen c.args.host.now).past in
-    let new = (g.H.Host.seen c.add.new.host).past in
     let agent : AgentState = c.args.self.now in
     let moment = c.args.moment in
     let beat = c.args.beat.now in
     let inside = c.self.inside in
-    let free : beat_refusal agent.registry (copies agent.role) agent.last moment beat ≡ None
-    = ap (λ (a : AgentState). beat_refusal a.registry (copies a.role) a.last moment beat) (sym c.self.view_is) ∙ (ap (λ (b : Bool). beat_refusal inside.left.registry b inside.last moment beat) (sym c.copies.ensures) ∙ c.in-Ok.ensures.judged) in
-    let taken : IsTakenBeat inside.left.registry moment beat c.take_beat-taken.new.registry c.in-Ok.numbered
-    = record { applied = c.in-Ok.ensures.taken; numbered_is = c.in-Ok.ensures.numbered; regular = c.in-Ok.ensures.regular } in
-    let did = c.in-Ok-add.ensures.done true_host inside.left.registry moment beat set h taken (subst (λ (a : AgentState). HoldsHistory past a.store set h) (sym c.self.view_is) is_of.holds)
-    (subst (λ (a : AgentState). IsLeftBy set h (left_in a)) (sym c.self.view_is) is_of.left_by) (follows-of past agent set h is_of moment beat c.requires.is_open free) in
-    let parts : AgentState = record {
-      store = c.add.new.store;
-      registry = c.add.new.left.registry;
-      last_rows = c.add.new.left.last_rows;
-      latest = c.add.new.left.latest;
-      alarms = c.add.new.left.alarms;
-      last = inside.last;
-      count = inside.count;
-      role = c.add.new.left.role;
-      fault = inside.fault;
-    } in
+    let free : beat_refusal agent.registry (copies agent.role) agent.last moment beat ≡ None =
+    ap (λ (a : AgentState). beat_refusal a.registry (copies a.role) a.last moment beat) (sym c.self.view_is)
+    ∙ (ap (λ (b : Bool). beat_refusal inside.left.registry b inside.last moment beat) (sym c.copies.ensures) ∙ c.in-Ok.ensures.judged) in
+    let past = (g.H.Host.seen c.args.host.now).past in
+    let new = (g.H.Host.seen c.add_beat.new.host).past in
+    let did = c.in-Ok-add_beat.ensures.done true_host set h is_of.holds is_of.left_by (follows-of past agent set h is_of moment beat c.requires.is_open free) in
+    let stays = c.add_beat.ensures.stays in
     subst (λ (s : Seen). IsAgentOf s.past c.tell.new.self set (collected moment beat ∷ h)) (sym c.tell.ensures.host)
-    (agent-more past new agent parts c.tell.new.self set h (collected moment beat) moment is_of did.0 (ap (λ (a : AgentState). a.count) c.self.view_is)
-    (ap (λ (a : AgentState). a.fault) c.self.view_is ∙ is_of.going) told refl (followed new set h (collected moment beat) did.0 did.1 refl)))
+    (agent-more past new agent c.add_beat.new.self c.tell.new.self set h (collected moment beat) moment is_of did.0 (ap (λ (a : AgentState). a.count) stays) (ap (λ (a : AgentState). a.fault) stays ∙ is_of.going) told refl
+    (followed new set h (collected moment beat) did.0 did.1 refl)))
 
-pub returns-in-Ok-add-clause-events : goal.returns-in-Ok-add-clause-events
-returns-in-Ok-add-clause-events g c =
+pub returns-in-Ok-add_beat-clause-events : goal.returns-in-Ok-add_beat-clause-events
+returns-in-Ok-add_beat-clause-events g c =
     IfOk-weaker c.tell.result _ _ (λ reply told true_host set h is_of.
-    let past = (g.H.Host.seen c.args.host.now).past in
     let agent : AgentState = c.args.self.now in
     let moment = c.args.moment in
     let beat = c.args.beat.now in
     let inside = c.self.inside in
-    let free : beat_refusal agent.registry (copies agent.role) agent.last moment beat ≡ None
-    = ap (λ (a : AgentState). beat_refusal a.registry (copies a.role) a.last moment beat) (sym c.self.view_is) ∙ (ap (λ (b : Bool). beat_refusal inside.left.registry b inside.last moment beat) (sym c.copies.ensures) ∙ c.in-Ok.ensures.judged) in
-    let taken : IsTakenBeat inside.left.registry moment beat c.take_beat-taken.new.registry c.in-Ok.numbered
-    = record { applied = c.in-Ok.ensures.taken; numbered_is = c.in-Ok.ensures.numbered; regular = c.in-Ok.ensures.regular } in
-    let did = c.in-Ok-add.ensures.done true_host inside.left.registry moment beat set h taken (subst (λ (a : AgentState). HoldsHistory past a.store set h) (sym c.self.view_is) is_of.holds)
-    (subst (λ (a : AgentState). IsLeftBy set h (left_in a)) (sym c.self.view_is) is_of.left_by) (follows-of past agent set h is_of moment beat c.requires.is_open free) in
-    told (g.H.Host.seen c.add.new.host).past set h (collected moment beat) did.0 did.1 refl) c.tell.ensures.events
+    let free : beat_refusal agent.registry (copies agent.role) agent.last moment beat ≡ None =
+    ap (λ (a : AgentState). beat_refusal a.registry (copies a.role) a.last moment beat) (sym c.self.view_is)
+    ∙ (ap (λ (b : Bool). beat_refusal inside.left.registry b inside.last moment beat) (sym c.copies.ensures) ∙ c.in-Ok.ensures.judged) in
+    let past = (g.H.Host.seen c.args.host.now).past in
+    let new = (g.H.Host.seen c.add_beat.new.host).past in
+    let did = c.in-Ok-add_beat.ensures.done true_host set h is_of.holds is_of.left_by (follows-of past agent set h is_of moment beat c.requires.is_open free) in
+    told new set h (collected moment beat) did.0 did.1 refl) c.tell.ensures.events
+
+pub returns-in-Ok-add_beat-clause-ready : goal.returns-in-Ok-add_beat-clause-ready
+returns-in-Ok-add_beat-clause-ready g c =
+    let going : c.args.self.now.fault ≡ None = ap (λ (a : AgentState). a.fault) (sym c.self.view_is) ∙ c.in_default.is in
+    let did = c.in-Ok-add_beat.ensures in
+    subst (λ (s : Seen). AgentIsReady g.H.Host.honest s.past c.tell.new.self) (sym c.tell.ensures.host)
+    (told-ready c.tell.result g.H.Host.honest (g.H.Host.seen c.add_beat.new.host).past c.add_beat.new.self c.tell.new.self c.args.moment did.keeps.ready did.keeps.replayed did.keeps.going did.stored did.charts did.dimensions did.limits
+    c.tell.ensures.told c.tell.ensures.up_to (ap (λ (a : AgentState). a.fault) did.stays ∙ going) c.tell.ensures.fault c.tell.ensures.memory)
+
+pub returns-clause-ready : goal.returns-clause-ready
+returns-clause-ready g c none = absurd (spent-never c.in-Err.fault c.in-Err.ensures.keeps.faults (sym c.cause-self-inside.ensures ∙ none))

@@ -3,12 +3,14 @@ use Rattle.host_model.specs.Disks.{EveryDisk}
 use Rattle.host_model.specs.Moments.{Throughout}
 use Rattle.history.specs.History.{Beat as HistoryBeat}
 use Rattle.replication.specs.Verdict.{is_stored}
-use Rattle.store_core.specs.Store.{counted}
+use Rattle.store_core.specs.Counts.{counted}
 use Rattle.agent_core.specs.Agent.{AgentState, IsAgentOf}
 use Rattle.agent_core.specs.Calls.{agent_adds, agent_verdict}
-use Rattle.agent_core.specs.Copying.{copy_refusal, events_onto}
-use Rattle.agent_core.specs.Kept.{onto, StandsForFront}
+use Rattle.agent_core.specs.Copying.{copy_refusal, events_onto, refusal_by}
+use Rattle.agent_core.specs.Kept.{onto}
+use Rattle.agent_core.specs.Stands.{StandsForFront}
 use Rattle.agent_core.proofs.CopyCalls.{left-events, none-added, stored-adds}
+use Rattle.agent_core.proofs.Outcomes.{spending-refusal}
 use Rattle.agent_core.proofs.agent.Agent.store_copies.Goals as goal
 
 pub returns-then-not-is_stored-clause-any_moment : goal.returns-then-not-is_stored-clause-any_moment
@@ -78,3 +80,26 @@ returns-in-Err-clause-any_moment g c true_host set h is_of =
     = ap (λ (a : AgentState). copy_refusal a.registry a.role message) (sym c.self.view_is) ∙ sym c.copy_refusal.ensures ∙ c.in_default-copy_refusal.is in
     subst (λ (more : List HistoryBeat). Throughout (EveryDisk (StandsForFront set h more)) (g.H.Host.seen c.args.host.now).past (g.H.Host.seen c.add_copies.new.host).past)
     (stored-adds agent message stored free) (c.in-Err.ensures.any_moment true_host set h is_of)
+
+pub add_copies-requires-clause-free : goal.add_copies-requires-clause-free
+add_copies-requires-clause-free g c =
+    ap (λ (a : AgentState). copy_refusal a.registry a.role c.args.message.now) (sym c.self.view_is) ∙ sym c.copy_refusal.ensures ∙ c.in_default-copy_refusal.is
+
+pub returns-in-Ok-clause-refused : goal.returns-in-Ok-clause-refused
+returns-in-Ok-clause-refused g c going =
+    let agent = c.args.self.now in
+    let message = c.args.message.now in
+    let stored : is_stored (agent_verdict agent message) ≡ true = search rules in
+    let free : copy_refusal agent.registry agent.role message ≡ None
+    = ap (λ (a : AgentState). copy_refusal a.registry a.role message) (sym c.self.view_is) ∙ sym c.copy_refusal.ensures ∙ c.in_default-copy_refusal.is in
+    ap (λ (b : Bool). if b then copy_refusal agent.registry agent.role message else None) stored ∙ free
+
+pub returns-in-Err-clause-refused : goal.returns-in-Err-clause-refused
+returns-in-Err-clause-refused g c going =
+    let agent = c.args.self.now in
+    let message = c.args.message.now in
+    let stored : is_stored (agent_verdict agent message) ≡ true = search rules in
+    let free : copy_refusal agent.registry agent.role message ≡ None
+    = ap (λ (a : AgentState). copy_refusal a.registry a.role message) (sym c.self.view_is) ∙ sym c.copy_refusal.ensures ∙ c.in_default-copy_refusal.is in
+    spending-refusal (refusal_by (agent_verdict agent message) agent.registry agent.role message) c.in-Err.fault
+    (ap (λ (b : Bool). if b then copy_refusal agent.registry agent.role message else None) stored ∙ free) c.in-Err.ensures.faults

@@ -1,8 +1,8 @@
 use Rattle.std.proofs.Common.{◌∷◌, sym, subst}
 use Rattle.agent_core.specs.Agent.{left_in, AgentState}
-use Rattle.agent_core.specs.Kept.{HoldsHistory}
+use Rattle.agent_core.specs.Stands.{HoldsHistory}
 use Rattle.agent_core.specs.Left.{AwaitsAlarms}
-use Rattle.agent_core.proofs.AnswerLemmas.{applied-all}
+use Rattle.agent_core.proofs.StoredLemmas.{applied-all}
 use Rattle.agent_core.proofs.agent.Agent.tell.Goals as goal
 
 pub returns-in-Ok-clause-left_by : goal.returns-in-Ok-clause-left_by

@@ -1,6 +1,8 @@
+use Rattle.std.proofs.Common.{◌≡◌, ℕ, Option, subst}
 use Rattle.agent_core.specs.Copies.{data_of_history}
-use Rattle.link_session.specs.Child.{hears_have}
-use Rattle.link_session.proofs.ChildLemmas.{had-less, had-more, had-nothing, takes-refused}
+use Rattle.link_session.specs.Child.{answers, hears_have}
+use Rattle.link_session.specs.Sending.{ChildTakes}
+use Rattle.link_session.proofs.ChildLemmas.{had-less, had-more, had-nothing, had-there, takes-refused}
 use Rattle.agent_core.specs.Agent.{id_of}
 use Rattle.link_frames.specs.declared.frame.Frame.TheVariants as frame
 use Rattle.link_session.proofs.TakingLemmas.{answer-only, bad-only}
@@ -31,3 +33,14 @@ returns-then-had-upto-clause-ends g c = answer-only (id_of c.args.agent.now) (fr
 
 pub returns-clause-ends : goal.returns-clause-ends
 returns-clause-ends g c = bad-only (id_of c.args.agent.now) (frame.Have c.args.had) c.refuse-2.result _ _ tt c.refuse-2.ensures.leaves
+
+pub returns-then-had-upto-clause-takes : goal.returns-then-had-upto-clause-takes
+returns-then-had-upto-clause-takes g c =
+    let host = g.H.Host.seen c.args.host.now in
+    let host' = g.H.Host.seen c.answer.new.host in
+    let agent = c.args.agent.now in
+    let last = c.args.self.now.last in
+    had-there g.H.Host.honest host agent last host' c.answer.new.agent c.answer.new.self.last c.answer.result _ _ c.in-Some.upto c.args.had c.in-Some.is c.if-had-upto.true
+    (subst (λ (id : ℕ). ChildTakes g.H.Host.honest host agent (λ set h. answers last (data_of_history set h (record { child = id; last = c.args.had }))) c.answer.result host' c.answer.new.agent c.answer.new.self.last
+    (g.L.Link.sent c.args.link.now) (g.L.Link.sent c.answer.new.link))
+    c.id.ensures c.answer.ensures.takes)

@@ -1,53 +1,119 @@
-use Rattle.std.proofs.Common.{◌≡◌, ℕ, List, [], ◌∷◌, ◌++◌, sym, ap, ◌∙◌, subst}
+use Rattle.std.proofs.Common.{◌≡◌, ◌+◌, ◌≤◌, List, [], sym, ap, ◌∙◌, subst, arith}
+use Rattle.host_model.proofs.CallLemmas.{ok_part}
+use Rattle.host_model.specs.Moments.{begins}
+use Rattle.journal_core.specs.Form.{record_size}
 use Rattle.beat_tiers.specs.declared.item.BeatPoint.{BeatPoint}
 use Rattle.beat_tiers.specs.Room.{tiers_held}
-use Rattle.beat_tiers.specs.State.{TiersState, after_beat}
-use Rattle.host_model.specs.declared.file.File.TheVariants.{JournalA}
-use Rattle.host_model.specs.Past.{of}
-use Rattle.host_model.specs.Moments.{begins}
-use Rattle.journal_core.specs.Journal.{IsOpen, JournalState}
-use Rattle.store_core.specs.Records.{records}
-use Rattle.store_core.specs.Store.{IsStoreOf, StoreState}
+use Rattle.beat_tiers.specs.State.{after_beat}
+use Rattle.database_files.specs.Files.{FilesState, IsOpenOf}
+use Rattle.database_files.specs.Holds.{journal_file}
+use Rattle.database_files.specs.Shares.{share}
+use Rattle.store_core.specs.Counts.{raised}
+use Rattle.store_core.specs.Store.{IsReady, IsStoreOf, StoreState}
 use Rattle.store_core.specs.Stored.{stored_with}
-use Rattle.store_core.proofs.StoreLemmas.{append_moments, applied, counted_with, nothing_done, one_more}
+use Rattle.store_core.proofs.FollowLemmas.{added_is, append_moments, fits_share, may_follow, nothing_done, one_more, ready_more, unsealed}
 use Rattle.store_core.proofs.store.Store.add.Goals as goal
 
-pub returns-in-Err-clause-any_moment : goal.returns-in-Err-clause-any_moment
-returns-in-Err-clause-any_moment g c h set stored is_of =
-    begins (nothing_done (g.H.Host.seen c.args.host.now).past c.args.self.now set stored c.args.beat.now is_of)
+-- where nothing was written
 
-pub returns-in_err-append-clause-any_moment : goal.returns-in_err-append-clause-any_moment
-returns-in_err-append-clause-any_moment g c h set stored is_of =
-    append_moments (g.H.Host.seen c.args.host.now).past (g.H.Host.seen c.append.new.host).past c.args.self.now c.self.inside.journal c.as_slice.result.now set stored c.args.beat.now
-    (ap (λ (s : StoreState). s.journal) c.self.view_is) (c.as_slice.ensures ∙ c.in-Ok.ensures.spelling) is_of c.requires.form c.requires.later (c.append.ensures.any_moment h)
+pub returns-in_default-clause-any_moment : goal.returns-in_default-clause-any_moment
+returns-in_default-clause-any_moment g c h stored is_of =
+    begins (nothing_done (g.H.Host.seen c.args.host.now).past c.args.self.now stored c.args.beat.now is_of)
 
-pub returns-clause-any_moment : goal.returns-clause-any_moment
-returns-clause-any_moment g c h set stored is_of =
-    append_moments (g.H.Host.seen c.args.host.now).past (g.H.Host.seen c.append.new.host).past c.args.self.now c.self.inside.journal c.as_slice.result.now set stored c.args.beat.now
-    (ap (λ (s : StoreState). s.journal) c.self.view_is) (c.as_slice.ensures ∙ c.in-Ok.ensures.spelling) is_of c.requires.form c.requires.later (c.append.ensures.any_moment h)
+pub returns-in_default-clause-bound : goal.returns-in_default-clause-bound
+returns-in_default-clause-bound g c side numbered h within = begins within
 
 pub returns-then-is_err-clause-any_moment : goal.returns-then-is_err-clause-any_moment
-returns-then-is_err-clause-any_moment g c h set stored is_of =
-    begins (nothing_done (g.H.Host.seen c.args.host.now).past c.args.self.now set stored c.args.beat.now is_of)
+returns-then-is_err-clause-any_moment g c h stored is_of =
+    begins (nothing_done (g.H.Host.seen c.args.host.now).past c.args.self.now stored c.args.beat.now is_of)
+
+pub returns-then-is_err-clause-bound : goal.returns-then-is_err-clause-bound
+returns-then-is_err-clause-bound g c side numbered h within = begins within
+
+pub returns-then-journal_bytes-gt-MOST-clause-any_moment :
+    goal.returns-then-journal_bytes-gt-MOST-clause-any_moment
+returns-then-journal_bytes-gt-MOST-clause-any_moment g c h stored is_of =
+    begins (nothing_done (g.H.Host.seen c.args.host.now).past c.args.self.now stored c.args.beat.now is_of)
+
+pub returns-then-journal_bytes-gt-MOST-clause-bound : goal.returns-then-journal_bytes-gt-MOST-clause-bound
+returns-then-journal_bytes-gt-MOST-clause-bound g c side numbered h within = begins within
+
+-- and where the record was
+
+pub returns-then-is_err-2-clause-any_moment : goal.returns-then-is_err-2-clause-any_moment
+returns-then-is_err-2-clause-any_moment g c h stored is_of =
+    let old = (g.H.Host.seen c.args.host.now).past in
+    let store = c.args.self.now in
+    let same : c.self.inside.files ≡ store.files = ap (λ (s : StoreState). s.files) c.self.view_is in
+    append_moments old (g.H.Host.seen c.append.new.host).past store c.as_slice.result.now stored c.args.beat.now is_of (c.as_slice.ensures ∙ c.in-Ok.ensures.spelling)
+    (may_follow old store stored [] c.args.beat.now is_of c.requires.form c.requires.later (unsealed store c.requires.not_due))
+    (λ contents opened. c.append.ensures.any_moment h contents (subst (λ (f : FilesState). IsOpenOf old f contents) (sym same) opened))
+
+pub returns-then-is_err-2-clause-bound : goal.returns-then-is_err-2-clause-bound
+returns-then-is_err-2-clause-bound g c side numbered h within =
+    let store = c.args.self.now in
+    let shares = share store.body.settings side in
+    let same : c.self.inside.files ≡ store.files = ap (λ (s : StoreState). s.files) c.self.view_is in
+    let fits = fits_share store side c.as_slice.result.now c.args.beat.now c.requires.not_due numbered (c.as_slice.ensures ∙ c.in-Ok.ensures.spelling) c.requires.size in
+    c.append.ensures.bound shares (subst (λ (f : FilesState). f.journal.bytes + record_size c.as_slice.result.now ≤ shares (journal_file f.number)) (sym same) fits) h within
+
+pub returns-clause-any_moment : goal.returns-clause-any_moment
+returns-clause-any_moment g c h stored is_of =
+    let old = (g.H.Host.seen c.args.host.now).past in
+    let store = c.args.self.now in
+    let same : c.self.inside.files ≡ store.files = ap (λ (s : StoreState). s.files) c.self.view_is in
+    append_moments old (g.H.Host.seen c.append.new.host).past store c.as_slice.result.now stored c.args.beat.now is_of (c.as_slice.ensures ∙ c.in-Ok.ensures.spelling)
+    (may_follow old store stored [] c.args.beat.now is_of c.requires.form c.requires.later (unsealed store c.requires.not_due))
+    (λ contents opened. c.append.ensures.any_moment h contents (subst (λ (f : FilesState). IsOpenOf old f contents) (sym same) opened))
+
+pub returns-clause-bound : goal.returns-clause-bound
+returns-clause-bound g c side numbered h within =
+    let store = c.args.self.now in
+    let shares = share store.body.settings side in
+    let same : c.self.inside.files ≡ store.files = ap (λ (s : StoreState). s.files) c.self.view_is in
+    let fits = fits_share store side c.as_slice.result.now c.args.beat.now c.requires.not_due numbered (c.as_slice.ensures ∙ c.in-Ok.ensures.spelling) c.requires.size in
+    c.append.ensures.bound shares (subst (λ (f : FilesState). f.journal.bytes + record_size c.as_slice.result.now ≤ shares (journal_file f.number)) (sym same) fits) h within
+
+-- the store after it
 
 pub returns-clause-stored : goal.returns-clause-stored
-returns-clause-stored g c h set stored is_of =
+returns-clause-stored g c h stored is_of =
     let old = (g.H.Host.seen c.args.host.now).past in
     let new = (g.H.Host.seen c.append.new.host).past in
     let store = c.args.self.now in
     let beat = c.args.beat.now in
-    let journal = c.append.new.journal in
+    let files = c.append.new.self in
+    let same : c.self.inside.files ≡ store.files = ap (λ (s : StoreState). s.files) c.self.view_is in
     let taken : tiers_held c.take.new.self ≡ after_beat beat.moment beat.points store.tiers =
     c.take.ensures
     ∙ ap (after_beat beat.moment c.as_slice-points.result.now) c.reserve.ensures.kept
     ∙ ap (λ (points : List BeatPoint). after_beat beat.moment points (tiers_held c.self.inside.tiers)) c.as_slice-points.ensures
     ∙ ap (λ (s : StoreState). after_beat beat.moment beat.points s.tiers) c.self.view_is in
-    let whole : c.apply.new.self ≡ applied store journal beat =
-    c.apply.ensures
-    ∙ ap (λ (s : StoreState). counted_with s (tiers_held c.take.new.self) journal beat) c.self.view_is
-    ∙ ap (λ (tiers : TiersState). counted_with store tiers journal beat) taken in
-    subst (λ (s : StoreState). IsStoreOf new s set (stored_with stored beat)) (sym whole)
-    (one_more old new store journal set stored beat is_of c.requires.form c.requires.later c.append.ensures.place
-    (subst (λ (body : List ℕ). IsOpen (of JournalA new) journal (records set stored.after ++ body ∷ [])) (c.as_slice.ensures ∙ c.in-Ok.ensures.spelling)
-    (c.in_ok-append.ensures.stored h (records set stored.after)
-    (subst (λ (j : JournalState). IsOpen (of JournalA old) j (records set stored.after)) (sym (ap (λ (s : StoreState). s.journal) c.self.view_is)) is_of.journal))))
+    let count : c.saturating_add-self-inside.result ≡ raised c.self.inside.count = omega (arith, c.saturating_add-self-inside.ensures) in
+    let whole = added_is _ store c.saturating_add-self-inside.result (tiers_held c.take.new.self) files beat c.self.view_is count taken in
+    subst (λ (s : StoreState). IsStoreOf new s (stored_with stored beat)) (sym whole)
+    (one_more old new store files c.as_slice.result.now stored beat is_of (c.as_slice.ensures ∙ c.in-Ok.ensures.spelling)
+    (may_follow old store stored [] beat is_of c.requires.form c.requires.later (unsealed store c.requires.not_due))
+    (λ contents opened. ok_part c.append.result (sym c.if-is_err-2.ensures.value) c.append.ensures.stored h contents (subst (λ (f : FilesState). IsOpenOf old f contents) (sym same) opened)))
+
+pub returns-clause-ready : goal.returns-clause-ready
+returns-clause-ready g c =
+    let old = (g.H.Host.seen c.args.host.now).past in
+    let new = (g.H.Host.seen c.append.new.host).past in
+    let store = c.args.self.now in
+    let beat = c.args.beat.now in
+    let files = c.append.new.self in
+    let fine = sym c.if-is_err-2.ensures.value in
+    let same : c.self.inside.files ≡ store.files = ap (λ (s : StoreState). s.files) c.self.view_is in
+    let number : files.number ≡ store.files.number = ap (λ (f : FilesState). f.number) (ok_part c.append.result fine c.append.ensures.files) ∙ ap (λ (f : FilesState). f.number) same in
+    let taken : tiers_held c.take.new.self ≡ after_beat beat.moment beat.points store.tiers =
+    c.take.ensures
+    ∙ ap (after_beat beat.moment c.as_slice-points.result.now) c.reserve.ensures.kept
+    ∙ ap (λ (points : List BeatPoint). after_beat beat.moment points (tiers_held c.self.inside.tiers)) c.as_slice-points.ensures
+    ∙ ap (λ (s : StoreState). after_beat beat.moment beat.points s.tiers) c.self.view_is in
+    let count : c.saturating_add-self-inside.result ≡ raised c.self.inside.count = omega (arith, c.saturating_add-self-inside.ensures) in
+    let whole = added_is _ store c.saturating_add-self-inside.result (tiers_held c.take.new.self) files beat c.self.view_is count taken in
+    subst (λ (s : StoreState). IsReady g.H.Host.honest new s) (sym whole)
+    (ready_more g.H.Host.honest old new store files c.as_slice.result.now beat c.requires.ready c.requires.replayed c.requires.form c.requires.later (unsealed store c.requires.not_due)
+    (c.as_slice.ensures ∙ c.in-Ok.ensures.spelling) c.requires.going number (ok_part c.append.result fine c.append.ensures.ready)
+    (λ h contents opened. ok_part c.append.result fine c.append.ensures.stored h contents (subst (λ (f : FilesState). IsOpenOf old f contents) (sym same) opened)))

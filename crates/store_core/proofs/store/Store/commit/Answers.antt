@@ -1,7 +1,28 @@
+use Rattle.std.proofs.Common.{Ok, sym, ap, ◌∙◌}
+use Rattle.std.specs.Result.{IsErrOf}
 use Rattle.host_model.specs.Moments.{begins}
-use Rattle.store_core.proofs.StoreLemmas.{nothing_done}
+use Rattle.store_core.specs.declared.fault.StoreFault.{StoreFault}
+use Rattle.store_core.specs.declared.fault.StoreFault.TheVariants.{MomentOrder}
+use Rattle.store_core.specs.Store.{StoreState}
+use Rattle.store_core.proofs.FollowLemmas.{later_not_before, nothing_done}
 use Rattle.store_core.proofs.store.Store.commit.Goals as goal
 
+pub returns-in-Some-clause-bound : goal.returns-in-Some-clause-bound
+returns-in-Some-clause-bound g c side numbered h within = begins within
+
 pub returns-then-not-is_later-clause-any_moment : goal.returns-then-not-is_later-clause-any_moment
-returns-then-not-is_later-clause-any_moment g c h set stored is_of =
-    begins (nothing_done (g.H.Host.seen c.args.host.now).past c.args.self.now set stored c.args.beat.now is_of)
+returns-then-not-is_later-clause-any_moment g c h stored is_of =
+    begins (nothing_done (g.H.Host.seen c.args.host.now).past c.args.self.now stored c.args.beat.now is_of)
+
+pub returns-then-not-is_later-clause-bound : goal.returns-then-not-is_later-clause-bound
+returns-then-not-is_later-clause-bound g c side numbered h within = begins within
+
+ok_no_err : IsErrOf {T = Unit {0}} {E = StoreFault} (Ok tt) MomentOrder → ⊥
+ok_no_err wrong = cc
+
+pub returns-in-Ok-clause-order : goal.returns-in-Ok-clause-order
+returns-in-Ok-clause-order g c = (
+  λ wrong. absurd (ok_no_err wrong),
+  λ both. absurd (later_not_before c.last.result c.args.self.now.tiers.last c.args.beat.now.moment (c.last.ensures ∙ ap (λ (s : StoreState). s.tiers.last) c.self.view_is)
+      (sym c.if-not-is_later.ensures) both.1),
+)

@@ -1,80 +1,106 @@
-use Rattle.std.proofs.Common.{◌≡◌, false, ℕ, List, [], ◌∷◌, length, inl, refl, sym, ap, ◌∙◌, subst, arith}
-use Rattle.host_model.specs.declared.file.File.TheVariants.{JournalA}
-use Rattle.host_model.specs.Images.{contents}
-use Rattle.host_model.specs.Past.{Event, of}
-use Rattle.host_model.specs.Moments.{Throughout}
-use Rattle.host_model.specs.Disks.{EveryDisk, reads_as}
-use Rattle.host_model.proofs.CallLemmas.{unmoved}
-use Rattle.journal_core.specs.Journal.{IsOpen}
-use Rattle.store_core.specs.Stands.{is_begun}
-use Rattle.store_core.proofs.TierLemmas.{applied_none}
-use Rattle.store_core.proofs.FirstRecordLaw.{length-settings_body}
-use Rattle.store_core.proofs.StandLemmas.{made_begun}
-use Rattle.store_core.proofs.StoreLemmas.{made_moments, WasOrIsNew}
+use Rattle.std.proofs.Common.{◌≡◌, ◌⊎◌, Err, inl, inr, sym, ap, ◌∙◌}
+use Rattle.std.specs.Result.{IsErrOf}
+use Rattle.std.proofs.lemmas.Bool.{false≢true}
+use Rattle.host_model.specs.Disks.{reads_as}
+use Rattle.host_model.specs.Moments.{begins}
+use Rattle.host_model.proofs.DiskLemmas.{disks_weaker}
+use Rattle.checkpoint_body.specs.declared.body.Body.{Body}
+use Rattle.database_files.specs.declared.fault.FilesFault.{FilesFault}
+use Rattle.database_files.specs.declared.fault.FilesFault.TheVariants as files
+use Rattle.database_files.specs.Shares.{share}
+use Rattle.store_core.specs.declared.fault.StoreFault.{StoreFault}
+use Rattle.store_core.specs.declared.fault.StoreFault.TheVariants.{DiskFault, Exists, Memory}
+use Rattle.store_core.specs.Faults.{fault_of_files}
+use Rattle.store_core.proofs.FaultLemmas.{same-fault}
+use Rattle.store_core.proofs.OpenLemmas.{new-ready, new-room, new-stored, was-or-new}
+use Rattle.store_core.proofs.StandLemmas.{is-made, none-made}
 use Rattle.store_core.proofs.store.Store.create.Goals as goal
 
+-- ---- nothing has happened yet
+
 pub returns-in_default-clause-any_moment : goal.returns-in_default-clause-any_moment
-returns-in_default-clause-any_moment g c h =
-    let old = (g.H.Host.seen c.args.host.now).past in
-    unmoved (EveryDisk (WasOrIsNew old c.args.settings.now)) old (g.H.Host.seen c.is_made.new.host).past (c.is_made.ensures.past h) (λ disk images. inl images)
+returns-in_default-clause-any_moment g c h = begins (λ disk images. inl images)
 
-pub returns-then-made-clause-any_moment : goal.returns-then-made-clause-any_moment
-returns-then-made-clause-any_moment g c h =
-    let old = (g.H.Host.seen c.args.host.now).past in
-    unmoved (EveryDisk (WasOrIsNew old c.args.settings.now)) old (g.H.Host.seen c.is_made.new.host).past (c.is_made.ensures.past h) (λ disk images. inl images)
+pub returns-in_default-clause-made_moment : goal.returns-in_default-clause-made_moment
+returns-in_default-clause-made_moment g c h made = begins (λ disk images. images)
 
-pub returns-in_default-write_settings-clause-any_moment : goal.returns-in_default-write_settings-clause-any_moment
-returns-in_default-write_settings-clause-any_moment g c h =
-    let old = (g.H.Host.seen c.args.host.now).past in
-    unmoved (EveryDisk (WasOrIsNew old c.args.settings.now)) old (g.H.Host.seen c.is_made.new.host).past (c.is_made.ensures.past h) (λ disk images. inl images)
+pub returns-in_default-clause-bound : goal.returns-in_default-clause-bound
+returns-in_default-clause-bound g c most short h within = begins within
 
 pub returns-in_default-new_tiers-clause-any_moment : goal.returns-in_default-new_tiers-clause-any_moment
-returns-in_default-new_tiers-clause-any_moment g c h =
-    let old = (g.H.Host.seen c.args.host.now).past in
-    unmoved (EveryDisk (WasOrIsNew old c.args.settings.now)) old (g.H.Host.seen c.is_made.new.host).past (c.is_made.ensures.past h) (λ disk images. inl images)
+returns-in_default-new_tiers-clause-any_moment g c h = begins (λ disk images. inl images)
 
-pub returns-in_default-copy-clause-any_moment : goal.returns-in_default-copy-clause-any_moment
-returns-in_default-copy-clause-any_moment g c h =
-    let old = (g.H.Host.seen c.args.host.now).past in
-    unmoved (EveryDisk (WasOrIsNew old c.args.settings.now)) old (g.H.Host.seen c.is_made.new.host).past (c.is_made.ensures.past h) (λ disk images. inl images)
+pub returns-in_default-new_tiers-clause-made_moment : goal.returns-in_default-new_tiers-clause-made_moment
+returns-in_default-new_tiers-clause-made_moment g c h made = begins (λ disk images. images)
 
-pub make-requires : goal.make-requires
-make-requires g c =
-    let size = ap length (c.as_slice.ensures ∙ c.in-Ok-write_settings.ensures) ∙ length-settings_body c.args.settings.now c.requires in omega (arith, size)
+pub returns-in_default-new_tiers-clause-bound : goal.returns-in_default-new_tiers-clause-bound
+returns-in_default-new_tiers-clause-bound g c most short h within = begins within
 
-pub returns-in_err-journal-clause-any_moment : goal.returns-in_err-journal-clause-any_moment
-returns-in_err-journal-clause-any_moment g c h =
-    let old = (g.H.Host.seen c.args.host.now).past in
-    let middle = (g.H.Host.seen c.is_made.new.host).past in
-    let new = (g.H.Host.seen c.make.new.host).past in
+-- ---- the files were made, or not
+
+pub returns-in-Ok-create-clause-none : goal.returns-in-Ok-create-clause-none
+returns-in-Ok-create-clause-none g c h = none-made (reads_as (g.H.Host.seen c.args.host.now).past) (c.in-Ok-create.ensures.none h)
+
+pub returns-in-Ok-create-clause-made : goal.returns-in-Ok-create-clause-made
+returns-in-Ok-create-clause-made g c h made =
+    absurd (false≢true (sym (none-made (reads_as (g.H.Host.seen c.args.host.now).past) (c.in-Ok-create.ensures.none h)) ∙ made))
+
+pub returns-in-Ok-create-clause-made_moment : goal.returns-in-Ok-create-clause-made_moment
+returns-in-Ok-create-clause-made_moment g c h made =
+    c.create.ensures.made_moment h (sym (is-made (reads_as (g.H.Host.seen c.args.host.now).past)) ∙ made)
+
+pub returns-in-Err-clause-exists : goal.returns-in-Err-clause-exists
+returns-in-Err-clause-exists g c is h =
+    let fault : c.of_files.result ≡ Exists = cc in
+    is-made (reads_as (g.H.Host.seen c.args.host.now).past)
+    ∙ c.in-Err.ensures.exists (ap Err (same-fault c.in-Err.fault files.Exists (sym c.of_files.ensures ∙ fault))) h
+
+-- a fault of the files where there is a database
+made_fault : {T U : Type 0} (fault : FilesFault) (other : StoreFault) → other ≡ fault_of_files fault
+    → IsErrOf {T = T} {E = FilesFault} (Err fault) files.Exists ⊎ IsErrOf {T = T} {E = FilesFault} (Err fault) files.DiskFault
+    → IsErrOf {T = U} {E = StoreFault} (Err other) Exists ⊎ IsErrOf {T = U} {E = StoreFault} (Err other) DiskFault ⊎ IsErrOf {T = U} {E = StoreFault} (Err other) Memory
+made_fault fault other same (inl is) = let here : fault ≡ files.Exists = cc in inl (ap Err (same ∙ ap fault_of_files here))
+made_fault fault other same (inr is) = let here : fault ≡ files.DiskFault = cc in inr (inl (ap Err (same ∙ ap fault_of_files here)))
+
+pub returns-in-Err-clause-made : goal.returns-in-Err-clause-made
+returns-in-Err-clause-made g c h made =
+    let held = c.in-Err.ensures.made h (sym (is-made (reads_as (g.H.Host.seen c.args.host.now).past)) ∙ made) in
+    (made_fault c.in-Err.fault c.of_files.result c.of_files.ensures held.0, held.1)
+
+pub returns-in-Err-clause-made_moment : goal.returns-in-Err-clause-made_moment
+returns-in-Err-clause-made_moment g c h made =
+    c.create.ensures.made_moment h (sym (is-made (reads_as (g.H.Host.seen c.args.host.now).past)) ∙ made)
+
+pub returns-in-Ok-create-clause-ready : goal.returns-in-Ok-create-clause-ready
+returns-in-Ok-create-clause-ready g c =
+    let first = c.in-Ok.ensures in
+    new-ready g.H.Host.honest (g.H.Host.seen c.create.new.host).past _ c.args.settings.now first.spelt first.empty first.tiers
+    c.in-Ok-new_tiers.ensures c.new.ensures (sym (ap (λ (b : Body). b.count) first.body)) c.in-Ok-create.ensures.ready.place (λ h. c.in-Ok-create.ensures.created h)
+
+pub returns-in-Ok-create-clause-any_moment : goal.returns-in-Ok-create-clause-any_moment
+returns-in-Ok-create-clause-any_moment g c h =
+    let first = c.in-Ok.ensures in
     let set = c.args.settings.now in
-    let unbegun : is_begun (contents (of JournalA middle)) ≡ false =
-    subst (λ (past : List Event). is_begun (contents (of JournalA past)) ≡ false) (sym (c.is_made.ensures.past h)) (sym (made_begun (reads_as old)) ∙ sym (c.in-Ok.ensures.value h) ∙ c.if-made.false) in
-    subst (λ (past : List Event). Throughout (EveryDisk (WasOrIsNew past set)) past new) (c.is_made.ensures.past h)
-    (made_moments middle new set c.as_slice.result.now (c.as_slice.ensures ∙ c.in-Ok-write_settings.ensures) c.requires (c.make.ensures.only_here h) (c.make.ensures.any_moment h unbegun))
+    disks_weaker
+    (was-or-new (g.H.Host.seen c.args.host.now).past c.in-Ok.body set c.args.side (new-stored c.in-Ok.body set c.args.side first.body first.empty first.tiers))
+    (c.create.ensures.any_moment h)
 
-pub returns-clause-any_moment : goal.returns-clause-any_moment
-returns-clause-any_moment g c h =
-    let old = (g.H.Host.seen c.args.host.now).past in
-    let middle = (g.H.Host.seen c.is_made.new.host).past in
-    let new = (g.H.Host.seen c.make.new.host).past in
+pub returns-in-Ok-create-clause-bound : goal.returns-in-Ok-create-clause-bound
+returns-in-Ok-create-clause-bound g c most short h within =
+    let first = c.in-Ok.ensures in
     let set = c.args.settings.now in
-    let unbegun : is_begun (contents (of JournalA middle)) ≡ false =
-    subst (λ (past : List Event). is_begun (contents (of JournalA past)) ≡ false) (sym (c.is_made.ensures.past h)) (sym (made_begun (reads_as old)) ∙ sym (c.in-Ok.ensures.value h) ∙ c.if-made.false) in
-    subst (λ (past : List Event). Throughout (EveryDisk (WasOrIsNew past set)) past new) (c.is_made.ensures.past h)
-    (made_moments middle new set c.as_slice.result.now (c.as_slice.ensures ∙ c.in-Ok-write_settings.ensures) c.requires (c.make.ensures.only_here h) (c.make.ensures.any_moment h unbegun))
+    c.create.ensures.bound (share set most) (new-room c.in-Ok.body set c.args.side most first.body first.spelt short) h within
 
-pub returns-clause-created : goal.returns-clause-created
-returns-clause-created g c h = record {
-  place = c.in_ok-journal.ensures.place;
-  journal = subst (λ (body : List ℕ). IsOpen (of JournalA (g.H.Host.seen c.make.new.host).past) c.in_ok-journal.journal (body ∷ []))
-      (c.as_slice.ensures ∙ c.in-Ok-write_settings.ensures) (c.in_ok-journal.ensures.made h);
-  limits = c.requires;
-  beats_are = record { forms = tt; rises = tt };
-  settings = c.in-Ok-copy.ensures;
-  waiting = c.new.ensures;
-  count = refl;
-  last = refl;
-  applied = applied_none c.args.settings.now _ c.requires c.in-Ok-new_tiers.ensures;
-  going = refl;
-}
+pub returns-in-Err-clause-any_moment : goal.returns-in-Err-clause-any_moment
+returns-in-Err-clause-any_moment g c h =
+    let first = c.in-Ok.ensures in
+    let set = c.args.settings.now in
+    disks_weaker
+    (was-or-new (g.H.Host.seen c.args.host.now).past c.in-Ok.body set c.args.side (new-stored c.in-Ok.body set c.args.side first.body first.empty first.tiers))
+    (c.create.ensures.any_moment h)
+
+pub returns-in-Err-clause-bound : goal.returns-in-Err-clause-bound
+returns-in-Err-clause-bound g c most short h within =
+    let first = c.in-Ok.ensures in
+    let set = c.args.settings.now in
+    c.create.ensures.bound (share set most) (new-room c.in-Ok.body set c.args.side most first.body first.spelt short) h within

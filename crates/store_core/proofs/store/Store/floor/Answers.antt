@@ -8,4 +8,4 @@ pub returns-clause-applied : goal.returns-clause-applied
 returns-clause-applied c = λ set beats has.
     c.floor.ensures
     ∙ ap (λ (s : StoreState). tier_floor s.tiers c.args.tier) c.self.view_is
-    ∙ floor_is set beats c.args.self.now.tiers has.tiers c.args.tier c.requires
+    ∙ floor_is set beats c.args.self.now.tiers has c.args.tier c.requires

@@ -1,7 +1,7 @@
 use Rattle.std.proofs.Common.{ap, ◌∙◌}
 use Rattle.beat_tiers.specs.Kept.{kept_in}
 use Rattle.store_core.specs.Store.{StoreState}
-use Rattle.store_core.proofs.StoreLemmas.{kept_by}
+use Rattle.store_core.proofs.ViewLemmas.{kept_by}
 use Rattle.store_core.proofs.store.Store.kept.Goals as goal
 
 pub returns-clause-kept : goal.returns-clause-kept

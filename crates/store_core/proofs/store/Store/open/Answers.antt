@@ -1,104 +1,63 @@
-use Rattle.std.proofs.Common.{List, refl, sym, ap, ◌∙◌, subst, rules}
-use Rattle.host_model.specs.Past.{Event, IsDisk}
-use Rattle.host_model.specs.Moments.{Throughout}
-use Rattle.host_model.specs.Disks.{EveryDisk, reads_as}
-use Rattle.host_model.proofs.CallLemmas.{unmoved}
-use Rattle.store_core.specs.Records.{history_in}
-use Rattle.store_core.specs.Stands.{Stands}
-use Rattle.store_core.specs.Stored.{nothing_stored, stored_with_all}
-use Rattle.store_core.proofs.DiskCases.{disks_from_before}
-use Rattle.store_core.proofs.OpenLemmas.{damaged, opens, opens_images, stands_found, WasFound}
-use Rattle.store_core.proofs.RecordLaw.{AreBytes, history_found}
+use Rattle.std.proofs.Common.{◌≡◌, Err, inr, refl, ap, rules}
+use Rattle.std.proofs.lemmas.Result.{err_from_is_err_and}
+use Rattle.host_model.specs.Disks.{reads_as}
+use Rattle.database_files.specs.Contents.{Contents}
+use Rattle.database_files.specs.Opened.{contents_of}
+use Rattle.database_files.proofs.OneLemmas.{one_contents}
+use Rattle.database_files.proofs.ShareLemmas.{within_syncs}
+use Rattle.store_core.specs.declared.fault.StoreFault.TheVariants.{Damaged}
+use Rattle.store_core.proofs.FaultLemmas.{read-whole}
+use Rattle.store_core.proofs.OpenLemmas.{opened-images, opened-ready, opens-at}
+use Rattle.store_core.proofs.StandLemmas.{has-stored, never-bad}
 use Rattle.store_core.proofs.store.Store.open.Goals as goal
 
-pub returns-in_default-clause-any_moment : goal.returns-in_default-clause-any_moment
-returns-in_default-clause-any_moment g c h =
-    let old = (g.H.Host.seen c.args.host.now).past in
-    unmoved (EveryDisk (IsDisk old)) old (g.H.Host.seen c.is_made.new.host).past (c.is_made.ensures.past h) (λ disk images. images)
+-- ---- the files are not opened
 
-pub returns-then-not-made-clause-any_moment : goal.returns-then-not-made-clause-any_moment
-returns-then-not-made-clause-any_moment g c h =
-    let old = (g.H.Host.seen c.args.host.now).past in
-    unmoved (EveryDisk (IsDisk old)) old (g.H.Host.seen c.is_made.new.host).past (c.is_made.ensures.past h) (λ disk images. images)
+pub returns-in_err-opened-clause-bound : goal.returns-in_err-opened-clause-bound
+returns-in_err-opened-clause-bound g c shares h within =
+    within_syncs shares (g.H.Host.seen c.args.host.now).past (g.H.Host.seen c.open_files.new.host).past (c.open_files.ensures.syncs h) within
 
-pub returns-in_err-journal-clause-any_moment : goal.returns-in_err-journal-clause-any_moment
-returns-in_err-journal-clause-any_moment g c h =
-    let new = (g.H.Host.seen c.open.new.host).past in
-    subst (λ (past : List Event). Throughout (EveryDisk (IsDisk past)) past new) (c.is_made.ensures.past h)
-    (disks_from_before (g.H.Host.seen c.is_made.new.host).past new (c.open.ensures.only_here h) (c.open.ensures.any_moment h))
+-- ---- what they hold is not read
 
-pub returns-in-Err-clause-any_moment : goal.returns-in-Err-clause-any_moment
-returns-in-Err-clause-any_moment g c h =
-    let new = (g.H.Host.seen c.open.new.host).past in
-    subst (λ (past : List Event). Throughout (EveryDisk (IsDisk past)) past new) (c.is_made.ensures.past h)
-    (disks_from_before (g.H.Host.seen c.is_made.new.host).past new (c.open.ensures.only_here h) (c.open.ensures.any_moment h))
+pub returns-in_err-tiers-clause-bound : goal.returns-in_err-tiers-clause-bound
+returns-in_err-tiers-clause-bound g c shares h within =
+    within_syncs shares (g.H.Host.seen c.args.host.now).past (g.H.Host.seen c.open_files.new.host).past (c.open_files.ensures.syncs h) within
 
-pub returns-in-Ok-None-clause-any_moment : goal.returns-in-Ok-None-clause-any_moment
-returns-in-Ok-None-clause-any_moment g c h =
-    let new = (g.H.Host.seen c.open.new.host).past in
-    subst (λ (past : List Event). Throughout (EveryDisk (IsDisk past)) past new) (c.is_made.ensures.past h)
-    (disks_from_before (g.H.Host.seen c.is_made.new.host).past new (c.open.ensures.only_here h) (c.open.ensures.any_moment h))
+pub returns-in_err-tiers-clause-damaged : goal.returns-in_err-tiers-clause-damaged
+returns-in_err-tiers-clause-damaged g c part is h =
+    let fault : c.in_err-tiers.field-0.0 ≡ Damaged part = search (rules, is) in
+    inr (record {
+      contents = contents_of c.in_ok-opened.opened;
+      holds = c.in_ok-opened.ensures.holds h;
+      bad = c.in_err-tiers.ensures.damaged part (ap Err fault);
+    })
 
-pub returns-clause-any_moment : goal.returns-clause-any_moment
-returns-clause-any_moment g c h =
-    let new = (g.H.Host.seen c.open.new.host).past in
-    subst (λ (past : List Event). Throughout (EveryDisk (IsDisk past)) past new) (c.is_made.ensures.past h)
-    (disks_from_before (g.H.Host.seen c.is_made.new.host).past new (c.open.ensures.only_here h) (c.open.ensures.any_moment h))
+pub returns-in_err-tiers-clause-complete : goal.returns-in_err-tiers-clause-complete
+returns-in_err-tiers-clause-complete g c h stored stands =
+    let contents : Contents = contents_of c.in_ok-opened.opened in
+    let disk = reads_as (g.H.Host.seen c.args.host.now).past in
+    let has = has-stored contents stored disk stands (one_contents stands.contents contents disk stands.holds (c.in_ok-opened.ensures.holds h)) in
+    let p = err_from_is_err_and c.from_residual-in_err-tiers.result c.from_residual-in_err-tiers.ensures.1 in
+    rw (p.1, p.2) (read-whole c.in_err-tiers.field-0.0 c.in_err-tiers.ensures.faults
+    (λ part fault. never-bad part contents stored has (c.in_err-tiers.ensures.damaged part (ap Err fault))))
 
-pub returns-in_default-new_tiers-clause-any_moment : goal.returns-in_default-new_tiers-clause-any_moment
-returns-in_default-new_tiers-clause-any_moment g c h =
-    let new = (g.H.Host.seen c.open.new.host).past in
-    subst (λ (past : List Event). Throughout (EveryDisk (IsDisk past)) past new) (c.is_made.ensures.past h)
-    (disks_from_before (g.H.Host.seen c.is_made.new.host).past new (c.open.ensures.only_here h) (c.open.ensures.any_moment h))
-
-pub new_tiers-requires : goal.new_tiers-requires
-new_tiers-requires g c =
-    let known = history_found c.in_ok-journal.records c.in-Ok-Some.settings c.in-Ok-Some.waiting
-    (subst AreBytes c.as_slice.ensures (c.in-Ok-Some.ensures.bytes (rw c.in-Ok-Some.field-0-is refl)))
-    (sym (sym c.in-Ok-Some.field-0-is ∙ c.in-Ok-Some.ensures.value ∙ ap history_in c.as_slice.ensures)) in
-    known.limits
-
-pub returns-in-Ok-None-clause-damaged : goal.returns-in-Ok-None-clause-damaged
-returns-in-Ok-None-clause-damaged g c part is h =
-    let middle = (g.H.Host.seen c.is_made.new.host).past in
-    let new = (g.H.Host.seen c.open.new.host).past in
-    let journal = c.in_ok-journal.journal in
-    let bodies = c.in_ok-journal.records in
-    let found : WasFound middle new journal bodies =
-    record { place = c.in_ok-journal.ensures.place; is_open = c.in_ok-journal.ensures.opened h; same = c.open.ensures.same_bytes h } in
-    record {
-      made = search rules;
-      no_beats = λ set stored stands.
-          damaged middle new journal bodies found (sym c.in-Ok-None.field-0-is ∙ c.in-Ok-None.ensures.value ∙ ap history_in c.as_slice.ensures) set stored
-          (subst (λ (past : List Event). Stands set stored (reads_as past)) (sym (c.is_made.ensures.past h)) stands);
-    }
+-- ---- the database is opened
 
 pub returns-clause-opened : goal.returns-clause-opened
-returns-clause-opened g c h set stored stands =
-    let middle = (g.H.Host.seen c.is_made.new.host).past in
-    let new = (g.H.Host.seen c.open.new.host).past in
-    let journal = c.in_ok-journal.journal in
-    let bodies = c.in_ok-journal.records in
-    let found : WasFound middle new journal bodies =
-    record { place = c.in_ok-journal.ensures.place; is_open = c.in_ok-journal.ensures.opened h; same = c.open.ensures.same_bytes h } in
-    opens middle new _ bodies found (sym c.in-Ok-Some.field-0-is ∙ c.in-Ok-Some.ensures.value ∙ ap history_in c.as_slice.ensures) refl refl c.in-Ok-new_tiers.ensures refl set stored
-    (subst (λ (past : List Event). Stands set stored (reads_as past)) (sym (c.is_made.ensures.past h)) stands)
+returns-clause-opened g c h stored stands =
+    opens-at (contents_of c.in_ok-opened.opened) (reads_as (g.H.Host.seen c.args.host.now).past) (g.H.Host.seen c.open_files.new.host).past _
+    (c.in_ok-opened.ensures.holds h) (c.in_ok-opened.ensures.opened h) c.in_ok-opened.ensures.spelt refl refl refl c.in_ok-tiers.ensures.tiers c.in_ok-tiers.ensures.beats stored stands
+
+pub returns-clause-ready : goal.returns-clause-ready
+returns-clause-ready g c =
+    opened-ready g.H.Host.honest (g.H.Host.seen c.open_files.new.host).past _ (contents_of c.in_ok-opened.opened) c.in_ok-opened.ensures.spelt c.in_ok-opened.ensures.paged
+    c.in_ok-tiers.ensures.tiers c.in_ok-tiers.ensures.counted c.in_ok-opened.ensures.place refl refl c.in_ok-tiers.ensures.beats c.in_ok-tiers.ensures.bytes
+    (λ h. c.in_ok-opened.ensures.opened h)
+
+pub returns-clause-bound : goal.returns-clause-bound
+returns-clause-bound g c shares h within =
+    within_syncs shares (g.H.Host.seen c.args.host.now).past (g.H.Host.seen c.open_files.new.host).past (c.open_files.ensures.syncs h) within
 
 pub returns-clause-images : goal.returns-clause-images
-returns-clause-images g c h set stored stands = opens_images (g.H.Host.seen c.open.new.host).past _ set stored (returns-clause-opened g c h set stored stands)
-
-pub returns-clause-stands : goal.returns-clause-stands
-returns-clause-stands g c h =
-    let middle = (g.H.Host.seen c.is_made.new.host).past in
-    let new = (g.H.Host.seen c.open.new.host).past in
-    let journal = c.in_ok-journal.journal in
-    let bodies = c.in_ok-journal.records in
-    let set = c.in-Ok-Some.settings in
-    let rest = c.in-Ok-Some.waiting in
-    let found : WasFound middle new journal bodies =
-    record { place = c.in_ok-journal.ensures.place; is_open = c.in_ok-journal.ensures.opened h; same = c.open.ensures.same_bytes h } in (
-      set,
-      stored_with_all nothing_stored rest,
-      subst (λ (past : List Event). Stands set (stored_with_all nothing_stored rest) (reads_as past)) (c.is_made.ensures.past h)
-          (stands_found middle new journal bodies set rest found (subst AreBytes c.as_slice.ensures (c.in-Ok-Some.ensures.bytes (rw c.in-Ok-Some.field-0-is refl))) (sym c.in-Ok-Some.field-0-is ∙ c.in-Ok-Some.ensures.value ∙ ap history_in c.as_slice.ensures)),
-    )
+returns-clause-images g c h stored stands =
+    opened-images (g.H.Host.seen c.open_files.new.host).past _ stored (returns-clause-opened g c h stored stands)

@@ -1,0 +1,45 @@
+-- The side and the notes of what is stored for a history go on.
+use Rattle.std.proofs.Common.{◌≡◌, true, List, [], ◌∷◌, refl, sym, ap, ◌∙◌, subst}
+use Rattle.history.specs.History.{Beat}
+use Rattle.tier_settings.specs.declared.settings.Settings.{Settings}
+use Rattle.beat_records.specs.declared.beat.Beat.{Beat as StoreBeat}
+use Rattle.store_core.specs.Stored.{Stored}
+use Rattle.agent_core.specs.Kept.{AreBeatsOf}
+use Rattle.agent_core.specs.Notes.{beats_go_on, left_after, noted_of, notes_go_on, with_note, Noted}
+use Rattle.agent_core.specs.Stands.{AreSince, IsStoredOf}
+use Rattle.agent_core.proofs.NoteLemmas.{go-on-more, go-on-none, goes-by, left-more, left-none}
+use Rattle.agent_core.proofs.ReplayLemmas.{beat-leaves, beat-takes}
+use Rattle.agent_core.proofs.SideAlarms.{StayWhole}
+use Rattle.agent_core.proofs.SideNoted.{side-noted}
+
+-- the beats since a checkpoint go on from what the history up to it leaves, and leave what the history leaves
+record Leaves (start : Noted) (h : List Beat) (since : List StoreBeat) : Type 0 where
+  beats : List StoreBeat
+  are : AreBeatsOf h beats
+  left : left_after start since ≡ noted_of h
+  go_on : beats_go_on start since ≡ true
+
+history-leaves : (earlier h : List Beat) (before since : List StoreBeat) → AreBeatsOf earlier before → AreSince earlier h since → Leaves (noted_of earlier) h since
+history-leaves earlier h before [] were are = record {
+  beats = before;
+  are = subst (λ (g : List Beat). AreBeatsOf g before) (sym are) were;
+  left = left-none (noted_of earlier) ∙ ap noted_of (sym are);
+  go_on = go-on-none (noted_of earlier);
+}
+history-leaves earlier [] before (kept ∷ since) were are = absurd are
+history-leaves earlier (beat ∷ h) before (kept ∷ since) were are =
+    let was = history-leaves earlier h before since were are.1 in
+    let start = noted_of earlier in
+    let now : with_note (noted_of h) kept ≡ left_after start (kept ∷ since)
+    = left-more start (noted_of h) (with_note (noted_of h) kept) since kept (sym was.left) refl in
+    record {
+      beats = kept ∷ was.beats;
+      are = (are.0, was.are);
+      left = sym now ∙ beat-leaves h was.beats was.are beat kept are.0 (noted_of h) (with_note (noted_of h) kept) refl refl;
+      go_on = go-on-more start (noted_of h) since kept true was.go_on (sym was.left) (beat-takes h was.beats was.are beat kept are.0 (noted_of h) refl);
+    }
+
+pub history-goes : StayWhole → (set : Settings) (h : List Beat) (stored : Stored) → IsStoredOf set h stored → notes_go_on stored ≡ true
+history-goes law set h stored are =
+    goes-by (noted_of are.earlier) stored true (side-noted law set are.earlier are.beats are.were stored.base.side are.side)
+    (history-leaves are.earlier h are.beats stored.after are.were are.since).go_on

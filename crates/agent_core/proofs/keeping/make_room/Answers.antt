@@ -1,0 +1,38 @@
+use Rattle.host_model.specs.Moments.{begins}
+use Rattle.agent_core.proofs.KeepsLemmas.{checkpoint-failed}
+use Rattle.agent_core.proofs.KeptLemmas.{holds-moved, moves, stays}
+use Rattle.agent_core.proofs.StoredLemmas.{were_kept}
+use Rattle.agent_core.proofs.keeping.make_room.Goals as goal
+
+pub returns-then-not-due-clause-any_moment : goal.returns-then-not-due-clause-any_moment
+returns-then-not-due-clause-any_moment g c true_host set h holds by = begins (stays (g.H.Host.seen c.args.host.now).past c.args.store.now set h holds)
+
+pub returns-in_err-side-clause-any_moment : goal.returns-in_err-side-clause-any_moment
+returns-in_err-side-clause-any_moment g c true_host set h holds by = begins (stays (g.H.Host.seen c.args.host.now).past c.args.store.now set h holds)
+
+pub returns-in-Ok-clause-any_moment : goal.returns-in-Ok-clause-any_moment
+returns-in-Ok-clause-any_moment g c true_host set h holds by =
+    let past = (g.H.Host.seen c.args.host.now).past in
+    let all = were_kept set h holds.stored holds.are in
+    let is = c.in_ok-side.ensures.side set h all.beats all.are by in
+    moves past c.args.store.now set h holds c.in_ok-side.side is (g.H.Host.seen c.checkpoint.new.host).past (c.checkpoint.ensures.any_moment true_host holds.stored holds.store_of)
+
+pub returns-in-Err-clause-any_moment : goal.returns-in-Err-clause-any_moment
+returns-in-Err-clause-any_moment g c true_host set h holds by =
+    let past = (g.H.Host.seen c.args.host.now).past in
+    let all = were_kept set h holds.stored holds.are in
+    let is = c.in_ok-side.ensures.side set h all.beats all.are by in
+    moves past c.args.store.now set h holds c.in_ok-side.side is (g.H.Host.seen c.checkpoint.new.host).past (c.checkpoint.ensures.any_moment true_host holds.stored holds.store_of)
+
+pub returns-in-Ok-clause-done : goal.returns-in-Ok-clause-done
+returns-in-Ok-clause-done g c true_host set h holds by =
+    let all = were_kept set h holds.stored holds.are in
+    let is = c.in_ok-side.ensures.side set h all.beats all.are by in
+    holds-moved (g.H.Host.seen c.args.host.now).past c.args.store.now set h holds c.in_ok-side.side is (g.H.Host.seen c.checkpoint.new.host).past c.checkpoint.new.self
+    (c.in-Ok.ensures.advanced true_host holds.stored holds.store_of)
+
+pub returns-in-Err-clause-keeps : goal.returns-in-Err-clause-keeps
+returns-in-Err-clause-keeps g c =
+    let did = c.in-Err.ensures in
+    checkpoint-failed g.H.Host.honest (g.H.Host.seen c.args.host.now) (g.H.Host.seen c.checkpoint.new.host) c.args.store.now c.checkpoint.new.self c.in-Err.fault c.store_fault.result c.store_fault.ensures
+    did.faults did.reopens c.requires.going did.ready c.requires.replayed did.waiting did.settings did.cause did.only_here did.output

@@ -1,0 +1,28 @@
+use Rattle.std.proofs.Common.{Err, Some, sym, ap, subst, ◌∙◌}
+use Rattle.store_core.specs.Store.{IsReady}
+use Rattle.store_core.proofs.FollowReplay.{ready_replayed}
+use Rattle.agent_core.proofs.OpenFaults.{replays-memory, replays-said, replays-unreplayed, told-damaged}
+use Rattle.agent_core.proofs.ReadyLemmas.{ready-leaves}
+use Rattle.agent_core.proofs.replaying.next_beat.Goals as goal
+
+pub store_fault-requires : goal.store_fault-requires
+store_fault-requires g c = replays-said c.in-Err.fault c.in-Err.ensures.faults
+
+pub returns-in-Err-clause-faults : goal.returns-in-Err-clause-faults
+returns-in-Err-clause-faults g c =
+    replays-unreplayed c.args.store.now.fault c.in-Err.fault c.store_fault.result c.requires.going c.in-Err.ensures.reopens c.store_fault.ensures c.in-Err.ensures.faults
+
+pub returns-in-Err-clause-whole : goal.returns-in-Err-clause-whole
+returns-in-Err-clause-whole g c past stored rest is_at =
+    replays-memory c.store_fault.result
+    (replays-unreplayed c.args.store.now.fault c.in-Err.fault c.store_fault.result c.requires.going c.in-Err.ensures.reopens c.store_fault.ensures c.in-Err.ensures.faults)
+    (λ damaged. c.replay.ensures.whole past stored rest is_at (c.in-Err.is ∙ ap Err (told-damaged c.in-Err.fault 4 (c.store_fault.ensures ∙ ap Some damaged))))
+
+pub returns-in-Ok-clause-ready : goal.returns-in-Ok-clause-ready
+returns-in-Ok-clause-ready g c past ready =
+    ready_replayed g.H.Host.honest past c.args.store.now c.replay.new.self c.in-Ok.next
+    c.in-Ok.ensures.sound c.in-Ok.ensures.takes c.replay.ensures.files c.replay.ensures.body (λ going. c.requires.going) ready
+
+pub returns-in-Err-clause-ready : goal.returns-in-Err-clause-ready
+returns-in-Err-clause-ready g c past ready =
+    subst (IsReady g.H.Host.honest past) (sym c.in-Err.ensures.leaves) (ready-leaves g.H.Host.honest past c.args.store.now c.replay.new.self.fault c.requires.going ready)

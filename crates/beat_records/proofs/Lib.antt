@@ -1,0 +1,3 @@
+pub mod BeatLaw
+pub mod Loops
+pub mod RecordLaw

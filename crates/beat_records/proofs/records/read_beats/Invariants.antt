@@ -1,0 +1,10 @@
+use Rattle.std.proofs.Common.{◌≡◌, drop, take}
+use Rattle.std.specs.List.{AllByRecursion}
+use Rattle.field_codec.specs.Field.{IsBytes}
+use Rattle.beat_records.specs.Records.{beats_from}
+use Rattle.beat_records.proofs.Loops.{with_front}
+use Rattle.beat_records.proofs.records.read_beats.Given as goal
+
+abbrev pub invariant-loop-record : goal.invariant-loop-record
+invariant-loop-record l =
+    (with_front l.waiting (beats_from l.last (drop l.record-index l.records)) ≡ beats_from l.initial.last l.records) × AllByRecursion IsBytes (take l.record-index l.records)

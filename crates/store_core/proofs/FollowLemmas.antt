@@ -1,0 +1,245 @@
+-- One more beat: what is stored has it, and a sound store stays sound.
+use Rattle.std.proofs.Common.{◌≡◌, ℕ, suc, ◌+◌, ◌%◌, ◌<◌, ◌≤◌, ◌^◌, Bool, true, false, ◌&&◌, ◌||◌, cond, nat_eq, nat_le, List, [], ◌∷◌, ◌++◌, length, Option, Some, None, refl, sym, ap, ◌∙◌, subst, inl, inr, arith}
+use Rattle.std.specs.Option.{IsSomeAnd}
+use Rattle.std.proofs.lemmas.Bool.{leb-false, ltb-true}
+use Rattle.host_model.specs.declared.file.File.{File}
+use Rattle.host_model.specs.declared.file.File.TheVariants.{JournalA, JournalB}
+use Rattle.host_model.specs.Past.{Event}
+use Rattle.host_model.specs.Disks.{EveryDisk}
+use Rattle.host_model.specs.Moments.{Throughout}
+use Rattle.host_model.proofs.DiskLemmas.{disks_weaker}
+use Rattle.journal_core.specs.Form.{record_size}
+use Rattle.tier_settings.specs.declared.settings.Settings.{Settings}
+use Rattle.beat_tiers.specs.State.{TiersState, after_beat}
+use Rattle.checkpoint_body.specs.declared.body.Body.{Body}
+use Rattle.checkpoint_body.specs.Body.{HasSpelling}
+use Rattle.database_files.specs.Contents.{Contents, KeptPages, with_record}
+use Rattle.database_files.specs.Files.{FilesState, IsOpenOf}
+use Rattle.database_files.specs.Files as files
+use Rattle.database_files.specs.Holds.{journal_file, HoldsAround}
+use Rattle.database_files.specs.Kept.{HasPagesOfEach}
+use Rattle.database_files.specs.Shares.{share}
+use Rattle.tier_bodies.specs.Tiers.{AreTiersOfBody}
+use Rattle.beat_records.specs.declared.beat.Beat.{Beat}
+use Rattle.beat_records.specs.Beats.{beat_bytes, InForm}
+use Rattle.beat_records.specs.Records.{is_later, last_after, with_all, AreNext}
+use Rattle.store_core.specs.Counts.{counted, raised}
+use Rattle.store_core.specs.Stands.{records_of, HasStored, StandsAround}
+use Rattle.store_core.specs.Store.{is_due, IsReady, IsReplayed, IsSound, IsStoreAt, IsStoreOf, StoreState}
+use Rattle.store_core.specs.Stored.{Stored, count_of, has_sealed, is_numbered, stored_with, tiers_of, MayFollow}
+use Rattle.store_core.proofs.RecordLemmas.{last-after}
+use Rattle.store_core.proofs.StandLemmas.{images-at}
+
+-- ---- what holds where no checkpoint is due
+
+sealed_where_not_due : (numbered new long : Bool) → (numbered && (new || long)) ≡ false → numbered ≡ true → new ≡ false
+sealed_where_not_due true true long due numbered = absurd cc
+sealed_where_not_due true false long due numbered = refl
+sealed_where_not_due false new long due numbered = absurd cc
+
+long_where_not_due : (numbered new long : Bool) → (numbered && (new || long)) ≡ false → numbered ≡ true → long ≡ false
+long_where_not_due true true long due numbered = absurd cc
+long_where_not_due true false long due numbered = due
+long_where_not_due false new long due numbered = absurd cc
+
+-- no segment was sealed since the checkpoint, where there can be a later one
+pub unsealed : (store : StoreState) → is_due store ≡ false → is_numbered store.files.number ≡ true → has_sealed store.body.last store.tiers ≡ false
+unsealed store due numbered =
+    sealed_where_not_due (is_numbered store.files.number) (has_sealed store.body.last store.tiers) (nat_le (2 ^ 24) store.files.journal.bytes) due numbered
+
+-- and the journal is short
+short_journal : (store : StoreState) → is_due store ≡ false → is_numbered store.files.number ≡ true → store.files.journal.bytes < 2 ^ 24
+short_journal store due numbered =
+    leb-false (2 ^ 24) store.files.journal.bytes
+    (long_where_not_due (is_numbered store.files.number) (has_sealed store.body.last store.tiers) (nat_le (2 ^ 24) store.files.journal.bytes) due numbered)
+
+share-journal : (set : Settings) (side : ℕ) (even : Bool) → share set side (cond even JournalA JournalB) ≡ 2 ^ 27
+share-journal set side true = refl
+share-journal set side false = refl
+
+-- so there is room for a record
+room_for_record : (set : Settings) (side number bytes size : ℕ) → bytes < 2 ^ 24 → size ≤ 2 ^ 26 → bytes + (5 + size) ≤ share set side (journal_file number)
+room_for_record set side number bytes size short few =
+    let fits : bytes + (5 + size) ≤ 2 ^ 27 = omega arith in
+    subst (λ (n : ℕ). bytes + (5 + size) ≤ n) (sym (share-journal set side (nat_eq (number % 2) 0))) fits
+
+pub fits_share : (store : StoreState) (side : ℕ) (bytes : List ℕ) (beat : Beat) → is_due store ≡ false → is_numbered store.files.number ≡ true → bytes ≡ beat_bytes beat
+    → length (beat_bytes beat) ≤ 2 ^ 26 → store.files.journal.bytes + record_size bytes ≤ share store.body.settings side (journal_file store.files.number)
+fits_share store side bytes beat due numbered spelt few =
+    room_for_record store.body.settings side store.files.number store.files.journal.bytes (length bytes) (short_journal store due numbered)
+    (subst (λ (b : List ℕ). length b ≤ 2 ^ 26) (sym spelt) few)
+
+-- ---- a beat that may follow
+
+pub sealed_same : (last other : ℕ) (tiers others : TiersState) → last ≡ other → tiers ≡ others → has_sealed other others ≡ has_sealed last tiers
+sealed_same last other tiers others same same_tiers = sym (ap (λ (n : ℕ). has_sealed n tiers) same ∙ ap (λ (t : TiersState). has_sealed other t) same_tiers)
+
+-- a store of what is stored says which beats may follow
+pub may_follow : (past : List Event) (store : StoreState) (stored : Stored) (rest : List Beat) (beat : Beat) → IsStoreAt past store stored rest
+    → InForm beat → is_later store.tiers.last beat.moment ≡ true → (is_numbered store.files.number ≡ true → has_sealed store.body.last store.tiers ≡ false) → MayFollow stored beat
+may_follow past store stored rest beat is_at form later none_new =
+    let number : store.files.number ≡ stored.base.number = is_at.opened.number ∙ is_at.has.base.number in
+    let last : store.body.last ≡ stored.base.tiers.last = ap (λ (b : Body). b.last) is_at.body ∙ sym is_at.has.base.tiers.last in
+    record {
+      form = form;
+      later = subst (λ (t : TiersState). is_later t.last beat.moment ≡ true) is_at.tiers later;
+      unsealed = λ numbered. sealed_same store.body.last stored.base.tiers.last store.tiers (tiers_of stored) last is_at.tiers
+          ∙ none_new (subst (λ (n : ℕ). is_numbered n ≡ true) (sym number) numbered);
+    }
+
+-- the records with one more are those of one more beat
+records-more : (beats : List Beat) (records : List (List ℕ)) (bytes : List ℕ) (beat : Beat) → records ≡ records_of beats → bytes ≡ beat_bytes beat
+    → records ++ bytes ∷ [] ≡ records_of (beat ∷ beats)
+records-more beats records bytes beat are spelt =
+    ap (λ (l : List (List ℕ)). l ++ bytes ∷ []) are ∙ ap (λ (b : List ℕ). records_of beats ++ b ∷ []) spelt
+
+-- the files with one more record have stored the beat too
+stored_more : (contents : Contents) (bytes : List ℕ) (stored : Stored) (beat : Beat) → HasStored contents stored → bytes ≡ beat_bytes beat → MayFollow stored beat
+    → HasStored (with_record contents bytes) (stored_with stored beat)
+stored_more contents bytes stored beat has spelt may = record {
+  base = record {
+    number = has.base.number;
+    settings = has.base.settings;
+    count = has.base.count;
+    side = has.base.side;
+    tiers = has.base.tiers;
+    counted = has.base.counted;
+  };
+  records = records-more stored.after contents.records bytes beat has.records spelt;
+  follow = (may, has.follow);
+}
+
+not_before : (last : ℕ) (moment : Option ℕ) → is_later last moment ≡ true → IsSomeAnd moment (λ m. m ≤ last) → ⊥
+not_before last None later before = before
+not_before last (Some moment) later before = omega (arith, ltb-true last moment later)
+
+-- a moment that may follow is not at most the last one
+pub later_not_before : (last now : ℕ) (moment : Option ℕ) → last ≡ now → is_later last moment ≡ true → IsSomeAnd moment (λ m. m ≤ now) → ⊥
+later_not_before last now moment same later before = not_before now moment (subst (λ (n : ℕ). is_later n moment ≡ true) same later) before
+
+-- ---- what a crash leaves
+
+-- where nothing has happened yet
+pub nothing_done : (past : List Event) (store : StoreState) (stored : Stored) (beat : Beat) → IsStoreOf past store stored → EveryDisk (StandsAround stored beat) past
+nothing_done past store stored beat is_of disk images = inl (images-at past store stored [] is_of disk images)
+
+around : (contents : Contents) (bytes : List ℕ) (stored : Stored) (beat : Beat) → HasStored contents stored → HasStored (with_record contents bytes) (stored_with stored beat)
+    → (disk : File → List ℕ) → HoldsAround contents bytes disk → StandsAround stored beat disk
+around contents bytes stored beat has has_more disk (inl without) = inl (record { contents = contents; holds = without; has = has })
+around contents bytes stored beat has has_more disk (inr with_one) = inr (record { contents = with_record contents bytes; holds = with_one; has = has_more })
+
+-- the moments of the append are those of the store
+pub append_moments : (old new : List Event) (store : StoreState) (bytes : List ℕ) (stored : Stored) (beat : Beat) → IsStoreOf old store stored
+    → bytes ≡ beat_bytes beat → MayFollow stored beat
+    → ((contents : Contents) → IsOpenOf old store.files contents → Throughout (EveryDisk (HoldsAround contents bytes)) old new)
+    → Throughout (EveryDisk (StandsAround stored beat)) old new
+append_moments old new store bytes stored beat is_of spelt may moments =
+    disks_weaker
+    (around is_of.contents bytes stored beat is_of.has (stored_more is_of.contents bytes stored beat is_of.has spelt may))
+    (moments is_of.contents is_of.opened)
+
+-- ---- the store with one more beat
+
+counted-more : (base n : ℕ) → raised (counted (base + n)) ≡ counted (base + suc n)
+counted-more base n = omega arith
+
+count-more : (stored : Stored) (beat : Beat) (count : ℕ) → count ≡ count_of stored → raised count ≡ count_of (stored_with stored beat)
+count-more stored beat count same = ap raised same ∙ counted-more stored.base.count (length stored.after)
+
+-- the store after the beat was added
+abbrev pub added : StoreState → FilesState → Beat → StoreState
+added store opened beat = record store {
+  count = raised store.count;
+  tiers = after_beat beat.moment beat.points store.tiers;
+  files = opened;
+}
+
+-- the same of its parts
+abbrev pub with_parts : StoreState → ℕ → TiersState → FilesState → StoreState
+with_parts store count tiers opened = record store { count = count; tiers = tiers; files = opened }
+
+pub added_is : (inside store : StoreState) (count : ℕ) (tiers : TiersState) (opened : FilesState) (beat : Beat) → inside ≡ store → count ≡ raised inside.count
+    → tiers ≡ after_beat beat.moment beat.points store.tiers → with_parts inside count tiers opened ≡ added store opened beat
+added_is inside store count tiers opened beat same same_count same_tiers =
+    ap (λ (s : StoreState). with_parts s count tiers opened) same
+    ∙ ap (λ (n : ℕ). with_parts store n tiers opened) (same_count ∙ ap (λ (s : StoreState). raised s.count) same)
+    ∙ ap (λ (t : TiersState). with_parts store (raised store.count) t opened) same_tiers
+
+pub one_more : (old new : List Event) (store : StoreState) (opened : FilesState) (bytes : List ℕ) (stored : Stored) (beat : Beat) → IsStoreOf old store stored → bytes ≡ beat_bytes beat
+    → MayFollow stored beat → ((contents : Contents) → IsOpenOf old store.files contents → IsOpenOf new opened (with_record contents bytes))
+    → IsStoreOf new (added store opened beat) (stored_with stored beat)
+one_more old new store opened bytes stored beat is_of spelt may opens = record {
+  contents = with_record is_of.contents bytes;
+  opened = opens is_of.contents is_of.opened;
+  has = stored_more is_of.contents bytes stored beat is_of.has spelt may;
+  body = is_of.body;
+  waiting = is_of.waiting;
+  count = count-more stored beat store.count is_of.count;
+  tiers = ap (λ (t : TiersState). after_beat beat.moment beat.points t) is_of.tiers;
+  going = is_of.going;
+}
+
+-- ---- a sound store
+
+pub sound_more : (kept : KeptPages) (stored : Stored) (store after : StoreState) (beat : Beat) → IsSound kept stored store → InForm beat → is_later store.tiers.last beat.moment ≡ true
+    → (is_numbered store.files.number ≡ true → has_sealed store.body.last store.tiers ≡ false)
+    → after.body ≡ store.body → after.files.number ≡ store.files.number → after.count ≡ raised store.count → after.tiers ≡ after_beat beat.moment beat.points store.tiers
+    → AreNext (last_after store.tiers.last beat.moment) after.waiting → IsSound kept (stored_with stored beat) after
+sound_more kept stored store after beat sound form later none_new same_body same_number one_raised more next =
+    let last : store.body.last ≡ stored.base.tiers.last = sym sound.of_body.last in
+    let may : MayFollow stored beat = record {
+      form = form;
+      later = subst (λ (t : TiersState). is_later t.last beat.moment ≡ true) sound.tiers later;
+      unsealed = λ numbered. sealed_same store.body.last stored.base.tiers.last store.tiers (tiers_of stored) last sound.tiers
+          ∙ none_new (subst (λ (n : ℕ). is_numbered n ≡ true) (sym sound.number) numbered);
+    } in
+    let now_last : last_after store.tiers.last beat.moment ≡ after.tiers.last =
+    sym (last-after beat.moment beat.points store.tiers) ∙ ap (λ (t : TiersState). t.last) (sym more) in
+    record {
+      spelt = subst HasSpelling (sym same_body) sound.spelt;
+      paged = subst (λ (b : Body). HasPagesOfEach b kept) (sym same_body) sound.paged;
+      number = same_number ∙ sound.number;
+      settings = ap (λ (b : Body). b.settings) same_body ∙ sound.settings;
+      base_count = ap (λ (b : Body). b.count) same_body ∙ sound.base_count;
+      side = ap (λ (b : Body). b.side) same_body ∙ sound.side;
+      of_body = subst (λ (b : Body). AreTiersOfBody b kept stored.base.tiers) (sym same_body) sound.of_body;
+      counted = sound.counted;
+      followed = (may, sound.followed);
+      count = one_raised ∙ count-more stored beat store.count sound.count;
+      tiers = more ∙ ap (λ (t : TiersState). after_beat beat.moment beat.points t) sound.tiers;
+      waiting = subst (λ (n : ℕ). AreNext n after.waiting) now_last next;
+    }
+
+pub none_next : (last : ℕ) (waiting : List Beat) → waiting ≡ [] → AreNext last waiting
+none_next last waiting none = subst (AreNext last) (sym none) tt
+
+-- the records are those of one more beat, where none waits
+records-none_wait : (beats waiting : List Beat) (records : List (List ℕ)) (bytes : List ℕ) (beat : Beat) → waiting ≡ [] → bytes ≡ beat_bytes beat
+    → records ≡ records_of (with_all beats waiting) → records ++ bytes ∷ [] ≡ records_of (with_all (beat ∷ beats) waiting)
+records-none_wait beats waiting records bytes beat none spelt are =
+    records-more beats records bytes beat (are ∙ ap (λ (l : List Beat). records_of (with_all beats l)) none) spelt
+    ∙ ap (λ (l : List Beat). records_of (with_all (beat ∷ beats) l)) (sym none)
+
+-- so is a store to which a beat was added
+pub ready_more : (honest : Type 0) (old new : List Event) (store : StoreState) (opened : FilesState) (bytes : List ℕ) (beat : Beat) → IsReady honest old store → IsReplayed store
+    → InForm beat → is_later store.tiers.last beat.moment ≡ true → (is_numbered store.files.number ≡ true → has_sealed store.body.last store.tiers ≡ false)
+    → bytes ≡ beat_bytes beat → store.fault ≡ None → opened.number ≡ store.files.number → files.IsReady honest new opened
+    → (honest → (contents : Contents) → IsOpenOf old store.files contents → IsOpenOf new opened (with_record contents bytes))
+    → IsReady honest new (added store opened beat)
+ready_more honest old new store opened bytes beat ready replayed form later none_new spelt going same_number placed opens = record {
+  kept = ready.kept;
+  stored = stored_with ready.stored beat;
+  sound =
+      sound_more ready.kept ready.stored store (added store opened beat) beat ready.sound form later none_new refl same_number refl refl
+      (none_next (last_after store.tiers.last beat.moment) store.waiting replayed);
+  place = placed.place;
+  opened = λ still h.
+      let was = ready.opened going h in
+      record {
+        contents = with_record was.contents bytes;
+        opened = opens h was.contents was.opened;
+        body = was.body;
+        pages = was.pages;
+        records = records-none_wait ready.stored.after store.waiting was.contents.records bytes beat replayed spelt was.records;
+      };
+}

@@ -1,0 +1,87 @@
+use Rattle.std.proofs.Common.{◌≡◌, ◌+◌, None, true, sym, ap, subst}
+use Rattle.host_model.specs.Moments.{begins, Throughout}
+use Rattle.database_files.specs.Shares.{share, IsWithin}
+use Rattle.tier_settings.specs.declared.settings.Settings.{Settings}
+use Rattle.store_core.specs.Store.{IsReady, IsReplayed, IsStoreOf, StoreState}
+use Rattle.store_core.specs.Stored.{is_numbered}
+use Rattle.store_core.proofs.AdvanceLemmas.{advance-bound, advance-moments, advance-ready, advance-store, cause-of-files, nothing-moved, ready-goes}
+use Rattle.store_core.proofs.store.Store.advance.Goals as goal
+
+pub next_body-made-requires-clause-goes_on : goal.next_body-made-requires-clause-goes_on
+next_body-made-requires-clause-goes_on g c =
+    let old = (g.H.Host.seen c.args.host.now).past in
+    ready-goes g.H.Host.honest old _ (subst (IsReady g.H.Host.honest old) (sym c.self.view_is) c.requires.ready)
+    (subst (λ (s : StoreState). is_numbered s.files.number ≡ true) (sym c.self.view_is) c.requires.numbered)
+
+pub returns-in_default-clause-any_moment : goal.returns-in_default-clause-any_moment
+returns-in_default-clause-any_moment g c h stored is_of =
+    begins (nothing-moved (g.H.Host.seen c.args.host.now).past c.args.self.now stored c.args.side is_of)
+
+pub returns-in_default-clause-bound : goal.returns-in_default-clause-bound
+returns-in_default-clause-bound g c most short h within = begins within
+
+pub returns-in-Ok-checkpoint-clause-any_moment : goal.returns-in-Ok-checkpoint-clause-any_moment
+returns-in-Ok-checkpoint-clause-any_moment g c h stored is_of =
+    let old = (g.H.Host.seen c.args.host.now).past in
+    let new = (g.H.Host.seen c.checkpoint.new.host).past in
+    let was = subst (λ (s : StoreState). IsStoreOf old s stored) (sym c.self.view_is) is_of in
+    let numbered = subst (λ (s : StoreState). is_numbered s.files.number ≡ true) (sym c.self.view_is) c.requires.numbered in
+    advance-moments old _ stored was numbered c.args.side c.in-Ok.body c.in-Ok.sealed
+    (record { is = c.in-Ok.ensures.is; spelt = c.in-Ok.ensures.spelt; follows = c.in-Ok.ensures.follows; tiers = c.in-Ok.ensures.tiers; counted = c.in-Ok.ensures.counted })
+    new (c.checkpoint.ensures.any_moment h)
+
+pub returns-in-Ok-checkpoint-clause-advanced : goal.returns-in-Ok-checkpoint-clause-advanced
+returns-in-Ok-checkpoint-clause-advanced g c h stored is_of =
+    let old = (g.H.Host.seen c.args.host.now).past in
+    let new = (g.H.Host.seen c.checkpoint.new.host).past in
+    let was = subst (λ (s : StoreState). IsStoreOf old s stored) (sym c.self.view_is) is_of in
+    let numbered = subst (λ (s : StoreState). is_numbered s.files.number ≡ true) (sym c.self.view_is) c.requires.numbered in
+    let replayed = subst (λ (s : StoreState). IsReplayed s) (sym c.self.view_is) c.requires.replayed in
+    advance-store old _ stored was numbered c.args.side c.in-Ok.body c.in-Ok.sealed
+    (record { is = c.in-Ok.ensures.is; spelt = c.in-Ok.ensures.spelt; follows = c.in-Ok.ensures.follows; tiers = c.in-Ok.ensures.tiers; counted = c.in-Ok.ensures.counted })
+    new c.checkpoint.new.self replayed (c.in-Ok-checkpoint.ensures.done h)
+
+pub returns-in-Ok-checkpoint-clause-ready : goal.returns-in-Ok-checkpoint-clause-ready
+returns-in-Ok-checkpoint-clause-ready g c =
+    let old = (g.H.Host.seen c.args.host.now).past in
+    let new = (g.H.Host.seen c.checkpoint.new.host).past in
+    let ready = subst (IsReady g.H.Host.honest old) (sym c.self.view_is) c.requires.ready in
+    let numbered = subst (λ (s : StoreState). is_numbered s.files.number ≡ true) (sym c.self.view_is) c.requires.numbered in
+    let replayed = subst (λ (s : StoreState). IsReplayed s) (sym c.self.view_is) c.requires.replayed in
+    let going = subst (λ (s : StoreState). s.fault ≡ None) (sym c.self.view_is) c.requires.going in
+    advance-ready g.H.Host.honest old new _ c.args.side c.in-Ok.body c.in-Ok.sealed c.checkpoint.new.self ready numbered replayed going
+    (record { is = c.in-Ok.ensures.is; spelt = c.in-Ok.ensures.spelt; follows = c.in-Ok.ensures.follows; tiers = c.in-Ok.ensures.tiers; counted = c.in-Ok.ensures.counted })
+    c.in-Ok-checkpoint.ensures.files c.in-Ok-checkpoint.ensures.done
+
+pub returns-in-Ok-checkpoint-clause-bound : goal.returns-in-Ok-checkpoint-clause-bound
+returns-in-Ok-checkpoint-clause-bound g c most short h within =
+    let old = (g.H.Host.seen c.args.host.now).past in
+    let new = (g.H.Host.seen c.checkpoint.new.host).past in
+    let same : c.self.inside.body.settings ≡ c.args.self.now.body.settings = ap (λ (s : StoreState). s.body.settings) c.self.view_is in
+    subst (λ (set : Settings). IsWithin (share set most) old → Throughout (IsWithin (share set most)) old new) same
+    (advance-bound old new (c.self.inside.files.number + 1) most c.args.side c.self.inside.body c.in-Ok.body c.in-Ok.sealed c.in-Ok.ensures.is.settings c.in-Ok.ensures.is.side c.in-Ok.ensures.spelt
+    c.in-Ok.ensures.own_slots short (λ shares room slots. c.checkpoint.ensures.bound shares room slots h))
+    within
+
+pub returns-in-Err-clause-any_moment : goal.returns-in-Err-clause-any_moment
+returns-in-Err-clause-any_moment g c h stored is_of =
+    let old = (g.H.Host.seen c.args.host.now).past in
+    let new = (g.H.Host.seen c.checkpoint.new.host).past in
+    let was = subst (λ (s : StoreState). IsStoreOf old s stored) (sym c.self.view_is) is_of in
+    let numbered = subst (λ (s : StoreState). is_numbered s.files.number ≡ true) (sym c.self.view_is) c.requires.numbered in
+    advance-moments old _ stored was numbered c.args.side c.in-Ok.body c.in-Ok.sealed
+    (record { is = c.in-Ok.ensures.is; spelt = c.in-Ok.ensures.spelt; follows = c.in-Ok.ensures.follows; tiers = c.in-Ok.ensures.tiers; counted = c.in-Ok.ensures.counted })
+    new (c.checkpoint.ensures.any_moment h)
+
+pub returns-in-Err-clause-bound : goal.returns-in-Err-clause-bound
+returns-in-Err-clause-bound g c most short h within =
+    let old = (g.H.Host.seen c.args.host.now).past in
+    let new = (g.H.Host.seen c.checkpoint.new.host).past in
+    let same : c.self.inside.body.settings ≡ c.args.self.now.body.settings = ap (λ (s : StoreState). s.body.settings) c.self.view_is in
+    subst (λ (set : Settings). IsWithin (share set most) old → Throughout (IsWithin (share set most)) old new) same
+    (advance-bound old new (c.self.inside.files.number + 1) most c.args.side c.self.inside.body c.in-Ok.body c.in-Ok.sealed c.in-Ok.ensures.is.settings c.in-Ok.ensures.is.side c.in-Ok.ensures.spelt
+    c.in-Ok.ensures.own_slots short (λ shares room slots. c.checkpoint.ensures.bound shares room slots h))
+    within
+
+pub returns-in-Err-clause-cause : goal.returns-in-Err-clause-cause
+returns-in-Err-clause-cause g c = cause-of-files _ _ c.in-Err.fault c.of_files.result c.of_files.ensures c.in-Err.ensures.cause

@@ -1,0 +1,187 @@
+//! A database is opened.
+
+ghost use Rattle.std.specs.Prelude.{◌≡◌, ◌⊎◌, ◌↔◌, ◌<◌, ℕ, true, false, Some, IsTrue, IfErr, IfOk, IsErrOf, OnOk};
+ghost use Rattle.std.specs.List.{AllByRecursion};
+ghost use Rattle.field_codec.specs.Field.{IsBytes};
+ghost use Rattle.host_model.specs.declared.file.File.{File as AFile};
+ghost use Rattle.host_model.specs.Cause.{HasCause};
+ghost use Rattle.host_model.specs.Disks.{reads_as, EveryDisk};
+ghost use Rattle.host_model.specs.Moments.{Throughout};
+ghost use Rattle.host_model.specs.Past.{IsDisk};
+ghost use Rattle.beat_tiers.specs.Room.{tiers_held};
+ghost use Rattle.checkpoint_body.specs.Body.{HasSpelling};
+ghost use Rattle.database_files.specs.Contents.{Contents};
+ghost use Rattle.database_files.specs.Damaged.{IsDamagedAt};
+ghost use Rattle.database_files.specs.Files.{IsOpenOf, IsPlaced};
+ghost use Rattle.database_files.specs.Holds.{Holds, OnlyOwn};
+ghost use Rattle.database_files.specs.Kept.{HasPagesOfEach};
+ghost use Rattle.database_files.specs.Opened.{contents_of};
+ghost use Rattle.database_files.specs.Opening.{OnlySyncs};
+ghost use Rattle.database_files.specs.Shares.{IsWithin};
+ghost use Rattle.beat_records.specs.Records.{beats_from};
+ghost use Rattle.tier_bodies.specs.Tiers.{AreTiersOfBody};
+ghost use Rattle.store_core.specs.Damaged.{HasBadPart, HasCounted, IsDamagedIn};
+ghost use Rattle.store_core.specs.Faults.{IsOpenFault, IsReadFault};
+ghost use Rattle.store_core.specs.Stands.{is_made, Stands};
+ghost use Rattle.store_core.specs.Store.{IsReady, OpensAt};
+ghost use Rattle.store_core.specs.Stored.{Stored as AStored};
+
+use crate::fault::{StoreFault, of_files};
+use crate::store::Store;
+use beat_records::{Waiting, read_beats};
+use beat_tiers::Tiers;
+use checkpoint_body::Body;
+use database_files::Opened;
+use host_model::Host;
+use std::alloc::Global;
+use tier_bodies::tiers_of;
+
+/// The part that is damaged where the body names more extents than it says were sealed.
+const BODY_PART: u32 = 2;
+
+/// The part that is damaged where the pages of the extents are those of no tiers.
+const EXTENT_PART: u32 = 3;
+
+/// The part that is damaged where the records are no beats.
+const JOURNAL_PART: u32 = 4;
+
+/// Whether each tier has sealed as many segments as it keeps, at least.
+fn has_counted(body: &Body) -> bool
+    ensures { IsTrue result ↔ HasCounted body.now }
+{
+    body.points.extents.len() as u64 <= body.points.sealed
+        && body.minutes.extents.len() as u64 <= body.minutes.sealed
+        && body.hours.extents.len() as u64 <= body.hours.sealed
+}
+
+/// The tiers of an opened database at its checkpoint.
+fn read_tiers(alloc: Global, opened: &Opened) -> Result<Tiers, StoreFault>
+    requires spelt { HasSpelling opened.now.body }
+    requires paged { HasPagesOfEach opened.now.body (contents_of opened.now).kept }
+    ensures counted { OnOk result (HasCounted opened.now.body) }
+    ensures tiers { IfOk result (λ tiers. AreTiersOfBody opened.now.body
+        (contents_of opened.now).kept (tiers_held tiers)) }
+    ensures damaged { (part : ℕ) → IsErrOf result (StoreFault.Damaged part)
+        → (part < 4) × HasBadPart part (contents_of opened.now) }
+    ensures faults { IfErr result IsReadFault }
+{
+    if !has_counted(&opened.body) {
+        return Err(StoreFault::Damaged(BODY_PART));
+    }
+    match tiers_of(alloc, opened) {
+        Ok(Some(tiers)) => Ok(tiers),
+        Ok(None) => Err(StoreFault::Damaged(EXTENT_PART)),
+        Err(_) => Err(StoreFault::Memory),
+    }
+}
+
+/// The tiers of an opened database at its checkpoint, and the beats since.
+fn read_all(alloc: Global, opened: &Opened) -> Result<(Tiers, Waiting), StoreFault>
+    requires spelt { HasSpelling opened.now.body }
+    requires paged { HasPagesOfEach opened.now.body (contents_of opened.now).kept }
+    ensures counted { OnOk result (HasCounted opened.now.body) }
+    ensures tiers { IfOk result (λ found. AreTiersOfBody opened.now.body
+        (contents_of opened.now).kept (tiers_held found.0)) }
+    ensures beats { IfOk result (λ found.
+        beats_from opened.now.body.last opened.now.records ≡ Some found.1) }
+    ensures bytes { OnOk result (AllByRecursion IsBytes opened.now.records) }
+    ensures damaged { (part : ℕ) → IsErrOf result (StoreFault.Damaged part)
+        → HasBadPart part (contents_of opened.now) }
+    ensures faults { IfErr result IsReadFault }
+{
+    let tiers = read_tiers(alloc, opened)?;
+    match read_beats(alloc, opened.body.last, opened.records.as_slice()) {
+        Ok(Some(waiting)) => Ok((tiers, waiting)),
+        Ok(None) => Err(StoreFault::Damaged(JOURNAL_PART)),
+        Err(_) => Err(StoreFault::Memory),
+    }
+}
+
+/// Opens the files of a database.
+fn open_files<H: Host>(alloc: Global, host: &mut H) -> Result<Opened, StoreFault>
+    ensures holds { IfOk result (λ opened. H.honest
+        → Holds (contents_of opened) (reads_as (H.seen host.old).past)) }
+    ensures opened { IfOk result (λ opened. H.honest
+        → IsOpenOf (H.seen host.new).past opened.files (contents_of opened)) }
+    ensures spelt { IfOk result (λ opened. HasSpelling opened.body) }
+    ensures paged { IfOk result
+        (λ opened. HasPagesOfEach opened.body (contents_of opened).kept) }
+    ensures place { IfOk result (λ opened. IsPlaced opened.files) }
+    ensures none { IsErrOf result StoreFault.NotADatabase → H.honest
+        → is_made (reads_as (H.seen host.old).past) ≡ false }
+    ensures some { OnOk result (H.honest → is_made (reads_as (H.seen host.old).past) ≡ true) }
+    ensures damaged { (part : ℕ) → IsErrOf result (StoreFault.Damaged part) → H.honest
+        → IsDamagedAt part (reads_as (H.seen host.old).past) }
+    ensures complete { H.honest → (contents : Contents)
+        → Holds contents (reads_as (H.seen host.old).past)
+        → IfErr result (λ fault. (fault ≡ StoreFault.DiskFault) ⊎ (fault ≡ StoreFault.Memory)) }
+    ensures faults { IfErr result IsOpenFault }
+    ensures syncs { H.honest → OnlySyncs (H.seen host.old).past (H.seen host.new).past }
+    ensures cause { HasCause (H.seen host.old).disk_faults (H.seen host.new).disk_faults
+        (IsErrOf result StoreFault.DiskFault) }
+    ensures output { (H.seen host.new).tell_faults ≡ (H.seen host.old).tell_faults }
+{
+    match database_files::open(alloc, host) {
+        Ok(opened) => Ok(opened),
+        Err(fault) => Err(of_files(fault)),
+    }
+}
+
+impl Store {
+    /// Opens the database. The store stands at its checkpoint, and none of the beats since is
+    /// applied yet. The disk is only read and synced, and whatever a crash leaves from then on
+    /// holds what was stored.
+    ///
+    /// `NotADatabase` where there is no checkpoint, and `Damaged` with the part that is none: 1 the
+    /// checkpoint's file, 2 its body, 3 an extent, 4 the journal.
+    pub fn open<H: Host>(alloc: Global, host: &mut H) -> Result<Store, StoreFault>
+        ensures opened { IfOk result (λ store. H.honest → (stored : AStored)
+            → Stands stored (reads_as (H.seen host.old).past)
+            → OpensAt (H.seen host.new).past store stored) }
+        ensures ready { IfOk result (IsReady H.honest (H.seen host.new).past) }
+        ensures going { IfOk result (λ store. store.fault ≡ None) }
+        ensures count { IfOk result (λ store. store.count ≡ store.body.count) }
+        ensures last { IfOk result (λ store. store.tiers.last ≡ store.body.last) }
+
+        // Every image at every moment is one from before, and what the files read as stays.
+        ensures any_moment { H.honest
+            → Throughout (EveryDisk (IsDisk (H.seen host.old).past)) (H.seen host.old).past
+            (H.seen host.new).past }
+        ensures same { H.honest → (file : AFile)
+            → reads_as (H.seen host.new).past file ≡ reads_as (H.seen host.old).past file }
+        ensures bound { (shares : AFile → ℕ) → H.honest → IsWithin shares (H.seen host.old).past
+            → Throughout (IsWithin shares) (H.seen host.old).past (H.seen host.new).past }
+        ensures only_here { H.honest → OnlyOwn (H.seen host.old).past (H.seen host.new).past }
+
+        ensures none { IsErrOf result StoreFault.NotADatabase → H.honest
+            → is_made (reads_as (H.seen host.old).past) ≡ false }
+        ensures some { OnOk result (H.honest → is_made (reads_as (H.seen host.old).past) ≡ true) }
+        ensures images { OnOk result (H.honest → (stored : AStored)
+            → Stands stored (reads_as (H.seen host.old).past)
+            → EveryDisk (Stands stored) (H.seen host.new).past) }
+        ensures damaged { (part : ℕ) → IsErrOf result (StoreFault.Damaged part) → H.honest
+            → IsDamagedIn part (reads_as (H.seen host.old).past) }
+
+        // A database of beats is opened, but for the disk and memory.
+        ensures complete { H.honest → (stored : AStored)
+            → Stands stored (reads_as (H.seen host.old).past)
+            → IfErr result (λ fault. (fault ≡ StoreFault.DiskFault)
+            ⊎ (fault ≡ StoreFault.Memory)) }
+        ensures faults { IfErr result IsOpenFault }
+        ensures cause { HasCause (H.seen host.old).disk_faults (H.seen host.new).disk_faults
+            (IsErrOf result StoreFault.DiskFault) }
+        ensures output { (H.seen host.new).tell_faults ≡ (H.seen host.old).tell_faults }
+    {
+        let opened = open_files(alloc, host)?;
+        let (tiers, waiting) = read_all(alloc, &opened)?;
+        Ok(Store {
+            alloc,
+            files: opened.files,
+            count: opened.body.count,
+            body: opened.body,
+            fault: None,
+            waiting,
+            tiers,
+        })
+    }
+}

@@ -1,0 +1,105 @@
+//! The beats since the checkpoint are applied.
+
+ghost use Rattle.std.specs.Prelude.{◌≡◌, ◌≢◌, true, List, [], ◌∷◌, IfErr, IfOk, IsErrOf, OnErr, OnOk};
+ghost use Rattle.host_model.specs.Past.{Event};
+ghost use Rattle.beat_tiers.specs.Room.{tiers_held, HasRoomFor};
+ghost use Rattle.database_files.specs.Contents.{KeptPages};
+ghost use Rattle.beat_records.specs.declared.beat.Beat.{Beat as ABeat};
+ghost use Rattle.store_core.specs.Faults.{fault_after, Reopens};
+ghost use Rattle.beat_records.specs.Records.{TakesFirst};
+ghost use Rattle.store_core.specs.Store.{tiers_after};
+ghost use Rattle.store_core.specs.Faults.{IsReplayFault};
+ghost use Rattle.store_core.specs.Store.{count_after, is_sealed, IsSound, IsStoreAt, Replays};
+ghost use Rattle.store_core.specs.Stored.{stored_after, Stored as AStored};
+
+use crate::fault::{StoreFault, Why};
+use crate::store::Store;
+use beat_records::{Beat, Waiting};
+use beat_tiers::Tiers;
+use std::alloc::AllocError;
+
+/// The part that is damaged where a beat stands behind one that sealed a segment.
+const JOURNAL_PART: u32 = 4;
+
+/// Takes the memory for the first of the beats that wait, if there is one.
+fn reserve_first(tiers: &mut Tiers, waiting: &Waiting) -> Result<(), AllocError>
+    ensures kept { tiers_held tiers.new ≡ tiers_held tiers.old }
+    ensures room { OnOk result ((beat : ABeat) (rest : List ABeat) → waiting.now ≡ beat ∷ rest
+        → HasRoomFor beat.moment beat.points tiers.new) }
+{
+    match waiting.first() {
+        Some(beat) => tiers.reserve(beat.moment, beat.points.as_slice()),
+        None => Ok(()),
+    }
+}
+
+impl Store {
+    /// Gives the next beat that was there at the opening, and applies it: `None` where all are
+    /// applied.
+    ///
+    /// `Damaged(4)` where it stands behind a beat that sealed a segment, as no database of beats
+    /// has it; then nothing has changed. `Memory` comes before anything is applied; after it the
+    /// database must be opened again.
+    pub fn replay(&mut self) -> Result<Option<Beat>, StoreFault>
+        ensures next { (past : List Event) (stored : AStored) (rest : List ABeat)
+            → IsStoreAt past self.old stored rest
+            → IfOk result (Replays past self.new stored rest) }
+
+        // A database of beats is not damaged.
+        ensures whole { (past : List Event) (stored : AStored) (rest : List ABeat)
+            → IsStoreAt past self.old stored rest → IsErrOf result (StoreFault.Damaged 4) → ⊥ }
+        ensures damaged { IsErrOf result (StoreFault.Damaged 4)
+            → (is_sealed self.old ≡ true) × (self.old.waiting ≢ []) }
+
+        // The same, of a store of which it is not known what it has stored.
+        ensures takes { IfOk result (λ next. TakesFirst self.old.waiting next self.new.waiting) }
+        ensures tiers { IfOk result (λ next. self.new.tiers ≡ tiers_after next self.old.tiers) }
+        ensures count { IfOk result (λ next. self.new.count ≡ count_after next self.old.count) }
+        ensures sound { (kept : KeptPages) (stored : AStored) → IsSound kept stored self.old
+            → IfOk result (λ next. IsSound kept (stored_after next stored) self.new) }
+        ensures files { self.new.files ≡ self.old.files }
+        ensures body { self.new.body ≡ self.old.body }
+
+        // After a refusal all but the fault is as before, and each call answers Reopen with its
+        // cause.
+        ensures leaves { OnErr result (self.new ≡ record self.old { fault = self.new.fault }) }
+        ensures fault { self.new.fault ≡ fault_after self.old.fault result }
+        ensures reopens { Reopens self.old.fault result }
+        ensures faults { IfErr result IsReplayFault }
+    {
+        if let Some(cause) = self.fault {
+            return Err(StoreFault::Reopen(cause));
+        }
+        if !self.waiting.is_empty() && self.is_numbered() && self.has_sealed() {
+            return Err(StoreFault::Damaged(JOURNAL_PART));
+        }
+        match self.apply_next() {
+            Ok(next) => Ok(next),
+            Err(_) => {
+                self.fault = Some(Why::Memory);
+                Err(StoreFault::Memory)
+            }
+        }
+    }
+
+    /// Gives the next beat that waits, and applies it.
+    fn apply_next(&mut self) -> Result<Option<Beat>, AllocError>
+        ensures takes { IfOk result (λ next. TakesFirst self.old.waiting next self.new.waiting) }
+        ensures tiers { IfOk result (λ next. self.new.tiers ≡ tiers_after next self.old.tiers) }
+        ensures count { IfOk result (λ next. self.new.count ≡ count_after next self.old.count) }
+        ensures leaves { OnErr result (self.new ≡ self.old) }
+        ensures files { self.new.files ≡ self.old.files }
+        ensures body { self.new.body ≡ self.old.body }
+        ensures fault { self.new.fault ≡ self.old.fault }
+    {
+        reserve_first(&mut self.tiers, &self.waiting)?;
+        match self.waiting.take_first() {
+            None => Ok(None),
+            Some(beat) => {
+                self.tiers.take(beat.moment, beat.points.as_slice());
+                self.count = self.count.saturating_add(1);
+                Ok(Some(beat))
+            }
+        }
+    }
+}
