@@ -70,12 +70,22 @@ def page_of_file(name, path):
     return text + "\n"
 
 
+def files_of(folder):
+    """The files of definitions of a crate, those of its modules too; a file that only names others is none."""
+    found = []
+    for at, _, names in os.walk(folder):
+        for name in names:
+            path = os.path.relpath(f"{at}/{name}", folder)
+            if name.endswith(".antt") and name != "Lib.antt" and not os.path.isdir(f"{at}/{name.removesuffix('.antt')}"):
+                found.append(path)
+    return sorted(found)
+
+
 def page():
     text = HEAD
     for crate in crates():
         folder = f"{TOP}/crates/{crate}/specs"
-        names = sorted(os.listdir(folder)) if os.path.isdir(folder) else []
-        files = "".join(page_of_file(it, f"{folder}/{it}") for it in names if it.endswith(".antt") and it != "Lib.antt")
+        files = "".join(page_of_file(it, f"{folder}/{it}") for it in files_of(folder))
         if files:
             text += f"\n## {crate}\n\n{files}".rstrip("\n") + "\n"
     return text

@@ -28,7 +28,7 @@ use Rattle.query_text.specs.Fault.{◌>>=◌}
 use Rattle.query_text.specs.Replies.{is_reply_line, HasOneLineIds, IsReply}
 use Rattle.query_text.proofs.ReplyLemmas.{fault-reply, table-reply}
 use Rattle.tier_settings.specs.declared.settings.Settings.{Settings}
-use Rattle.beat_records.specs.declared.beat.Beat.{Beat as StoreBeat}
+use Rattle.store_core.specs.declared.beats.beat.Beat.{Beat as StoreBeat}
 use Rattle.agent_core.specs.Answers.{reply_of, reply_to}
 use Rattle.agent_core.specs.Kept.{AreBeatsOf}
 use Rattle.link_session.specs.Keeps.{stored_line, IsAckedUpTo}

@@ -7,7 +7,7 @@ use Rattle.host_model.specs.Disks.{EveryDisk, reads_as}
 use Rattle.host_model.specs.Moments.{Throughout}
 use Rattle.host_model.specs.Past.{IsDisk}
 use Rattle.tier_settings.specs.declared.settings.Settings.{Settings}
-use Rattle.database_files.specs.Holds.{OnlyOwn}
+use Rattle.store_core.specs.disk.Holds.{OnlyOwn}
 use Rattle.store_core.specs.Stands.{is_made}
 use Rattle.host_model.specs.Seen.{Seen}
 use Rattle.agent_core.specs.Calls.{ReadsAsBefore}

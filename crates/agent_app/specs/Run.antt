@@ -24,7 +24,7 @@ use Rattle.plugin_text.specs.Lines.{parts}
 use Rattle.point_lines.specs.declared.refusal.Refusal.{Refusal}
 use Rattle.point_lines.specs.declared.refusal.Refusal.TheVariants as refusal
 use Rattle.tier_settings.specs.declared.settings.Settings.{Settings}
-use Rattle.database_files.specs.Holds.{IsForeign}
+use Rattle.store_core.specs.disk.Holds.{IsForeign}
 use Rattle.store_core.specs.Damaged.{IsDamagedIn}
 use Rattle.store_core.specs.Stands.{is_made}
 use Rattle.agent_core.specs.Notes.{IsDamaged}

@@ -21,7 +21,7 @@ use Rattle.query_text.specs.Asked.{query_read}
 use Rattle.query_text.specs.Fault.{IsFaultFor}
 use Rattle.query_text.specs.Told.{fault_text, table_text}
 use Rattle.tier_settings.specs.declared.settings.Settings.{Settings}
-use Rattle.beat_records.specs.declared.beat.Beat.{Beat as StoreBeat}
+use Rattle.store_core.specs.declared.beats.beat.Beat.{Beat as StoreBeat}
 use Rattle.store_core.specs.Tiers.{floor_at, kept_of, seen}
 use Rattle.store_core.specs.View.{points_of}
 use Rattle.tier_settings.specs.Limits.{widths}

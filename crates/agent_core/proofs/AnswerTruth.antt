@@ -32,7 +32,7 @@ use Rattle.replication.specs.Copies.{above, between, had_floor, Message, IsTrueO
 use Rattle.replication.specs.Names.{beat_moment, message_of, named_beat, named_beats, named_moment}
 use Rattle.replication.proofs.NamesLaws.{above-map, answer-true, latest-map}
 use Rattle.tier_settings.specs.declared.settings.Settings.{Settings}
-use Rattle.beat_records.specs.declared.beat.Beat.{Beat as StoreBeat}
+use Rattle.store_core.specs.declared.beats.beat.Beat.{Beat as StoreBeat}
 use Rattle.agent_core.specs.Answers.{floor_of_history, kept_of_history, tier_beats}
 use Rattle.agent_core.specs.Copies.{data_of_history, message_seen, names_of, seen, seen_if, seen_moment, seen_sent, sent_beat, sent_word, word_of_point, words_by_name, IsTrueOfChild, SeenBeat}
 use Rattle.agent_core.specs.Kept.{copied_point, AreBeatsOf}

@@ -39,8 +39,8 @@ use Rattle.link_frames.specs.Fields.{FitsBeat}
 use Rattle.link_frames.specs.Frames.{HasSpelling}
 use Rattle.link_frames.proofs.AnswerLaw.{answer-spells}
 use Rattle.link_frames.proofs.PlacesLaw.{of-all}
-use Rattle.beat_records.specs.declared.beat.Beat.{Beat as StoreBeat}
-use Rattle.beat_records.specs.Beats.{series_of}
+use Rattle.store_core.specs.declared.beats.beat.Beat.{Beat as StoreBeat}
+use Rattle.store_core.specs.beats.Beats.{series_of}
 use Rattle.store_core.specs.Store.{StoreState}
 use Rattle.store_core.specs.Tiers.{floor_at, kept_of, seen}
 use Rattle.tier_settings.specs.Settings.{first_tier}

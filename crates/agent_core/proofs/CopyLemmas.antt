@@ -32,7 +32,7 @@ use Rattle.replication.specs.Verdict.{is_stored}
 use Rattle.replication.proofs.Copies.{all-map, keeps-copy, keeps-within, latest-later, rises-later}
 use Rattle.replication.proofs.Verdicts.{stored-begins}
 use Rattle.link_frames.specs.DataForm.{IsData}
-use Rattle.beat_records.specs.declared.beat.Beat.{Beat as StoreBeat}
+use Rattle.store_core.specs.declared.beats.beat.Beat.{Beat as StoreBeat}
 use Rattle.agent_core.specs.Copies.{is_named, message_seen, seen, seen_if, seen_moment, seen_sent, span_of, word_of_point, words_by_name, IsCopyOfChild, IsTrueOfChild, SeenBeat}
 use Rattle.agent_core.specs.Copying.{added_to, beats_of, copied_beats, copied_of, copy_refusal, defined_dimension, definitions_in, gap_beat, nothing_defined, numbered_words, verdict_of}
 use Rattle.agent_core.specs.Kept.{onto, AreBeatsOf}

@@ -7,7 +7,7 @@ use Rattle.history.specs.History.{Beat, collected, copied, health, missing, chil
 use Rattle.history.specs.Registry.{Registry}
 use Rattle.beat_points.specs.Points.{IsBefore}
 use Rattle.beat_points.proofs.LawLemmas.{before-collected, before-none}
-use Rattle.beat_records.specs.declared.beat.Beat.{Beat as StoreBeat}
+use Rattle.store_core.specs.declared.beats.beat.Beat.{Beat as StoreBeat}
 use Rattle.chart_registry.proofs.AcceptedLemmas.{passed}
 use Rattle.agent_core.specs.Kept.{AreBeatsOf, Follows}
 use Rattle.agent_core.specs.Roles.{child_in, copies, role_of}

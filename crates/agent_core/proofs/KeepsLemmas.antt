@@ -11,7 +11,7 @@ use Rattle.history.specs.Regular.{AreApart}
 use Rattle.chart_registry.proofs.AcceptedLemmas.{passed}
 use Rattle.alarm_core.specs.UpTo.{IsUpTo}
 use Rattle.beat_entries.specs.Rules.{with_beat}
-use Rattle.database_files.specs.Holds.{OnlyOwn}
+use Rattle.store_core.specs.disk.Holds.{OnlyOwn}
 use Rattle.store_core.specs.declared.fault.StoreFault.{StoreFault}
 use Rattle.store_core.specs.declared.fault.StoreFault.TheVariants as store
 use Rattle.store_core.specs.declared.fault.Why.{Why}

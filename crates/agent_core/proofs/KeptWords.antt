@@ -18,6 +18,7 @@ use Rattle.history.specs.Points.{cell_in, cells_of, difference, is_reset, ratio,
 use Rattle.history.specs.Registry.{Registry, is_chart}
 use Rattle.beat_points.specs.declared.series_word.SeriesWord.{SeriesWord}
 use Rattle.beat_points.specs.Points.{beat_points}
+use Rattle.beat_points.proofs.StorageWords.{cell-word, IsGiven}
 use Rattle.beat_entries.specs.Copied.{copied_entry_of, told_word}
 use Rattle.entry_codec.specs.declared.charts.CopiedChart.{CopiedChart}
 use Rattle.entry_codec.specs.declared.dimensions.CopiedDimension.{CopiedDimension}
@@ -26,8 +27,8 @@ use Rattle.entry_codec.specs.declared.words.CopiedWord.{CopiedWord}
 use Rattle.entry_codec.specs.Entries.{is_canonical, is_copied_canonical, is_storage_number}
 use Rattle.entry_codec.specs.Lists.{is_ascending}
 use Rattle.beat_tiers.specs.declared.item.BeatPoint.{BeatPoint}
-use Rattle.beat_records.specs.declared.beat.Beat.{Beat as StoreBeat}
-use Rattle.beat_records.specs.Beats.{series_of}
+use Rattle.store_core.specs.declared.beats.beat.Beat.{Beat as StoreBeat}
+use Rattle.store_core.specs.beats.Beats.{series_of}
 use Rattle.agent_core.specs.Kept.{copied_entry, copied_point, point_of, AreBeatsOf, IsCopyOf}
 
 -- the points rise by series, and their words are storage numbers
@@ -36,32 +37,9 @@ pub record HaveWords (points : List BeatPoint) : Type 0 where
   pub numbers : list_all (λ (point : BeatPoint). is_word point.word) points ≡ true
 
 -- ---- a beat that was collected
-packed-word : (num den : ℤ) (anomalous reset : Bool) → is_word (packed (ratio num den) anomalous reset) ≡ true
-unfolding packed
-packed-word num (pos zero) anomalous reset = packed_is_word (pos 0) (pos 1) anomalous reset (omega arith)
-packed-word num (pos (suc n)) anomalous reset = packed_is_word num (pos (suc n)) anomalous reset (search rules)
-packed-word num (negsuc n) anomalous reset = packed_is_word (neg_ℤ num) (pos (suc n)) anomalous reset (search rules)
-
-abbrev IsGiven : Option ℕ → Type 0
-IsGiven found = IfSome found (λ word. is_word word ≡ true)
-
-mapped-word : {A : Type 0} (f : A → ℕ) (found : Option A) → ((x : A) → is_word (f x) ≡ true) → IsGiven (option_map f found)
-mapped-word f None each = tt
-mapped-word f (Some x) each = each x
-
 then-word : {A : Type 0} (f : A → Option ℕ) (found : Option A) → ((x : A) → IsGiven (f x)) → IsGiven (option_and_then f found)
 then-word f None each = tt
 then-word f (Some x) each = each x
-
-cell-word : (algorithm : Algorithm) (values rises : ℤ) (cell : Cell) → IsGiven (word_by packed algorithm values rises cell)
-cell-word Absolute values rises cell = packed-word (cell.value *ℤ cell.multiplier) cell.divisor cell.anomalous false
-cell-word Incremental values rises cell =
-    mapped-word (λ (before : Before). packed (ratio (rise before.value cell.value *ℤ cell.multiplier) (cell.divisor *ℤ pos before.seconds)) cell.anomalous (is_reset cell)) cell.before
-    (λ before. packed-word (rise before.value cell.value *ℤ cell.multiplier) (cell.divisor *ℤ pos before.seconds) cell.anomalous (is_reset cell))
-cell-word PercentageOfAbsoluteRow values rises cell = packed-word (cell.value *ℤ pos 100) values cell.anomalous false
-cell-word PercentageOfIncrementalRow values rises cell =
-    mapped-word (λ change. packed (ratio (change *ℤ pos 100) rises) cell.anomalous (is_reset cell)) (difference cell)
-    (λ change. packed-word (change *ℤ pos 100) rises cell.anomalous (is_reset cell))
 
 at-word : (registry : Registry) (h : List Beat) (moment : ℕ) (beat : OpenBeat) (dimension : OpenDim) → IsGiven (word_at packed registry h moment beat dimension)
 at-word registry h moment beat dimension =

@@ -21,7 +21,7 @@ use Rattle.beat_tiers.specs.declared.item.BeatPoint.{BeatPoint}
 use Rattle.beat_tiers.specs.Beats.{is_series}
 use Rattle.tier_rollup.specs.declared.point.Point.{Point}
 use Rattle.alarm_core.specs.declared.latest.Latest.{Latest}
-use Rattle.beat_records.specs.declared.beat.Beat.{Beat as StoreBeat}
+use Rattle.store_core.specs.declared.beats.beat.Beat.{Beat as StoreBeat}
 use Rattle.agent_core.specs.Kept.{copied_point, point_of, stored_points, AreBeatsOf}
 use Rattle.agent_core.specs.LastSeen.{is_point_at, is_row_at, latest_of, with_room, HasTaken, IsLatestOf}
 use Rattle.agent_core.proofs.FollowLemmas.{follows-owned, follows-regular}

@@ -44,7 +44,7 @@ KeepsChart def = chart_keeps_limits def ≡ true
 abbrev KeepsDimension : OpenDim → Type 0
 KeepsDimension dimension = dimension_keeps_limits dimension.def ≡ true
 
-grid-kept : (def : ChartDef) → 0 < def.update_every → KeepsChart def → IsGrid def
+pub grid-kept : (def : ChartDef) → 0 < def.update_every → KeepsChart def → IsGrid def
 grid-kept def some keeps = (some, leb-true def.update_every 86400 (and_parts (is_chart_id def.id && has_short_texts def) (nat_le def.update_every UPDATE_EVERY_LIMIT) keeps).1)
 
 pub none-limits : HasLimits empty

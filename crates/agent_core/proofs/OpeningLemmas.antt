@@ -7,7 +7,7 @@ use Rattle.host_model.specs.Disks.{reads_as, EveryDisk}
 use Rattle.history.specs.History.{Beat, last}
 use Rattle.tier_settings.specs.declared.settings.Settings.{Settings}
 use Rattle.checkpoint_body.specs.declared.body.Body.{Body}
-use Rattle.beat_records.specs.declared.beat.Beat.{Beat as StoreBeat}
+use Rattle.store_core.specs.declared.beats.beat.Beat.{Beat as StoreBeat}
 use Rattle.store_core.specs.Stands.{Stands}
 use Rattle.store_core.specs.Store.{base_of, HasApplied, IsReady, IsReplayed, IsStoreAt, OpensAt, Replays, StoreState}
 use Rattle.store_core.specs.Stored.{stored_with, stored_with_all, Stored}

@@ -10,8 +10,9 @@ use Rattle.alarm_core.specs.Beats.{Beat as AlarmBeat}
 use Rattle.alarm_core.specs.Course.{configured, nothing, stepped_by, Held}
 use Rattle.alarm_core.specs.Kept.{kept, of_kept}
 use Rattle.alarm_core.specs.Whole.{IsTextOf, IsWhole}
+use Rattle.alarm_core.proofs.AgainLemmas.{kept_again, whole_configured, whole_nothing, whole_stepped}
 use Rattle.tier_settings.specs.declared.settings.Settings.{Settings}
-use Rattle.beat_records.specs.declared.beat.Beat.{Beat as StoreBeat}
+use Rattle.store_core.specs.declared.beats.beat.Beat.{Beat as StoreBeat}
 use Rattle.agent_core.specs.Alarms.{alarm_beat, alarms_at, alarms_by}
 use Rattle.agent_core.specs.Health.{alarms_in, alarms_of, fault_in, health_refusal}
 use Rattle.agent_core.specs.Kept.{AreBeatsOf}
@@ -24,28 +25,21 @@ read-as (Err fault) accepted = absurd (none-some fault (sym accepted))
 text-of : (text : List ℕ) → health_refusal text ≡ None → IsTextOf text (alarms_of text)
 text-of text accepted = read-as (config_read text) accepted
 
--- what the law of alarms says
-pub record StayWhole : Type 0 where
-  pub none : (registry : Registry) → IsWhole nothing registry
-  pub after_text : (held : Held) (text : List ℕ) (alarms : List Alarm) (registry : Registry) (moment : ℕ) → IsTextOf text alarms → IsWhole (configured held text alarms registry moment).held registry
-  pub after_beat : (held : Held) (beat : AlarmBeat) → IsTextOf held.text held.alarms → IsWhole (stepped_by held beat).held beat.registry
-  pub again : (held : Held) (registry : Registry) → IsWhole held registry → of_kept registry (kept held) ≡ Some held
-
-module _ (law : StayWhole) (set : Settings) where
+module _ (set : Settings) where
   whole-of : (h : List Beat) (beats : List StoreBeat) → AreBeatsOf h beats → IsWhole (alarms_at set h) (registry_of h)
   unfolding alarms_by
-  whole-of [] beats are = law.none empty
+  whole-of [] beats are = whole_nothing empty
   whole-of (collected moment beat ∷ h) [] are = absurd are
   whole-of (collected moment beat ∷ h) (kept ∷ beats) are =
-      law.after_beat (alarms_at set h) (alarm_beat set (last h) moment (collected moment beat ∷ h)) (whole-of h beats are.1).text
+      whole_stepped (alarms_at set h) (alarm_beat set (last h) moment (collected moment beat ∷ h)) (whole-of h beats are.1).text
   whole-of (copied copy ∷ h) [] are = absurd are
   whole-of (copied copy ∷ h) (kept ∷ beats) are =
-      law.after_beat (alarms_at set h) (alarm_beat set (last h) copy.moment (copied copy ∷ h)) (whole-of h beats are.1).text
+      whole_stepped (alarms_at set h) (alarm_beat set (last h) copy.moment (copied copy ∷ h)) (whole-of h beats are.1).text
   whole-of (health text ∷ h) [] are = absurd are
   whole-of (health text ∷ h) (kept ∷ beats) are =
-      law.after_text (alarms_at set h) text (alarms_of text) (registry_of h) (last h) (text-of text are.0.accepted)
+      whole_configured (alarms_at set h) text (alarms_of text) (registry_of h) (last h) (text-of text are.0.accepted)
   whole-of (missing gap ∷ h) [] are = absurd are
   whole-of (missing gap ∷ h) (kept ∷ beats) are = whole-of h beats are.1
 
   pub alarms-again : (h : List Beat) (beats : List StoreBeat) → AreBeatsOf h beats → of_kept (registry_of h) (kept (alarms_at set h)) ≡ Some (alarms_at set h)
-  alarms-again h beats are = law.again (alarms_at set h) (registry_of h) (whole-of h beats are)
+  alarms-again h beats are = kept_again (alarms_at set h) (registry_of h) (whole-of h beats are)

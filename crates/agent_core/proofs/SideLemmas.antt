@@ -21,7 +21,7 @@ use Rattle.side_codec.specs.Sides.{read_side, side_bytes, HasSpelling, IsNoSpell
 use Rattle.side_codec.proofs.SidesLaw.{is_read, reads_back}
 use Rattle.beat_points.specs.LastRows.{AreLastOf}
 use Rattle.tier_settings.specs.declared.settings.Settings.{Settings}
-use Rattle.beat_records.specs.declared.beat.Beat.{Beat as StoreBeat}
+use Rattle.store_core.specs.declared.beats.beat.Beat.{Beat as StoreBeat}
 use Rattle.agent_core.specs.declared.left.Left.{Left}
 use Rattle.agent_core.specs.declared.left.Role.{Role}
 use Rattle.agent_core.specs.declared.left.Role.TheVariants.{Undecided, Collects, Copies}
@@ -34,7 +34,7 @@ use Rattle.agent_core.specs.Roles.{role_of}
 use Rattle.agent_core.specs.Rules.{HasLimits}
 use Rattle.agent_core.specs.Sides.{all_charts, all_dimensions, filled, last_row, point_in_side, side_by, side_of, side_role, stored_point, IsReadFrom, IsSideOf}
 use Rattle.agent_core.proofs.LimitLemmas.{entry-limits, none-limits}
-use Rattle.agent_core.proofs.SideAlarms.{alarms-again, StayWhole}
+use Rattle.agent_core.proofs.SideAlarms.{alarms-again}
 use Rattle.agent_core.proofs.SideLists.{filled-whole, points-again, points-length, raws-are, rows-are, rows-filled, words-stored}
 use Rattle.agent_core.proofs.SideRegistry.{all-defined, all-go-on, of-history}
 use Rattle.agent_core.proofs.SideWords.{last-words}
@@ -81,7 +81,7 @@ module _ (set : Settings) (h : List Beat) (beats : List StoreBeat) (are : AreBea
   side-written bytes spelt are = record { spelt = subst HasSpelling side-is spelt; bytes_are = are ∙ ap side_bytes side-is }
 
 -- ---- what is read
-module _ (law : StayWhole) (set : Settings) (h : List Beat) (beats : List StoreBeat) (are : AreBeatsOf h beats) where
+module _ (set : Settings) (h : List Beat) (beats : List StoreBeat) (are : AreBeatsOf h beats) where
   defined : with_numbered empty (defined_in (side_of set h)) ≡ registry_of h
   unfolding side_of
   defined = all-defined (registry_of h) (of-history h beats are)
@@ -92,7 +92,7 @@ module _ (law : StayWhole) (set : Settings) (h : List Beat) (beats : List StoreB
 
   kept-again : (registry : Registry) → registry ≡ registry_of h → of_kept registry (side_of set h).alarms ≡ Some (alarms_at set h)
   unfolding side_of
-  kept-again registry same = ap (λ (r : Registry). of_kept r (kept (alarms_at set h))) same ∙ alarms-again law set h beats are
+  kept-again registry same = ap (λ (r : Registry). of_kept r (kept (alarms_at set h))) same ∙ alarms-again set h beats are
 
   good : is_good (side_of set h) ≡ true
   good = λ i. goes i && is_some (kept-again (with_numbered empty (defined_in (side_of set h))) defined i)

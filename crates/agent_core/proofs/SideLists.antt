@@ -29,7 +29,7 @@ use Rattle.chart_registry.proofs.RegistryLemmas.{or_false}
 use Rattle.chart_registry.proofs.RowsLemmas.{same_text}
 use Rattle.beat_points.specs.LastRows.{last_in, AreLastOf}
 use Rattle.tier_rollup.specs.declared.point.Point.{Point}
-use Rattle.beat_records.specs.declared.beat.Beat.{Beat as StoreBeat}
+use Rattle.store_core.specs.declared.beats.beat.Beat.{Beat as StoreBeat}
 use Rattle.agent_core.specs.Kept.{AreBeatsOf}
 use Rattle.agent_core.specs.LastSeen.{last_point, last_raw, points_seen, raws_seen}
 use Rattle.agent_core.specs.Sides.{filled, last_row, point_back, point_in_side, raw_of, stored_point}

@@ -32,13 +32,15 @@ use Rattle.beat_entries.specs.Next.{goes_on, with_numbered}
 use Rattle.beat_entries.proofs.CopiedLemmas.{regular-without}
 use Rattle.beat_entries.proofs.DefinedLemmas.{chart-itself}
 use Rattle.beat_entries.proofs.FollowLemmas.{beat-goes-on, last-is}
-use Rattle.beat_records.specs.declared.beat.Beat.{Beat as StoreBeat}
+use Rattle.beat_entries.proofs.PutLemmas.{self-any}
+use Rattle.beat_entries.proofs.Slots.{all-both}
+use Rattle.store_core.specs.declared.beats.beat.Beat.{Beat as StoreBeat}
 use Rattle.agent_core.specs.Kept.{AreBeatsOf}
 use Rattle.agent_core.specs.Rules.{HasLimits}
 use Rattle.agent_core.specs.Sides.{all_charts, all_dimensions, chart_at, dimension_at}
 use Rattle.agent_core.proofs.FollowLemmas.{follows-may}
 use Rattle.agent_core.proofs.LastSeenLemmas.{only-defined}
-use Rattle.agent_core.proofs.LimitLemmas.{none-limits, IsGrid}
+use Rattle.agent_core.proofs.LimitLemmas.{grid-kept, none-limits, IsGrid}
 use Rattle.agent_core.proofs.Lists.{all-put_all}
 use Rattle.agent_core.proofs.Within.{within-of}
 
@@ -67,25 +69,15 @@ module _ {A : Type 0} (same : A → A → Bool) (itself_ : (x : A) → same x x 
   pub put-once : (xs : List A) → AreApart same xs → put_all same [] xs ≡ xs
   put-once xs apart = put-more xs [] apart
 
-  or-right : (b c : Bool) → c ≡ true → (b || c) ≡ true
-  or-right true c e = refl
-  or-right false c e = e
+chart-alike : (x y z : ChartDef) → same_chart x y ≡ true → same_chart x z ≡ same_chart y z
+chart-alike x y z same i = chart-left x y same i z
 
-  -- each of them is there
-  pub each-there : (xs : List A) → AllByRecursion (λ (x : A). list_any (same x) xs ≡ true) xs
-  each-there [] = tt
-  each-there (x ∷ xs) = (
-    ap (λ (b : Bool). b || list_any (same x) xs) (itself_ x),
-    all-weaker (λ (y : A). list_any (same y) xs ≡ true) (λ (y : A). list_any (same y) (x ∷ xs) ≡ true) (λ y there. or-right (same y x) (list_any (same y) xs) there) xs (each-there xs),
-  )
+dimension-alike : (x y z : OpenDim) → same_dimension x y ≡ true → same_dimension x z ≡ same_dimension y z
+dimension-alike x y z same i = left x y same i z
 
 all-of : {A : Type 0} (P : A → Type 0) → ((x : A) → P x) → (xs : List A) → AllByRecursion P xs
 all-of P each [] = tt
 all-of P each (x ∷ xs) = (each x, all-of P each xs)
-
-all-and : {A : Type 0} (P Q : A → Type 0) (xs : List A) → AllByRecursion P xs → AllByRecursion Q xs → AllByRecursion (λ (x : A). P x × Q x) xs
-all-and P Q [] all both = tt
-all-and P Q (x ∷ xs) all both = ((all.0, both.0), all-and P Q xs all.1 both.1)
 
 -- all of a list are picked
 picked-all : {A C : Type 0} (P : A → Type 0) (pick : ℕ × A → Option C) (made : ℕ × A → C) → ((k : ℕ) (a : A) → P a → pick (k, a) ≡ Some (made (k, a)))
@@ -135,7 +127,7 @@ module _ (registry : Registry) (sound : IsOfHistory registry) where
   charts-all =
       picked-all (λ (def : ChartDef). list_any (is_chart def.id) registry.charts ≡ true)
       (λ (place : ℕ × ChartDef). if list_any (is_chart place.1.id) registry.charts then Some (record { number = place.0; def = place.1 }) else None) chart_at
-      (λ k def there. ap (λ (b : Bool). if b then Some (chart_at (k, def)) else None) there) registry.charts 0 (each-there same_chart chart-itself chart-left registry.charts)
+      (λ k def there. ap (λ (b : Bool). if b then Some (chart_at (k, def)) else None) there) registry.charts 0 (self-any same_chart chart-itself chart-alike registry.charts)
 
   abbrev IsThere : OpenDim → Type 0
   IsThere dimension = list_any (is_dimension dimension.chart dimension.def.id) registry.dimensions ≡ true
@@ -150,7 +142,7 @@ module _ (registry : Registry) (sound : IsOfHistory registry) where
       (λ k dimension both.
       ap (λ (b : Bool). if b then numbered_dimension registry k dimension else None) both.0
       ∙ ap (option_map (λ (number : ℕ). record { series = k; chart = number; def = dimension.def })) (place-there (is_chart dimension.chart) registry.charts both.1))
-      registry.dimensions 0 (all-and IsThere IsOwned registry.dimensions (each-there same_dimension itself left registry.dimensions) sound.owners)
+      registry.dimensions 0 (all-both IsThere IsOwned registry.dimensions (self-any same_dimension itself dimension-alike registry.dimensions) sound.owners)
 
   no-rows : (charts : List ChartDef) (n : ℕ)
       → filter_map {Y = Row} (λ (place : ℕ × ChartDef). option_map (λ (row : OpenRow). record { chart = place.0; values = numbered_values registry row }) (find (λ (row : OpenRow). bytes_eq place.1.id row.chart) []))
@@ -211,9 +203,6 @@ KeepsChart def = chart_keeps_limits def ≡ true
 
 abbrev KeepsDimension : OpenDim → Type 0
 KeepsDimension dimension = dimension_keeps_limits dimension.def ≡ true
-
-grid-kept : (def : ChartDef) → 0 < def.update_every → KeepsChart def → IsGrid def
-grid-kept def some keeps = (some, leb-true def.update_every 86400 (and_parts (is_chart_id def.id && has_short_texts def) (nat_le def.update_every UPDATE_EVERY_LIMIT) keeps).1)
 
 grids-kept : (defs : List ChartDef) → AllByRecursion (λ (def : ChartDef). 0 < def.update_every) defs → AllByRecursion KeepsChart defs → AllByRecursion IsGrid defs
 grids-kept [] some keeps = tt

@@ -22,7 +22,7 @@ use Rattle.entry_codec.specs.Lists.{is_ascending}
 use Rattle.beat_entries.specs.Copied.{copied_entry_of, told_word}
 use Rattle.beat_points.proofs.StorageWords.{cell-word}
 use Rattle.tier_rollup.specs.declared.point.Point.{Point}
-use Rattle.beat_records.specs.declared.beat.Beat.{Beat as StoreBeat}
+use Rattle.store_core.specs.declared.beats.beat.Beat.{Beat as StoreBeat}
 use Rattle.agent_core.specs.Answers.{told_point}
 use Rattle.agent_core.specs.Kept.{copied_entry, AreBeatsOf}
 use Rattle.agent_core.specs.LastSeen.{last_point, points_seen}

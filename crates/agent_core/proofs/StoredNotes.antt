@@ -2,14 +2,13 @@
 use Rattle.std.proofs.Common.{◌≡◌, true, List, [], ◌∷◌, refl, sym, ap, ◌∙◌, subst}
 use Rattle.history.specs.History.{Beat}
 use Rattle.tier_settings.specs.declared.settings.Settings.{Settings}
-use Rattle.beat_records.specs.declared.beat.Beat.{Beat as StoreBeat}
+use Rattle.store_core.specs.declared.beats.beat.Beat.{Beat as StoreBeat}
 use Rattle.store_core.specs.Stored.{Stored}
 use Rattle.agent_core.specs.Kept.{AreBeatsOf}
 use Rattle.agent_core.specs.Notes.{beats_go_on, left_after, noted_of, notes_go_on, with_note, Noted}
 use Rattle.agent_core.specs.Stands.{AreSince, IsStoredOf}
 use Rattle.agent_core.proofs.NoteLemmas.{go-on-more, go-on-none, goes-by, left-more, left-none}
 use Rattle.agent_core.proofs.ReplayLemmas.{beat-leaves, beat-takes}
-use Rattle.agent_core.proofs.SideAlarms.{StayWhole}
 use Rattle.agent_core.proofs.SideNoted.{side-noted}
 
 -- the beats since a checkpoint go on from what the history up to it leaves, and leave what the history leaves
@@ -39,7 +38,7 @@ history-leaves earlier (beat ∷ h) before (kept ∷ since) were are =
       go_on = go-on-more start (noted_of h) since kept true was.go_on (sym was.left) (beat-takes h was.beats was.are beat kept are.0 (noted_of h) refl);
     }
 
-pub history-goes : StayWhole → (set : Settings) (h : List Beat) (stored : Stored) → IsStoredOf set h stored → notes_go_on stored ≡ true
-history-goes law set h stored are =
-    goes-by (noted_of are.earlier) stored true (side-noted law set are.earlier are.beats are.were stored.base.side are.side)
+pub history-goes : (set : Settings) (h : List Beat) (stored : Stored) → IsStoredOf set h stored → notes_go_on stored ≡ true
+history-goes set h stored are =
+    goes-by (noted_of are.earlier) stored true (side-noted set are.earlier are.beats are.were stored.base.side are.side)
     (history-leaves are.earlier h are.beats stored.after are.were are.since).go_on

@@ -21,10 +21,10 @@ use Rattle.beat_entries.specs.Copied.{definitions_of, told_chart, told_dimension
 use Rattle.beat_tiers.specs.declared.item.BeatPoint.{BeatPoint}
 use Rattle.replication.specs.declared.beats.Beat.{Beat as SentBeat}
 use Rattle.replication.specs.declared.message.Data.{Data}
-use Rattle.beat_records.specs.declared.beat.Beat.{Beat as StoreBeat}
-use Rattle.beat_records.specs.Beats.{beat_bytes, InForm}
+use Rattle.store_core.specs.declared.beats.beat.Beat.{Beat as StoreBeat}
+use Rattle.store_core.specs.beats.Beats.{beat_bytes, InForm}
 use Rattle.store_core.specs.Store.{StoreState}
-use Rattle.beat_records.proofs.BeatLaw.{beat_size}
+use Rattle.store_core.proofs.beats.BeatLaw.{beat_size}
 use Rattle.agent_core.specs.Copying.{gap_beat}
 use Rattle.agent_core.specs.Kept.{copied_entry, copied_point, gap_entry, IsCopyOf, IsGapOf}
 use Rattle.agent_core.specs.Stands.{HoldsHistory}

@@ -6,7 +6,7 @@ use Rattle.history.specs.History.{Beat, collected, copied, health, missing, chil
 use Rattle.history.specs.Registry.{Registry}
 use Rattle.chart_registry.specs.Accepted.{IsWithin}
 use Rattle.chart_registry.proofs.AcceptedLemmas.{passed}
-use Rattle.beat_records.specs.declared.beat.Beat.{Beat as StoreBeat}
+use Rattle.store_core.specs.declared.beats.beat.Beat.{Beat as StoreBeat}
 use Rattle.beat_entries.specs.Rules.{changes_grid, too_many_charts, too_many_dimensions}
 use Rattle.beat_entries.proofs.Within.{room-for, within-after}
 use Rattle.agent_core.specs.Copying.{names_refusal}

@@ -22,7 +22,7 @@ use Rattle.link_frames.specs.Frames.{HasSpelling}
 use Rattle.alarm_events.specs.declared.log.Log.{Log}
 use Rattle.tier_settings.specs.declared.settings.Settings.{Settings}
 use Rattle.beat_tiers.specs.declared.kept.Kept.{Kept}
-use Rattle.database_files.specs.Holds.{OnlyOwn}
+use Rattle.store_core.specs.disk.Holds.{OnlyOwn}
 use Rattle.store_core.specs.Damaged.{IsDamagedIn}
 use Rattle.store_core.specs.Stands.{is_made, Stands}
 use Rattle.agent_core.specs.Notes.{IsDamaged}

@@ -2,7 +2,7 @@
 use Rattle.std.specs.Prelude.{◌≡◌, None, Result, IfErr, IsErrOf, OnOk}
 use Rattle.host_model.specs.Cause.{HasCause}
 use Rattle.host_model.specs.Seen.{Seen}
-use Rattle.database_files.specs.Holds.{OnlyOwn}
+use Rattle.store_core.specs.disk.Holds.{OnlyOwn}
 use Rattle.store_core.specs.Store.{IsReady, IsReplayed, StoreState}
 use Rattle.agent_core.specs.declared.fault.AgentFault.{AgentFault}
 use Rattle.agent_core.specs.declared.fault.AgentFault.TheVariants.{DiskFault}

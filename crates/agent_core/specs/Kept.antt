@@ -15,7 +15,7 @@ use Rattle.entry_codec.specs.declared.entry.Entry.TheVariants as entry
 use Rattle.entry_codec.specs.Entries.{entry_bytes, HasSpelling}
 use Rattle.beat_entries.specs.Copied.{copied_entry_of, MayCopy}
 use Rattle.history.specs.Numbered.{numbered_beat}
-use Rattle.beat_records.specs.declared.beat.Beat.{Beat as StoreBeat}
+use Rattle.store_core.specs.declared.beats.beat.Beat.{Beat as StoreBeat}
 use Rattle.beat_tiers.specs.declared.item.BeatPoint.{BeatPoint}
 use Rattle.agent_core.specs.Health.{health_refusal}
 use Rattle.agent_core.specs.Roles.{may_copy, role_of}

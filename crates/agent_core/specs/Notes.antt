@@ -19,7 +19,7 @@ use Rattle.entry_codec.specs.declared.fault.EntryFault.{EntryFault}
 use Rattle.entry_codec.specs.Entries.{read_entry}
 use Rattle.beat_entries.specs.Copied.{copied_goes_on, defined_by}
 use Rattle.beat_entries.specs.Next.{goes_on, is_number, with_numbered}
-use Rattle.beat_records.specs.declared.beat.Beat.{Beat as StoreBeat}
+use Rattle.store_core.specs.declared.beats.beat.Beat.{Beat as StoreBeat}
 use Rattle.beat_tiers.specs.declared.item.BeatPoint.{BeatPoint}
 use Rattle.store_core.specs.Stands.{is_made, Stands}
 use Rattle.store_core.specs.Stored.{Stored}

@@ -6,7 +6,7 @@ use Rattle.host_model.specs.Past.{Event}
 use Rattle.history.specs.declared.fault.BlockFault.{BlockFault}
 use Rattle.history.specs.History.{Beat, health}
 use Rattle.tier_settings.specs.declared.settings.Settings.{Settings}
-use Rattle.beat_records.specs.declared.beat.Beat.{Beat as StoreBeat}
+use Rattle.store_core.specs.declared.beats.beat.Beat.{Beat as StoreBeat}
 use Rattle.store_core.specs.Stands.{is_made, Stands}
 use Rattle.store_core.specs.Store.{IsStoreOf, StoreState}
 use Rattle.store_core.specs.Stored.{IsBaseOf, Stored}

@@ -10,7 +10,7 @@ use Rattle.collect_block.specs.declared.step.Step.{Step}
 use Rattle.collect_block.specs.declared.step.Step.TheVariants as step
 use Rattle.alarm_events.specs.declared.event.Event.{Event}
 use Rattle.tier_settings.specs.declared.settings.Settings.{Settings}
-use Rattle.database_files.specs.Holds.{OnlyOwn}
+use Rattle.store_core.specs.disk.Holds.{OnlyOwn}
 use Rattle.store_core.specs.Counts.{raised}
 use Rattle.agent_core.specs.declared.fault.AgentFault.{AgentFault}
 use Rattle.agent_core.specs.declared.fault.AgentFault.TheVariants.{DiskFault}

@@ -21,7 +21,7 @@ use Rattle.replication.specs.declared.named.NamedPoint.{NamedPoint}
 use Rattle.replication.specs.Copies.{gap_between, RisesFrom}
 use Rattle.replication.specs.Names.{beat_moment, named_beat, named_beats}
 use Rattle.link_frames.specs.DataForm.{has_rising_places, has_storage_numbers, AreApart}
-use Rattle.beat_records.specs.declared.beat.Beat.{Beat as StoreBeat}
+use Rattle.store_core.specs.declared.beats.beat.Beat.{Beat as StoreBeat}
 use Rattle.store_core.specs.Store.{StoreState}
 use Rattle.agent_core.specs.declared.left.Left.{Left}
 use Rattle.agent_core.specs.Copying.{copied_beats, copied_of, definitions_in, events_onto, gap_beat, nothing_defined, numbered_words}

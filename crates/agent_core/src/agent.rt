@@ -8,7 +8,7 @@ ghost use Rattle.history.specs.History.{Beat as HistoryBeat, collected, health};
 ghost use Rattle.history.specs.Limits.{keeps_limits};
 ghost use Rattle.tier_settings.specs.declared.settings.Settings.{Settings as ASettings};
 ghost use Rattle.tier_settings.specs.Limits.{InLimits};
-ghost use Rattle.database_files.specs.Holds.{OnlyOwn};
+ghost use Rattle.store_core.specs.disk.Holds.{OnlyOwn};
 ghost use Rattle.store_core.specs.Stands.{is_made, Stands};
 ghost use Rattle.agent_core.specs.Notes.{IsDamaged};
 ghost use Rattle.store_core.specs.Counts.{raised};

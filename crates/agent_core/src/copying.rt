@@ -14,7 +14,7 @@ ghost use Rattle.entry_codec.specs.Charts.{IsCopiedChart};
 ghost use Rattle.entry_codec.specs.Dimensions.{IsCopiedDimension};
 ghost use Rattle.entry_codec.specs.Entries.{entry_bytes, is_collected_canonical, HasSpelling, IsWithinLimits};
 ghost use Rattle.entry_codec.specs.Words.{IsCopiedWord};
-ghost use Rattle.beat_records.specs.Beats.{beat_bytes, InForm};
+ghost use Rattle.store_core.specs.beats.Beats.{beat_bytes, InForm};
 ghost use Rattle.beat_entries.specs.Copied.{told_chart, told_dimension};
 ghost use Rattle.replication.specs.Names.{named_beat, named_point};
 ghost use Rattle.replication.specs.Verdict.{is_stored};

@@ -9,7 +9,7 @@ ghost use Rattle.history.specs.Regular.{IsRegular};
 ghost use Rattle.beat_points.specs.LastRows.{is_of_series, AreLastOf};
 ghost use Rattle.beat_points.specs.Numbered.{rows_values};
 ghost use Rattle.beat_tiers.specs.Beats.{is_series};
-ghost use Rattle.beat_records.specs.declared.beat.Beat.{Beat as StoreBeat};
+ghost use Rattle.store_core.specs.declared.beats.beat.Beat.{Beat as StoreBeat};
 ghost use Rattle.agent_core.specs.Kept.{copied_point, stored_points, AreBeatsOf};
 ghost use Rattle.agent_core.specs.LastSeen.{is_point_at, is_row_at, with_room, HasTaken, IsLatestOf};
 ghost use Rattle.agent_core.specs.Notes.{names_series};

@@ -18,7 +18,7 @@ ghost use Rattle.replication.specs.declared.verdict.Verdict.{Verdict};
 ghost use Rattle.replication.specs.Answer.{from_of};
 ghost use Rattle.replication.specs.Copies.{above, had_floor, latest, EndsBy, RisesFrom};
 ghost use Rattle.link_frames.specs.DataForm.{IsData};
-ghost use Rattle.beat_records.specs.declared.beat.Beat.{Beat as StoreBeat};
+ghost use Rattle.store_core.specs.declared.beats.beat.Beat.{Beat as StoreBeat};
 ghost use Rattle.store_core.specs.Stands.{is_made};
 ghost use Rattle.agent_core.specs.Notes.{IsDamaged};
 ghost use Rattle.collect_block.specs.declared.feed.Feed.{Feed};
@@ -40,7 +40,6 @@ ghost use Rattle.agent_core.specs.Roles.{may_copy, role_of};
 ghost use Rattle.agent_core.specs.Rules.{beat_refusal, line_refusal};
 ghost use Rattle.agent_core.specs.Sound.{closed_by, history_after, history_by, tried_after};
 
-use alarm_core::alarms_stay_whole;
 use host_model::Host;
 
 /// The laws of a text of accepted lines that follows a history; the charts whose line leaves it open have this
@@ -72,9 +71,7 @@ pub fn history_notes_go_on()
         → ⊥ }
     ensures made { (goes : Bool) (disk : AFile → List ℕ) → HasNotes goes disk
         → is_made disk ≡ true }
-{
-    alarms_stay_whole();
-}
+{}
 
 /// The laws of an agent on an honest host that is sound by a history: it is of that history, or it was before a
 /// call of it was refused for the disk or for memory, and then a crash leaves the history with the first of the

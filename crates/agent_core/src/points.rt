@@ -2,7 +2,7 @@
 
 ghost use Rattle.std.specs.Prelude.{◌≡◌, map, IfOk};
 ghost use Rattle.std.specs.List.{AllByRecursion};
-ghost use Rattle.beat_records.specs.Beats.{IsPoint};
+ghost use Rattle.store_core.specs.beats.Beats.{IsPoint};
 ghost use Rattle.agent_core.specs.Kept.{point_of, step_of};
 
 use beat_points::SeriesWord;

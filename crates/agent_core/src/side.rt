@@ -9,7 +9,7 @@ ghost use Rattle.alarm_core.specs.Course.{held};
 ghost use Rattle.alarm_core.specs.Kept.{kept, of_kept};
 ghost use Rattle.alarm_core.specs.UpTo.{IsUpTo};
 ghost use Rattle.beat_entries.specs.Next.{goes_on, with_numbered};
-ghost use Rattle.beat_records.specs.declared.beat.Beat.{Beat as StoreBeat};
+ghost use Rattle.store_core.specs.declared.beats.beat.Beat.{Beat as StoreBeat};
 ghost use Rattle.side_codec.specs.Sides.{read_side, HasSpelling};
 ghost use Rattle.agent_core.specs.Kept.{AreBeatsOf};
 ghost use Rattle.agent_core.specs.Left.{IsFit, IsLeftBy};
@@ -18,7 +18,7 @@ ghost use Rattle.agent_core.specs.Sides.{all_charts, all_dimensions, dimension_a
 
 use crate::fault::AgentFault;
 use crate::left::{Left, Role};
-use alarm_core::{AlarmFault, Alarms, Latest, SeriesPointList, SeriesValueList, alarms_stay_whole};
+use alarm_core::{AlarmFault, Alarms, Latest, SeriesPointList, SeriesValueList};
 use alarm_events::KeptAlarms;
 use algorithms::Last;
 use beat_entries::{EntryRefusal, define};
@@ -378,7 +378,6 @@ pub(crate) fn read_left(alloc: Global, bytes: &[u8]) -> Result<Left, AgentFault>
     ensures faults { IfErr result
         (λ fault. (fault ≡ AgentFault.Memory) ⊎ (fault ≡ AgentFault.Damaged 5)) }
 {
-    alarms_stay_whole();
     let side = side_in(alloc, bytes)?;
     left_of(alloc, side)
 }

@@ -15,7 +15,7 @@ ghost use Rattle.replication.specs.Copies.{latest as latest_of};
 ghost use Rattle.replication.specs.Names.{beat_moment};
 ghost use Rattle.link_frames.specs.DataForm.{has_rising_places, has_storage_numbers, IsData};
 ghost use Rattle.link_frames.specs.DataForm.{AreApart as AreNamesApart};
-ghost use Rattle.beat_records.specs.Beats.{beat_bytes, InForm};
+ghost use Rattle.store_core.specs.beats.Beats.{beat_bytes, InForm};
 ghost use Rattle.store_core.specs.Store.{is_due, IsReady, IsReplayed};
 ghost use Rattle.agent_core.specs.Copying.{beats_of, definitions_in, names_refusal};
 ghost use Rattle.agent_core.specs.Keeping.{KeepsStore};

@@ -13,5 +13,5 @@ pub mod TableLemmas
 mod WantedLemmas
 mod ChartLemmas
 mod RunLemmas
-mod AgainLemmas
+pub mod AgainLemmas
 mod ShortLemmas

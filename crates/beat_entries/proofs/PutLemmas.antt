@@ -76,7 +76,7 @@ module _ {A : Type 0} (same : A → A → Bool) (itself : (x : A) → same x x �
       (λ x found. find-put_all x ys xs apart ∙ ap (λ (in_xs : Option A). option_map_or Some in_xs (find (same x) ys)) found) xs (apart-self xs apart)
 
   -- ---- the same again
-  self-any : (xs : List A) → AllByRecursion (λ (x : A). list_any (same x) xs ≡ true) xs
+  pub self-any : (xs : List A) → AllByRecursion (λ (x : A). list_any (same x) xs ≡ true) xs
   self-any [] = tt
   self-any (x ∷ xs) = (
     ap (λ (b : Bool). b || list_any (same x) xs) (itself x),

@@ -18,16 +18,16 @@ use Rattle.history.specs.Registry.{Registry}
 use Rattle.beat_points.specs.declared.series_word.SeriesWord.{SeriesWord}
 use Rattle.beat_points.specs.Numbered.{cell_by, chart_pairs, row_pairs, rows_pairs, words_by}
 
-packed-word : (num den : ℤ) (anomalous reset : Bool) → is_word (packed (ratio num den) anomalous reset) ≡ true
+pub packed-word : (num den : ℤ) (anomalous reset : Bool) → is_word (packed (ratio num den) anomalous reset) ≡ true
 unfolding packed
 packed-word num (pos zero) anomalous reset = packed_is_word (pos 0) (pos 1) anomalous reset (omega arith)
 packed-word num (pos (suc n)) anomalous reset = packed_is_word num (pos (suc n)) anomalous reset (search rules)
 packed-word num (negsuc n) anomalous reset = packed_is_word (neg_ℤ num) (pos (suc n)) anomalous reset (search rules)
 
-abbrev IsGiven : Option ℕ → Type 0
+abbrev pub IsGiven : Option ℕ → Type 0
 IsGiven found = IfSome found (λ word. is_word word ≡ true)
 
-mapped-word : {A : Type 0} (f : A → ℕ) (found : Option A) → ((x : A) → is_word (f x) ≡ true) → IsGiven (option_map f found)
+pub mapped-word : {A : Type 0} (f : A → ℕ) (found : Option A) → ((x : A) → is_word (f x) ≡ true) → IsGiven (option_map f found)
 mapped-word f None each = tt
 mapped-word f (Some x) each = each x
 

@@ -1,4 +1,4 @@
-//! The tests of `database_files`: what the files of a database hold, on a host in memory.
+//! The tests of `store_core::disk`: what the files of a database hold, on a host in memory.
 
 mod free_slot;
 mod making;

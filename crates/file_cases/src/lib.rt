@@ -1,5 +1,6 @@
 //! The tests of files and what stands in them, and tests only: the objects in memory of `host_model`, the journals of
-//! `journal_core`, the extents of `extent_file`, the databases of `database_files`, and the items of tiers as pages.
+//! `journal_core`, the extents of `extent_file`, the files of a database, and the items of tiers
+//! as pages.
 #![tactic(auto)]
 
 #[cfg(test)]

@@ -1,7 +1,7 @@
-//! The tests of `tier_pages`: segments by hand, their pages, and the items that come back from them.
+//! The tests of `store_core::pages`: segments by hand, their pages, and the items that come back from them.
 
 ghost use Rattle.std.specs.Prelude.{◌≡◌, ◌+◌, ◌*◌, ◌<◌, ◌≤◌, ◌^◌};
-ghost use Rattle.tier_pages.specs.Items.{IsRecordItem};
+ghost use Rattle.store_core.specs.pages.Items.{IsRecordItem};
 ghost use Rattle.beat_tiers.specs.Sound.{IsPointItem};
 
 use beat_tiers::{Item, Stepped};
@@ -10,7 +10,7 @@ use fixed_num::{Frac, Record};
 use std::alloc::{AllocError, Global};
 use std::test::Fail;
 use storage_number::pack;
-use tier_pages::{
+use store_core::pages::{
     items_of_records, items_of_slots, pages_determine_their_items, record_pages_of, slot_pages_of,
 };
 

@@ -17,7 +17,7 @@ use Rattle.link_frames.specs.declared.frame.Frame.{Frame}
 use Rattle.link_frames.specs.declared.frame.Frame.TheVariants as frame
 use Rattle.link_frames.specs.Frames.{done, wrong_child, HasSpelling}
 use Rattle.tier_settings.specs.declared.settings.Settings.{Settings}
-use Rattle.beat_records.specs.declared.beat.Beat.{Beat as StoreBeat}
+use Rattle.store_core.specs.declared.beats.beat.Beat.{Beat as StoreBeat}
 use Rattle.agent_core.specs.Copies.{seen_moment, IsCopyOfChild, IsTrueOfChild, SeenBeat}
 use Rattle.agent_core.specs.Copying.{added_to, copy_refusal, verdict_of}
 use Rattle.agent_core.specs.Kept.{onto, AreBeatsOf}

@@ -45,7 +45,7 @@ use Rattle.alarm_core.specs.Pairs.{wanted}
 use Rattle.alarm_core.specs.Step.{is_same}
 use Rattle.alarm_core.specs.Telling.{numbered, tell, tell_all}
 use Rattle.tier_settings.specs.declared.settings.Settings.{Settings}
-use Rattle.beat_records.specs.declared.beat.Beat.{Beat as StoreBeat}
+use Rattle.store_core.specs.declared.beats.beat.Beat.{Beat as StoreBeat}
 use Rattle.agent_core.specs.Alarms.{alarms_by, events_at}
 use Rattle.agent_core.specs.Health.{alarms_in, alarms_of}
 use Rattle.agent_core.specs.Copying.{events_onto}

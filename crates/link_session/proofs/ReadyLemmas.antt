@@ -4,9 +4,9 @@ use Rattle.host_model.specs.declared.file.File.{File}
 use Rattle.host_model.specs.Images.{Change, IsImage}
 use Rattle.host_model.specs.Past.{of, Event}
 use Rattle.journal_core.specs.Journal.{IsOpen}
-use Rattle.database_files.specs.Contents.{Contents}
-use Rattle.database_files.specs.Files.{FilesState, IsOpenOf}
-use Rattle.database_files.specs.Holds.{journal_file}
+use Rattle.store_core.specs.disk.Contents.{Contents}
+use Rattle.store_core.specs.disk.Files.{FilesState, IsOpenOf}
+use Rattle.store_core.specs.disk.Holds.{journal_file}
 use Rattle.store_core.specs.Store.{IsReady, StoreState}
 use Rattle.agent_core.specs.Agent.{AgentIsReady, AgentState}
 

@@ -11,24 +11,24 @@ use Rattle.beat_tiers.specs.Sound.{AreSound}
 use Rattle.beat_tiers.specs.State.{TiersState}
 use Rattle.checkpoint_body.specs.declared.body.Body.{Body}
 use Rattle.checkpoint_body.specs.Body.{body_bytes, HasSpelling}
-use Rattle.database_files.specs.declared.fault.FilesFault.{FilesFault}
-use Rattle.database_files.specs.declared.fault.FilesFault.TheVariants as files_faults
-use Rattle.database_files.specs.declared.sealed.Sealed.{Sealed}
-use Rattle.database_files.specs.Beginning.{empty_journal}
-use Rattle.database_files.specs.Contents.{next_contents, Contents, KeptPages}
-use Rattle.database_files.specs.Files.{FilesState, IsOpenOf, IsPlaced}
-use Rattle.database_files.specs.Holds.{HoldsEither}
-use Rattle.database_files.specs.Kept.{HasPagesOfEach}
-use Rattle.database_files.specs.Next.{IsNext}
-use Rattle.database_files.specs.Shares.{share, HasOwnSlots, HasRoom, HasSlotRoom, IsWithin}
-use Rattle.database_files.proofs.ShareLemmas.{has_room, has_slot_room}
-use Rattle.tier_bodies.specs.Next.{next_pages, GoOnFrom, HaveCounted, IsNextBody}
-use Rattle.tier_bodies.specs.Tiers.{AreTiersOfBody}
+use Rattle.store_core.specs.declared.disk.fault.FilesFault.{FilesFault}
+use Rattle.store_core.specs.declared.disk.fault.FilesFault.TheVariants as files_faults
+use Rattle.store_core.specs.declared.disk.sealed.Sealed.{Sealed}
+use Rattle.store_core.specs.disk.Beginning.{empty_journal}
+use Rattle.store_core.specs.disk.Contents.{next_contents, Contents, KeptPages}
+use Rattle.store_core.specs.disk.Files.{FilesState, IsOpenOf, IsPlaced}
+use Rattle.store_core.specs.disk.Holds.{HoldsEither}
+use Rattle.store_core.specs.disk.Kept.{HasPagesOfEach}
+use Rattle.store_core.specs.disk.Next.{IsNext}
+use Rattle.store_core.specs.disk.Shares.{share, HasOwnSlots, HasRoom, HasSlotRoom, IsWithin}
+use Rattle.store_core.proofs.disk.ShareLemmas.{has_room, has_slot_room}
+use Rattle.store_core.specs.bodies.Next.{next_pages, GoOnFrom, HaveCounted, IsNextBody}
+use Rattle.store_core.specs.bodies.Tiers.{AreTiersOfBody}
 use Rattle.tier_settings.specs.declared.settings.Settings.{Settings}
 use Rattle.store_core.specs.declared.fault.StoreFault.{StoreFault}
 use Rattle.store_core.specs.declared.fault.StoreFault.TheVariants.{DiskFault}
-use Rattle.beat_records.specs.declared.beat.Beat.{Beat}
-use Rattle.beat_records.specs.Records.{with_all, AreNext}
+use Rattle.store_core.specs.declared.beats.beat.Beat.{Beat}
+use Rattle.store_core.specs.beats.Records.{with_all, AreNext}
 use Rattle.store_core.specs.Counts.{counted}
 use Rattle.store_core.specs.Faults.{fault_of_files}
 use Rattle.store_core.specs.Stands.{records_of, HasBase, HasStored, Stands, StandsEither}

@@ -8,10 +8,10 @@ use Rattle.checkpoint_body.specs.declared.body.Body.{Body}
 use Rattle.checkpoint_body.specs.declared.body.Extent.{Extent}
 use Rattle.checkpoint_body.specs.declared.page.RecordPage.{RecordPage}
 use Rattle.checkpoint_body.specs.declared.page.SlotPage.{SlotPage}
-use Rattle.database_files.specs.Contents.{KeptPages}
-use Rattle.database_files.specs.Kept.{HasPagesOfEach}
-use Rattle.tier_bodies.specs.Segments.{beats_up_to, next_number, AreRecordSegments, AreSlotSegments}
-use Rattle.tier_bodies.specs.Tiers.{AreRecordTiers, AreTiersOfBody}
+use Rattle.store_core.specs.disk.Contents.{KeptPages}
+use Rattle.store_core.specs.disk.Kept.{HasPagesOfEach}
+use Rattle.store_core.specs.bodies.Segments.{beats_up_to, next_number, AreRecordSegments, AreSlotSegments}
+use Rattle.store_core.specs.bodies.Tiers.{AreRecordTiers, AreTiersOfBody}
 
 slot-pages : (number : Option ℕ) (beats : ℕ) (extents : List Extent) (kept : List (List SlotPage)) (segments : List (Segment Stepped)) → AreSlotSegments number beats extents kept segments
     → length kept ≡ length extents

@@ -10,43 +10,23 @@ use Rattle.checkpoint_body.specs.declared.body.Extent.{Extent}
 use Rattle.checkpoint_body.specs.declared.body.RecordTier.{RecordTier}
 use Rattle.checkpoint_body.specs.declared.page.RecordPage.{RecordPage}
 use Rattle.checkpoint_body.specs.declared.page.SlotPage.{SlotPage}
-use Rattle.database_files.specs.Advancing.{NamesNone}
-use Rattle.database_files.specs.Contents.{KeptPages}
-use Rattle.tier_bodies.specs.Next.{AreCounted, HaveCounted}
-use Rattle.tier_bodies.specs.Segments.{beats_up_to, first_number, next_number, AreRecordSegments, AreSlotSegments}
-use Rattle.tier_bodies.specs.Tiers.{AreRecordTiers, AreTiersOfBody, IsRecordTier}
+use Rattle.store_core.specs.disk.Advancing.{NamesNone}
+use Rattle.store_core.specs.disk.Contents.{KeptPages}
+use Rattle.store_core.specs.bodies.Next.{AreCounted, HaveCounted}
+use Rattle.store_core.specs.bodies.Segments.{beats_up_to, first_number, next_number, AreRecordSegments, AreSlotSegments}
+use Rattle.store_core.specs.bodies.Tiers.{AreRecordTiers, AreTiersOfBody, IsRecordTier}
 use Rattle.store_core.specs.Damaged.{HasCounted}
+use Rattle.store_core.proofs.bodies.OneLemmas.{records-count, slots-count}
 
--- there is an extent of each segment
-slot-extents : (serial : Option ℕ) (beats : ℕ) (extents : List Extent) (kept : List (List SlotPage)) (segments : List (Segment Stepped)) → AreSlotSegments serial beats extents kept segments
-    → length segments ≡ length extents
-slot-extents serial beats [] [] [] are = refl
-slot-extents serial beats [] [] (segment ∷ segments) are = absurd are
-slot-extents serial beats [] (pages ∷ kept) segments are = absurd are
-slot-extents serial beats (extent ∷ extents) [] segments are = absurd are
-slot-extents serial beats (extent ∷ extents) (pages ∷ kept) [] are = absurd are
-slot-extents serial beats (extent ∷ extents) (pages ∷ kept) (segment ∷ segments) are =
-    let rest = slot-extents (next_number serial) (beats_up_to beats segment) extents kept segments are.2 in omega (arith, rest)
-
-record-extents : (serial : Option ℕ) (extents : List Extent) (kept : List (List RecordPage)) (segments : List (Segment Record)) → AreRecordSegments serial extents kept segments
-    → length segments ≡ length extents
-record-extents serial [] [] [] are = refl
-record-extents serial [] [] (segment ∷ segments) are = absurd are
-record-extents serial [] (pages ∷ kept) segments are = absurd are
-record-extents serial (extent ∷ extents) [] segments are = absurd are
-record-extents serial (extent ∷ extents) (pages ∷ kept) [] are = absurd are
-record-extents serial (extent ∷ extents) (pages ∷ kept) (segment ∷ segments) are =
-    let rest = record-extents (next_number serial) extents kept segments are.2 in omega (arith, rest)
-
--- the same, of a tier of records
+-- there is an extent of each segment of a tier of records
 tier-extents : (last : ℕ) (body : RecordTier) (kept : List (List RecordPage)) (state : RecordTierState) → IsRecordTier last body kept state
     → length state.segments.sealed ≡ length body.extents
 tier-extents last body kept state is =
-    record-extents (first_number state.segments.count (length state.segments.sealed)) body.extents kept state.segments.sealed is.segments
+    records-count (first_number state.segments.count (length state.segments.sealed)) body.extents kept state.segments.sealed is.segments
 
 module _ (body : Body) (kept : KeptPages) (tiers : TiersState) (are : AreTiersOfBody body kept tiers) where
   point-extents : length tiers.points.sealed ≡ length body.points.extents
-  point-extents = slot-extents (first_number tiers.points.count (length tiers.points.sealed)) tiers.points.before body.points.extents kept.points tiers.points.sealed are.points.segments
+  point-extents = slots-count (first_number tiers.points.count (length tiers.points.sealed)) tiers.points.before body.points.extents kept.points tiers.points.sealed are.points.segments
 
   pub tiers-counted : HasCounted body → HaveCounted tiers
   tiers-counted has = record {

@@ -1,7 +1,7 @@
 -- What the faults of files are of a store.
 use Rattle.std.proofs.Common.{◌≡◌, ◌⊎◌, ℕ, inr, refl, sym, ap, ◌∙◌}
-use Rattle.database_files.specs.declared.fault.FilesFault.{FilesFault}
-use Rattle.database_files.specs.declared.fault.FilesFault.TheVariants as files
+use Rattle.store_core.specs.declared.disk.fault.FilesFault.{FilesFault}
+use Rattle.store_core.specs.declared.disk.fault.FilesFault.TheVariants as files
 use Rattle.store_core.specs.declared.fault.StoreFault.{StoreFault}
 use Rattle.store_core.specs.declared.fault.StoreFault.TheVariants.{DiskFault, NotADatabase, Damaged, MomentOrder, Reopen, Exists, Memory}
 use Rattle.store_core.specs.Faults.{fault_of_files, IsReadFault}

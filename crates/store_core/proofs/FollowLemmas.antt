@@ -13,16 +13,16 @@ use Rattle.tier_settings.specs.declared.settings.Settings.{Settings}
 use Rattle.beat_tiers.specs.State.{TiersState, after_beat}
 use Rattle.checkpoint_body.specs.declared.body.Body.{Body}
 use Rattle.checkpoint_body.specs.Body.{HasSpelling}
-use Rattle.database_files.specs.Contents.{Contents, KeptPages, with_record}
-use Rattle.database_files.specs.Files.{FilesState, IsOpenOf}
-use Rattle.database_files.specs.Files as files
-use Rattle.database_files.specs.Holds.{journal_file, HoldsAround}
-use Rattle.database_files.specs.Kept.{HasPagesOfEach}
-use Rattle.database_files.specs.Shares.{share}
-use Rattle.tier_bodies.specs.Tiers.{AreTiersOfBody}
-use Rattle.beat_records.specs.declared.beat.Beat.{Beat}
-use Rattle.beat_records.specs.Beats.{beat_bytes, InForm}
-use Rattle.beat_records.specs.Records.{is_later, last_after, with_all, AreNext}
+use Rattle.store_core.specs.disk.Contents.{Contents, KeptPages, with_record}
+use Rattle.store_core.specs.disk.Files.{FilesState, IsOpenOf}
+use Rattle.store_core.specs.disk.Files as files
+use Rattle.store_core.specs.disk.Holds.{journal_file, HoldsAround}
+use Rattle.store_core.specs.disk.Kept.{HasPagesOfEach}
+use Rattle.store_core.specs.disk.Shares.{share}
+use Rattle.store_core.specs.bodies.Tiers.{AreTiersOfBody}
+use Rattle.store_core.specs.declared.beats.beat.Beat.{Beat}
+use Rattle.store_core.specs.beats.Beats.{beat_bytes, InForm}
+use Rattle.store_core.specs.beats.Records.{is_later, last_after, with_all, AreNext}
 use Rattle.store_core.specs.Counts.{counted, raised}
 use Rattle.store_core.specs.Stands.{records_of, HasStored, StandsAround}
 use Rattle.store_core.specs.Store.{is_due, IsReady, IsReplayed, IsSound, IsStoreAt, IsStoreOf, StoreState}

@@ -4,12 +4,12 @@ use Rattle.std.proofs.lemmas.Bool.{false≢true}
 use Rattle.host_model.specs.Past.{Event}
 use Rattle.checkpoint_body.specs.declared.body.Body.{Body}
 use Rattle.checkpoint_body.specs.Body.{HasSpelling}
-use Rattle.database_files.specs.Contents.{KeptPages}
-use Rattle.database_files.specs.Files.{FilesState, IsOpenOf, IsPlaced}
-use Rattle.database_files.specs.Kept.{HasPagesOfEach}
-use Rattle.tier_bodies.specs.Tiers.{AreTiersOfBody}
-use Rattle.beat_records.specs.declared.beat.Beat.{Beat}
-use Rattle.beat_records.specs.Records.{with_all, AreNext, TakesFirst}
+use Rattle.store_core.specs.disk.Contents.{KeptPages}
+use Rattle.store_core.specs.disk.Files.{FilesState, IsOpenOf, IsPlaced}
+use Rattle.store_core.specs.disk.Kept.{HasPagesOfEach}
+use Rattle.store_core.specs.bodies.Tiers.{AreTiersOfBody}
+use Rattle.store_core.specs.declared.beats.beat.Beat.{Beat}
+use Rattle.store_core.specs.beats.Records.{with_all, AreNext, TakesFirst}
 use Rattle.store_core.specs.Store.{tiers_after}
 use Rattle.store_core.specs.Stands.{records_of}
 use Rattle.store_core.specs.Store.{count_after, IsReady, IsSound, IsStoreAt, StoreState}

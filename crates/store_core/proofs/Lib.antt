@@ -1,12 +1,16 @@
 pub mod AdvanceLemmas
 pub mod AdvancePages
 pub mod AnswerLemmas
+pub mod beats
+pub mod bodies
 pub mod CountLemmas
+pub mod disk
 pub mod FaultLemmas
 pub mod FollowLemmas
 pub mod FollowReplay
 pub mod NextLemmas
 pub mod OpenLemmas
+pub mod pages
 pub mod RecordLemmas
 pub mod StandLemmas
 pub mod TierLemmas

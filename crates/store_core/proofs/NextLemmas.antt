@@ -15,14 +15,14 @@ use Rattle.beat_tiers.proofs.GoingOn.{gone-on-all, sound-all}
 use Rattle.beat_tiers.proofs.SoundLemmas.{sound-next}
 use Rattle.beat_tiers.proofs.SoundTier.{is-kept}
 use Rattle.checkpoint_body.specs.declared.body.Body.{Body}
-use Rattle.database_files.specs.Contents.{KeptPages}
-use Rattle.tier_bodies.specs.Next.{if_after, sealed_after, GoOnFrom, HasOneNew, HaveCounted, HaveOneNew}
-use Rattle.tier_bodies.specs.Tiers.{AreTiersOfBody}
-use Rattle.tier_bodies.proofs.GoingLemmas.{none-after}
-use Rattle.tier_bodies.proofs.GoingTier.{sealed-below}
-use Rattle.beat_records.specs.declared.beat.Beat.{Beat}
-use Rattle.beat_records.specs.Beats.{is_point, InForm}
-use Rattle.beat_records.specs.Records.{is_later}
+use Rattle.store_core.specs.disk.Contents.{KeptPages}
+use Rattle.store_core.specs.bodies.Next.{if_after, sealed_after, GoOnFrom, HasOneNew, HaveCounted, HaveOneNew}
+use Rattle.store_core.specs.bodies.Tiers.{AreTiersOfBody}
+use Rattle.store_core.proofs.bodies.GoingLemmas.{none-after, one-tail}
+use Rattle.store_core.proofs.bodies.GoingTier.{sealed-below}
+use Rattle.store_core.specs.declared.beats.beat.Beat.{Beat}
+use Rattle.store_core.specs.beats.Beats.{is_point, InForm}
+use Rattle.store_core.specs.beats.Records.{is_later}
 use Rattle.store_core.specs.Tiers.{seen}
 use Rattle.store_core.proofs.TierLemmas.{follows}
 use Rattle.store_core.specs.Stored.{Base, has_sealed, has_sealed_records, is_numbered, tiers_of, HaveFollowed}
@@ -115,14 +115,10 @@ module _ {T : Type 0} where
   none-new : (moment : ℕ) (segments : List (Segment T)) → AreEarly moment segments → HasOneNew moment segments
   none-new moment segments early = subst (HasOneNew moment) (append-nil segments) (one-behind moment segments [] early (omega arith))
 
-  new-tail : (moment : ℕ) (segment : Segment T) (segments : List (Segment T)) → HasOneNew moment (segment ∷ segments) → HasOneNew moment segments
-  new-tail moment segment [] one = tt
-  new-tail moment segment (next ∷ segments) one = one.1
-
   new-drop : (moment n : ℕ) (segments : List (Segment T)) → HasOneNew moment segments → HasOneNew moment (drop n segments)
   new-drop moment zero segments one = one
   new-drop moment (suc n) [] one = tt
-  new-drop moment (suc n) (segment ∷ segments) one = new-drop moment n segments (new-tail moment segment segments one)
+  new-drop moment (suc n) (segment ∷ segments) one = new-drop moment n segments (one-tail moment segment segments one)
 
   one-sealed : (kind : _) (tier : Tier) (moment at : ℕ) (was now : KeptItems T) → AreEarly moment was.sealed → SealsAtMostOne kind tier at was now → HasOneNew moment now.sealed
   one-sealed kind tier moment at was now early seals =

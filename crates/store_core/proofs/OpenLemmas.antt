@@ -7,21 +7,21 @@ use Rattle.host_model.specs.Past.{Event, IsDisk}
 use Rattle.beat_tiers.specs.State.{TiersState, no_beats}
 use Rattle.checkpoint_body.specs.declared.body.Body.{Body}
 use Rattle.checkpoint_body.specs.Body.{body_bytes, HasSpelling}
-use Rattle.database_files.specs.Advancing.{NamesNone}
-use Rattle.database_files.specs.Contents.{no_pages, new_contents, Contents}
-use Rattle.database_files.specs.Files.{IsOpenOf, IsPlaced}
-use Rattle.database_files.specs.Holds.{Holds, HoldsIfMade}
-use Rattle.database_files.specs.Kept.{HasPagesOfEach}
-use Rattle.database_files.specs.Shares.{share, HasRoom}
-use Rattle.database_files.proofs.OneLemmas.{one_contents}
-use Rattle.database_files.proofs.ShareLemmas.{has_room}
-use Rattle.beat_records.specs.declared.beat.Beat.{Beat}
-use Rattle.beat_records.specs.Records.{beats_from, with_all, AreNext}
+use Rattle.store_core.specs.disk.Advancing.{NamesNone}
+use Rattle.store_core.specs.disk.Contents.{no_pages, new_contents, Contents}
+use Rattle.store_core.specs.disk.Files.{IsOpenOf, IsPlaced}
+use Rattle.store_core.specs.disk.Holds.{Holds, HoldsIfMade}
+use Rattle.store_core.specs.disk.Kept.{HasPagesOfEach}
+use Rattle.store_core.specs.disk.Shares.{share, HasRoom}
+use Rattle.store_core.proofs.disk.OneLemmas.{one_contents}
+use Rattle.store_core.proofs.disk.ShareLemmas.{has_room}
+use Rattle.store_core.specs.declared.beats.beat.Beat.{Beat}
+use Rattle.store_core.specs.beats.Records.{beats_from, with_all, AreNext}
 use Rattle.store_core.specs.Counts.{counted}
-use Rattle.beat_records.proofs.RecordLaw.{are-read, oldest_first, AreBytes}
-use Rattle.tier_bodies.specs.First.{first_body}
-use Rattle.tier_bodies.specs.Tiers.{AreTiersOfBody}
-use Rattle.tier_bodies.proofs.WholeLemmas.{tiers-one}
+use Rattle.store_core.proofs.beats.RecordLaw.{are-read, oldest_first, AreBytes}
+use Rattle.store_core.specs.bodies.First.{first_body}
+use Rattle.store_core.specs.bodies.Tiers.{AreTiersOfBody}
+use Rattle.store_core.proofs.bodies.WholeLemmas.{tiers-one}
 use Rattle.tier_settings.specs.declared.settings.Settings.{Settings}
 use Rattle.tier_settings.specs.Settings.{first_tier, other_tiers}
 use Rattle.store_core.specs.Damaged.{HasCounted}

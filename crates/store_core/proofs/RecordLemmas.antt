@@ -3,10 +3,10 @@ use Rattle.std.proofs.Common.{◌≡◌, ℕ, List, [], ◌∷◌, ◌++◌, map
 use Rattle.std.specs.Option.{option_map}
 use Rattle.beat_tiers.specs.declared.item.BeatPoint.{BeatPoint}
 use Rattle.beat_tiers.specs.State.{TiersState, after_beat}
-use Rattle.beat_records.specs.declared.beat.Beat.{Beat}
-use Rattle.beat_records.specs.Beats.{beat_bytes}
-use Rattle.beat_records.specs.Records.{beats_from, last_after, next_beat, then_beats, with_all}
-use Rattle.beat_records.proofs.RecordLaw.{next-again}
+use Rattle.store_core.specs.declared.beats.beat.Beat.{Beat}
+use Rattle.store_core.specs.beats.Beats.{beat_bytes}
+use Rattle.store_core.specs.beats.Records.{beats_from, last_after, next_beat, then_beats, with_all}
+use Rattle.store_core.proofs.beats.RecordLaw.{next-again}
 use Rattle.store_core.specs.Stands.{records_of}
 use Rattle.store_core.specs.Stored.{tiers_of, Base, HaveFollowed}
 

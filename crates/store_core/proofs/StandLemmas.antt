@@ -7,15 +7,15 @@ use Rattle.host_model.specs.Disks.{EveryDisk}
 use Rattle.host_model.specs.Past.{Event, Told}
 use Rattle.checkpoint.specs.Files.{checkpoint_in, Slot}
 use Rattle.checkpoint_body.specs.declared.body.Body.{Body}
-use Rattle.database_files.specs.Contents.{Contents, KeptPages}
-use Rattle.database_files.specs.Files.{FilesState, IsOpenOf}
-use Rattle.database_files.proofs.OneLemmas.{never_damaged, one_contents, one_part}
-use Rattle.beat_records.specs.declared.beat.Beat.{Beat}
-use Rattle.beat_records.specs.Records.{beats_from, with_all}
+use Rattle.store_core.specs.disk.Contents.{Contents, KeptPages}
+use Rattle.store_core.specs.disk.Files.{FilesState, IsOpenOf}
+use Rattle.store_core.proofs.disk.OneLemmas.{never_damaged, one_contents, one_part}
+use Rattle.store_core.specs.declared.beats.beat.Beat.{Beat}
+use Rattle.store_core.specs.beats.Records.{beats_from, with_all}
 use Rattle.store_core.specs.Counts.{counted}
-use Rattle.beat_records.proofs.RecordLaw.{oldest_first}
-use Rattle.tier_bodies.specs.Tiers.{AreTiersOfBody}
-use Rattle.tier_bodies.proofs.WholeLemmas.{tiers-one}
+use Rattle.store_core.proofs.beats.RecordLaw.{oldest_first}
+use Rattle.store_core.specs.bodies.Tiers.{AreTiersOfBody}
+use Rattle.store_core.proofs.bodies.WholeLemmas.{tiers-one}
 use Rattle.store_core.specs.Damaged.{HasBadPart, HasCounted, HasNoBeats, HasNoTiers, IsDamagedIn}
 use Rattle.store_core.specs.Stands.{is_made, records_of, HasStored, Stands}
 use Rattle.store_core.specs.Store.{AreOpen, IsReady, IsReplayed, IsSound, IsStoreAt, IsStoreOf, StoreState}

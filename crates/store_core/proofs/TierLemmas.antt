@@ -18,10 +18,10 @@ use Rattle.beat_tiers.specs.State.{RecordTierState, TiersState, after_beat, no_b
 use Rattle.beat_tiers.specs.Tiers.{AreTiersOf, IsTier}
 use Rattle.beat_tiers.proofs.KeptLaws.{before_with}
 use Rattle.beat_tiers.proofs.TierLemmas.{tier_at, tiers_none, tiers_with}
-use Rattle.beat_records.specs.declared.beat.Beat.{Beat}
-use Rattle.beat_records.specs.Beats.{IsMoment, is_point, is_timed, series_of}
-use Rattle.beat_records.specs.Beats.{InForm}
-use Rattle.beat_records.specs.Records.{is_later}
+use Rattle.store_core.specs.declared.beats.beat.Beat.{Beat}
+use Rattle.store_core.specs.beats.Beats.{IsMoment, is_point, is_timed, series_of}
+use Rattle.store_core.specs.beats.Beats.{InForm}
+use Rattle.store_core.specs.beats.Records.{is_later}
 use Rattle.host_model.specs.Past.{Event}
 use Rattle.store_core.specs.Counts.{counted}
 use Rattle.store_core.specs.Store.{HasApplied, IsStoreAt, StoreState}

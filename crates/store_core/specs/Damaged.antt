@@ -3,11 +3,11 @@ use Rattle.std.specs.Prelude.{◌≡◌, ◌⊎◌, ◌≤◌, ℕ, zero, suc, L
 use Rattle.host_model.specs.declared.file.File.{File}
 use Rattle.beat_tiers.specs.State.{TiersState}
 use Rattle.checkpoint_body.specs.declared.body.Body.{Body}
-use Rattle.database_files.specs.Contents.{Contents}
-use Rattle.database_files.specs.Damaged.{IsDamagedAt}
-use Rattle.database_files.specs.Holds.{Holds}
-use Rattle.tier_bodies.specs.Tiers.{AreTiersOfBody}
-use Rattle.beat_records.specs.Records.{beats_from}
+use Rattle.store_core.specs.disk.Contents.{Contents}
+use Rattle.store_core.specs.disk.Damaged.{IsDamagedAt}
+use Rattle.store_core.specs.disk.Holds.{Holds}
+use Rattle.store_core.specs.bodies.Tiers.{AreTiersOfBody}
+use Rattle.store_core.specs.beats.Records.{beats_from}
 
 -- a tier has sealed as many segments as it keeps, at least
 pub record HasCounted (body : Body) : Type 0 where

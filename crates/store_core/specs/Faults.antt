@@ -1,7 +1,7 @@
 -- The faults of each call of a store, and what a fault leaves it as.
 use Rattle.std.specs.Prelude.{◌≡◌, ◌⊎◌, ◌≤◌, Option, Some, None, Result, Ok, Err}
-use Rattle.database_files.specs.declared.fault.FilesFault.{FilesFault}
-use Rattle.database_files.specs.declared.fault.FilesFault.TheVariants as files
+use Rattle.store_core.specs.declared.disk.fault.FilesFault.{FilesFault}
+use Rattle.store_core.specs.declared.disk.fault.FilesFault.TheVariants as files
 use Rattle.store_core.specs.declared.fault.StoreFault.{StoreFault}
 use Rattle.store_core.specs.declared.fault.StoreFault.TheVariants.{DiskFault, NotADatabase, Damaged, MomentOrder, Reopen, Exists, Memory}
 use Rattle.store_core.specs.declared.fault.Why.{Why}

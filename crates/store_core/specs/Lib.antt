@@ -1,6 +1,10 @@
+pub mod beats
+pub mod bodies
 pub mod Counts
 pub mod Damaged
+pub mod disk
 pub mod Faults
+pub mod pages
 pub mod Stands
 pub mod Store
 pub mod Stored

@@ -3,13 +3,13 @@ use Rattle.std.specs.Prelude.{◌≡◌, ◌⊎◌, ℕ, Bool, false, List, [], 
 use Rattle.std.specs.Option.{is_some}
 use Rattle.host_model.specs.declared.file.File.{File}
 use Rattle.checkpoint.specs.Files.{checkpoint_in}
-use Rattle.database_files.specs.Contents.{Contents}
-use Rattle.database_files.specs.Holds.{Holds}
-use Rattle.tier_bodies.specs.Next.{HaveCounted}
-use Rattle.tier_bodies.specs.Tiers.{AreTiersOfBody}
+use Rattle.store_core.specs.disk.Contents.{Contents}
+use Rattle.store_core.specs.disk.Holds.{Holds}
+use Rattle.store_core.specs.bodies.Next.{HaveCounted}
+use Rattle.store_core.specs.bodies.Tiers.{AreTiersOfBody}
 use Rattle.tier_settings.specs.declared.settings.Settings.{Settings}
-use Rattle.beat_records.specs.declared.beat.Beat.{Beat}
-use Rattle.beat_records.specs.Beats.{beat_bytes}
+use Rattle.store_core.specs.declared.beats.beat.Beat.{Beat}
+use Rattle.store_core.specs.beats.Beats.{beat_bytes}
 use Rattle.store_core.specs.Stored.{Base, Stored, new_database, stored_with, HaveFollowed}
 
 -- there is a database on the disk

@@ -5,14 +5,14 @@ use Rattle.beat_tiers.specs.Beats.{TierBeat}
 use Rattle.beat_tiers.specs.State.{TiersState, after_beat}
 use Rattle.checkpoint_body.specs.declared.body.Body.{Body}
 use Rattle.checkpoint_body.specs.Body.{HasSpelling}
-use Rattle.database_files.specs.Contents.{Contents, KeptPages}
-use Rattle.database_files.specs.Files.{FilesState, IsOpenOf, IsPlaced}
-use Rattle.database_files.specs.Kept.{HasPagesOfEach}
-use Rattle.tier_bodies.specs.Next.{HaveCounted}
-use Rattle.tier_bodies.specs.Tiers.{AreTiersOfBody}
-use Rattle.beat_records.specs.declared.beat.Beat.{Beat}
+use Rattle.store_core.specs.disk.Contents.{Contents, KeptPages}
+use Rattle.store_core.specs.disk.Files.{FilesState, IsOpenOf, IsPlaced}
+use Rattle.store_core.specs.disk.Kept.{HasPagesOfEach}
+use Rattle.store_core.specs.bodies.Next.{HaveCounted}
+use Rattle.store_core.specs.bodies.Tiers.{AreTiersOfBody}
+use Rattle.store_core.specs.declared.beats.beat.Beat.{Beat}
 use Rattle.store_core.specs.declared.fault.Why.{Why}
-use Rattle.beat_records.specs.Records.{AreNext}
+use Rattle.store_core.specs.beats.Records.{AreNext}
 use Rattle.store_core.specs.Counts.{raised}
 use Rattle.tier_settings.specs.declared.settings.Settings.{Settings}
 use Rattle.store_core.specs.Tiers.{HasTiers}

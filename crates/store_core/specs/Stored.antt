@@ -8,10 +8,10 @@ use Rattle.beat_tiers.specs.Sound.{after_beats}
 use Rattle.beat_tiers.specs.State.{RecordTierState, TiersState, no_beats}
 use Rattle.tier_settings.specs.declared.settings.Settings.{Settings}
 use Rattle.tier_settings.specs.Settings.{first_tier, other_tiers}
-use Rattle.tier_bodies.specs.Next.{sealed_after}
-use Rattle.beat_records.specs.declared.beat.Beat.{Beat}
-use Rattle.beat_records.specs.Beats.{InForm}
-use Rattle.beat_records.specs.Records.{is_later, with_all}
+use Rattle.store_core.specs.bodies.Next.{sealed_after}
+use Rattle.store_core.specs.declared.beats.beat.Beat.{Beat}
+use Rattle.store_core.specs.beats.Beats.{InForm}
+use Rattle.store_core.specs.beats.Records.{is_later, with_all}
 use Rattle.store_core.specs.Counts.{counted}
 use Rattle.store_core.specs.Tiers.{seen, HasTiers}
 

@@ -9,7 +9,7 @@ use Rattle.beat_tiers.specs.Tiers.{AreTiersOf}
 use Rattle.tier_settings.specs.declared.settings.Settings.{Settings}
 use Rattle.tier_settings.specs.Limits.{HasWidths}
 use Rattle.tier_settings.specs.Settings.{first_tier, tier_with}
-use Rattle.beat_records.specs.declared.beat.Beat.{Beat}
+use Rattle.store_core.specs.declared.beats.beat.Beat.{Beat}
 
 -- the moment and the points of a beat
 abbrev pub seen : Beat → TierBeat

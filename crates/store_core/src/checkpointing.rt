@@ -4,19 +4,19 @@ ghost use Rattle.std.specs.Prelude.{◌≡◌, ◌<◌, ◌≤◌, ◌^◌, ℕ,
 ghost use Rattle.host_model.specs.Cause.{HasCause};
 ghost use Rattle.host_model.specs.Disks.{EveryDisk};
 ghost use Rattle.host_model.specs.Moments.{Throughout};
-ghost use Rattle.database_files.specs.Holds.{OnlyOwn};
-ghost use Rattle.database_files.specs.Shares.{share, IsWithin};
+ghost use Rattle.store_core.specs.disk.Holds.{OnlyOwn};
+ghost use Rattle.store_core.specs.disk.Shares.{share, IsWithin};
 ghost use Rattle.store_core.specs.Faults.{fault_after, IsStepFault, LeavesAll, Reopens};
 ghost use Rattle.store_core.specs.Faults.{IsCheckpointFault};
 ghost use Rattle.store_core.specs.Stands.{StandsEither};
 ghost use Rattle.store_core.specs.Store.{is_due, IsReady, IsReplayed, IsStoreOf};
 ghost use Rattle.store_core.specs.Stored.{advanced, is_numbered, Stored as AStored};
 
+use crate::bodies::next_body;
 use crate::fault::{StoreFault, of_files};
 use crate::store::Store;
 use fixed_num::ByteList;
 use host_model::Host;
-use tier_bodies::next_body;
 
 impl Store {
     /// Makes a checkpoint of all beats, with this side, and begins the journal anew. At every

@@ -5,19 +5,19 @@ ghost use Rattle.host_model.specs.Cause.{HasCause};
 ghost use Rattle.host_model.specs.Disks.{EveryDisk};
 ghost use Rattle.host_model.specs.Moments.{Throughout};
 ghost use Rattle.beat_tiers.specs.State.{after_beat};
-ghost use Rattle.database_files.specs.Holds.{OnlyOwn};
-ghost use Rattle.database_files.specs.Shares.{share, IsWithin};
-ghost use Rattle.beat_records.specs.Beats.{beat_bytes, InForm};
+ghost use Rattle.store_core.specs.disk.Holds.{OnlyOwn};
+ghost use Rattle.store_core.specs.disk.Shares.{share, IsWithin};
+ghost use Rattle.store_core.specs.beats.Beats.{beat_bytes, InForm};
 ghost use Rattle.store_core.specs.Faults.{fault_after, IsCommitFault, IsStepFault, LeavesAll, Reopens};
-ghost use Rattle.beat_records.specs.Records.{is_later};
+ghost use Rattle.store_core.specs.beats.Records.{is_later};
 ghost use Rattle.store_core.specs.Counts.{raised};
 ghost use Rattle.store_core.specs.Stands.{StandsAround};
 ghost use Rattle.store_core.specs.Store.{is_due, IsReady, IsReplayed, IsStoreOf};
 ghost use Rattle.store_core.specs.Stored.{is_numbered, stored_with, Stored as AStored};
 
+use crate::beats::{Beat, is_later, write_beat};
 use crate::fault::StoreFault;
 use crate::store::Store;
-use beat_records::{Beat, is_later, write_beat};
 use host_model::Host;
 
 /// The most bytes of a journal to which a record may be added.

@@ -6,22 +6,22 @@ ghost use Rattle.host_model.specs.Cause.{HasCause};
 ghost use Rattle.host_model.specs.Disks.{reads_as, EveryDisk};
 ghost use Rattle.host_model.specs.Moments.{Throughout};
 ghost use Rattle.host_model.specs.Past.{IsDisk};
-ghost use Rattle.database_files.specs.Holds.{OnlyOwn};
-ghost use Rattle.database_files.specs.Shares.{share, IsWithin};
+ghost use Rattle.store_core.specs.disk.Holds.{OnlyOwn};
+ghost use Rattle.store_core.specs.disk.Shares.{share, IsWithin};
 ghost use Rattle.store_core.specs.Faults.{IsCreateFault};
 ghost use Rattle.tier_settings.specs.Limits.{InLimits};
 ghost use Rattle.store_core.specs.Stands.{is_made, StandsIfMade};
 ghost use Rattle.store_core.specs.Store.{IsReady, IsReplayed, IsStoreOf};
 ghost use Rattle.store_core.specs.Stored.{new_database};
 
+use crate::beats::Waiting;
+use crate::bodies::first_body;
 use crate::fault::{StoreFault, of_files};
 use crate::store::Store;
 use crate::tiers::new_tiers;
-use beat_records::Waiting;
 use fixed_num::ByteList;
 use host_model::Host;
 use std::alloc::Global;
-use tier_bodies::first_body;
 use tier_settings::Settings;
 
 impl Store {
@@ -88,7 +88,7 @@ impl Store {
         let Ok(tiers) = new_tiers(alloc, settings) else {
             return Err(StoreFault::Memory);
         };
-        match database_files::create(alloc, host, &body) {
+        match crate::disk::create(alloc, host, &body) {
             Ok(files) => Ok(Store {
                 alloc,
                 files,

@@ -1,7 +1,7 @@
 ghost use Rattle.std.specs.Prelude.{◌≡◌};
 ghost use Rattle.store_core.specs.Faults.{fault_of_files};
 
-use database_files::FilesFault;
+use crate::disk::FilesFault;
 use thiserror::Error;
 
 /// Why a store is of no more use.

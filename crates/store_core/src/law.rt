@@ -11,7 +11,7 @@ ghost use Rattle.store_core.specs.View.{points_of};
 ghost use Rattle.host_model.specs.declared.file.File.{File as AFile};
 ghost use Rattle.host_model.specs.Disks.{EveryDisk};
 ghost use Rattle.host_model.specs.Past.{Event, Told};
-ghost use Rattle.beat_records.specs.declared.beat.Beat.{Beat as ABeat};
+ghost use Rattle.store_core.specs.declared.beats.beat.Beat.{Beat as ABeat};
 ghost use Rattle.store_core.specs.Damaged.{IsDamagedIn};
 ghost use Rattle.store_core.specs.Stands.{is_made, Stands};
 ghost use Rattle.store_core.specs.Store.{HasApplied, IsReady, IsReplayed, IsStoreAt, IsStoreOf, StoreState};

@@ -13,24 +13,30 @@
 //! first cause. Until then `floor`, `kept`, `kept_above` and a `StoreView` answer by the definition over all beats,
 //! those of the base too.
 //!
-//! It stands on `database_files`, `tier_bodies`, `beat_tiers`, on `beat_records` for beats, on `query_engine` for the
+//! Below the store are four modules, each on those before it: `beats` has the records of beats, `disk` the files,
+//! `pages` the items of a tier as pages, and `bodies` the tiers of a checkpoint. The crate stands on `checkpoint`,
+//! `checkpoint_body`, `journal_core` and `extent_file` for the files' bytes, on `beat_tiers`, on `query_engine` for the
 //! trait of a view, and on `host_model` for crashes.
 #![tactic(auto)]
 
 mod answering;
+pub mod beats;
+pub mod bodies;
 mod checkpointing;
 mod committing;
 mod creating;
+pub mod disk;
 mod fault;
 mod law;
 mod opening;
+pub mod pages;
 mod replaying;
 mod store;
 mod tiers;
 mod view;
 
-pub use beat_records::{Beat, BeatPoint, BeatPointList, ByteList};
 pub use beat_tiers::{Kept, KeptBeat, KeptBeatList, KeptPoint, KeptPointList};
+pub use beats::{Beat, BeatPoint, BeatPointList, ByteList};
 pub use fault::{StoreFault, Why};
 pub use law::{base_has_what_beats_leave, one_disk_holds_one_database};
 pub use store::Store;

@@ -10,31 +10,31 @@ ghost use Rattle.host_model.specs.Moments.{Throughout};
 ghost use Rattle.host_model.specs.Past.{IsDisk};
 ghost use Rattle.beat_tiers.specs.Room.{tiers_held};
 ghost use Rattle.checkpoint_body.specs.Body.{HasSpelling};
-ghost use Rattle.database_files.specs.Contents.{Contents};
-ghost use Rattle.database_files.specs.Damaged.{IsDamagedAt};
-ghost use Rattle.database_files.specs.Files.{IsOpenOf, IsPlaced};
-ghost use Rattle.database_files.specs.Holds.{Holds, OnlyOwn};
-ghost use Rattle.database_files.specs.Kept.{HasPagesOfEach};
-ghost use Rattle.database_files.specs.Opened.{contents_of};
-ghost use Rattle.database_files.specs.Opening.{OnlySyncs};
-ghost use Rattle.database_files.specs.Shares.{IsWithin};
-ghost use Rattle.beat_records.specs.Records.{beats_from};
-ghost use Rattle.tier_bodies.specs.Tiers.{AreTiersOfBody};
+ghost use Rattle.store_core.specs.disk.Contents.{Contents};
+ghost use Rattle.store_core.specs.disk.Damaged.{IsDamagedAt};
+ghost use Rattle.store_core.specs.disk.Files.{IsOpenOf, IsPlaced};
+ghost use Rattle.store_core.specs.disk.Holds.{Holds, OnlyOwn};
+ghost use Rattle.store_core.specs.disk.Kept.{HasPagesOfEach};
+ghost use Rattle.store_core.specs.disk.Opened.{contents_of};
+ghost use Rattle.store_core.specs.disk.Opening.{OnlySyncs};
+ghost use Rattle.store_core.specs.disk.Shares.{IsWithin};
+ghost use Rattle.store_core.specs.beats.Records.{beats_from};
+ghost use Rattle.store_core.specs.bodies.Tiers.{AreTiersOfBody};
 ghost use Rattle.store_core.specs.Damaged.{HasBadPart, HasCounted, IsDamagedIn};
 ghost use Rattle.store_core.specs.Faults.{IsOpenFault, IsReadFault};
 ghost use Rattle.store_core.specs.Stands.{is_made, Stands};
 ghost use Rattle.store_core.specs.Store.{IsReady, OpensAt};
 ghost use Rattle.store_core.specs.Stored.{Stored as AStored};
 
+use crate::beats::{Waiting, read_beats};
+use crate::bodies::tiers_of;
+use crate::disk::Opened;
 use crate::fault::{StoreFault, of_files};
 use crate::store::Store;
-use beat_records::{Waiting, read_beats};
 use beat_tiers::Tiers;
 use checkpoint_body::Body;
-use database_files::Opened;
 use host_model::Host;
 use std::alloc::Global;
-use tier_bodies::tiers_of;
 
 /// The part that is damaged where the body names more extents than it says were sealed.
 const BODY_PART: u32 = 2;
@@ -121,7 +121,7 @@ fn open_files<H: Host>(alloc: Global, host: &mut H) -> Result<Opened, StoreFault
         (IsErrOf result StoreFault.DiskFault) }
     ensures output { (H.seen host.new).tell_faults ≡ (H.seen host.old).tell_faults }
 {
-    match database_files::open(alloc, host) {
+    match crate::disk::open(alloc, host) {
         Ok(opened) => Ok(opened),
         Err(fault) => Err(of_files(fault)),
     }

@@ -3,18 +3,18 @@
 ghost use Rattle.std.specs.Prelude.{◌≡◌, ◌≢◌, true, List, [], ◌∷◌, IfErr, IfOk, IsErrOf, OnErr, OnOk};
 ghost use Rattle.host_model.specs.Past.{Event};
 ghost use Rattle.beat_tiers.specs.Room.{tiers_held, HasRoomFor};
-ghost use Rattle.database_files.specs.Contents.{KeptPages};
-ghost use Rattle.beat_records.specs.declared.beat.Beat.{Beat as ABeat};
+ghost use Rattle.store_core.specs.disk.Contents.{KeptPages};
+ghost use Rattle.store_core.specs.declared.beats.beat.Beat.{Beat as ABeat};
 ghost use Rattle.store_core.specs.Faults.{fault_after, Reopens};
-ghost use Rattle.beat_records.specs.Records.{TakesFirst};
+ghost use Rattle.store_core.specs.beats.Records.{TakesFirst};
 ghost use Rattle.store_core.specs.Store.{tiers_after};
 ghost use Rattle.store_core.specs.Faults.{IsReplayFault};
 ghost use Rattle.store_core.specs.Store.{count_after, is_sealed, IsSound, IsStoreAt, Replays};
 ghost use Rattle.store_core.specs.Stored.{stored_after, Stored as AStored};
 
+use crate::beats::{Beat, Waiting};
 use crate::fault::{StoreFault, Why};
 use crate::store::Store;
-use beat_records::{Beat, Waiting};
 use beat_tiers::Tiers;
 use std::alloc::AllocError;
 

@@ -1,16 +1,16 @@
 ghost use Rattle.std.specs.Prelude.{◌≡◌, ◌↔◌, IsTrue};
 ghost use Rattle.std.specs.Option.{is_some};
 ghost use Rattle.beat_tiers.specs.Room.{tiers_held};
-ghost use Rattle.tier_bodies.specs.Next.{sealed_after};
+ghost use Rattle.store_core.specs.bodies.Next.{sealed_after};
 
+use crate::beats::Waiting;
+use crate::bodies::sealed_after;
+use crate::disk::Files;
 use crate::fault::Why;
-use beat_records::Waiting;
 use beat_tiers::{Segments, Tiers};
 use checkpoint_body::Body;
-use database_files::Files;
 use std::alloc::Global;
 use std::marker::Model;
-use tier_bodies::sealed_after;
 use tier_settings::Settings;
 
 /// The bytes of a journal from which a checkpoint is due.

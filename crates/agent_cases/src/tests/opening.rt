@@ -2,7 +2,7 @@
 
 ghost use Rattle.std.specs.Prelude.{◌<◌, ◌≤◌, ◌^◌, length, IfOk};
 ghost use Rattle.agent_cases.specs.Ready.{IsReadyOn};
-ghost use Rattle.beat_records.specs.Beats.{beat_bytes, InForm};
+ghost use Rattle.store_core.specs.beats.Beats.{beat_bytes, InForm};
 ghost use Rattle.store_core.specs.Store.{IsReplayed};
 
 use super::*;

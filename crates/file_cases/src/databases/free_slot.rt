@@ -1,6 +1,6 @@
 //! The slot of the next extent.
 use checkpoint_body::Extent;
-use database_files::lowest_free;
+use store_core::disk::lowest_free;
 use std::test::Fail;
 
 fn extent_in(slot: u32) -> Extent {

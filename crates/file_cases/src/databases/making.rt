@@ -2,11 +2,11 @@
 
 ghost use Rattle.std.specs.Prelude.{◌≡◌, ◌≤◌, [], IfOk};
 ghost use Rattle.checkpoint_body.specs.Body.{HasSpelling};
-ghost use Rattle.database_files.specs.Advancing.{NamesNone};
+ghost use Rattle.store_core.specs.disk.Advancing.{NamesNone};
 
 use checkpoint::load;
 use checkpoint_body::{Body, read_body};
-use database_files::{FilesFault, Sealed, create};
+use store_core::disk::{FilesFault, Sealed, create};
 use fixed_num::ListOf;
 use host_model::{CallList, File, Host, Keep, MemoryHost};
 use journal_core::Journal;

@@ -1,7 +1,7 @@
 //! Databases whose bytes are written by hand.
 use checkpoint::switch;
 use checkpoint_body::{RecordPageList, SlotPageList};
-use database_files::{FilesFault, Opened, open};
+use store_core::disk::{FilesFault, Opened, open};
 use fixed_num::ByteList;
 use host_model::{CallList, File, Host, Keep, MemoryHost};
 use std::alloc::{AllocError, Global};

@@ -1,7 +1,7 @@
 use Rattle.std.proofs.Common.{inl, ap, subst, ◌∙◌}
 use Rattle.host_model.specs.Moments.{begins}
 use Rattle.history.specs.History.{collected}
-use Rattle.beat_records.specs.Records.{last_after}
+use Rattle.store_core.specs.beats.Records.{last_after}
 use Rattle.agent_core.specs.Replay.{HasSeenBeat}
 use Rattle.agent_core.proofs.KeptLemmas.{climbs, collected-awaits, collected-of, holds-beat, stays}
 use Rattle.agent_core.proofs.keeping.add.Goals as goal

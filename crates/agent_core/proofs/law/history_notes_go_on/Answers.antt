@@ -1,6 +1,5 @@
 use Rattle.store_core.proofs.StandLemmas.{stands-made}
 use Rattle.agent_core.proofs.NoteLemmas.{notes-once}
-use Rattle.agent_core.proofs.SideAlarms.{StayWhole}
 use Rattle.agent_core.proofs.StoredNotes.{history-goes}
 use Rattle.agent_core.proofs.law.history_notes_go_on.Goals as goal
 
@@ -15,14 +14,8 @@ returns-clause-made c goes disk notes = stands-made notes.stored disk notes.stan
 
 pub returns-clause-history : goal.returns-clause-history
 returns-clause-history c set h disk stands =
-    let law : StayWhole = record {
-      none = c.alarms_stay_whole.ensures.whole_nothing;
-      after_text = c.alarms_stay_whole.ensures.whole_configured;
-      after_beat = c.alarms_stay_whole.ensures.whole_stepped;
-      again = c.alarms_stay_whole.ensures.kept_again;
-    } in
     record {
       stored = stands.stored;
       stands = stands.stands;
-      notes = history-goes law set h stands.stored stands.are;
+      notes = history-goes set h stands.stored stands.are;
     }

@@ -1,6 +1,6 @@
 use Rattle.std.proofs.Common.{◌≡◌, map, take}
 use Rattle.std.specs.List.{AllByRecursion}
-use Rattle.beat_records.specs.Beats.{IsPoint}
+use Rattle.store_core.specs.beats.Beats.{IsPoint}
 use Rattle.agent_core.specs.Kept.{point_of}
 use Rattle.agent_core.proofs.points.stored_points.Given as goal
 

@@ -1,6 +1,6 @@
 use Rattle.std.proofs.Common.{◌≡◌, Err, sym, ap, ◌∙◌}
 use Rattle.host_model.specs.Disks.{reads_as}
-use Rattle.database_files.specs.declared.fault.FilesFault.TheVariants as files
+use Rattle.store_core.specs.declared.disk.fault.FilesFault.TheVariants as files
 use Rattle.store_core.specs.declared.fault.StoreFault.TheVariants.{NotADatabase}
 use Rattle.store_core.proofs.FaultLemmas.{same-fault}
 use Rattle.store_core.proofs.StandLemmas.{is-made, none-made}

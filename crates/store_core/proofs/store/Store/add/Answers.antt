@@ -5,9 +5,9 @@ use Rattle.journal_core.specs.Form.{record_size}
 use Rattle.beat_tiers.specs.declared.item.BeatPoint.{BeatPoint}
 use Rattle.beat_tiers.specs.Room.{tiers_held}
 use Rattle.beat_tiers.specs.State.{after_beat}
-use Rattle.database_files.specs.Files.{FilesState, IsOpenOf}
-use Rattle.database_files.specs.Holds.{journal_file}
-use Rattle.database_files.specs.Shares.{share}
+use Rattle.store_core.specs.disk.Files.{FilesState, IsOpenOf}
+use Rattle.store_core.specs.disk.Holds.{journal_file}
+use Rattle.store_core.specs.disk.Shares.{share}
 use Rattle.store_core.specs.Counts.{raised}
 use Rattle.store_core.specs.Store.{IsReady, IsStoreOf, StoreState}
 use Rattle.store_core.specs.Stored.{stored_with}

@@ -1,6 +1,6 @@
 use Rattle.std.proofs.Common.{◌≡◌, ◌+◌, None, true, sym, ap, subst}
 use Rattle.host_model.specs.Moments.{begins, Throughout}
-use Rattle.database_files.specs.Shares.{share, IsWithin}
+use Rattle.store_core.specs.disk.Shares.{share, IsWithin}
 use Rattle.tier_settings.specs.declared.settings.Settings.{Settings}
 use Rattle.store_core.specs.Store.{IsReady, IsReplayed, IsStoreOf, StoreState}
 use Rattle.store_core.specs.Stored.{is_numbered}

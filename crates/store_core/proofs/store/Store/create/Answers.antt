@@ -5,9 +5,9 @@ use Rattle.host_model.specs.Disks.{reads_as}
 use Rattle.host_model.specs.Moments.{begins}
 use Rattle.host_model.proofs.DiskLemmas.{disks_weaker}
 use Rattle.checkpoint_body.specs.declared.body.Body.{Body}
-use Rattle.database_files.specs.declared.fault.FilesFault.{FilesFault}
-use Rattle.database_files.specs.declared.fault.FilesFault.TheVariants as files
-use Rattle.database_files.specs.Shares.{share}
+use Rattle.store_core.specs.declared.disk.fault.FilesFault.{FilesFault}
+use Rattle.store_core.specs.declared.disk.fault.FilesFault.TheVariants as files
+use Rattle.store_core.specs.disk.Shares.{share}
 use Rattle.store_core.specs.declared.fault.StoreFault.{StoreFault}
 use Rattle.store_core.specs.declared.fault.StoreFault.TheVariants.{DiskFault, Exists, Memory}
 use Rattle.store_core.specs.Faults.{fault_of_files}

@@ -4,7 +4,7 @@ use Rattle.std.proofs.lemmas.Iterator.{YieldsList-from_slice}
 use Rattle.std.proofs.lemmas.Iterator.Search.{any_from_yields_List}
 use Rattle.beat_tiers.specs.declared.item.Stepped.{Stepped}
 use Rattle.beat_tiers.specs.Room.{records_held, tiers_held, RecordTierHeld, SegmentsHeld, TiersHeld}
-use Rattle.tier_bodies.specs.Next.{sealed_after}
+use Rattle.store_core.specs.bodies.Next.{sealed_after}
 use Rattle.store_core.specs.Store.{StoreState}
 use Rattle.store_core.specs.Stored.{has_sealed, has_sealed_records}
 use Rattle.store_core.proofs.store.Store.has_sealed.Goals as goal

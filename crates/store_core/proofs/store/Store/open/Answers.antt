@@ -1,10 +1,10 @@
 use Rattle.std.proofs.Common.{◌≡◌, Err, inr, refl, ap, rules}
 use Rattle.std.proofs.lemmas.Result.{err_from_is_err_and}
 use Rattle.host_model.specs.Disks.{reads_as}
-use Rattle.database_files.specs.Contents.{Contents}
-use Rattle.database_files.specs.Opened.{contents_of}
-use Rattle.database_files.proofs.OneLemmas.{one_contents}
-use Rattle.database_files.proofs.ShareLemmas.{within_syncs}
+use Rattle.store_core.specs.disk.Contents.{Contents}
+use Rattle.store_core.specs.disk.Opened.{contents_of}
+use Rattle.store_core.proofs.disk.OneLemmas.{one_contents}
+use Rattle.store_core.proofs.disk.ShareLemmas.{within_syncs}
 use Rattle.store_core.specs.declared.fault.StoreFault.TheVariants.{Damaged}
 use Rattle.store_core.proofs.FaultLemmas.{read-whole}
 use Rattle.store_core.proofs.OpenLemmas.{opened-images, opened-ready, opens-at}

@@ -1,7 +1,0 @@
-use Rattle.std.proofs.Common.{◌≡◌, ◌++◌, take}
-use Rattle.std.specs.List.{flat_map}
-use Rattle.beat_records.specs.Beats.{point_bytes}
-use Rattle.beat_records.proofs.writing.put_points.Given as goal
-
-abbrev pub invariant-loop-point : goal.invariant-loop-point
-invariant-loop-point l = l.writer ≡ l.fn.writer ++ flat_map point_bytes (take l.point-index l.points)

@@ -1,9 +1,0 @@
-use Rattle.std.proofs.Common.{sym}
-use Rattle.host_model.proofs.CallLemmas.{ok_part}
-use Rattle.database_files.proofs.ItemLemmas.{taken_more}
-use Rattle.database_files.proofs.items.records_in.Goals as goal
-
-pub loop-place-preserved : goal.loop-place-preserved
-loop-place-preserved c =
-    taken_more c.args.page.now.items c.loop-place.records c.push.new.self c.loop-place.place c.record_at.result c.loop-place.invariant c.record_at.ensures
-    (ok_part c.push.result (sym c.if-is_err.ensures.value) c.push.ensures.ok)

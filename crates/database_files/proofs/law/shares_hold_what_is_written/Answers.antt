@@ -1,5 +1,0 @@
-use Rattle.database_files.proofs.ShareLemmas.{has_room, has_slot_room, within_syncs}
-use Rattle.database_files.proofs.law.shares_hold_what_is_written.Goals as goal
-
-pub returns : goal.returns
-returns c = record { room = has_room; slots = has_slot_room; syncs = within_syncs }

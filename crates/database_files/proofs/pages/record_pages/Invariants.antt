@@ -1,6 +1,0 @@
-use Rattle.std.proofs.Common.{◌≡◌, map, take}
-use Rattle.database_files.specs.Holds.{page_of_records}
-use Rattle.database_files.proofs.pages.record_pages.Given as goal
-
-abbrev pub invariant-loop-page : goal.invariant-loop-page
-invariant-loop-page l = l.made ≡ map page_of_records (take l.page-index l.pages)

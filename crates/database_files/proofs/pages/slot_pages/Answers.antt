@@ -1,7 +1,0 @@
-use Rattle.database_files.specs.Holds.{page_of_slots}
-use Rattle.database_files.specs.Next.{IsFormed}
-use Rattle.database_files.proofs.ListLemmas.{item_of_map}
-use Rattle.database_files.proofs.pages.slot_pages.Goals as goal
-
-pub slot_page-requires : goal.slot_page-requires
-slot_page-requires c = item_of_map page_of_slots IsFormed c.args.pages.now c.loop-page.page-index c.page-item.result c.requires c.loop-page-test.true c.page-item.is

@@ -1,0 +1,39 @@
+ghost use Rattle.std.specs.Prelude.{◌≡◌, ◌≤◌, ◌^◌, ◌↔◌, length, IsTrue};
+ghost use Rattle.store_core.specs.beats.Beats.{beat_bytes, InForm};
+
+use crate::beats::form;
+pub use beat_tiers::{BeatPoint, BeatPointList};
+use fixed_num::ByteList;
+
+/// What one beat adds to a database.
+#[derive(Debug, Drop)]
+pub struct Beat {
+    /// The second at which it was, from 1 to 2^32 - 1. A beat without a moment has no points.
+    pub moment: Option<u32>,
+    /// The points, by their series, each series once.
+    pub points: BeatPointList,
+    /// What the layer above keeps of the beat, of any form.
+    pub note: ByteList,
+}
+
+impl Beat {
+    /// Whether a database may keep the beat: a moment is not 0, the points are in the order of
+    /// their series, each series once and below 65,536, a step is 1 to 86,400, a word is a storage
+    /// number, and a beat without a moment has no points.
+    pub fn is_in_form(&self) -> bool
+        ensures { IsTrue result ↔ InForm self.now }
+    {
+        form::has_form(self) && form::is_short(self)
+    }
+
+    /// Whether the record of a journal can hold the beat: it has at most 2^26 bytes, 12 for each
+    /// point, the bytes of the note, and 12 more.
+    #[tactic(auto, using(crate::proofs::beats::BeatLaw::beat_size))]
+    pub fn fits_a_record(&self) -> bool
+        ensures { IsTrue result ↔ (length (beat_bytes self.now) ≤ 2 ^ 26) }
+    {
+        let most = 1 << 26;
+        let (points, note) = (self.points.len(), self.note.len());
+        points <= most && note <= most && 12 + 12 * points + note <= most
+    }
+}

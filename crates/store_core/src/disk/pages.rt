@@ -1,0 +1,111 @@
+//! Pages as a checkpoint's body has them, put into the pages of an extent.
+
+ghost use Rattle.std.specs.Prelude.{◌≡◌, ◌<◌, All, [], ◌∷◌, ◌++◌, map, IfOk, OnOk, IsOkUnless};
+ghost use Rattle.page_buffer.specs.Page.{page_of};
+ghost use Rattle.page_buffer.specs.Records.{AreRecords};
+ghost use Rattle.page_buffer.specs.Slots.{AreSlots};
+ghost use Rattle.store_core.specs.disk.Holds.{page_of_records, page_of_slots};
+ghost use Rattle.store_core.specs.disk.Next.{IsFormed};
+
+use crate::disk::fault::FilesFault;
+use checkpoint_body as body;
+use extent_file::{Page, PageList};
+use fixed_num::Record;
+use page_buffer::{RecordPage, SlotPage};
+use page_pool::{PagePool, RawPage};
+use std::alloc::Global;
+
+/// An empty raw page.
+fn raw_page(alloc: Global) -> Result<RawPage, FilesFault>
+    ensures memory { IsOkUnless result FilesFault.Memory }
+{
+    let mut pool = PagePool::new(alloc);
+    if pool.reserve(1).is_err() {
+        return Err(FilesFault::Memory);
+    }
+    pool.take().ok_or(FilesFault::Memory)
+}
+
+/// Puts the words of slots into a page that has none. An empty slot is left by the point behind it.
+fn put_words(page: &mut SlotPage, first: u32, step: u32, words: &[u32])
+    requires empty { page.old ≡ page_of page.old.series first step [] }
+    requires step { 0 < step }
+    requires slots { AreSlots first step words.now }
+    ensures { page.new ≡ page_of page.old.series first step words.now }
+{
+    for (place, word) in words.iter().enumerate() {
+        if *word != 0 {
+            let _ = page.push(first + place as u32 * step, *word);
+        }
+    }
+}
+
+/// Puts records into a page that has none.
+fn put_records(page: &mut RecordPage, first: u32, step: u32, records: &[Record])
+    requires empty { page.old ≡ page_of page.old.series first step [] }
+    requires records { AreRecords first step records.now }
+    ensures { page.new ≡ page_of page.old.series first step records.now }
+{
+    for (place, item) in records.iter().enumerate() {
+        let _ = page.push(first + place as u32 * step, *item);
+    }
+}
+
+fn slot_page(alloc: Global, page: &body::SlotPage) -> Result<Page, FilesFault>
+    requires { IsFormed (page_of_slots page.now) }
+    ensures page { IfOk result (λ made. made ≡ page_of_slots page.now) }
+    ensures memory { IsOkUnless result FilesFault.Memory }
+{
+    let raw = raw_page(alloc)?;
+    let mut made = SlotPage::new(raw, page.series, page.first, page.step);
+    put_words(&mut made, page.first, page.step, page.words.as_slice());
+    Ok(Page::Slots(made))
+}
+
+fn record_page(alloc: Global, page: &body::RecordPage) -> Result<Page, FilesFault>
+    requires { IsFormed (page_of_records page.now) }
+    ensures page { IfOk result (λ made. made ≡ page_of_records page.now) }
+    ensures memory { IsOkUnless result FilesFault.Memory }
+{
+    let raw = raw_page(alloc)?;
+    let mut made = RecordPage::new(raw, page.series, page.first, page.step);
+    put_records(&mut made, page.first, page.step, page.records.as_slice());
+    Ok(Page::Records(made))
+}
+
+/// Adds a page to those of an extent.
+fn push(pages: &mut PageList, page: Page) -> Result<(), FilesFault>
+    ensures ok { OnOk result (pages.new ≡ pages.old ++ page ∷ []) }
+    ensures memory { IsOkUnless result FilesFault.Memory }
+{
+    pages.push(page).map_err(|_| FilesFault::Memory)
+}
+
+/// The pages of an extent of points.
+pub(crate) fn slot_pages(alloc: Global, pages: &[body::SlotPage]) -> Result<PageList, FilesFault>
+    requires { All IsFormed (map page_of_slots pages.now) }
+    ensures pages { IfOk result (λ made. made ≡ map page_of_slots pages.now) }
+    ensures memory { IsOkUnless result FilesFault.Memory }
+{
+    let mut made = PageList::new(alloc);
+    for page in pages {
+        push(&mut made, slot_page(alloc, page)?)?;
+    }
+    Ok(made)
+}
+
+/// The pages of an extent of records.
+pub(crate) fn record_pages(
+    alloc: Global,
+    pages: &[body::RecordPage],
+) -> Result<PageList, FilesFault>
+    requires { All IsFormed (map page_of_records pages.now) }
+    ensures pages { IfOk result (λ made. made ≡ map page_of_records pages.now) }
+    ensures memory { IsOkUnless result FilesFault.Memory }
+{
+    let mut made = PageList::new(alloc);
+    for page in pages {
+        push(&mut made, record_page(alloc, page)?)?;
+    }
+    Ok(made)
+}

@@ -1,6 +1,0 @@
-use Rattle.std.proofs.Common.{sym, ◌∙◌}
-use Rattle.tier_pages.proofs.FormedLemmas.{slots_end}
-use Rattle.tier_bodies.proofs.kept_items.points_of.Goals as goal
-
-pub items_of_slots-requires : goal.items_of_slots-requires
-items_of_slots-requires c = record { in_time = slots_end c.args.pages.now (sym c.are_slot_pages.ensures ∙ c.if-not-are_slot_pages.false) }
