@@ -31,7 +31,7 @@ use Rattle.link_session.proofs.ExtendsLemmas.{extends-further, extends-length}
 use Rattle.link_session.proofs.LinkLemmas.{sends-nothing}
 use Rattle.agent_app.specs.declared.collect.Collector.{Collector}
 use Rattle.agent_app.specs.Collect.{CollectsAll, CollectsOn, HasHeard, Outside}
-use Rattle.agent_app.specs.Course.{asked, begun, collected, configured, converted, made_again, no_run, none_found, now_made, one_run, ran, received, sent, AreStored, Course, Database, Gives, HoldsDatabase, HoldsRuns, Input, MayGive, MayHaveMade, MayMake, OfCollector, OfHealth, OfLink, OfSource, OneRun, WhereWhole}
+use Rattle.agent_app.specs.Course.{asked, begun, collected, configured, converted, made_again, no_run, none_found, now_made, one_run, ran, received, sent, AreStored, Course, Database, Gives, HoldsDatabase, HoldsRuns, Input, MayGive, MayHaveMade, OfCollector, OfHealth, OfLink, OfSource, OneRun, WhereWhole}
 use Rattle.agent_app.specs.Health.{history_with_health, ConfiguresAll, ConfiguresFrom}
 use Rattle.agent_app.specs.New.{Makes}
 use Rattle.agent_app.specs.Query.{Asks}
@@ -366,7 +366,7 @@ module _ (starts : List (Option Database)) (tried : List Settings) (runs : List 
     new-moments of = weakened (λ past left disk images. new-holds of disk (left disk images)) (makes.any_moment h)
 
   -- whatever moment a crash comes at
-  pub course-new : (MayMake s host → Contains tried set) → Moments
+  pub course-new : (MayHaveMade s host → Contains tried set) → Moments
   course-new known = by (is_made (reads_as host.past)) refl
     where
       by : (b : Bool) → is_made (reads_as host.past) ≡ b → Moments
@@ -374,10 +374,10 @@ module _ (starts : List (Option Database)) (tried : List Settings) (runs : List 
       by false unmade = which makes.statuses
         where
           which : (s ≡ status.Ok) ⊎ (s ≡ status.Exists) ⊎ (s ≡ status.DiskFault) ⊎ (s ≡ status.Memory) → Moments
-          which (inl is) = new-moments unmade (known (inl (inl is)))
+          which (inl is) = new-moments unmade (known (inl is))
           which (inr (inl is)) = absurd (true≢false (sym (makes.exists is h) ∙ unmade))
-          which (inr (inr (inl is))) = new-moments unmade (known (inl (inr (is, unmade))))
-          which (inr (inr (inr is))) = new-moments unmade (known (inr (is, unmade)))
+          which (inr (inr (inl is))) = new-moments unmade (known (inr (is, unmade)))
+          which (inr (inr (inr is))) = weakened (λ past was disk images. held disk (was disk images)) (makes.memory_moment is h)
 
   -- and where none comes before it ends
   pub course-made : (MayHaveMade s host → Contains tried set) → EveryDisk (HoldsRuns starts tried runs) host'.past

@@ -98,6 +98,7 @@ module _ (honest : Type 0) (host : Seen) (first : honest → IsDisk host.past (r
     created = λ e. absurd (no-done e);
     none = λ e. absurd (no-done e);
     memory = λ e h. reads-same;
+    memory_moment = λ e h. begins (λ disk is. is);
     exists = λ e. absurd (no-exists e);
     made = λ h made. (inr (inr refl), reads-same);
     made_moment = λ h made. begins (λ disk is. is);

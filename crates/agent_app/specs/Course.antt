@@ -2,7 +2,7 @@
 use Rattle.std.specs.Prelude.{◌≡◌, ◌⊎◌, ℕ, Bool, true, false, List, [], ◌∷◌, length, drop, Contains, Option, Some, None, IfSome}
 use Rattle.host_model.specs.declared.file.File.{File}
 use Rattle.host_model.specs.declared.status.Status.{Status}
-use Rattle.host_model.specs.declared.status.Status.TheVariants.{Ok as Done, DiskFault, Memory}
+use Rattle.host_model.specs.declared.status.Status.TheVariants.{Ok as Done, DiskFault}
 use Rattle.host_model.specs.Disks.{EveryDisk, reads_as}
 use Rattle.host_model.specs.Past.{told}
 use Rattle.host_model.specs.Seen.{Seen}
@@ -77,10 +77,6 @@ pub record HoldsOneOf (starts : List (Option Database)) (disk : File → List �
 -- a `new` that ended so may have made a database: it did, or the disk failed where there was none
 abbrev pub MayHaveMade : Status → Seen → Type 0
 MayHaveMade status host = (status ≡ Done) ⊎ ((status ≡ DiskFault) × (is_made (reads_as host.past) ≡ false))
-
--- a `new` that ended so may have made a database at some moment: at its end, or memory ran out where there was none
-abbrev pub MayMake : Status → Seen → Type 0
-MayMake status host = MayHaveMade status host ⊎ ((status ≡ Memory) × (is_made (reads_as host.past) ≡ false))
 
 -- Of a host whose disk held one of these databases whatever a crash left, or none where that is among them, and on which
 -- commands were made one after the other that store, `run`, `collect`, `health` or `receive`, with whatever input and whatever

@@ -23,8 +23,9 @@ pub record Makes (honest : Type 0) (set : Settings) (status : Status) (host host
   -- at Ok it leaves the new one, and there was none
   pub created : status ≡ Done → honest → EveryDisk (StandsForHistory set []) host'.past
   pub none : status ≡ Done → honest → is_made (reads_as host.past) ≡ false
-  -- where memory ran out nothing is written
+  -- where memory ran out nothing is written: at every moment a crash leaves what it might have left before the call
   pub memory : status ≡ Memory → honest → ReadsAsBefore host.past host'.past
+  pub memory_moment : status ≡ Memory → honest → Throughout (EveryDisk (IsDisk host.past)) host.past host'.past
   -- exactly where there is a database it is refused, or the disk failed, or memory ran out, and nothing is written: at every
   -- moment a crash leaves what it might have left before the call
   pub exists : status ≡ Exists → honest → is_made (reads_as host.past) ≡ true

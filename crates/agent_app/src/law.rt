@@ -8,7 +8,7 @@ ghost use Rattle.history.specs.History.{Beat};
 ghost use Rattle.tier_settings.specs.declared.settings.Settings.{Settings as ASettings};
 ghost use Rattle.agent_app.specs.declared.collect.Collector.{Collector as ACollector};
 ghost use Rattle.agent_app.specs.Collect.{CollectsAll, Outside};
-ghost use Rattle.agent_app.specs.Course.{Course, Database, HoldsRuns, MayMake, OfCollector, OfHealth, OfLink, OfSource, OneRun};
+ghost use Rattle.agent_app.specs.Course.{Course, Database, HoldsRuns, MayHaveMade, OfCollector, OfHealth, OfLink, OfSource, OneRun};
 ghost use Rattle.agent_app.specs.Health.{ConfiguresAll};
 ghost use Rattle.agent_app.specs.New.{Makes};
 ghost use Rattle.agent_app.specs.Query.{Asks};
@@ -93,7 +93,7 @@ pub fn crashes_leave_what_was_stored<H: Host>()
     ensures makes_moments { H.honest → (starts : List (Option Database)) (tried : List ASettings)
         (runs : List OneRun) (host host' : H) (set : ASettings) (status : AStatus)
         → Course H.honest H.seen starts tried runs host
-        → (MayMake status (H.seen host) → Contains tried set)
+        → (MayHaveMade status (H.seen host) → Contains tried set)
         → Makes H.honest set status (H.seen host) (H.seen host')
         → Throughout (EveryDisk (HoldsRuns starts tried runs))
         (H.seen host).past (H.seen host').past }

@@ -137,6 +137,7 @@ pub record Creates (honest : Type 0) (host : Seen) (set : Settings) (result : Re
   pub made_moment : honest → is_made (reads_as host.past) ≡ true → Throughout (EveryDisk (IsDisk host.past)) host.past host'.past
   -- without memory nothing is written either
   pub memory : IsErrOf result Memory → honest → ReadsAsBefore host.past host'.past
+  pub memory_moment : IsErrOf result Memory → honest → Throughout (EveryDisk (IsDisk host.past)) host.past host'.past
   pub faults : IfErr result IsCreating
   -- the disk fails exactly where the host counted a failure
   pub cause : HasCause host.disk_faults host'.disk_faults (IsErrOf result DiskFault)

@@ -145,6 +145,9 @@ impl Agent {
             (H.seen host.new).past }
         ensures memory { IsErrOf result AgentFault.Memory → H.honest
             → ReadsAsBefore (H.seen host.old).past (H.seen host.new).past }
+        ensures memory_moment { IsErrOf result AgentFault.Memory → H.honest
+            → Throughout (EveryDisk (IsDisk (H.seen host.old).past)) (H.seen host.old).past
+            (H.seen host.new).past }
         ensures faults { IfErr result IsCreating }
         ensures cause { HasCause (H.seen host.old).disk_faults (H.seen host.new).disk_faults
             (IsErrOf result AgentFault.DiskFault) }

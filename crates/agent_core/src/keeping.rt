@@ -109,6 +109,8 @@ pub(crate) fn make_room<H: Host>(
         → HoldsHistory (H.seen host.old).past store.old set h → IsLeftBy set h left.now
         → HoldsHistory (H.seen host.new).past store.new set h) }
     ensures not_due { OnOk result (is_due store.new ≡ false) }
+    ensures untouched { is_due store.old ≡ false
+        → (store.new ≡ store.old) × (host.new ≡ host.old) }
     ensures tiers { store.new.tiers ≡ store.old.tiers }
     ensures keeps { KeepsStore H.honest (H.seen host.old) store.old result (H.seen host.new)
         store.new }

@@ -68,8 +68,9 @@ impl Store {
         // Without memory nothing is written either.
         ensures memory { IsErrOf result StoreFault.Memory → H.honest → (file : AFile)
             → reads_as (H.seen host.new).past file ≡ reads_as (H.seen host.old).past file }
-        ensures memory_disks { IsErrOf result StoreFault.Memory → H.honest
-            → EveryDisk (IsDisk (H.seen host.old).past) (H.seen host.new).past }
+        ensures memory_moment { IsErrOf result StoreFault.Memory → H.honest
+            → Throughout (EveryDisk (IsDisk (H.seen host.old).past)) (H.seen host.old).past
+            (H.seen host.new).past }
 
         // Each file stays within its share.
         ensures bound { (most : ℕ) → length side ≤ most → H.honest

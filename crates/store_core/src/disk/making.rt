@@ -84,8 +84,9 @@ pub fn create<H: Host>(alloc: Global, host: &mut H, body: &Body) -> Result<Files
     // Without memory nothing is written either.
     ensures memory { IsErrOf result FilesFault.Memory → H.honest → (file : File)
         → reads_as (H.seen host.new).past file ≡ reads_as (H.seen host.old).past file }
-    ensures memory_disks { IsErrOf result FilesFault.Memory → H.honest
-        → EveryDisk (IsDisk (H.seen host.old).past) (H.seen host.new).past }
+    ensures memory_moment { IsErrOf result FilesFault.Memory → H.honest
+        → Throughout (EveryDisk (IsDisk (H.seen host.old).past)) (H.seen host.old).past
+        (H.seen host.new).past }
 
     // No file has more than its share at any moment, where the checkpoint and a journal fit theirs.
     ensures bound { (shares : File → ℕ) → HasRoom shares 0 (body_bytes body.now)

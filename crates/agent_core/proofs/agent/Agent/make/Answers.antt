@@ -1,6 +1,7 @@
 use Rattle.std.proofs.Common.{[], Err, inl, inr, ap, refl, sym, ◌∙◌, true≢false}
 use Rattle.std.proofs.lemmas.Result.{err_from_is_err_and}
 use Rattle.host_model.specs.Moments.{begins}
+use Rattle.host_model.proofs.MomentLemmas.{at_end}
 use Rattle.agent_core.proofs.NewLemmas.{before-at_end, before-itself, made-cause, made-memory, made-told, new_climbs, new_is_of}
 use Rattle.agent_core.proofs.agent.Agent.make.Goals as goal
 
@@ -65,7 +66,17 @@ returns-in_err-side-clause-memory g c is true_host = before-itself (g.H.Host.see
 pub returns-in-Err-clause-memory : goal.returns-in-Err-clause-memory
 returns-in-Err-clause-memory g c is true_host =
     let short = made-memory c.create.result c.in-Err.fault c.store_fault.result c.in-Err.is c.store_fault.ensures is in
-    record { same = c.create.ensures.memory short true_host; disks = c.create.ensures.memory_disks short true_host }
+    record { same = c.create.ensures.memory short true_host; disks = at_end (c.create.ensures.memory_moment short true_host) }
+
+pub returns-in_err-left-clause-memory_moment : goal.returns-in_err-left-clause-memory_moment
+returns-in_err-left-clause-memory_moment g c is true_host = begins (λ disk images. images)
+
+pub returns-in_err-side-clause-memory_moment : goal.returns-in_err-side-clause-memory_moment
+returns-in_err-side-clause-memory_moment g c is true_host = begins (λ disk images. images)
+
+pub returns-in-Err-clause-memory_moment : goal.returns-in-Err-clause-memory_moment
+returns-in-Err-clause-memory_moment g c is true_host =
+    c.create.ensures.memory_moment (made-memory c.create.result c.in-Err.fault c.store_fault.result c.in-Err.is c.store_fault.ensures is) true_host
 
 pub returns-in-Err-clause-cause : goal.returns-in-Err-clause-cause
 returns-in-Err-clause-cause g c =

@@ -19,8 +19,8 @@ returns-in_default-clause-any_moment g c h =
     let old = (g.H.Host.seen c.args.host.now).past in
     still_before c.args.body.now old old (g.H.Host.seen c.expect_none.new.host).past (c.expect_none.ensures.any_moment h)
 
-pub returns-in_default-clause-memory_disks : goal.returns-in_default-clause-memory_disks
-returns-in_default-clause-memory_disks g c is h = at_end (c.expect_none.ensures.any_moment h)
+pub returns-in_default-clause-memory_moment : goal.returns-in_default-clause-memory_moment
+returns-in_default-clause-memory_moment g c is h = c.expect_none.ensures.any_moment h
 
 pub returns-in_err-begin-clause-any_moment : goal.returns-in_err-begin-clause-any_moment
 returns-in_err-begin-clause-any_moment g c h =

@@ -24,6 +24,9 @@ returns-in_default-clause-any_moment g c h = begins (λ disk images. inl images)
 pub returns-in_default-clause-made_moment : goal.returns-in_default-clause-made_moment
 returns-in_default-clause-made_moment g c h made = begins (λ disk images. images)
 
+pub returns-in_default-clause-memory_moment : goal.returns-in_default-clause-memory_moment
+returns-in_default-clause-memory_moment g c is h = begins (λ disk images. images)
+
 pub returns-in_default-clause-bound : goal.returns-in_default-clause-bound
 returns-in_default-clause-bound g c most short h within = begins within
 
@@ -32,6 +35,9 @@ returns-in_default-new_tiers-clause-any_moment g c h = begins (λ disk images. i
 
 pub returns-in_default-new_tiers-clause-made_moment : goal.returns-in_default-new_tiers-clause-made_moment
 returns-in_default-new_tiers-clause-made_moment g c h made = begins (λ disk images. images)
+
+pub returns-in_default-new_tiers-clause-memory_moment : goal.returns-in_default-new_tiers-clause-memory_moment
+returns-in_default-new_tiers-clause-memory_moment g c is h = begins (λ disk images. images)
 
 pub returns-in_default-new_tiers-clause-bound : goal.returns-in_default-new_tiers-clause-bound
 returns-in_default-new_tiers-clause-bound g c most short h within = begins within
