@@ -246,6 +246,7 @@ module _ (honest : Type 0) (host host' : Seen) (first : honest → IsDisk host.p
     made = λ part is h. opens.made part (ap (λ (f : AgentFault). Err f) (damaged-by why part is)) h;
     damaged_files = λ part low is h. opens.damaged part low (ap (λ (f : AgentFault). Err f) (damaged-by why part is)) h;
     damaged_part = λ part low is h. opens.parts part low (ap (λ (f : AgentFault). Err f) (damaged-by why part is)) h;
+    damaged_first = λ part other is h. opens.first part other (ap (λ (f : AgentFault). Err f) (damaged-by why part is)) h;
     damaged_notes = λ is h. opens.damaged_notes (ap (λ (f : AgentFault). Err f) (damaged-by why 5 is)) h;
     opened = λ is h. absurd (true≢false (sym is ∙ unopened-all why));
   }
@@ -292,6 +293,7 @@ module _ (honest : Type 0) (host : Seen) (agent : AgentState) (middle : Seen) (o
     made = λ part is h. absurd (found (ap finds_none is));
     damaged_files = λ part low is h. absurd (found (ap finds_none is));
     damaged_part = λ part low is h. absurd (found (ap finds_none is));
+    damaged_first = λ part other is h. absurd (found (ap finds_none is));
     damaged_notes = λ is h. absurd (found (ap finds_none is));
     opened = λ is h. opens.notes h;
   }

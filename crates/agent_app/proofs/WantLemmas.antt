@@ -73,6 +73,7 @@ module _ (honest : Type 0) (host : Seen) (first : honest → IsDisk host.past (r
     parts = λ part low e h. absurd (no-part part (fault-is fault.Memory (fault.Damaged part) e));
     made = λ part e h. absurd (no-part part (fault-is fault.Memory (fault.Damaged part) e));
     notes = tt;
+    first = λ part other e h. absurd (no-part part (fault-is fault.Memory (fault.Damaged part) e));
     damaged_notes = λ e h. absurd (no-part 5 (fault-is fault.Memory (fault.Damaged 5) e));
     faults = tt;
     cause = stayed host.disk_faults host.disk_faults (failed_by fault.Memory ≡ failed_by fault.DiskFault) refl (λ e. no-disk (fault-is fault.Memory fault.DiskFault e));

@@ -147,7 +147,7 @@ pub record Creates (honest : Type 0) (host : Seen) (set : Settings) (result : Re
 
 -- `open` with this result left the host so
 pub record Opens (honest : Type 0) (host : Seen) (result : Result AgentState AgentFault) (host' : Seen) : Type 0 where
-  -- at Ok the agent is of just the settings and the history that the disk stands for
+  -- at Ok the agent is of the settings and of each history that the disk stands for
   pub opened : IfOk result (λ agent. honest → (set : Settings) (h : List Beat) → StandsForHistory set h (reads_as host.past) → IsAgentOf host'.past agent set h)
   pub ready : IfOk result (AgentIsReady honest host'.past)
   pub going : IfOk result (λ agent. agent.fault ≡ None)
@@ -166,6 +166,8 @@ pub record Opens (honest : Type 0) (host : Seen) (result : Result AgentState Age
   pub damaged : (part : ℕ) → part ≤ 4 → IsErrOf result (Damaged part) → honest → IsDamaged (reads_as host.past)
   -- the checkpoint's file, its body, or an extent
   pub parts : (part : ℕ) → part ≤ 3 → IsErrOf result (Damaged part) → honest → IsDamagedIn part (reads_as host.past)
+  -- where a part of the files is damaged, its number is told
+  pub first : (part other : ℕ) → IsErrOf result (Damaged part) → honest → IsDamagedIn other (reads_as host.past) → other ≡ part
   pub made : (part : ℕ) → IsErrOf result (Damaged part) → honest → is_made (reads_as host.past) ≡ true
   -- what was opened goes on from beat to beat
   pub notes : OnOk result (honest → HasNotes true (reads_as host.past))

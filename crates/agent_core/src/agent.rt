@@ -11,6 +11,7 @@ ghost use Rattle.tier_settings.specs.Limits.{InLimits};
 ghost use Rattle.store_core.specs.disk.Holds.{OnlyOwn};
 ghost use Rattle.store_core.specs.Stands.{is_made, Stands};
 ghost use Rattle.agent_core.specs.Notes.{IsDamaged};
+ghost use Rattle.beat_tiers.specs.State.{tier_floor};
 ghost use Rattle.store_core.specs.Counts.{raised};
 ghost use Rattle.store_core.specs.Damaged.{IsDamagedIn};
 ghost use Rattle.store_core.specs.Store.{IsReady, OpensAt};
@@ -110,7 +111,7 @@ impl Agent {
 
     /// Makes the agent of a history without beats, and its database, where there is none.
     ///
-    /// `Exists` exactly where there is a database, and then nothing is written. At every moment a crash
+    /// `Exists` where there is a database, unless the disk fails or memory runs out, and nothing is written then. At every moment a crash
     /// leaves what it might have left before the call, no database, or the one without beats; at `Ok` the last.
     pub fn create<H: Host>(
         alloc: Global,
@@ -172,9 +173,9 @@ impl Agent {
 
     /// Opens the database of an agent and goes through all that it holds.
     ///
-    /// `NotADatabase` exactly where there is none, and `Damaged` only where what is there stands for no
+    /// `NotADatabase` where there is none, unless the disk fails or memory runs out, and `Damaged` only where what is there stands for no
     /// history: with 1 to 4 where a part of its files is damaged (1 the checkpoint's file, 2 its body, 3 an
-    /// extent, 4 the journal), and with 5 where the side of the checkpoint, a note or a point is bad. A side is
+    /// extent, 4 the journal, also where a beat stands behind one that sealed a segment), and with 5 where the side of the checkpoint, a note or a point is bad. A side is
     /// bad where it is none, its charts and dimensions do not go on from nothing, or its alarms are of a text
     /// that is refused or of a chart that is not there. A note is bad where it is no entry of a beat with the
     /// moment of its record, does not go on from the side and the notes before, mixes copies with collected
@@ -183,7 +184,7 @@ impl Agent {
     /// compared with nothing. The words
     /// and steps of points are not compared with their definition, and a gap's child and beginning are compared
     /// with nothing. The alarms are those of that history: each beat steps them as it did when it was stored.
-    /// At `Ok` the agent is of just the history that the disk stands for, if it stands for one, and that is all
+    /// At `Ok` the agent is of each history that the disk stands for, and these are all
     /// that a crash leaves from then on. At every moment a crash leaves what it might have left before, and each
     /// file reads as before: the disk is only read and synced.
     pub fn open<H: Host>(alloc: Global, host: &mut H) -> Result<Agent, AgentFault>
@@ -221,6 +222,8 @@ impl Agent {
             → H.honest → IsDamaged (reads_as (H.seen host.old).past) }
         ensures parts { (part : ℕ) → part ≤ 3 → IsErrOf result (AgentFault.Damaged part)
             → H.honest → IsDamagedIn part (reads_as (H.seen host.old).past) }
+        ensures first { (part other : ℕ) → IsErrOf result (AgentFault.Damaged part) → H.honest
+            → IsDamagedIn other (reads_as (H.seen host.old).past) → other ≡ part }
         ensures made { (part : ℕ) → IsErrOf result (AgentFault.Damaged part) → H.honest
             → is_made (reads_as (H.seen host.old).past) ≡ true }
         ensures notes { OnOk result (H.honest → HasNotes true (reads_as (H.seen host.old).past)) }
@@ -725,8 +728,9 @@ impl Agent {
     /// The floor of tier 0, 1 or 2, in seconds: the first moment of which the tier still answers, or 0.
     pub fn floor(&self, tier: u8) -> u32
         requires { tier < 3 }
-        ensures { (past : List Event) (set : ASettings) (h : List HistoryBeat)
+        ensures of { (past : List Event) (set : ASettings) (h : List HistoryBeat)
             → IsAgentOf past self.now set h → result ≡ floor_of_history set h tier }
+        ensures kept { result ≡ tier_floor self.now.store.tiers tier }
     {
         self.store.floor(tier)
     }

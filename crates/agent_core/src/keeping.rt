@@ -24,7 +24,6 @@ ghost use Rattle.agent_core.specs.Left.{AwaitsAlarms, IsLeftBy};
 ghost use Rattle.agent_core.specs.Health.{health_refusal};
 ghost use Rattle.agent_core.specs.Notes.{names_series};
 ghost use Rattle.agent_core.specs.Replay.{HasRoom, HasSeenBeat, HasSeenCopy, HasTakenRows};
-ghost use Rattle.chart_registry.specs.declared.fault.RegistryFault.TheVariants as registry_fault;
 ghost use Rattle.agent_core.specs.Rules.{HasLimits};
 
 use crate::fault::{AgentFault, store_fault};
@@ -33,7 +32,7 @@ use crate::left::{Left, Role};
 use crate::points::stored_points;
 use crate::side::write_left;
 use beat_points::LastRows;
-use chart_registry::{Registry, RegistryFault};
+use chart_registry::Registry;
 use entry_codec::{Entry, EntryFault, write_collected, write_entry};
 use history::{NumberedBeat, OpenBeat};
 use host_model::Host;
@@ -76,18 +75,6 @@ fn stored_beat(
         points,
         note,
     })
-}
-
-/// Why a registry did not take a beat that was tested before: memory ran out.
-pub(crate) fn untaken(fault: RegistryFault) -> AllocError
-    requires { fault ≡ registry_fault.Memory }
-{
-    match fault {
-        RegistryFault::Memory => AllocError,
-        RegistryFault::GridChanged
-        | RegistryFault::TooManyCharts
-        | RegistryFault::TooManyDimensions => unreachable!(),
-    }
 }
 
 /// Makes a checkpoint of what beats left, where one is due, so that a beat can be added. At every moment a crash leaves

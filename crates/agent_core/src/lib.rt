@@ -3,10 +3,11 @@
 //!
 //! Over an honest host a crash leaves at every moment of a call the history with the first of the beats that it
 //! adds, and at `Ok` with all. `beat`, `line`, `set_health` and `take` are refused exactly where the history
-//! refuses, for the first reason, and change nothing then. `create` and `open` give the agent of just the history
-//! that the disk stands for, and `open` writes nothing. `query`, `log`, `ask` and `data` answer by definitions over all beats. A history
-//! collects, or copies one child. After a failure of disk or memory each call gives the first cause: the agent must
-//! be opened again. Each call promises one record (`specs/Calls.antt`); the law `calls_keep_an_agent_sound` stands on these alone.
+//! refuses, for the first reason, and change nothing then. `create` and `open` give the agent of each history
+//! that the disk stands for, and `open` writes nothing. `query`, `log`, `ask` and `data` answer by definitions
+//! over all beats. A history collects, or copies one child. Once a call that takes the agent for itself has had
+//! `DiskFault` or `Memory`, each such call gives the first cause: the agent must be opened again. Each call
+//! promises one record (`specs/Calls.antt`); the law `calls_keep_an_agent_sound` stands on these alone.
 //!
 //! It stands on `store_core`, `collect_block`, `chart_registry`, `beat_points`, `beat_entries`, `query_engine`,
 //! `query_text`, `alarm_core` and `replication`.

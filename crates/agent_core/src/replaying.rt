@@ -52,6 +52,8 @@ pub(crate) fn open_store<H: Host>(alloc: Global, host: &mut H) -> Result<Store, 
     ensures some { OnOk result (H.honest → is_made (reads_as (H.seen host.old).past) ≡ true) }
     ensures damaged { (part : ℕ) → IsErrOf result (AgentFault.Damaged part) → H.honest
         → IsDamagedIn part (reads_as (H.seen host.old).past) }
+    ensures whole { OnOk result (H.honest → (part : ℕ)
+        → IsDamagedIn part (reads_as (H.seen host.old).past) → ⊥) }
     ensures faults { IfErr result IsUnopened }
     ensures cause { HasCause (H.seen host.old).disk_faults (H.seen host.new).disk_faults
         (IsErrOf result AgentFault.DiskFault) }

@@ -154,8 +154,7 @@ fn side_of(alloc: Global, left: &Left) -> Result<Side, AllocError>
     })
 }
 
-/// The side of what beats left. `Memory` also where it would have 2^32 bytes or no spelling, as that of no history has
-/// that fits into memory.
+/// The side of what beats left. `Memory` also where it would have 2^32 bytes or no spelling.
 pub(crate) fn write_left(alloc: Global, left: &Left) -> Result<ByteList, AgentFault>
     ensures side { IfOk result (λ bytes. (set : ASettings) (h : List HistoryBeat)
         (beats : List StoreBeat) → AreBeatsOf h beats → IsLeftBy set h left.now

@@ -30,10 +30,10 @@ ghost use Rattle.agent_core.specs.Storing.{gap_beats, later_copies, sent_copies,
 use crate::alarming::{Stepping, follow};
 use crate::copying::{definitions_in, kept_copy, kept_gap};
 use crate::fault::AgentFault;
-use crate::keeping::{commit, make_room, see_copy, take_rows, untaken};
+use crate::keeping::{commit, make_room, see_copy, take_rows};
 use crate::left::{Left, Role};
 use alarm_core::EventList;
-use beat_entries::number_beat;
+use beat_entries::{number_beat, untaken};
 use chart_registry::Registry;
 use fixed_num::ListOf;
 use history::{NumberedBeat, OpenBeat};

@@ -16,7 +16,7 @@ ghost use Rattle.alarm_core.specs.Whole.{IsTextOf, IsWhole};
 /// are numbered from 1; at 2^64 - 1 numbers stand still. Two alarms say the same exactly where they have
 /// the same fields, with expressions as trees. Without a call alarms are whole with any charts. Behind a
 /// configuration that was read, and behind each beat after it, they are whole with the charts of that call;
-/// and whole alarms are what is kept of them, and are read again from their bytes, if they have some. The call does
+/// and whole alarms come back from what is kept of them, and from their bytes, if they have some. The call does
 /// nothing.
 pub fn alarms_stay_whole()
     ensures log { (calls : List Call)

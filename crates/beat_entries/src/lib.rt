@@ -39,5 +39,5 @@ pub use law::{
     numbered_beat_keeps_limits,
 };
 pub use refusal::EntryRefusal;
-pub use taking::{define_beat, judge_beat};
+pub use taking::{define_beat, judge_beat, untaken};
 pub use usual::{usual_chart, usual_dimension};

@@ -81,7 +81,7 @@ fn number_content<'a>(
 
 /// What a history with this registry makes of a beat that was collected at `moment`: its refusal, or the beat by the
 /// numbers that it has once the registry takes its definitions. `copies` says that the history has copied beats or gaps,
-/// and `last` is its last moment. Each chart and each value is looked up once, and nothing needs to be looked up after it.
+/// and `last` is its last moment. Each chart of a row and each of its values is looked up once.
 pub fn judge_beat(
     alloc: Global,
     registry: &Registry,
@@ -109,7 +109,7 @@ pub fn judge_beat(
 }
 
 /// Why a registry did not take a beat that was tested before: memory ran out.
-fn untaken(fault: RegistryFault) -> AllocError
+pub fn untaken(fault: RegistryFault) -> AllocError
     requires { fault ≡ registry_fault.Memory }
 {
     match fault {

@@ -9,6 +9,7 @@ use Rattle.checkpoint.specs.Files.{checkpoint_in, Slot}
 use Rattle.checkpoint_body.specs.declared.body.Body.{Body}
 use Rattle.store_core.specs.disk.Contents.{Contents, KeptPages}
 use Rattle.store_core.specs.disk.Files.{FilesState, IsOpenOf}
+use Rattle.store_core.specs.disk.Holds.{Holds}
 use Rattle.store_core.proofs.disk.OneLemmas.{never_damaged, one_contents, one_part}
 use Rattle.store_core.specs.declared.beats.beat.Beat.{Beat}
 use Rattle.store_core.specs.beats.Records.{beats_from, with_all}
@@ -72,22 +73,30 @@ stands-made stored disk stands = is-made disk ∙ ap (λ (slot : Option Slot). i
 
 -- ---- no database where a part is damaged
 
+-- contents whose counts are right, that have tiers and beats, have no bad part
+pub none-bad : (contents : Contents) → HasCounted contents.body → (tiers : TiersState) → AreTiersOfBody contents.body contents.kept tiers
+    → (beats : List Beat) → beats_from contents.body.last contents.records ≡ Some beats → (part : ℕ) → HasBadPart part contents → ⊥
+none-bad contents counted tiers of_body beats read zero bad = bad
+none-bad contents counted tiers of_body beats read (suc zero) bad = bad
+none-bad contents counted tiers of_body beats read (suc (suc zero)) bad = bad counted
+none-bad contents counted tiers of_body beats read (suc (suc (suc zero))) bad = bad.none tiers of_body
+none-bad contents counted tiers of_body beats read (suc (suc (suc (suc zero)))) bad = none-some beats (sym bad.none ∙ read)
+none-bad contents counted tiers of_body beats read (suc (suc (suc (suc (suc part))))) bad = bad
+
 -- what the files of a database hold has no bad part
 pub never-bad : (part : ℕ) (contents : Contents) (stored : Stored) → HasStored contents stored → HasBadPart part contents → ⊥
-never-bad zero contents stored has bad = bad
-never-bad (suc zero) contents stored has bad = bad
-never-bad (suc (suc zero)) contents stored has bad = bad (body-counted contents.body contents.kept stored.base.tiers has.base.tiers has.base.counted)
-never-bad (suc (suc (suc zero))) contents stored has bad = bad.none stored.base.tiers has.base.tiers
-never-bad (suc (suc (suc (suc zero)))) contents stored has bad =
+never-bad part contents stored has =
     let order = oldest_first stored.after in
-    none-some order.rest (sym bad.none ∙ records-read contents stored has order.rest order.whole)
-never-bad (suc (suc (suc (suc (suc part))))) contents stored has bad = bad
+    none-bad contents (body-counted contents.body contents.kept stored.base.tiers has.base.tiers has.base.counted) stored.base.tiers has.base.tiers order.rest
+    (records-read contents stored has order.rest order.whole) part
+
+-- nor is a part of whole files damaged that hold this
+pub files-whole : (contents : Contents) (disk : File → List ℕ) → Holds contents disk → ((part : ℕ) → HasBadPart part contents → ⊥) → (part : ℕ) → IsDamagedIn part disk → ⊥
+files-whole contents disk holds none part (inl damaged) = never_damaged part contents disk holds damaged
+files-whole contents disk holds none part (inr found) = none part (subst (λ (c : Contents). HasBadPart part c) (one_contents found.contents contents disk found.holds holds) found.bad)
 
 pub never-damaged : (part : ℕ) (stored : Stored) (disk : File → List ℕ) → Stands stored disk → IsDamagedIn part disk → ⊥
-never-damaged part stored disk stands (inl damaged) = never_damaged part stands.contents disk stands.holds damaged
-never-damaged part stored disk stands (inr found) =
-    let same = one_contents stands.contents found.contents disk stands.holds found.holds in
-    never-bad part found.contents stored (has-stored found.contents stored disk stands same) found.bad
+never-damaged part stored disk stands = files-whole stands.contents disk stands.holds (λ p. never-bad p stands.contents stored stands.has) part
 
 -- ---- one part is damaged at most
 

@@ -46,6 +46,7 @@ impl Store {
         ensures count { IfOk result (λ store. store.count ≡ 0) }
         ensures last { IfOk result (λ store. store.tiers.last ≡ 0) }
         ensures settings { IfOk result (λ store. store.body.settings ≡ settings.now) }
+        ensures side { IfOk result (λ store. store.body.side ≡ side) }
 
         ensures any_moment { H.honest → Throughout (EveryDisk
             (λ disk. IsDisk (H.seen host.old).past disk ⊎ StandsIfMade settings.now side disk))

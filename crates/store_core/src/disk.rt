@@ -14,7 +14,7 @@
 
 mod advancing;
 mod beginning;
-mod fault;
+pub(crate) mod fault;
 mod files;
 mod free_slot;
 mod items;

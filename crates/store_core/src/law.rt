@@ -19,7 +19,7 @@ ghost use Rattle.store_core.specs.Stored.{advanced, count_of, new_database, next
 
 /// Laws of databases, for any disk and any store; the call does nothing. A disk holds one database
 /// at most, and none where a part of it is damaged as `open` tells, which is one part then. A store
-/// that is ready and has applied all beats is one of what is stored. That is what each crash
+/// that is ready, was not refused and has applied all beats is one of what is stored. That is what each crash
 /// leaves, and telling changes nothing of it. A checkpoint keeps what is stored: the count and what
 /// the tiers have.
 pub fn one_disk_holds_one_database()

@@ -5,12 +5,13 @@
 //! by them, with a new side, and so bounds the journal. A disk holds one database at most.
 //!
 //! Over an honest host a crash leaves at every moment of `commit` what was stored, with the new beat or without it, and
-//! at `Ok` with it; of `checkpoint` what was stored, with the old base or with the new one, and at `Ok` with the new; of
+//! at `Ok` with it; of `checkpoint` what was stored, with the old base or with the new one, and at `Ok` with the new, where there can be a
+//! later checkpoint; of
 //! `create` what it might have left before, no database, or the new one. `open` gives just what is on the disk, or says
 //! that there is none or which part is damaged. `replay` then gives the beats since; where one stands behind a beat that
 //! sealed a segment, as no database has it, it says that the journal is damaged. No other file is touched, and each file
-//! stays within its share while there can be a later checkpoint. Once the disk or memory has failed, each call gives the
-//! first cause. Until then `floor`, `kept`, `kept_above` and a `StoreView` answer by the definition over all beats,
+//! stays within its share while there can be a later checkpoint. Once `commit`, `checkpoint` or `replay` had `DiskFault` or
+//! `Memory`, these, `kept` and `kept_above` give the first cause. Until then `floor`, `kept`, `kept_above` and a `StoreView` answer by the definition over all beats,
 //! those of the base too.
 //!
 //! Below the store are four modules, each on those before it: `beats` has the records of beats, `disk` the files,

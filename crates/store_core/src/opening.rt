@@ -29,21 +29,13 @@ ghost use Rattle.store_core.specs.Stored.{Stored as AStored};
 use crate::beats::{Waiting, read_beats};
 use crate::bodies::tiers_of;
 use crate::disk::Opened;
+use crate::disk::fault::{BODY_PART, EXTENT_PART, JOURNAL_PART};
 use crate::fault::{StoreFault, of_files};
 use crate::store::Store;
 use beat_tiers::Tiers;
 use checkpoint_body::Body;
 use host_model::Host;
 use std::alloc::Global;
-
-/// The part that is damaged where the body names more extents than it says were sealed.
-const BODY_PART: u32 = 2;
-
-/// The part that is damaged where the pages of the extents are those of no tiers.
-const EXTENT_PART: u32 = 3;
-
-/// The part that is damaged where the records are no beats.
-const JOURNAL_PART: u32 = 4;
 
 /// Whether each tier has sealed as many segments as it keeps, at least.
 fn has_counted(body: &Body) -> bool
@@ -161,6 +153,8 @@ impl Store {
             → EveryDisk (Stands stored) (H.seen host.new).past) }
         ensures damaged { (part : ℕ) → IsErrOf result (StoreFault.Damaged part) → H.honest
             → IsDamagedIn part (reads_as (H.seen host.old).past) }
+        ensures whole { OnOk result (H.honest → (part : ℕ)
+            → IsDamagedIn part (reads_as (H.seen host.old).past) → ⊥) }
 
         // A database of beats is opened, but for the disk and memory.
         ensures complete { H.honest → (stored : AStored)

@@ -13,13 +13,11 @@ ghost use Rattle.store_core.specs.Store.{count_after, is_sealed, IsSound, IsStor
 ghost use Rattle.store_core.specs.Stored.{stored_after, Stored as AStored};
 
 use crate::beats::{Beat, Waiting};
+use crate::disk::fault::JOURNAL_PART;
 use crate::fault::{StoreFault, Why};
 use crate::store::Store;
 use beat_tiers::Tiers;
 use std::alloc::AllocError;
-
-/// The part that is damaged where a beat stands behind one that sealed a segment.
-const JOURNAL_PART: u32 = 4;
 
 /// Takes the memory for the first of the beats that wait, if there is one.
 fn reserve_first(tiers: &mut Tiers, waiting: &Waiting) -> Result<(), AllocError>

@@ -1,4 +1,4 @@
-ghost use Rattle.std.specs.Prelude.{◌≡◌, ◌↔◌, IsTrue};
+ghost use Rattle.std.specs.Prelude.{◌≡◌};
 ghost use Rattle.std.specs.Option.{is_some};
 ghost use Rattle.beat_tiers.specs.Room.{tiers_held};
 ghost use Rattle.store_core.specs.bodies.Next.{sealed_after};
@@ -57,7 +57,7 @@ fn has_new<T: Copy + Drop>(segments: &Segments<T>, moment: u32) -> bool
 }
 
 impl Store {
-    ghost use Rattle.store_core.specs.Store.{is_due, is_sealed, IsReplayed};
+    ghost use Rattle.store_core.specs.Store.{is_due, is_sealed};
     ghost use Rattle.store_core.specs.Stored.{has_sealed, is_numbered};
 
     /// The settings with which the database was made.
@@ -89,17 +89,10 @@ impl Store {
     }
 
     /// What the tiers keep of the beats that were applied.
-    pub fn tiers(&self) -> &Tiers
+    pub(crate) fn tiers(&self) -> &Tiers
         ensures { tiers_held result.now ≡ self.now.tiers }
     {
         &self.tiers
-    }
-
-    /// Whether all beats that were there at the opening have been applied.
-    pub fn is_replayed(&self) -> bool
-        ensures { IsTrue result ↔ IsReplayed self.now }
-    {
-        self.waiting.is_empty()
     }
 
     /// Whether a checkpoint is due: a segment was sealed since the last one, or the journal has

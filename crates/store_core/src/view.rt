@@ -17,8 +17,8 @@ use std::alloc::Global;
 use tier_settings::widths;
 
 /// A store and its host: it answers by the points, records and floors of the beats that were
-/// applied. All is in memory, so that no call touches the host. Of a store whose commit or replay
-/// was refused it tells nothing.
+/// applied. All is in memory, so that no call touches the host, and a refused commit or replay
+/// changes nothing of what it tells.
 #[derive(Drop)]
 pub struct StoreView<'a, 'b, H> {
     pub store: &'a mut Store,

@@ -1,5 +1,17 @@
 use thiserror::Error;
 
+/// The part of a database that is the file of its checkpoint.
+pub(crate) const FILE_PART: u32 = 1;
+
+/// The part that is the checkpoint's body.
+pub(crate) const BODY_PART: u32 = 2;
+
+/// The part that is an extent.
+pub(crate) const EXTENT_PART: u32 = 3;
+
+/// The part that is the journal.
+pub(crate) const JOURNAL_PART: u32 = 4;
+
 /// Why the files of a database were not made, opened or changed.
 #[derive(Clone, Copy, Debug, PartialEq, Eq, Error)]
 pub enum FilesFault {

@@ -17,7 +17,7 @@ ghost use Rattle.store_core.specs.disk.Opened.{contents_of};
 ghost use Rattle.store_core.specs.disk.Opening.{AreFixed, IsOpenFault, OnlySyncs, StaySynced};
 
 use crate::disk::beginning::journal_file_of;
-use crate::disk::fault::FilesFault;
+use crate::disk::fault::{BODY_PART, FILE_PART, FilesFault, JOURNAL_PART};
 use crate::disk::files::Files;
 use crate::disk::reading::{Kept, read_kept};
 use checkpoint::{CheckFault, load};
@@ -26,15 +26,6 @@ use fixed_num::ListOf;
 use host_model::{File, Host};
 use journal_core::{Journal, JournalFault, RecordList};
 use std::alloc::Global;
-
-/// The part that is damaged where the checkpoint's file ends too early.
-const FILE_PART: u32 = 1;
-
-/// The part that is damaged where the checkpoint has no body.
-const BODY_PART: u32 = 2;
-
-/// The part that is damaged where the journal is none.
-const JOURNAL_PART: u32 = 4;
 
 /// A database that was opened: its files, and what they hold.
 #[derive(Debug, Drop)]

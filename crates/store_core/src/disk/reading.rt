@@ -16,7 +16,7 @@ ghost use Rattle.store_core.specs.disk.Holds.{page_of_records, page_of_slots, Ar
 ghost use Rattle.store_core.specs.disk.Kept.{pages_of, HasPagesOfEach};
 ghost use Rattle.store_core.specs.disk.Reading.{AreNamed, HasSlot, IsExtentFault, IsNamed};
 
-use crate::disk::fault::FilesFault;
+use crate::disk::fault::{EXTENT_PART, FilesFault};
 use crate::disk::items::{records_in, words_in};
 use crate::disk::tier::items_of;
 use checkpoint_body::{Body, Extent, RecordPage, RecordPageList, SlotPage, SlotPageList};
@@ -26,9 +26,6 @@ use host_model::{File, Host};
 use page_buffer::{RecordPage as PageOfRecords, SlotPage as PageOfSlots};
 use page_pool::{PagePool, RawPage};
 use std::alloc::Global;
-
-/// The part that is damaged where an extent is not there.
-const EXTENT_PART: u32 = 3;
 
 /// Opens an extent that a checkpoint names, in the file of its tier.
 fn open_extent<H: Host>(

@@ -4,6 +4,7 @@ use Rattle.host_model.specs.Disks.{reads_as, EveryDisk}
 use Rattle.host_model.specs.Seen.{Seen}
 use Rattle.tier_settings.specs.declared.settings.Settings.{Settings}
 use Rattle.history.specs.History.{Beat}
+use Rattle.store_core.proofs.StandLemmas.{one-damaged}
 use Rattle.agent_core.specs.Agent.{AgentIsReady, IsAgentOf}
 use Rattle.agent_core.specs.declared.fault.AgentFault.TheVariants.{Damaged}
 use Rattle.agent_core.specs.Faults.{IsUnopened}
@@ -96,6 +97,14 @@ returns-in-Ok-clause-parts g c part below is = absurd (never-below part below (I
 
 pub returns-in-Err-clause-parts : goal.returns-in-Err-clause-parts
 returns-in-Err-clause-parts g c part below is = c.open_store.ensures.damaged part (told-on c.open_store.result c.in-Err.fault (Damaged part) c.in-Err.is is)
+
+pub returns-in-Ok-clause-first : goal.returns-in-Ok-clause-first
+returns-in-Ok-clause-first g c part other is true_host damaged = absurd (c.in-Ok.ensures.whole true_host other damaged)
+
+pub returns-in-Err-clause-first : goal.returns-in-Err-clause-first
+returns-in-Err-clause-first g c part other is true_host damaged =
+    one-damaged other part (reads_as (g.H.Host.seen c.args.host.now).past) damaged
+    (c.open_store.ensures.damaged part (told-on c.open_store.result c.in-Err.fault (Damaged part) c.in-Err.is is) true_host)
 
 pub returns-in-Ok-clause-made : goal.returns-in-Ok-clause-made
 returns-in-Ok-clause-made g c part is = c.in-Ok.ensures.some

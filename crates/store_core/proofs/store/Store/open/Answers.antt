@@ -8,7 +8,7 @@ use Rattle.store_core.proofs.disk.ShareLemmas.{within_syncs}
 use Rattle.store_core.specs.declared.fault.StoreFault.TheVariants.{Damaged}
 use Rattle.store_core.proofs.FaultLemmas.{read-whole}
 use Rattle.store_core.proofs.OpenLemmas.{opened-images, opened-ready, opens-at}
-use Rattle.store_core.proofs.StandLemmas.{has-stored, never-bad}
+use Rattle.store_core.proofs.StandLemmas.{files-whole, has-stored, never-bad, none-bad}
 use Rattle.store_core.proofs.store.Store.open.Goals as goal
 
 -- ---- the files are not opened
@@ -53,6 +53,12 @@ returns-clause-ready g c =
     opened-ready g.H.Host.honest (g.H.Host.seen c.open_files.new.host).past _ (contents_of c.in_ok-opened.opened) c.in_ok-opened.ensures.spelt c.in_ok-opened.ensures.paged
     c.in_ok-tiers.ensures.tiers c.in_ok-tiers.ensures.counted c.in_ok-opened.ensures.place refl refl c.in_ok-tiers.ensures.beats c.in_ok-tiers.ensures.bytes
     (λ h. c.in_ok-opened.ensures.opened h)
+
+pub returns-clause-whole : goal.returns-clause-whole
+returns-clause-whole g c h =
+    let contents : Contents = contents_of c.in_ok-opened.opened in
+    files-whole contents (reads_as (g.H.Host.seen c.args.host.now).past) (c.in_ok-opened.ensures.holds h)
+    (none-bad contents c.in_ok-tiers.ensures.counted _ c.in_ok-tiers.ensures.tiers _ c.in_ok-tiers.ensures.beats)
 
 pub returns-clause-bound : goal.returns-clause-bound
 returns-clause-bound g c shares h within =
