@@ -21,7 +21,7 @@ use Rattle.entry_codec.specs.Lists.{is_ascending}
 use Rattle.entry_codec.proofs.Lengths.{collected-length}
 use Rattle.beat_tiers.specs.declared.item.BeatPoint.{BeatPoint}
 use Rattle.store_core.specs.beats.Beats.{beat_bytes, is_point, series_of, InForm, IsPoint}
-use Rattle.store_core.proofs.beats.BeatLaw.{beat_size}
+use Rattle.store_core.proofs.BeatProofs.BeatLaw.{beat_size}
 use Rattle.agent_core.specs.Kept.{point_of, step_of}
 use Rattle.agent_core.specs.Rules.{HasLimits}
 use Rattle.agent_core.proofs.LimitLemmas.{IsGrid}

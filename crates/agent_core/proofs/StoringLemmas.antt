@@ -24,7 +24,7 @@ use Rattle.replication.specs.declared.message.Data.{Data}
 use Rattle.store_core.specs.declared.beats.beat.Beat.{Beat as StoreBeat}
 use Rattle.store_core.specs.beats.Beats.{beat_bytes, InForm}
 use Rattle.store_core.specs.Store.{StoreState}
-use Rattle.store_core.proofs.beats.BeatLaw.{beat_size}
+use Rattle.store_core.proofs.BeatProofs.BeatLaw.{beat_size}
 use Rattle.agent_core.specs.Copying.{gap_beat}
 use Rattle.agent_core.specs.Kept.{copied_entry, copied_point, gap_entry, IsCopyOf, IsGapOf}
 use Rattle.agent_core.specs.Stands.{HoldsHistory}

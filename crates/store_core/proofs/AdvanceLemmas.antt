@@ -21,7 +21,7 @@ use Rattle.store_core.specs.disk.Holds.{HoldsEither}
 use Rattle.store_core.specs.disk.Kept.{HasPagesOfEach}
 use Rattle.store_core.specs.disk.Next.{IsNext}
 use Rattle.store_core.specs.disk.Shares.{share, HasOwnSlots, HasRoom, HasSlotRoom, IsWithin}
-use Rattle.store_core.proofs.disk.ShareLemmas.{has_room, has_slot_room}
+use Rattle.store_core.proofs.DiskProofs.ShareLemmas.{has_room, has_slot_room}
 use Rattle.store_core.specs.bodies.Next.{next_pages, GoOnFrom, HaveCounted, IsNextBody}
 use Rattle.store_core.specs.bodies.Tiers.{AreTiersOfBody}
 use Rattle.tier_settings.specs.declared.settings.Settings.{Settings}

@@ -16,7 +16,7 @@ use Rattle.store_core.specs.bodies.Next.{AreCounted, HaveCounted}
 use Rattle.store_core.specs.bodies.Segments.{beats_up_to, first_number, next_number, AreRecordSegments, AreSlotSegments}
 use Rattle.store_core.specs.bodies.Tiers.{AreRecordTiers, AreTiersOfBody, IsRecordTier}
 use Rattle.store_core.specs.Damaged.{HasCounted}
-use Rattle.store_core.proofs.bodies.OneLemmas.{records-count, slots-count}
+use Rattle.store_core.proofs.BodyProofs.OneLemmas.{records-count, slots-count}
 
 -- there is an extent of each segment of a tier of records
 tier-extents : (last : ℕ) (body : RecordTier) (kept : List (List RecordPage)) (state : RecordTierState) → IsRecordTier last body kept state

@@ -18,8 +18,8 @@ use Rattle.checkpoint_body.specs.declared.body.Body.{Body}
 use Rattle.store_core.specs.disk.Contents.{KeptPages}
 use Rattle.store_core.specs.bodies.Next.{if_after, sealed_after, GoOnFrom, HasOneNew, HaveCounted, HaveOneNew}
 use Rattle.store_core.specs.bodies.Tiers.{AreTiersOfBody}
-use Rattle.store_core.proofs.bodies.GoingLemmas.{none-after, one-tail}
-use Rattle.store_core.proofs.bodies.GoingTier.{sealed-below}
+use Rattle.store_core.proofs.BodyProofs.GoingLemmas.{none-after, one-tail}
+use Rattle.store_core.proofs.BodyProofs.GoingTier.{sealed-below}
 use Rattle.store_core.specs.declared.beats.beat.Beat.{Beat}
 use Rattle.store_core.specs.beats.Beats.{is_point, InForm}
 use Rattle.store_core.specs.beats.Records.{is_later}

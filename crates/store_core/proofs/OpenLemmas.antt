@@ -13,15 +13,15 @@ use Rattle.store_core.specs.disk.Files.{IsOpenOf, IsPlaced}
 use Rattle.store_core.specs.disk.Holds.{Holds, HoldsIfMade}
 use Rattle.store_core.specs.disk.Kept.{HasPagesOfEach}
 use Rattle.store_core.specs.disk.Shares.{share, HasRoom}
-use Rattle.store_core.proofs.disk.OneLemmas.{one_contents}
-use Rattle.store_core.proofs.disk.ShareLemmas.{has_room}
+use Rattle.store_core.proofs.DiskProofs.OneLemmas.{one_contents}
+use Rattle.store_core.proofs.DiskProofs.ShareLemmas.{has_room}
 use Rattle.store_core.specs.declared.beats.beat.Beat.{Beat}
 use Rattle.store_core.specs.beats.Records.{beats_from, with_all, AreNext}
 use Rattle.store_core.specs.Counts.{counted}
-use Rattle.store_core.proofs.beats.RecordLaw.{are-read, oldest_first, AreBytes}
+use Rattle.store_core.proofs.BeatProofs.RecordLaw.{are-read, oldest_first, AreBytes}
 use Rattle.store_core.specs.bodies.First.{first_body}
 use Rattle.store_core.specs.bodies.Tiers.{AreTiersOfBody}
-use Rattle.store_core.proofs.bodies.WholeLemmas.{tiers-one}
+use Rattle.store_core.proofs.BodyProofs.WholeLemmas.{tiers-one}
 use Rattle.tier_settings.specs.declared.settings.Settings.{Settings}
 use Rattle.tier_settings.specs.Settings.{first_tier, other_tiers}
 use Rattle.store_core.specs.Damaged.{HasCounted}

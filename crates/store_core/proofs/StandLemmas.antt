@@ -10,13 +10,13 @@ use Rattle.checkpoint_body.specs.declared.body.Body.{Body}
 use Rattle.store_core.specs.disk.Contents.{Contents, KeptPages}
 use Rattle.store_core.specs.disk.Files.{FilesState, IsOpenOf}
 use Rattle.store_core.specs.disk.Holds.{Holds}
-use Rattle.store_core.proofs.disk.OneLemmas.{never_damaged, one_contents, one_part}
+use Rattle.store_core.proofs.DiskProofs.OneLemmas.{never_damaged, one_contents, one_part}
 use Rattle.store_core.specs.declared.beats.beat.Beat.{Beat}
 use Rattle.store_core.specs.beats.Records.{beats_from, with_all}
 use Rattle.store_core.specs.Counts.{counted}
-use Rattle.store_core.proofs.beats.RecordLaw.{oldest_first}
+use Rattle.store_core.proofs.BeatProofs.RecordLaw.{oldest_first}
 use Rattle.store_core.specs.bodies.Tiers.{AreTiersOfBody}
-use Rattle.store_core.proofs.bodies.WholeLemmas.{tiers-one}
+use Rattle.store_core.proofs.BodyProofs.WholeLemmas.{tiers-one}
 use Rattle.store_core.specs.Damaged.{HasBadPart, HasCounted, HasNoBeats, HasNoTiers, IsDamagedIn}
 use Rattle.store_core.specs.Stands.{is_made, records_of, HasStored, Stands}
 use Rattle.store_core.specs.Store.{AreOpen, IsReady, IsReplayed, IsSound, IsStoreAt, IsStoreOf, StoreState}

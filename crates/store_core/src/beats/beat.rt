@@ -28,7 +28,7 @@ impl Beat {
 
     /// Whether the record of a journal can hold the beat: it has at most 2^26 bytes, 12 for each
     /// point, the bytes of the note, and 12 more.
-    #[tactic(auto, using(crate::proofs::beats::BeatLaw::beat_size))]
+    #[tactic(auto, using(crate::proofs::BeatProofs::BeatLaw::beat_size))]
     pub fn fits_a_record(&self) -> bool
         ensures { IsTrue result ↔ (length (beat_bytes self.now) ≤ 2 ^ 26) }
     {

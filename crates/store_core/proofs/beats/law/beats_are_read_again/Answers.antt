@@ -1,4 +1,4 @@
-use Rattle.store_core.proofs.beats.BeatLaw.{beat_again, beat_found}
+use Rattle.store_core.proofs.BeatProofs.BeatLaw.{beat_again, beat_found}
 use Rattle.store_core.proofs.beats.law.beats_are_read_again.Goals as goal
 
 pub returns : goal.returns

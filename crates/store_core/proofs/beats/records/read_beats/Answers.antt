@@ -2,7 +2,7 @@ use Rattle.std.proofs.Common.{◌≡◌, ◌+◌, List, ◌∷◌, ℕ, Some, dr
 use Rattle.std.proofs.lemmas.List.{drop_more}
 use Rattle.store_core.specs.beats.Records.{beats_from, next_beat}
 use Rattle.field_codec.specs.Field.{IsBytes}
-use Rattle.store_core.proofs.beats.Loops.{goes_on, one_more, with_front}
+use Rattle.store_core.proofs.BeatProofs.Loops.{goes_on, one_more, with_front}
 use Rattle.store_core.proofs.beats.records.read_beats.Goals as goal
 
 pub loop-record-preserved : goal.loop-record-preserved

@@ -2,7 +2,7 @@ use Rattle.std.proofs.Common.{◌≡◌, drop, take}
 use Rattle.std.specs.List.{AllByRecursion}
 use Rattle.field_codec.specs.Field.{IsBytes}
 use Rattle.store_core.specs.beats.Records.{beats_from}
-use Rattle.store_core.proofs.beats.Loops.{with_front}
+use Rattle.store_core.proofs.BeatProofs.Loops.{with_front}
 use Rattle.store_core.proofs.beats.records.read_beats.Given as goal
 
 abbrev pub invariant-loop-record : goal.invariant-loop-record

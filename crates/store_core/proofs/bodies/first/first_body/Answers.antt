@@ -7,7 +7,7 @@ use Rattle.tier_settings.specs.declared.settings.Settings.{Settings}
 use Rattle.tier_settings.specs.Settings.{first_tier, other_tiers}
 use Rattle.store_core.specs.bodies.First.{first_body}
 use Rattle.store_core.specs.bodies.Tiers.{AreTiersOfBody}
-use Rattle.store_core.proofs.bodies.FirstLemmas.{begun}
+use Rattle.store_core.proofs.BodyProofs.FirstLemmas.{begun}
 use Rattle.store_core.proofs.bodies.first.first_body.Goals as goal
 
 pub returns-clause-spelt : goal.returns-clause-spelt

@@ -1,5 +1,5 @@
 use Rattle.std.proofs.Common.{sym, ◌∙◌}
-use Rattle.store_core.proofs.pages.FormedLemmas.{slots_end}
+use Rattle.store_core.proofs.PageProofs.FormedLemmas.{slots_end}
 use Rattle.store_core.proofs.bodies.kept_items.points_of.Goals as goal
 
 pub items_of_slots-requires : goal.items_of_slots-requires

@@ -1,5 +1,5 @@
 use Rattle.std.proofs.Common.{sym, ◌∙◌}
-use Rattle.store_core.proofs.pages.FormedLemmas.{have_step, records_end}
+use Rattle.store_core.proofs.PageProofs.FormedLemmas.{have_step, records_end}
 use Rattle.store_core.proofs.bodies.kept_items.records_of.Goals as goal
 
 pub items_of_records-requires : goal.items_of_records-requires

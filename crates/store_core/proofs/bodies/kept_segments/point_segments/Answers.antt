@@ -4,7 +4,7 @@ use Rattle.std.proofs.lemmas.List.{drop_all}
 use Rattle.checkpoint_body.specs.declared.page.SlotPage.{SlotPage}
 use Rattle.store_core.specs.bodies.Reading.{ArePointsOf, IsPointSegmentIn}
 use Rattle.store_core.specs.bodies.Segments.{beats_in}
-use Rattle.store_core.proofs.bodies.ReadLemmas.{drop-first, read-all, read-extents_left, read-more, HaveRead}
+use Rattle.store_core.proofs.BodyProofs.ReadLemmas.{drop-first, read-all, read-extents_left, read-more, HaveRead}
 use Rattle.store_core.proofs.bodies.kept_segments.point_segments.Goals as goal
 
 pub loop-pages-preserved : goal.loop-pages-preserved

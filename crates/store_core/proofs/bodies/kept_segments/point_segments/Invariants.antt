@@ -1,7 +1,7 @@
 use Rattle.std.proofs.Common.{drop}
 use Rattle.store_core.specs.bodies.Reading.{ArePointsOf}
 use Rattle.store_core.specs.bodies.Segments.{beats_in}
-use Rattle.store_core.proofs.bodies.ReadLemmas.{HaveRead}
+use Rattle.store_core.proofs.BodyProofs.ReadLemmas.{HaveRead}
 use Rattle.store_core.proofs.bodies.kept_segments.point_segments.Given as goal
 
 abbrev pub invariant-loop-pages : goal.invariant-loop-pages

@@ -4,7 +4,7 @@ use Rattle.std.proofs.lemmas.List.{drop_all}
 use Rattle.checkpoint_body.specs.declared.page.RecordPage.{RecordPage}
 use Rattle.store_core.specs.bodies.Reading.{AreRecordsOf, IsRecordSegmentIn, no_beats_in}
 use Rattle.store_core.specs.bodies.Segments.{next_number}
-use Rattle.store_core.proofs.bodies.ReadLemmas.{drop-first, read-all, read-extents_left, read-more, read-no_more, HaveRead}
+use Rattle.store_core.proofs.BodyProofs.ReadLemmas.{drop-first, read-all, read-extents_left, read-more, read-no_more, HaveRead}
 use Rattle.store_core.proofs.bodies.kept_segments.record_segments.Goals as goal
 
 pub returns-in_default-found-clause-one : goal.returns-in_default-found-clause-one

@@ -1,6 +1,6 @@
 use Rattle.std.proofs.Common.{drop}
 use Rattle.store_core.specs.bodies.Reading.{AreRecordsOf, no_beats_in}
-use Rattle.store_core.proofs.bodies.ReadLemmas.{HaveRead}
+use Rattle.store_core.proofs.BodyProofs.ReadLemmas.{HaveRead}
 use Rattle.store_core.proofs.bodies.kept_segments.record_segments.Given as goal
 
 abbrev pub invariant-loop-pages : goal.invariant-loop-pages

@@ -3,7 +3,7 @@ use Rattle.checkpoint_body.specs.declared.body.Extent.{Extent}
 use Rattle.checkpoint_body.specs.declared.page.SlotPage.{SlotPage}
 use Rattle.store_core.specs.bodies.Reading.{ArePointSegmentsIn, ArePointsOf}
 use Rattle.store_core.specs.bodies.Segments.{first_number}
-use Rattle.store_core.proofs.bodies.TierLemmas.{points-found, points-one, points-sealed, points-unsealed, sealed-order, unsealed-order}
+use Rattle.store_core.proofs.BodyProofs.TierLemmas.{points-found, points-one, points-sealed, points-unsealed, sealed-order, unsealed-order}
 use Rattle.store_core.proofs.bodies.kept_tiers.kept_points.Goals as goal
 
 pub returns-in_default-clause-one : goal.returns-in_default-clause-one

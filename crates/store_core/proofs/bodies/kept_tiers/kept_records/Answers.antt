@@ -3,7 +3,7 @@ use Rattle.checkpoint_body.specs.declared.body.Extent.{Extent}
 use Rattle.checkpoint_body.specs.declared.page.RecordPage.{RecordPage}
 use Rattle.store_core.specs.bodies.Reading.{AreRecordSegmentsIn, AreRecordsOf}
 use Rattle.store_core.specs.bodies.Segments.{first_number}
-use Rattle.store_core.proofs.bodies.TierLemmas.{records-found, records-one, records-sealed, records-unsealed, sealed-order, unsealed-order}
+use Rattle.store_core.proofs.BodyProofs.TierLemmas.{records-found, records-one, records-sealed, records-unsealed, sealed-order, unsealed-order}
 use Rattle.store_core.proofs.bodies.kept_tiers.kept_records.Goals as goal
 
 pub returns-in_default-clause-one : goal.returns-in_default-clause-one

@@ -1,7 +1,7 @@
 use Rattle.std.proofs.Common.{ℕ, List, Some, ap, sym, ◌∙◌}
 use Rattle.std.proofs.lemmas.List.{take_all}
 use Rattle.fixed_num.specs.declared.units.Record.{Record as ARecord}
-use Rattle.store_core.proofs.bodies.TierLemmas.{open-one, open-starts}
+use Rattle.store_core.proofs.BodyProofs.TierLemmas.{open-one, open-starts}
 use Rattle.store_core.proofs.bodies.kept_tiers.open_records_of.Goals as goal
 
 pub returns-then-record-start-clause-one : goal.returns-then-record-start-clause-one

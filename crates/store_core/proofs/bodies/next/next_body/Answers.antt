@@ -4,8 +4,8 @@ use Rattle.beat_tiers.specs.declared.item.Stepped.{Stepped}
 use Rattle.beat_tiers.specs.Room.{records_held, tiers_held, RecordTierHeld, SegmentsHeld}
 use Rattle.beat_tiers.specs.Sound.{IsPointItem}
 use Rattle.store_core.specs.bodies.Next.{CanBeNamed, IsNextPointTier, IsNextRecordTier}
-use Rattle.store_core.proofs.bodies.HeldLemmas.{both-ready, is-there, next-of, two-are, two-long}
-use Rattle.store_core.proofs.bodies.NextLemmas.{are-ready, is-made}
+use Rattle.store_core.proofs.BodyProofs.HeldLemmas.{both-ready, is-there, next-of, two-are, two-long}
+use Rattle.store_core.proofs.BodyProofs.NextLemmas.{are-ready, is-made}
 use Rattle.store_core.proofs.bodies.next.next_body.Goals as goal
 
 pub unreachable-requires : goal.unreachable-requires

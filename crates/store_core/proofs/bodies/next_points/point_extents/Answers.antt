@@ -5,7 +5,7 @@ use Rattle.store_core.specs.disk.Next.{written_slots}
 use Rattle.store_core.specs.pages.Pages.{AreSlotPagesOf}
 use Rattle.store_core.specs.bodies.Next.{beats_before, pages_of_slots, IsNew}
 use Rattle.store_core.specs.bodies.Segments.{beats_in}
-use Rattle.store_core.proofs.bodies.ExtentLemmas.{next-none, next-one}
+use Rattle.store_core.proofs.BodyProofs.ExtentLemmas.{next-none, next-one}
 use Rattle.store_core.proofs.bodies.next_points.point_extents.Goals as goal
 
 pub returns-in_default : goal.returns-in_default

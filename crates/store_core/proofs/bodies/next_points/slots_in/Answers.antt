@@ -1,6 +1,6 @@
 use Rattle.std.proofs.Common.{◌+◌, arith}
 use Rattle.store_core.specs.disk.Holds.{page_of_slots}
-use Rattle.store_core.proofs.bodies.CountLemmas.{count-more, count-within}
+use Rattle.store_core.proofs.BodyProofs.CountLemmas.{count-more, count-within}
 use Rattle.store_core.proofs.bodies.next_points.slots_in.Goals as goal
 
 pub overflow_add-count : goal.overflow_add-count

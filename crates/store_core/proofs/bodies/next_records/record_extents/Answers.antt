@@ -5,7 +5,7 @@ use Rattle.store_core.specs.disk.Next.{written_records}
 use Rattle.store_core.specs.pages.Pages.{AreRecordPagesOf}
 use Rattle.store_core.specs.bodies.Next.{no_beats_before, pages_of_records, IsNew}
 use Rattle.store_core.specs.bodies.Reading.{no_beats_in}
-use Rattle.store_core.proofs.bodies.ExtentLemmas.{next-none, next-one}
+use Rattle.store_core.proofs.BodyProofs.ExtentLemmas.{next-none, next-one}
 use Rattle.store_core.proofs.bodies.next_records.record_extents.Goals as goal
 
 pub returns-in_default : goal.returns-in_default

@@ -11,7 +11,7 @@ use Rattle.store_core.specs.disk.Opened.{contents_of}
 use Rattle.tier_settings.specs.Settings.{no_tier}
 use Rattle.store_core.specs.bodies.Reading.{HasPoints, HasRecords}
 use Rattle.store_core.specs.bodies.Tiers.{AreTiersOfBody}
-use Rattle.store_core.proofs.bodies.WholeLemmas.{no-hours, no-minutes, no-points, read-first, read-found, read-hours_form, read-none, read-others, rest_of}
+use Rattle.store_core.proofs.BodyProofs.WholeLemmas.{no-hours, no-minutes, no-points, read-first, read-found, read-hours_form, read-none, read-others, rest_of}
 use Rattle.store_core.proofs.bodies.tiers.tiers_of.Goals as goal
 
 pub returns-in_default-2-clause-none : goal.returns-in_default-2-clause-none

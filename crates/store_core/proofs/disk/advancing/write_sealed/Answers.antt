@@ -7,8 +7,8 @@ use Rattle.store_core.specs.declared.disk.sealed.RecordExtent.{RecordExtent}
 use Rattle.store_core.specs.disk.Next.{written_records, written_slots}
 use Rattle.store_core.specs.disk.Standing.{AllStand, AreBeside}
 use Rattle.store_core.specs.disk.Shares.{EndWithin}
-use Rattle.store_core.proofs.disk.ShareLemmas.{within_on}
-use Rattle.store_core.proofs.disk.TierLemmas.{hours_step, image_later, kept_next, minutes_step, points_step}
+use Rattle.store_core.proofs.DiskProofs.ShareLemmas.{within_on}
+use Rattle.store_core.proofs.DiskProofs.TierLemmas.{hours_step, image_later, kept_next, minutes_step, points_step}
 use Rattle.store_core.proofs.disk.advancing.write_sealed.Goals as goal
 
 pub returns-in_err-write_segments-clause-any_moment : goal.returns-in_err-write_segments-clause-any_moment

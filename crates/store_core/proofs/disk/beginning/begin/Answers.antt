@@ -5,8 +5,8 @@ use Rattle.host_model.proofs.CallLemmas.{ok_part}
 use Rattle.host_model.proofs.MomentLemmas.{at_end, joined}
 use Rattle.checkpoint.specs.Files.{slot_file}
 use Rattle.host_model.specs.declared.file.File.{File}
-use Rattle.store_core.proofs.disk.ShareLemmas.{within_on}
-use Rattle.store_core.proofs.disk.BeginLemmas.{begun_disks, checkpoint_stays, journal_empty, not_yet, only_check, only_journal, switches}
+use Rattle.store_core.proofs.DiskProofs.ShareLemmas.{within_on}
+use Rattle.store_core.proofs.DiskProofs.BeginLemmas.{begun_disks, checkpoint_stays, journal_empty, not_yet, only_check, only_journal, switches}
 use Rattle.store_core.proofs.disk.beginning.begin.Goals as goal
 
 pub returns-then-is_err-clause-any_moment : goal.returns-then-is_err-clause-any_moment

@@ -1,5 +1,5 @@
 use Rattle.std.proofs.Common.{sym, ◌∙◌, arith}
-use Rattle.store_core.proofs.disk.UsedLemmas.{never_unused, unused, used_more, used_most}
+use Rattle.store_core.proofs.DiskProofs.UsedLemmas.{never_unused, unused, used_more, used_most}
 use Rattle.store_core.proofs.disk.free_slot.lowest_free.Goals as goal
 
 pub overflow_add-slot : goal.overflow_add-slot

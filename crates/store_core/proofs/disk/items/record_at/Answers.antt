@@ -1,4 +1,4 @@
-use Rattle.store_core.proofs.disk.ItemLemmas.{item_at, item_there, moment_is}
+use Rattle.store_core.proofs.DiskProofs.ItemLemmas.{item_at, item_there, moment_is}
 use Rattle.store_core.proofs.disk.items.record_at.Goals as goal
 
 pub unreachable-requires : goal.unreachable-requires

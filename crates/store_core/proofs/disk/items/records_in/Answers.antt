@@ -1,6 +1,6 @@
 use Rattle.std.proofs.Common.{sym}
 use Rattle.host_model.proofs.CallLemmas.{ok_part}
-use Rattle.store_core.proofs.disk.ItemLemmas.{taken_more}
+use Rattle.store_core.proofs.DiskProofs.ItemLemmas.{taken_more}
 use Rattle.store_core.proofs.disk.items.records_in.Goals as goal
 
 pub loop-place-preserved : goal.loop-place-preserved

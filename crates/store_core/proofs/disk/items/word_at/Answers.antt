@@ -1,4 +1,4 @@
-use Rattle.store_core.proofs.disk.ItemLemmas.{item_at, empty_at, moment_is}
+use Rattle.store_core.proofs.DiskProofs.ItemLemmas.{item_at, empty_at, moment_is}
 use Rattle.store_core.proofs.disk.items.word_at.Goals as goal
 
 pub returns-in-Some : goal.returns-in-Some

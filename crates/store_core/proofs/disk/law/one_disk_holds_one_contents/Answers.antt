@@ -1,4 +1,4 @@
-use Rattle.store_core.proofs.disk.OneLemmas.{one_contents, one_part, never_damaged}
+use Rattle.store_core.proofs.DiskProofs.OneLemmas.{one_contents, one_part, never_damaged}
 use Rattle.store_core.proofs.disk.law.one_disk_holds_one_contents.Goals as goal
 
 pub returns-clause-one : goal.returns-clause-one

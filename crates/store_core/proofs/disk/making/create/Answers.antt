@@ -5,8 +5,8 @@ use Rattle.store_core.specs.disk.Beginning.{empty_journal}
 use Rattle.store_core.specs.disk.Contents.{new_contents}
 use Rattle.store_core.specs.disk.Files.{FilesState, IsOpenOf, IsPlaced}
 use Rattle.store_core.specs.disk.Shares.{HasRoom}
-use Rattle.store_core.proofs.disk.ShareLemmas.{within_disks}
-use Rattle.store_core.proofs.disk.AdvanceLemmas.{made_done, made_moments, own_both, still_before}
+use Rattle.store_core.proofs.DiskProofs.ShareLemmas.{within_disks}
+use Rattle.store_core.proofs.DiskProofs.AdvanceLemmas.{made_done, made_moments, own_both, still_before}
 use Rattle.store_core.proofs.disk.making.create.Goals as goal
 
 pub returns-in_err-expect_none-clause-any_moment : goal.returns-in_err-expect_none-clause-any_moment

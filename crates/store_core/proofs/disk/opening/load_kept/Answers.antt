@@ -6,8 +6,8 @@ use Rattle.host_model.specs.Disks.{reads_as}
 use Rattle.store_core.specs.disk.Holds.{AreKept}
 use Rattle.store_core.specs.disk.Kept.{pages_of}
 use Rattle.store_core.specs.disk.Opening.{AreFixed}
-use Rattle.store_core.proofs.disk.OpenedLemmas.{same_disk, extent_fault, extent_part}
-use Rattle.store_core.proofs.disk.SyncLemmas.{syncs_joined, syncs_same}
+use Rattle.store_core.proofs.DiskProofs.OpenedLemmas.{same_disk, extent_fault, extent_part}
+use Rattle.store_core.proofs.DiskProofs.SyncLemmas.{syncs_joined, syncs_same}
 use Rattle.store_core.proofs.disk.opening.load_kept.Goals as goal
 
 pub returns-in_err-settle_tiers-clause-syncs : goal.returns-in_err-settle_tiers-clause-syncs

@@ -7,8 +7,8 @@ use Rattle.store_core.specs.declared.disk.fault.FilesFault.TheVariants.{Damaged}
 use Rattle.store_core.specs.disk.Contents.{Contents}
 use Rattle.store_core.specs.disk.Files.{FilesState, IsOpenOf}
 use Rattle.store_core.specs.disk.Kept.{pages_of}
-use Rattle.store_core.proofs.disk.OpenedLemmas.{journal_part, opened_holds, opened_of, whole_fault}
-use Rattle.store_core.proofs.disk.SyncLemmas.{syncs_joined, fixed_stay}
+use Rattle.store_core.proofs.DiskProofs.OpenedLemmas.{journal_part, opened_holds, opened_of, whole_fault}
+use Rattle.store_core.proofs.DiskProofs.SyncLemmas.{syncs_joined, fixed_stay}
 use Rattle.store_core.proofs.disk.opening.open.Goals as goal
 
 pub returns-in_err-loaded-clause-complete : goal.returns-in_err-loaded-clause-complete

@@ -6,7 +6,7 @@ use Rattle.host_model.specs.Disks.{reads_as}
 use Rattle.journal_core.specs.Form.{StandsFor}
 use Rattle.journal_core.specs.Journal.{IsOpen}
 use Rattle.store_core.specs.disk.Holds.{journal_file}
-use Rattle.store_core.proofs.disk.SyncLemmas.{journal_number, syncs_joined, syncs_opened, opened_stays}
+use Rattle.store_core.proofs.DiskProofs.SyncLemmas.{journal_number, syncs_joined, syncs_opened, opened_stays}
 use Rattle.store_core.proofs.disk.opening.open_journal.Goals as goal
 
 below : (number : ℕ) (file : File) → file ≡ journal_file number → file_number file < 7

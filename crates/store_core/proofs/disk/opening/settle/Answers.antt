@@ -1,4 +1,4 @@
-use Rattle.store_core.proofs.disk.SyncLemmas.{syncs_settled, sync_stays, sync_synced}
+use Rattle.store_core.proofs.DiskProofs.SyncLemmas.{syncs_settled, sync_stays, sync_synced}
 use Rattle.store_core.proofs.disk.opening.settle.Goals as goal
 
 pub returns-in-Ok-clause-synced : goal.returns-in-Ok-clause-synced

@@ -1,5 +1,5 @@
 use Rattle.host_model.specs.declared.file.File.TheVariants.{Tier0, Tier1}
-use Rattle.store_core.proofs.disk.SyncLemmas.{syncs_joined}
+use Rattle.store_core.proofs.DiskProofs.SyncLemmas.{syncs_joined}
 use Rattle.store_core.proofs.disk.opening.settle_tiers.Goals as goal
 
 pub returns-in_err-settle-2-clause-syncs : goal.returns-in_err-settle-2-clause-syncs

@@ -1,6 +1,6 @@
 use Rattle.std.proofs.Common.{◌≡◌, ℕ, ◌*◌, ◌+◌, get_or, List, [], length, refl, sym, ap, ◌∙◌, subst, arith}
 use Rattle.page_buffer.specs.Page.{Page, page_of}
-use Rattle.store_core.proofs.disk.PageLemmas.{IsUpTo, all_words, empty_slot, no_words, pushed_word}
+use Rattle.store_core.proofs.DiskProofs.PageLemmas.{IsUpTo, all_words, empty_slot, no_words, pushed_word}
 use Rattle.store_core.proofs.disk.pages.put_words.Goals as goal
 use Rattle.store_core.proofs.disk.pages.put_words.Goals.{then-word-ne0, else-word-ne0}
 

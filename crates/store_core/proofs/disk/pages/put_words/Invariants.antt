@@ -1,6 +1,6 @@
 use Rattle.std.proofs.Common.{◌≡◌}
 use Rattle.page_buffer.specs.Page.{page_of}
-use Rattle.store_core.proofs.disk.PageLemmas.{IsUpTo}
+use Rattle.store_core.proofs.DiskProofs.PageLemmas.{IsUpTo}
 use Rattle.store_core.proofs.disk.pages.put_words.Given as goal
 
 abbrev pub invariant-loop-place : goal.invariant-loop-place

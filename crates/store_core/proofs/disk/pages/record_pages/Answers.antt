@@ -1,6 +1,6 @@
 use Rattle.store_core.specs.disk.Holds.{page_of_records}
 use Rattle.store_core.specs.disk.Next.{IsFormed}
-use Rattle.store_core.proofs.disk.ListLemmas.{item_of_map}
+use Rattle.store_core.proofs.DiskProofs.ListLemmas.{item_of_map}
 use Rattle.store_core.proofs.disk.pages.record_pages.Goals as goal
 
 pub record_page-requires : goal.record_page-requires

@@ -1,6 +1,6 @@
 use Rattle.store_core.specs.disk.Holds.{page_of_slots}
 use Rattle.store_core.specs.disk.Next.{IsFormed}
-use Rattle.store_core.proofs.disk.ListLemmas.{item_of_map}
+use Rattle.store_core.proofs.DiskProofs.ListLemmas.{item_of_map}
 use Rattle.store_core.proofs.disk.pages.slot_pages.Goals as goal
 
 pub slot_page-requires : goal.slot_page-requires

@@ -2,7 +2,7 @@ use Rattle.std.proofs.Common.{List, sym, subst, arith}
 use Rattle.std.specs.List.{AllByRecursion}
 use Rattle.checkpoint_body.specs.declared.body.Extent.{Extent}
 use Rattle.store_core.specs.disk.Reading.{HasSlot}
-use Rattle.store_core.proofs.disk.SpeltLemmas.{items_most, point_slots, minute_slots, hour_slots}
+use Rattle.store_core.proofs.DiskProofs.SpeltLemmas.{items_most, point_slots, minute_slots, hour_slots}
 use Rattle.store_core.proofs.disk.reading.read_kept.Goals as goal
 
 pub read_points-requires-clause-items : goal.read_points-requires-clause-items

@@ -6,7 +6,7 @@ use Rattle.host_model.specs.Past.{Event, of}
 use Rattle.host_model.proofs.CallLemmas.{ok_part}
 use Rattle.checkpoint_body.specs.declared.body.Extent.{Extent}
 use Rattle.store_core.specs.disk.Holds.{page_of_slots, LiesAs}
-use Rattle.store_core.proofs.disk.NamedLemmas.{lie_at, kept_more}
+use Rattle.store_core.proofs.DiskProofs.NamedLemmas.{lie_at, kept_more}
 use Rattle.store_core.proofs.disk.reading.read_points.Goals as goal
 
 none : Extent

@@ -6,7 +6,7 @@ use Rattle.fixed_num.specs.declared.units.Record.{Record}
 use Rattle.extent_file.specs.declared.entry.Entry.{Entry}
 use Rattle.extent_file.specs.Slot.{tier_of}
 use Rattle.store_core.specs.disk.Holds.{page_of_records}
-use Rattle.store_core.proofs.disk.NamedLemmas.{record_named, too_short}
+use Rattle.store_core.proofs.DiskProofs.NamedLemmas.{record_named, too_short}
 use Rattle.store_core.proofs.disk.reading.read_record_page.Goals as goal
 
 pub returns-in_err-bytes-clause-damaged : goal.returns-in_err-bytes-clause-damaged

@@ -7,8 +7,8 @@ use Rattle.extent_file.specs.declared.entry.Entry.{Entry}
 use Rattle.extent_file.specs.Slot.{tier_of}
 use Rattle.store_core.specs.disk.Holds.{page_of_records}
 use Rattle.store_core.specs.disk.Reading.{IsNamed, AreNamed}
-use Rattle.store_core.proofs.disk.NamedLemmas.{named_at, read_more}
-use Rattle.store_core.proofs.disk.ItemLemmas.{item_there}
+use Rattle.store_core.proofs.DiskProofs.NamedLemmas.{named_at, read_more}
+use Rattle.store_core.proofs.DiskProofs.ItemLemmas.{item_there}
 use Rattle.store_core.proofs.disk.reading.read_record_pages.Goals as goal
 
 pub returns-in_err-page-clause-damaged : goal.returns-in_err-page-clause-damaged

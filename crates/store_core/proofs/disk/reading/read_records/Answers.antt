@@ -1,7 +1,7 @@
 use Rattle.std.proofs.Common.{map}
 use Rattle.std.proofs.lemmas.Result.{IfOk-weaker}
 use Rattle.store_core.specs.disk.Holds.{page_of_records}
-use Rattle.store_core.proofs.disk.NamedLemmas.{opened_lie, lie_opened}
+use Rattle.store_core.proofs.DiskProofs.NamedLemmas.{opened_lie, lie_opened}
 use Rattle.store_core.proofs.disk.reading.read_records.Goals as goal
 
 pub returns-clause-lies : goal.returns-clause-lies

@@ -5,7 +5,7 @@ use Rattle.page_buffer.specs.Page.{Page}
 use Rattle.extent_file.specs.declared.entry.Entry.{Entry}
 use Rattle.extent_file.specs.Slot.{tier_of}
 use Rattle.store_core.specs.disk.Holds.{page_of_slots}
-use Rattle.store_core.proofs.disk.NamedLemmas.{slot_named, too_short}
+use Rattle.store_core.proofs.DiskProofs.NamedLemmas.{slot_named, too_short}
 use Rattle.store_core.proofs.disk.reading.read_slot_page.Goals as goal
 
 pub returns-in_err-bytes-clause-damaged : goal.returns-in_err-bytes-clause-damaged

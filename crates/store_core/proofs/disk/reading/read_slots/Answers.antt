@@ -2,7 +2,7 @@ use Rattle.std.proofs.Common.{map}
 use Rattle.std.proofs.lemmas.Result.{IfOk-weaker}
 use Rattle.host_model.specs.declared.file.File.TheVariants.{Tier0}
 use Rattle.store_core.specs.disk.Holds.{page_of_slots}
-use Rattle.store_core.proofs.disk.NamedLemmas.{opened_lie, lie_opened}
+use Rattle.store_core.proofs.DiskProofs.NamedLemmas.{opened_lie, lie_opened}
 use Rattle.store_core.proofs.disk.reading.read_slots.Goals as goal
 
 pub returns-clause-lies : goal.returns-clause-lies

@@ -6,7 +6,7 @@ use Rattle.host_model.proofs.CallLemmas.{ok_part}
 use Rattle.extent_file.specs.Slot.{tier_of}
 use Rattle.checkpoint_body.specs.declared.body.Extent.{Extent}
 use Rattle.store_core.specs.disk.Holds.{page_of_records, LiesAs}
-use Rattle.store_core.proofs.disk.NamedLemmas.{lie_at, kept_more}
+use Rattle.store_core.proofs.DiskProofs.NamedLemmas.{lie_at, kept_more}
 use Rattle.store_core.proofs.disk.reading.read_tier.Goals as goal
 
 none : Extent

@@ -2,7 +2,7 @@ use Rattle.host_model.specs.Moments.{begins}
 use Rattle.std.proofs.Common.{◌≡◌, ℕ, ◌+◌, ◌≤◌, sym, subst}
 use Rattle.host_model.specs.declared.file.File.{File}
 use Rattle.extent_file.specs.Slot.{slot_size, slot_start, tier_of}
-use Rattle.store_core.proofs.disk.WriteLemmas.{others_stay, stand_at_start}
+use Rattle.store_core.proofs.DiskProofs.WriteLemmas.{others_stay, stand_at_start}
 use Rattle.store_core.proofs.disk.writing.write_segment.Goals as goal
 
 pub returns-in_err-pages-clause-stays : goal.returns-in_err-pages-clause-stays

@@ -11,8 +11,8 @@ use Rattle.extent_file.specs.Slot.{tier_of, slot_size, slot_start}
 use Rattle.store_core.specs.disk.Next.{IsWritable, Written}
 use Rattle.store_core.specs.disk.Standing.{AllStand, StandsIn}
 use Rattle.host_model.proofs.SizeLemmas.{within_sync}
-use Rattle.store_core.proofs.disk.ListLemmas.{item_of_map}
-use Rattle.store_core.proofs.disk.WriteLemmas.{before_apart, stand_at_start, stand_before, stand_each, stand_more, synced_after}
+use Rattle.store_core.proofs.DiskProofs.ListLemmas.{item_of_map}
+use Rattle.store_core.proofs.DiskProofs.WriteLemmas.{before_apart, stand_at_start, stand_before, stand_each, stand_more, synced_after}
 use Rattle.store_core.proofs.disk.writing.write_segments.Goals as goal
 
 pub returns-then-is_err-clause-stays : goal.returns-then-is_err-clause-stays

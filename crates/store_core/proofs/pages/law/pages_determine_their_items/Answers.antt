@@ -2,8 +2,8 @@ use Rattle.std.proofs.Common.{map}
 use Rattle.checkpoint_body.specs.Records.{records_of}
 use Rattle.checkpoint_body.specs.Slots.{points_of}
 use Rattle.store_core.specs.pages.Items.{item_of_bucket_record, item_of_point}
-use Rattle.store_core.proofs.pages.FormedLemmas.{have_step, records_end, slots_end}
-use Rattle.store_core.proofs.pages.WritableLemmas.{records_writable, same_order, slots_writable}
+use Rattle.store_core.proofs.PageProofs.FormedLemmas.{have_step, records_end, slots_end}
+use Rattle.store_core.proofs.PageProofs.WritableLemmas.{records_writable, same_order, slots_writable}
 use Rattle.store_core.proofs.pages.law.pages_determine_their_items.Goals as goal
 
 pub returns : goal.returns

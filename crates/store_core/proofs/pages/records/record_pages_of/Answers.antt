@@ -7,7 +7,7 @@ use Rattle.checkpoint_body.specs.Records.{record_pages}
 use Rattle.store_core.specs.pages.Items.{bucket_record_of_item}
 use Rattle.store_core.specs.pages.Pages.{AreRecordPagesOf}
 use Rattle.store_core.specs.pages.Ranges.{FitsBucketRecord}
-use Rattle.store_core.proofs.pages.RecordSegments.{begin_in_time, record_pages_are}
+use Rattle.store_core.proofs.PageProofs.RecordSegments.{begin_in_time, record_pages_are}
 use Rattle.store_core.proofs.pages.records.record_pages_of.Goals as goal
 
 pub record_pages-requires : goal.record_pages-requires

@@ -8,8 +8,8 @@ use Rattle.beat_tiers.specs.Tiers.{AreOrdered}
 use Rattle.checkpoint_body.specs.Slots.{points_of}
 use Rattle.store_core.specs.pages.Items.{item_of_point, HaveItems}
 use Rattle.store_core.specs.pages.Sorting.{IsByPlace}
-use Rattle.store_core.proofs.pages.Answered.{ok_both}
-use Rattle.store_core.proofs.pages.OneOrder.{sorted_is}
+use Rattle.store_core.proofs.PageProofs.Answered.{ok_both}
+use Rattle.store_core.proofs.PageProofs.OneOrder.{sorted_is}
 use Rattle.store_core.proofs.pages.slots.items_of_slots.Goals as goal
 
 pub returns-clause-have : goal.returns-clause-have

@@ -6,7 +6,7 @@ use Rattle.checkpoint_body.specs.Slots.{slot_pages}
 use Rattle.store_core.specs.pages.Items.{point_of_item}
 use Rattle.store_core.specs.pages.Pages.{AreSlotPagesOf}
 use Rattle.store_core.specs.pages.Ranges.{FitsPoint}
-use Rattle.store_core.proofs.pages.SlotSegments.{slot_pages_are}
+use Rattle.store_core.proofs.PageProofs.SlotSegments.{slot_pages_are}
 use Rattle.store_core.proofs.pages.slots.slot_pages_of.Goals as goal
 
 pub returns : goal.returns

@@ -1,7 +1,7 @@
 use Rattle.std.proofs.Common.{rules, subst, sym}
 use Rattle.std.proofs.lemmas.List.Sorted.{answers_always}
 use Rattle.store_core.specs.pages.Sorting.{IsByPlace}
-use Rattle.store_core.proofs.pages.PlaceOrder.{by_place_from}
+use Rattle.store_core.proofs.PageProofs.PlaceOrder.{by_place_from}
 use Rattle.store_core.proofs.pages.sorting.sorted_by_place.Goals as goal
 
 pub returns-clause-by_place : goal.returns-clause-by_place

@@ -3,8 +3,8 @@ use Rattle.std.proofs.lemmas.Result.{err_from_is_err_and}
 use Rattle.host_model.specs.Disks.{reads_as}
 use Rattle.store_core.specs.disk.Contents.{Contents}
 use Rattle.store_core.specs.disk.Opened.{contents_of}
-use Rattle.store_core.proofs.disk.OneLemmas.{one_contents}
-use Rattle.store_core.proofs.disk.ShareLemmas.{within_syncs}
+use Rattle.store_core.proofs.DiskProofs.OneLemmas.{one_contents}
+use Rattle.store_core.proofs.DiskProofs.ShareLemmas.{within_syncs}
 use Rattle.store_core.specs.declared.fault.StoreFault.TheVariants.{Damaged}
 use Rattle.store_core.proofs.FaultLemmas.{read-whole}
 use Rattle.store_core.proofs.OpenLemmas.{opened-images, opened-ready, opens-at}

@@ -7,8 +7,8 @@ use Rattle.store_core.specs.disk.Files.{FilesState, IsOpenOf, IsPlaced}
 use Rattle.host_model.specs.declared.file.File.{File}
 use Rattle.journal_core.specs.Form.{record_size}
 use Rattle.store_core.specs.disk.Holds.{journal_file}
-use Rattle.store_core.proofs.disk.ShareLemmas.{within_on}
-use Rattle.store_core.proofs.disk.AppendLemmas.{append_done, append_moments, journal_open}
+use Rattle.store_core.proofs.DiskProofs.ShareLemmas.{within_on}
+use Rattle.store_core.proofs.DiskProofs.AppendLemmas.{append_done, append_moments, journal_open}
 use Rattle.store_core.proofs.disk.files.Files.append.Goals as goal
 
 pub returns-then-is_err-clause-any_moment : goal.returns-then-is_err-clause-any_moment

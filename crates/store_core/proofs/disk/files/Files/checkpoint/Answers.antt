@@ -7,7 +7,7 @@ use Rattle.checkpoint_body.specs.Body.{body_bytes}
 use Rattle.store_core.specs.disk.Contents.{next_contents}
 use Rattle.store_core.specs.disk.Files.{FilesState}
 use Rattle.store_core.specs.disk.Shares.{HasRoom}
-use Rattle.store_core.proofs.disk.AdvanceLemmas.{next_moments, next_open, old_either, own_both, own_tiers, still_open}
+use Rattle.store_core.proofs.DiskProofs.AdvanceLemmas.{next_moments, next_open, old_either, own_both, own_tiers, still_open}
 use Rattle.store_core.proofs.disk.files.Files.checkpoint.Goals as goal
 
 pub returns-in_default-clause-any_moment : goal.returns-in_default-clause-any_moment

@@ -17,8 +17,8 @@ use Rattle.tier_settings.specs.Limits.{is_tier, HasWidths, InLimits}
 use Rattle.tier_settings.specs.Settings.{first_tier, other_tiers}
 use Rattle.store_core.specs.bodies.First.{first_body, no_points, no_records}
 use Rattle.store_core.specs.bodies.Tiers.{AreTiersOfBody}
-use Rattle.store_core.proofs.bodies.TierLemmas.{AreFormed, AreFormedRecords}
-use Rattle.store_core.proofs.bodies.WholeLemmas.{tier-is}
+use Rattle.store_core.proofs.BodyProofs.TierLemmas.{AreFormed, AreFormedRecords}
+use Rattle.store_core.proofs.BodyProofs.WholeLemmas.{tier-is}
 
 quota-is : (tier : Tier) → is_tier tier ≡ true → IsQuota tier
 quota-is tier is =

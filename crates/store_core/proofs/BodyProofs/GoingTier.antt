@@ -23,9 +23,9 @@ use Rattle.tier_settings.specs.declared.tier.Tier.{Tier}
 use Rattle.store_core.specs.bodies.Next.{beats_before, count_found, pages_after, sealed_after, AreCounted, AreNext, CanBeNamed, CanBePages, HasOneNew, IsNew}
 use Rattle.store_core.specs.bodies.Reading.{AreSegmentsIn, IsInOrder}
 use Rattle.store_core.specs.bodies.Segments.{counted, first_number}
-use Rattle.store_core.proofs.bodies.ExtentLemmas.{by-added, gone, gone-is, next-is}
-use Rattle.store_core.proofs.bodies.GoingLemmas.{beats_after, by-new, drop-are, extents-count, gone-are, has-last, none-after, number_after, one-after, one-are, OneMore}
-use Rattle.store_core.proofs.bodies.TierLemmas.{sealed-order, unsealed-order}
+use Rattle.store_core.proofs.BodyProofs.ExtentLemmas.{by-added, gone, gone-is, next-is}
+use Rattle.store_core.proofs.BodyProofs.GoingLemmas.{beats_after, by-new, drop-are, extents-count, gone-are, has-last, none-after, number_after, one-after, one-are, OneMore}
+use Rattle.store_core.proofs.BodyProofs.TierLemmas.{sealed-order, unsealed-order}
 
 module _ {T : Type 0} where
   pub sealed-below : (least last : ℕ) (segments : List (Segment T)) → are_sealed least last segments ≡ true → AllByRecursion (λ (segment : Segment T). segment.sealed_at ≤ last) segments

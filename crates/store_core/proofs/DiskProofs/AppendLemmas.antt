@@ -12,7 +12,7 @@ use Rattle.journal_core.specs.Journal.{IsOpen, JournalState, StandsForEither}
 use Rattle.store_core.specs.disk.Contents.{Contents, with_record}
 use Rattle.store_core.specs.disk.Files.{FilesState, IsOpenOf}
 use Rattle.store_core.specs.disk.Holds.{journal_file, Holds, HoldsAround}
-use Rattle.store_core.proofs.disk.HoldLemmas.{around_ends, journal_differs}
+use Rattle.store_core.proofs.DiskProofs.HoldLemmas.{around_ends, journal_differs}
 
 module _ (past : List Event) (files : FilesState) (what : Contents) (is : IsOpenOf past files what) where
   pub journal_place : files.journal.file ≡ journal_file what.number

@@ -8,7 +8,7 @@ use Rattle.field_codec.specs.Field.{IsBytes}
 use Rattle.store_core.specs.declared.beats.beat.Beat.{Beat}
 use Rattle.store_core.specs.beats.Beats.{beat_bytes, beat_in, InForm}
 use Rattle.store_core.specs.beats.Records.{beats_from, if_later, is_later, last_after, next_beat, then_beats, with_all, AreNext}
-use Rattle.store_core.proofs.beats.BeatLaw.{beat_again, beat_found}
+use Rattle.store_core.proofs.BeatProofs.BeatLaw.{beat_again, beat_found}
 
 abbrev pub AreBytes : List (List ℕ) → Type 0
 AreBytes bodies = AllByRecursion IsBytes bodies

@@ -21,7 +21,7 @@ use Rattle.store_core.specs.disk.Contents.{Contents, KeptPages}
 use Rattle.store_core.specs.disk.Damaged.{HasBadBody, HasBadExtent, HasShortFile, IsDamagedAt}
 use Rattle.store_core.specs.disk.Holds.{items_of, journal_file, page_of_records, page_of_slots, AreKept, HasCheckpoint, Holds, LiesAs, Lie}
 use Rattle.store_core.specs.disk.Reading.{IsNamed, AreNamed}
-use Rattle.store_core.proofs.disk.NamedLemmas.{lies_named, lies_said}
+use Rattle.store_core.proofs.DiskProofs.NamedLemmas.{lies_named, lies_said}
 
 -- ---- pages
 

@@ -32,15 +32,15 @@ use Rattle.store_core.specs.disk.Next.{written_records, written_slots, IsWritabl
 use Rattle.tier_settings.specs.declared.tier.Tier.{Tier}
 use Rattle.store_core.specs.pages.Items.{IsRecordItem}
 use Rattle.store_core.specs.pages.Pages.{AreRecordPagesOf, AreSlotPagesOf}
-use Rattle.store_core.proofs.pages.WritableLemmas.{records_writable, slots_writable}
+use Rattle.store_core.proofs.PageProofs.WritableLemmas.{records_writable, slots_writable}
 use Rattle.store_core.specs.bodies.Next.{beats_before, no_beats_before, pages_after, pages_of_records, pages_of_slots, sealed_after, IsNextPointTier, IsNextRecordTier}
 use Rattle.store_core.specs.bodies.Reading.{no_beats_in, ArePointSegmentsIn, ArePointsOf, AreRecordSegmentsIn, AreRecordsOf, AreSegmentsIn}
 use Rattle.store_core.specs.bodies.Segments.{beats_in, first_number}
 use Rattle.store_core.specs.bodies.Tiers.{open_record_of, IsPointTier, IsRecordTier}
-use Rattle.store_core.proofs.bodies.ExtentLemmas.{all-written, next-extents, next-few, next-fit}
-use Rattle.store_core.proofs.bodies.GoingLemmas.{beats_after, last-beats}
-use Rattle.store_core.proofs.bodies.GoingTier.{found-each, found-short, next-are, IsGoing}
-use Rattle.store_core.proofs.bodies.TierLemmas.{points-are, points-back, points-formed, records-are, records-back, records-formed, AreFormedRecords}
+use Rattle.store_core.proofs.BodyProofs.ExtentLemmas.{all-written, next-extents, next-few, next-fit}
+use Rattle.store_core.proofs.BodyProofs.GoingLemmas.{beats_after, last-beats}
+use Rattle.store_core.proofs.BodyProofs.GoingTier.{found-each, found-short, next-are, IsGoing}
+use Rattle.store_core.proofs.BodyProofs.TierLemmas.{points-are, points-back, points-formed, records-are, records-back, records-formed, AreFormedRecords}
 
 -- ---- extents
 

@@ -15,8 +15,8 @@ use Rattle.extent_file.specs.Slot.{slot_size, slot_start, tier_of}
 use Rattle.extent_file.specs.Writing.{LiesAt}
 use Rattle.store_core.specs.disk.Next.{AreApart, Written}
 use Rattle.store_core.specs.disk.Standing.{AllStand, StandsIn}
-use Rattle.store_core.proofs.disk.MomentLemmas.{all_throughout}
-use Rattle.store_core.proofs.disk.StandLemmas.{slot_long, stand_again, stand_lies}
+use Rattle.store_core.proofs.DiskProofs.MomentLemmas.{all_throughout}
+use Rattle.store_core.proofs.DiskProofs.StandLemmas.{slot_long, stand_again, stand_lies}
 
 -- a sync leaves the file synced
 pub synced_after : (file : File) (old new : List Event) → new ≡ On file Synced ∷ old → IsSynced (of file new)

@@ -17,10 +17,10 @@ use Rattle.checkpoint_body.proofs.RecordLemmas.{of_added, of_begun, size_added, 
 use Rattle.store_core.specs.pages.Items.{bucket_record_of_item, item_of_bucket_record, IsRecordItem}
 use Rattle.store_core.specs.pages.Pages.{AreRecordPagesOf}
 use Rattle.store_core.specs.pages.Ranges.{FitsBucketRecord}
-use Rattle.store_core.proofs.pages.RunLemmas.{count-pages_of, run-all}
-use Rattle.store_core.proofs.pages.SeriesOrder.{all_moved, sorted_by_series}
-use Rattle.store_core.proofs.pages.RecordForms.{are_pages, extent-size, in_order, pages_are, pages_fit, pages_formed, records_of-count}
-use Rattle.store_core.proofs.pages.RecordRuns.{record_run, records_are, span_of, IsPage, IsRecord}
+use Rattle.store_core.proofs.PageProofs.RunLemmas.{count-pages_of, run-all}
+use Rattle.store_core.proofs.PageProofs.SeriesOrder.{all_moved, sorted_by_series}
+use Rattle.store_core.proofs.PageProofs.RecordForms.{are_pages, extent-size, in_order, pages_are, pages_fit, pages_formed, records_of-count}
+use Rattle.store_core.proofs.PageProofs.RecordRuns.{record_run, records_are, span_of, IsPage, IsRecord}
 
 items_back : (items : List (Item Record)) → map item_of_bucket_record (map bucket_record_of_item items) ≡ items
 items_back [] = refl

@@ -20,9 +20,9 @@ use Rattle.store_core.specs.disk.Beginning.{empty_journal, Begins, OnlyBoth}
 use Rattle.store_core.specs.disk.Contents.{new_contents, next_contents, Contents, KeptPages}
 use Rattle.store_core.specs.disk.Files.{FilesState, IsOpenOf}
 use Rattle.store_core.specs.disk.Holds.{items_of, journal_file, AreKept, Holds, HoldsEither, HoldsIfMade, Lie, OnlyOwn}
-use Rattle.store_core.proofs.disk.BeginLemmas.{by_journal, journal_beside_check}
-use Rattle.store_core.proofs.disk.HoldLemmas.{disk_but_two, journal_beside_next, kept_same, tiers_beside_check, tiers_beside_journal, SameTiers}
-use Rattle.store_core.proofs.disk.MomentLemmas.{both_throughout}
+use Rattle.store_core.proofs.DiskProofs.BeginLemmas.{by_journal, journal_beside_check}
+use Rattle.store_core.proofs.DiskProofs.HoldLemmas.{disk_but_two, journal_beside_next, kept_same, tiers_beside_check, tiers_beside_journal, SameTiers}
+use Rattle.store_core.proofs.DiskProofs.MomentLemmas.{both_throughout}
 
 -- the disk with the files of the next checkpoint and of its journal as they were
 abbrev as_before : ℕ → List Event → (File → List ℕ) → File → List ℕ

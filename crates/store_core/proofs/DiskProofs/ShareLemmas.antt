@@ -24,7 +24,7 @@ use Rattle.store_core.specs.disk.Holds.{journal_file}
 use Rattle.store_core.specs.disk.Next.{Written}
 use Rattle.store_core.specs.disk.Opening.{OnlySyncs}
 use Rattle.store_core.specs.disk.Shares.{share, tier_share, AreSlotsOf, EndWithin, HasOwnSlots, HasRoom, HasSlotRoom, IsWithin}
-use Rattle.store_core.proofs.disk.SyncLemmas.{by_file}
+use Rattle.store_core.proofs.DiskProofs.SyncLemmas.{by_file}
 
 -- ---- calls
 

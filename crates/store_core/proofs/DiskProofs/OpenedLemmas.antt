@@ -20,7 +20,7 @@ use Rattle.store_core.specs.disk.Files.{FilesState, IsOpenOf}
 use Rattle.store_core.specs.disk.Holds.{items_of, journal_file, page_of_records, page_of_slots, AreKept, HasCheckpoint, Holds, Lie}
 use Rattle.store_core.specs.disk.Opening.{AreFixed, IsOpenFault}
 use Rattle.store_core.specs.disk.Reading.{IsExtentFault}
-use Rattle.store_core.proofs.disk.OneLemmas.{never_damaged}
+use Rattle.store_core.proofs.DiskProofs.OneLemmas.{never_damaged}
 
 -- the files of a database with this number are those of another disk
 record HasSameFiles (number : ℕ) (disk other : File → List ℕ) : Type 0 where

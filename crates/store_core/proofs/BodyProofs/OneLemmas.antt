@@ -17,12 +17,12 @@ use Rattle.checkpoint_body.specs.declared.page.SlotPage.{SlotPage}
 use Rattle.checkpoint_body.specs.Records.{records_of}
 use Rattle.checkpoint_body.specs.Slots.{points_of}
 use Rattle.store_core.specs.pages.Items.{item_of_bucket_record, item_of_point}
-use Rattle.store_core.proofs.pages.WritableLemmas.{same_order}
+use Rattle.store_core.proofs.PageProofs.WritableLemmas.{same_order}
 use Rattle.tier_settings.specs.declared.tier.Tier.{Tier}
 use Rattle.store_core.specs.bodies.Reading.{IsInOrder}
 use Rattle.store_core.specs.bodies.Segments.{beats_up_to, first_number, next_number, AreRecordSegments, AreSlotSegments}
 use Rattle.store_core.specs.bodies.Tiers.{open_record_of, IsPointTier, IsRecordTier}
-use Rattle.store_core.proofs.bodies.TierLemmas.{kept-same, open-one, sealed-order, unsealed-order}
+use Rattle.store_core.proofs.BodyProofs.TierLemmas.{kept-same, open-one, sealed-order, unsealed-order}
 
 segment-same : {T : Type 0} (one other : Segment T) → one.sealed_at ≡ other.sealed_at → one.items ≡ other.items → one ≡ other
 segment-same {T} one other at items =

@@ -15,8 +15,8 @@ use Rattle.extent_file.specs.Pages.{extent_size, ArePages}
 use Rattle.store_core.specs.disk.Holds.{page_of_records, page_of_slots}
 use Rattle.store_core.specs.disk.Next.{IsWritable}
 use Rattle.store_core.specs.pages.Pages.{AreRecordPagesOf, AreSlotPagesOf}
-use Rattle.store_core.proofs.pages.OneOrder.{one_order}
-use Rattle.store_core.proofs.pages.RecordForms.{record_size}
+use Rattle.store_core.proofs.PageProofs.OneOrder.{one_order}
+use Rattle.store_core.proofs.PageProofs.RecordForms.{record_size}
 
 pub slots_writable : (most slot : ℕ) (items : List (Item Stepped)) (pages : List SlotPage) → AreSlotPagesOf items pages
     → length items < most + 65536 → slot ≤ MOST_SLOTS → IsWritable 0 most (record { slot = slot; pages = map page_of_slots pages })

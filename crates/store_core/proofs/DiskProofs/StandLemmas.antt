@@ -11,8 +11,8 @@ use Rattle.checkpoint_body.specs.declared.body.Extent.{Extent}
 use Rattle.store_core.specs.disk.Holds.{Lie, LiesAs}
 use Rattle.store_core.specs.disk.Next.{AreFree, GoesOn, IsKeptOrNew, Written}
 use Rattle.store_core.specs.disk.Standing.{AllStand, AreBeside, StandsIn}
-use Rattle.store_core.proofs.disk.ExtentLemmas.{extent_again, extent_fits}
-use Rattle.store_core.proofs.disk.ListLemmas.{all_head, all_tail, first_or_other}
+use Rattle.store_core.proofs.DiskProofs.ExtentLemmas.{extent_again, extent_fits}
+use Rattle.store_core.proofs.DiskProofs.ListLemmas.{all_head, all_tail, first_or_other}
 
 -- an extent with its pages, as a segment in its slot
 pub segments_of : List Extent → List (List Page) → List Written

@@ -35,10 +35,10 @@ use Rattle.store_core.specs.bodies.Next.{beats_before, next_pages, no_beats_befo
 use Rattle.store_core.specs.bodies.Reading.{no_beats_in}
 use Rattle.store_core.specs.bodies.Segments.{beats_in}
 use Rattle.store_core.specs.bodies.Tiers.{AreTiersOfBody}
-use Rattle.store_core.proofs.bodies.ExtentLemmas.{all-apart, all-slots, next-kept}
-use Rattle.store_core.proofs.bodies.GoingTier.{can-name, outcome-of, sealed-below, still-counted, IsGoing}
-use Rattle.store_core.proofs.bodies.NextTier.{extents-few, open-fit, point-extents, point-fit, point-form, point-tier, point-writable, record-extents, record-fit, record-form, record-items, record-tier, record-writable}
-use Rattle.store_core.proofs.bodies.WholeLemmas.{two_tiers}
+use Rattle.store_core.proofs.BodyProofs.ExtentLemmas.{all-apart, all-slots, next-kept}
+use Rattle.store_core.proofs.BodyProofs.GoingTier.{can-name, outcome-of, sealed-below, still-counted, IsGoing}
+use Rattle.store_core.proofs.BodyProofs.NextTier.{extents-few, open-fit, point-extents, point-fit, point-form, point-tier, point-writable, record-extents, record-fit, record-form, record-items, record-tier, record-writable}
+use Rattle.store_core.proofs.BodyProofs.WholeLemmas.{two_tiers}
 
 -- with other tiers of records
 abbrev whole : TiersState → List RecordTierState → TiersState

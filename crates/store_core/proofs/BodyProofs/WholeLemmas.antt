@@ -24,7 +24,7 @@ use Rattle.tier_settings.specs.Settings.{no_tier, tier_with}
 use Rattle.store_core.specs.bodies.Reading.{HasPoints, HasRecords}
 use Rattle.beat_tiers.specs.Sound.{tier_of, AreSound}
 use Rattle.store_core.specs.bodies.Tiers.{AreTiersOfBody, IsRecordTier}
-use Rattle.store_core.proofs.bodies.OneLemmas.{point-tier-one, record-tier-one}
+use Rattle.store_core.proofs.BodyProofs.OneLemmas.{point-tier-one, record-tier-one}
 
 -- ---- sound tiers
 

@@ -12,8 +12,8 @@ use Rattle.checkpoint_body.specs.Records.{record_page_of, record_pages, with_rec
 use Rattle.checkpoint_body.proofs.RecordLemmas.{takes_next}
 use Rattle.store_core.specs.pages.Items.{bucket_record_of_item, IsRecordItem}
 use Rattle.store_core.specs.pages.Ranges.{FitsBucketRecord}
-use Rattle.store_core.proofs.pages.RunLemmas.{run-pages_of, AreRun, HasSpan, Precedes, Span}
-use Rattle.store_core.proofs.pages.SeriesOrder.{all_mapped, linked_map, AreBySeries, IsBehind}
+use Rattle.store_core.proofs.PageProofs.RunLemmas.{run-pages_of, AreRun, HasSpan, Precedes, Span}
+use Rattle.store_core.proofs.PageProofs.SeriesOrder.{all_mapped, linked_map, AreBySeries, IsBehind}
 
 -- its moments
 abbrev pub span_of : RecordPage → Span

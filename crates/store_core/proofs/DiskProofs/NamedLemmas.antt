@@ -25,7 +25,7 @@ use Rattle.checkpoint_body.specs.declared.page.RecordPage.{RecordPage}
 use Rattle.checkpoint_body.specs.declared.page.SlotPage.{SlotPage}
 use Rattle.store_core.specs.disk.Holds.{page_of_records, page_of_slots, LiesAs, Lie}
 use Rattle.store_core.specs.disk.Reading.{IsNamed, AreNamed}
-use Rattle.store_core.proofs.disk.ItemLemmas.{taken_more}
+use Rattle.store_core.proofs.DiskProofs.ItemLemmas.{taken_more}
 
 -- ---- one page
 

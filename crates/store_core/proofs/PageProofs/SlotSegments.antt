@@ -17,10 +17,10 @@ use Rattle.store_core.specs.pages.Items.{item_of_point, point_of_item}
 use Rattle.beat_tiers.specs.Sound.{IsPointItem}
 use Rattle.store_core.specs.pages.Pages.{AreSlotPagesOf}
 use Rattle.store_core.specs.pages.Ranges.{FitsPoint}
-use Rattle.store_core.proofs.pages.RunLemmas.{count-pages_of, run-all}
-use Rattle.store_core.proofs.pages.SeriesOrder.{all_moved, sorted_by_series}
-use Rattle.store_core.proofs.pages.SlotForms.{are_pages, extent-size, in_order, pages_are, pages_fit, pages_formed, points_of-count}
-use Rattle.store_core.proofs.pages.SlotRuns.{points_are, slot_run, span_of, word_some, IsPage, IsPoint}
+use Rattle.store_core.proofs.PageProofs.RunLemmas.{count-pages_of, run-all}
+use Rattle.store_core.proofs.PageProofs.SeriesOrder.{all_moved, sorted_by_series}
+use Rattle.store_core.proofs.PageProofs.SlotForms.{are_pages, extent-size, in_order, pages_are, pages_fit, pages_formed, points_of-count}
+use Rattle.store_core.proofs.PageProofs.SlotRuns.{points_are, slot_run, span_of, word_some, IsPage, IsPoint}
 
 items_back : (items : List (Item Stepped)) → map item_of_point (map point_of_item items) ≡ items
 items_back [] = refl

@@ -16,8 +16,8 @@ use Rattle.extent_file.specs.Pages.{entry_of, extent_size, items_of, ArePages}
 use Rattle.extent_file.specs.Slot.{item_size}
 use Rattle.store_core.specs.disk.Holds.{page_of_records}
 use Rattle.store_core.specs.disk.Next.{IsFormed}
-use Rattle.store_core.proofs.pages.RunLemmas.{is_behind, AreRun, Left}
-use Rattle.store_core.proofs.pages.RecordRuns.{span_of, IsPage}
+use Rattle.store_core.proofs.PageProofs.RunLemmas.{is_behind, AreRun, Left}
+use Rattle.store_core.proofs.PageProofs.RecordRuns.{span_of, IsPage}
 
 -- ---- how many records, and the size
 

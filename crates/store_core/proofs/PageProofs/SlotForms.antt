@@ -15,8 +15,8 @@ use Rattle.extent_file.specs.Directory.{bytes_of}
 use Rattle.extent_file.specs.Pages.{entry_of, extent_size, items_of, ArePages}
 use Rattle.store_core.specs.disk.Holds.{page_of_slots}
 use Rattle.store_core.specs.disk.Next.{IsFormed}
-use Rattle.store_core.proofs.pages.RunLemmas.{is_behind, AreRun, Left}
-use Rattle.store_core.proofs.pages.SlotRuns.{span_of, IsPage}
+use Rattle.store_core.proofs.PageProofs.RunLemmas.{is_behind, AreRun, Left}
+use Rattle.store_core.proofs.PageProofs.SlotRuns.{span_of, IsPage}
 
 -- ---- the form of a body
 

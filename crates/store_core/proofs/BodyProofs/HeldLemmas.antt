@@ -5,7 +5,7 @@ use Rattle.beat_tiers.specs.Room.{records_held, tiers_held, RecordTierHeld, Tier
 use Rattle.checkpoint_body.specs.declared.body.Body.{Body}
 use Rattle.store_core.specs.declared.disk.sealed.Sealed.{Sealed}
 use Rattle.store_core.specs.bodies.Next.{AreNextTiers, IsNextBody, IsNextPointTier, IsNextRecordTier}
-use Rattle.store_core.proofs.bodies.NextLemmas.{AreReadyTiers, IsReadyTier}
+use Rattle.store_core.proofs.BodyProofs.NextLemmas.{AreReadyTiers, IsReadyTier}
 
 module _ (body : Body) where
   pub two-long : (records : List RecordTierHeld) → AreReadyTiers body (map records_held records) → length records ≡ 2

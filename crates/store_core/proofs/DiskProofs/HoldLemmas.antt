@@ -14,7 +14,7 @@ use Rattle.checkpoint.proofs.SlotLemmas.{by_file}
 use Rattle.checkpoint_body.specs.declared.body.Body.{Body}
 use Rattle.store_core.specs.disk.Contents.{Contents, KeptPages, with_record}
 use Rattle.store_core.specs.disk.Holds.{items_of, journal_file, page_of_records, page_of_slots, AreKept, Holds, HoldsAround, Lie}
-use Rattle.store_core.proofs.disk.BeginLemmas.{by_journal, check_beside_journal}
+use Rattle.store_core.proofs.DiskProofs.BeginLemmas.{by_journal, check_beside_journal}
 
 -- the files of the tiers are the same
 pub record SameTiers (disk other : File → List ℕ) : Type 0 where

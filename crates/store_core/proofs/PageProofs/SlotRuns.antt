@@ -17,8 +17,8 @@ use Rattle.checkpoint_body.proofs.SlotLemmas.{takes_is}
 use Rattle.store_core.specs.pages.Items.{point_of_item}
 use Rattle.beat_tiers.specs.Sound.{IsPointItem}
 use Rattle.store_core.specs.pages.Ranges.{FitsPoint}
-use Rattle.store_core.proofs.pages.RunLemmas.{run-pages_of, AreRun, HasSpan, Span}
-use Rattle.store_core.proofs.pages.SeriesOrder.{all_mapped, linked_map, AreBySeries}
+use Rattle.store_core.proofs.PageProofs.RunLemmas.{run-pages_of, AreRun, HasSpan, Span}
+use Rattle.store_core.proofs.PageProofs.SeriesOrder.{all_mapped, linked_map, AreBySeries}
 
 -- its moments
 abbrev pub span_of : SlotPage → Span

@@ -20,8 +20,8 @@ use Rattle.store_core.specs.disk.Contents.{Contents, KeptPages}
 use Rattle.store_core.specs.disk.Holds.{items_of, journal_file, page_of_records, page_of_slots, AreKept, Holds, Lie}
 use Rattle.store_core.specs.disk.Next.{written_records, written_slots, AreFree, IsNext, Written}
 use Rattle.store_core.specs.disk.Standing.{AllStand, AreBeside}
-use Rattle.store_core.proofs.disk.BeginLemmas.{by_journal}
-use Rattle.store_core.proofs.disk.StandLemmas.{free_beside, lie_again, lie_next, lie_stand, segments_of}
+use Rattle.store_core.proofs.DiskProofs.BeginLemmas.{by_journal}
+use Rattle.store_core.proofs.DiskProofs.StandLemmas.{free_beside, lie_again, lie_next, lie_stand, segments_of}
 
 -- while the slots of its other extents stay, the contents stay
 tier_step : (file : File) (items : ℕ) (extents : List Extent) (pages : List (List Page)) (what : Contents) (new_segments : List Written) (old new : List Event)

@@ -10,7 +10,7 @@ use Rattle.beat_tiers.specs.Searching.{is_of, IsBySeries}
 use Rattle.beat_tiers.specs.Tiers.{AreOrdered}
 use Rattle.beat_tiers.proofs.Ordered.{Precedes as Before, ordered-tail}
 use Rattle.beat_tiers.proofs.SeriesLemmas.{ordered_filter}
-use Rattle.store_core.proofs.pages.RunLemmas.{AreBehind, AreLinked, Precedes}
+use Rattle.store_core.proofs.PageProofs.RunLemmas.{AreBehind, AreLinked, Precedes}
 
 -- what holds of each item holds of each, wherever they are moved
 pub all_moved : {X : Type 0} (P : X → Type 0) (xs ys : List X) → IsPermutation xs ys → AllByRecursion P xs → AllByRecursion P ys
