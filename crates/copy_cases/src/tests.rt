@@ -5,6 +5,5 @@ mod ends;
 mod peers;
 mod refusals;
 mod row;
-mod sessions;
 mod stops;
 mod wire;

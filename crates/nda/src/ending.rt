@@ -86,9 +86,10 @@ impl Ending {
                 "what came before is stored; see that the other agent can be reached, and run again"
             }
             Status::NotADatabase =>
-                "go to its folder, or make one by nda new, which overwrites files nda.0 and nda.2 that are none",
+                "go to its folder, or make one by nda new: that and later commands overwrite the files nda.0 to nda.6 here",
             Status::Exists => "nothing was changed; nda run and nda collect store beats in it",
-            Status::Damaged(_) => "nothing was changed; go on from a copy, or in another folder",
+            Status::Damaged(_) =>
+                "nothing was changed; put all files of a backup into an empty folder, or make a database in another",
             Status::PeerRefused(1) => {
                 "what came before is stored; a parent has a database of its own for each child"
             }

@@ -51,7 +51,12 @@ static SEQUENCES: [(&str, &[Step]); 5] = [
     (
         "an alarm that is raised and cleared",
         &[
-            MAKE,
+            (
+                &["new", "7", "1", "1", "1", "1", "1", "1"],
+                "",
+                "",
+                Status::Ok,
+            ),
             (HEALTH, HIGH, "STORED 1\n", Status::Ok),
             (RUN, HIGH_BEATS, HIGH_TOLD, Status::Ok),
             (&["log", "text"], "", HIGH_LOG, Status::Ok),

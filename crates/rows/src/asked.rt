@@ -39,7 +39,7 @@ const ASKED_TWICE: &str =
 const TOLD_TWICE: &str = "ERROR 3\nSTORED 1\nSTORED 2\nROWS 1 a\n0 10\n";
 
 /// Commands over one host each.
-static SEQUENCES: [(&str, &[Step]); 5] = [
+static SEQUENCES: [(&str, &[Step]); 6] = [
     (
         "points of two windows",
         &[
@@ -71,6 +71,19 @@ static SEQUENCES: [(&str, &[Step]); 5] = [
     (
         "floors that rise",
         &[MAKE_SMALL, (RUN, TWELVE_BEATS, TWELVE_TOLD, Status::Ok)],
+    ),
+    (
+        "a checkpoint is read again",
+        &[
+            MAKE_SMALL,
+            (RUN, TWELVE_BEATS, TWELVE_TOLD, Status::Ok),
+            (
+                &["query", "test.one", "8", "13", "1", "sum"],
+                "",
+                "ROWS 5 a\n8 null\n9 9\n10 10\n11 11\n12 12\n",
+                Status::Ok,
+            ),
+        ],
     ),
     (
         "an answer is that of its place",

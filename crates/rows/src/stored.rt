@@ -165,39 +165,51 @@ fn a_source_that_fails_behind_a_beat(rt: HostRuntime) -> Result<(), Fail> {
     Ok(())
 }
 
+/// A database whose segments have one item each: a beat behind one with a point makes a checkpoint first, and at 60 one
+/// has a record of minutes, too.
+const MAKE_SMALL: Step = (
+    &["new", "7", "1", "1", "1", "1", "1", "1"],
+    "",
+    "",
+    Status::Ok,
+);
+
+/// More calls than the commands make of their host.
+const CALLS: u64 = 200;
+
 /// The text of four beats.
 const FOUR: &str =
-    "CHART t.c n t u\nDIMENSION a\nBEGIN t.c\nSET a = 1\nEND\nMOMENT 60\nBEGIN t.c\nSET a = 2\nEND\nMOMENT 61\nBEGIN t.c\nSET a = 3\nEND\nMOMENT 62\nBEGIN t.c\nSET a = 4\nEND\nMOMENT 63\n";
+    "CHART t.c n t u\nDIMENSION a\nBEGIN t.c\nSET a = 1\nEND\nMOMENT 30\nBEGIN t.c\nSET a = 2\nEND\nMOMENT 60\nBEGIN t.c\nSET a = 3\nEND\nMOMENT 61\nBEGIN t.c\nSET a = 4\nEND\nMOMENT 62\n";
 
 /// The same beats, each as a text of its own, and one more.
 static BEATS: [Step; 5] = [
     (
         RUN,
-        "CHART t.c n t u\nDIMENSION a\nBEGIN t.c\nSET a = 1\nEND\nMOMENT 60\n",
+        "CHART t.c n t u\nDIMENSION a\nBEGIN t.c\nSET a = 1\nEND\nMOMENT 30\n",
         "STORED 1\n",
         Status::Ok,
     ),
     (
         RUN,
-        "CHART t.c n t u\nDIMENSION a\nBEGIN t.c\nSET a = 2\nEND\nMOMENT 61\n",
+        "CHART t.c n t u\nDIMENSION a\nBEGIN t.c\nSET a = 2\nEND\nMOMENT 60\n",
         "STORED 2\n",
         Status::Ok,
     ),
     (
         RUN,
-        "CHART t.c n t u\nDIMENSION a\nBEGIN t.c\nSET a = 3\nEND\nMOMENT 62\n",
+        "CHART t.c n t u\nDIMENSION a\nBEGIN t.c\nSET a = 3\nEND\nMOMENT 61\n",
         "STORED 3\n",
         Status::Ok,
     ),
     (
         RUN,
-        "CHART t.c n t u\nDIMENSION a\nBEGIN t.c\nSET a = 4\nEND\nMOMENT 63\n",
+        "CHART t.c n t u\nDIMENSION a\nBEGIN t.c\nSET a = 4\nEND\nMOMENT 62\n",
         "STORED 4\n",
         Status::Ok,
     ),
     (
         RUN,
-        "CHART t.c n t u\nDIMENSION a\nBEGIN t.c\nSET a = 5\nEND\nMOMENT 64\n",
+        "CHART t.c n t u\nDIMENSION a\nBEGIN t.c\nSET a = 5\nEND\nMOMENT 63\n",
         "STORED 5\n",
         Status::Ok,
     ),
@@ -248,7 +260,7 @@ struct Found {
 
 /// Makes the database and stores the four beats. What is found after a crash is left open.
 fn before_stop(alloc: Global, host: &mut MemoryHost) -> Result<Found, Fail> {
-    let (new, _) = step(alloc, host, &MAKE)?;
+    let (new, _) = step(alloc, host, &MAKE_SMALL)?;
     let (run, told) = store_four(alloc, host)?;
     Ok(Found {
         new,
@@ -302,7 +314,7 @@ impl Found {
 
 /// The first of the calls whose refusal and a crash lose a beat, and what was found.
 fn first_unsound(alloc: Global, keep: Keep) -> Result<Option<(u64, Found)>, Fail> {
-    for fails in 0..80 {
+    for fails in 0..CALLS {
         let found = found_after(alloc, fails, keep)?;
         if !found.is_sound() {
             return Ok(Some((fails, found)));
@@ -339,7 +351,7 @@ fn ending_at(alloc: Global, fails: u64) -> Result<(Status, Status), Fail> {
 /// At how many of the calls a telling, the storing and the making of the database fail.
 fn fault_counts(alloc: Global) -> Result<(u64, u64, u64), Fail> {
     let (mut told, mut stored, mut made) = (0u64, 0u64, 0u64);
-    for fails in 0..80 {
+    for fails in 0..CALLS {
         match ending_at(alloc, fails)? {
             (Status::Ok, Status::TellFault) => told = told.saturating_add(1),
             (Status::Ok, Status::DiskFault) => stored = stored.saturating_add(1),
@@ -369,7 +381,7 @@ fn so_many_calls_are_not_made(rt: HostRuntime) -> Result<(), Fail> {
         opened: Status::Ok,
         count: Some(4),
     };
-    assert_eq!(rt; found_after(rt.alloc(), 79, Keep::None)?, whole);
+    assert_eq!(rt; found_after(rt.alloc(), CALLS - 1, Keep::None)?, whole);
     Ok(())
 }
 

@@ -1,19 +1,14 @@
 -- The segments that tiers keep were counted exactly where the body names no more extents than it says were sealed.
-use Rattle.std.proofs.Common.{◌≡◌, ℕ, ◌≤◌, List, [], ◌∷◌, length, Option, ap, arith, refl}
+use Rattle.std.proofs.Common.{◌≡◌, ℕ, ◌≤◌, List, [], ◌∷◌, length, ap, arith}
 use Rattle.std.specs.List.{AllByRecursion}
-use Rattle.fixed_num.specs.declared.units.Record.{Record}
-use Rattle.beat_tiers.specs.declared.item.Stepped.{Stepped}
-use Rattle.beat_tiers.specs.declared.parts.Segment.{Segment}
 use Rattle.beat_tiers.specs.State.{RecordTierState, TiersState}
 use Rattle.checkpoint_body.specs.declared.body.Body.{Body}
-use Rattle.checkpoint_body.specs.declared.body.Extent.{Extent}
 use Rattle.checkpoint_body.specs.declared.body.RecordTier.{RecordTier}
 use Rattle.checkpoint_body.specs.declared.page.RecordPage.{RecordPage}
-use Rattle.checkpoint_body.specs.declared.page.SlotPage.{SlotPage}
 use Rattle.store_core.specs.disk.Advancing.{NamesNone}
 use Rattle.store_core.specs.disk.Contents.{KeptPages}
 use Rattle.store_core.specs.bodies.Next.{AreCounted, HaveCounted}
-use Rattle.store_core.specs.bodies.Segments.{beats_up_to, first_number, next_number, AreRecordSegments, AreSlotSegments}
+use Rattle.store_core.specs.bodies.Segments.{first_number}
 use Rattle.store_core.specs.bodies.Tiers.{AreRecordTiers, AreTiersOfBody, IsRecordTier}
 use Rattle.store_core.specs.Damaged.{HasCounted}
 use Rattle.store_core.proofs.BodyProofs.OneLemmas.{records-count, slots-count}

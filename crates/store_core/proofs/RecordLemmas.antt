@@ -5,7 +5,7 @@ use Rattle.beat_tiers.specs.declared.item.BeatPoint.{BeatPoint}
 use Rattle.beat_tiers.specs.State.{TiersState, after_beat}
 use Rattle.store_core.specs.declared.beats.beat.Beat.{Beat}
 use Rattle.store_core.specs.beats.Beats.{beat_bytes}
-use Rattle.store_core.specs.beats.Records.{beats_from, last_after, next_beat, then_beats, with_all}
+use Rattle.store_core.specs.beats.Records.{beats_from, last_after, then_beats, with_all}
 use Rattle.store_core.proofs.BeatProofs.RecordLaw.{next-again}
 use Rattle.store_core.specs.Stands.{records_of}
 use Rattle.store_core.specs.Stored.{tiers_of, Base, HaveFollowed}

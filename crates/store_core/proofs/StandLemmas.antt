@@ -5,6 +5,7 @@ use Rattle.std.proofs.lemmas.Option.{none-some, same_Some}
 use Rattle.host_model.specs.declared.file.File.{File}
 use Rattle.host_model.specs.Disks.{EveryDisk}
 use Rattle.host_model.specs.Past.{Event, Told}
+use Rattle.beat_tiers.specs.State.{TiersState}
 use Rattle.checkpoint.specs.Files.{checkpoint_in, Slot}
 use Rattle.checkpoint_body.specs.declared.body.Body.{Body}
 use Rattle.store_core.specs.disk.Contents.{Contents, KeptPages}
@@ -76,12 +77,12 @@ stands-made stored disk stands = is-made disk ∙ ap (λ (slot : Option Slot). i
 -- contents whose counts are right, that have tiers and beats, have no bad part
 pub none-bad : (contents : Contents) → HasCounted contents.body → (tiers : TiersState) → AreTiersOfBody contents.body contents.kept tiers
     → (beats : List Beat) → beats_from contents.body.last contents.records ≡ Some beats → (part : ℕ) → HasBadPart part contents → ⊥
-none-bad contents counted tiers of_body beats read zero bad = bad
-none-bad contents counted tiers of_body beats read (suc zero) bad = bad
-none-bad contents counted tiers of_body beats read (suc (suc zero)) bad = bad counted
-none-bad contents counted tiers of_body beats read (suc (suc (suc zero))) bad = bad.none tiers of_body
-none-bad contents counted tiers of_body beats read (suc (suc (suc (suc zero)))) bad = none-some beats (sym bad.none ∙ read)
-none-bad contents counted tiers of_body beats read (suc (suc (suc (suc (suc part))))) bad = bad
+none-bad contents counts tiers of_body beats read zero bad = bad
+none-bad contents counts tiers of_body beats read (suc zero) bad = bad
+none-bad contents counts tiers of_body beats read (suc (suc zero)) bad = bad counts
+none-bad contents counts tiers of_body beats read (suc (suc (suc zero))) bad = bad.none tiers of_body
+none-bad contents counts tiers of_body beats read (suc (suc (suc (suc zero)))) bad = none-some beats (sym bad.none ∙ read)
+none-bad contents counts tiers of_body beats read (suc (suc (suc (suc (suc part))))) bad = bad
 
 -- what the files of a database hold has no bad part
 pub never-bad : (part : ℕ) (contents : Contents) (stored : Stored) → HasStored contents stored → HasBadPart part contents → ⊥

@@ -1,7 +1,7 @@
 //! The slot of the next extent.
 use checkpoint_body::Extent;
-use store_core::disk::lowest_free;
 use std::test::Fail;
+use store_core::disk::lowest_free;
 
 fn extent_in(slot: u32) -> Extent {
     Extent {

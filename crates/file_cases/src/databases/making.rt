@@ -6,13 +6,12 @@ ghost use Rattle.store_core.specs.disk.Advancing.{NamesNone};
 
 use checkpoint::load;
 use checkpoint_body::{Body, read_body};
-use store_core::disk::{FilesFault, Sealed, create};
 use fixed_num::ListOf;
-use host_model::{CallList, File, Host, Keep, MemoryHost};
+use host_model::{CallList, File, Host, MemoryHost};
 use journal_core::Journal;
 use std::alloc::Global;
-use std::process::Abort;
 use std::test::Fail;
+use store_core::disk::{FilesFault, Sealed, create};
 
 /// The bytes of a body that keeps nothing: the version, the id, and of each tier 4 items and 4 extents.
 fn body_bytes() -> [u8; 125] {
@@ -93,14 +92,6 @@ fn run(alloc: Global, host: &mut MemoryHost) -> usize
     4
 }
 
-/// What may be loaded after so many were told to be done: what was told, or one more.
-fn may_be(told: usize, found: Option<(u64, usize)>) -> bool
-    requires { told ≤ 4 }
-{
-    let steps = [None, Some((0, 0)), Some((0, 1)), Some((0, 2)), Some((1, 0))];
-    found == steps[told] || (told < 4 && found == steps[told + 1])
-}
-
 #[test]
 fn makes_appends_and_goes_on(rt: HostRuntime) -> Result<(), Fail> {
     let mut host = MemoryHost::new(rt.alloc(), CallList::new(rt.alloc()))?;
@@ -110,37 +101,5 @@ fn makes_appends_and_goes_on(rt: HostRuntime) -> Result<(), Fail> {
     assert_eq!(rt; host.len(File::JournalB)?, 17);
     assert_eq!(rt; host.len(File::CheckB)?, 17 + 125);
     assert_eq!(rt; run(rt.alloc(), &mut host), 0);
-    Ok(())
-}
-
-/// Runs until a call fails, crashes, and loads.
-fn survive(
-    rt: &impl Abort,
-    alloc: Global,
-    mut host: MemoryHost,
-    keep: Keep,
-    call: u64,
-) -> Result<(), Fail> {
-    let told = run(alloc, &mut host);
-    let mut host = host.stop(keep)?;
-    let found = loaded(alloc, &mut host);
-    assert!(rt; may_be(told, found), "call {call}, {keep:?}");
-    Ok(())
-}
-
-#[test]
-fn a_crash_leaves_what_was_told_or_one_more(rt: HostRuntime) -> Result<(), Fail> {
-    for call in 0..50u64 {
-        for keep in [
-            Keep::All,
-            Keep::None,
-            Keep::Fill(255),
-            Keep::Fill(1),
-            Keep::Fill(0),
-        ] {
-            let host = MemoryHost::fused(rt.alloc(), call)?;
-            survive(&rt, rt.alloc(), host, keep, call)?;
-        }
-    }
     Ok(())
 }

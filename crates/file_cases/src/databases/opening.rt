@@ -1,12 +1,11 @@
 //! Databases whose bytes are written by hand.
 use checkpoint::switch;
 use checkpoint_body::{RecordPageList, SlotPageList};
-use store_core::disk::{FilesFault, Opened, open};
 use fixed_num::ByteList;
-use host_model::{CallList, File, Host, Keep, MemoryHost};
+use host_model::{CallList, File, Host, MemoryHost};
 use std::alloc::{AllocError, Global};
-use std::process::Abort;
 use std::test::Fail;
+use store_core::disk::{FilesFault, Opened, open};
 
 fn host_of(alloc: Global, fails: &[u64]) -> Result<MemoryHost, Fail> {
     let list = CallList::from_vec(fails.to_vec(alloc)?);
@@ -195,44 +194,5 @@ fn no_database_and_half_of_one(rt: HostRuntime) -> Result<(), Fail> {
         open(rt.alloc(), &mut host).err(),
         Some(FilesFault::Damaged(1))
     );
-    Ok(())
-}
-
-/// Crashes, and opens again.
-fn check_again(rt: &impl Abort, alloc: Global, host: MemoryHost, keep: Keep) -> Result<(), Fail> {
-    let mut host = host.stop(keep)?;
-    assert!(rt; is_there(alloc, &mut host)?);
-    Ok(())
-}
-
-/// Opens while this call fails, crashes, and opens again.
-fn survive(rt: &impl Abort, alloc: Global, keep: Keep, call: u64) -> Result<(), Fail> {
-    let mut host = host_of(alloc, &[call])?;
-    let whole = write(alloc, &mut host)?;
-    match is_there(alloc, &mut host) {
-        Ok(written) => {
-            assert!(rt; written);
-            check_again(rt, alloc, host, keep)
-        }
-        Err(fault) => {
-            assert!(rt; !whole || fault == FilesFault::DiskFault);
-            Ok(())
-        }
-    }
-}
-
-#[test]
-fn a_crash_leaves_what_was_opened(rt: HostRuntime) -> Result<(), Fail> {
-    for call in 0..60u64 {
-        for keep in [
-            Keep::All,
-            Keep::None,
-            Keep::Fill(0),
-            Keep::Fill(1),
-            Keep::Fill(255),
-        ] {
-            survive(&rt, rt.alloc(), keep, call)?;
-        }
-    }
     Ok(())
 }

@@ -56,7 +56,7 @@ fn each_status_of_a_folder_has_its_line(rt: HostRuntime) -> Result<(), Fail> {
         ),
         (
             Status::NotADatabase,
-            "there is no database in this folder; go to its folder, or make one by nda new, which overwrites files nda.0 and nda.2 that are none",
+            "there is no database in this folder; go to its folder, or make one by nda new: that and later commands overwrite the files nda.0 to nda.6 here",
         ),
         (
             Status::Exists,
@@ -64,11 +64,11 @@ fn each_status_of_a_folder_has_its_line(rt: HostRuntime) -> Result<(), Fail> {
         ),
         (
             Status::Damaged(1),
-            "the database here is damaged, or none of this program: part 1, the file of its checkpoint; nothing was changed; go on from a copy, or in another folder",
+            "the database here is damaged, or none of this program: part 1, the file of its checkpoint; nothing was changed; put all files of a backup into an empty folder, or make a database in another",
         ),
         (
             Status::Damaged(4),
-            "the database here is damaged, or none of this program: part 4, its journal; nothing was changed; go on from a copy, or in another folder",
+            "the database here is damaged, or none of this program: part 4, its journal; nothing was changed; put all files of a backup into an empty folder, or make a database in another",
         ),
     ];
     for (status, line) in table {

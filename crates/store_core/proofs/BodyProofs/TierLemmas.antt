@@ -1,5 +1,5 @@
 -- What is read of a tier is what the body and the pages of its extents say of it.
-use Rattle.std.proofs.Common.{◌≡◌, ℕ, ◌*◌, ◌/◌, true, List, [], ◌∷◌, ◌++◌, length, map, Some, arith, sym, ap, refl, ◌∙◌, subst, Option}
+use Rattle.std.proofs.Common.{◌≡◌, ℕ, ◌*◌, ◌/◌, true, List, [], ◌∷◌, length, map, Some, arith, sym, ap, refl, ◌∙◌, subst, Option}
 use Rattle.std.specs.List.{All, AllByRecursion, list_all}
 use Rattle.std.proofs.lemmas.List.Elements.{All-cons, All-head, All-map, All-nil, All-tail}
 use Rattle.std.proofs.lemmas.List.Sums.{AllPass-from_list_all, list_all-from_AllPass}

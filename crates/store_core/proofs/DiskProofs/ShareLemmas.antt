@@ -1,16 +1,15 @@
 -- Each file stays within its share.
-use Rattle.std.proofs.Common.{◌≡◌, ℕ, ◌+◌, ◌*◌, ◌%◌, ◌<◌, ◌≤◌, Bool, true, false, cond, eqb, List, [], ◌∷◌, ◌++◌, length, take, get_or, replicate, refl, sym, ap, ◌∙◌, subst, arith}
-use Rattle.std.specs.List.{All}
+use Rattle.std.proofs.Common.{◌≡◌, ℕ, ◌+◌, ◌*◌, ◌%◌, ◌≤◌, Bool, true, false, cond, eqb, List, [], ◌∷◌, ◌++◌, length, take, get_or, replicate, refl, sym, ◌∙◌, subst, arith}
 use Rattle.std.proofs.Math.Nat.{mul-le-mul_right}
 use Rattle.std.proofs.lemmas.List.{get_or-take, get_or_append_left, length-append, length-replicate, length-take}
 use Rattle.host_model.specs.declared.file.File.{File}
 use Rattle.host_model.specs.declared.file.File.TheVariants.{CheckA, CheckB, JournalA, JournalB}
-use Rattle.host_model.specs.Images.{Change, Wrote, Cut, Synced, contents, synced, least, greatest, IsUntouched, IsImage}
-use Rattle.host_model.specs.Past.{Event, of, IsDisk, IsOther}
+use Rattle.host_model.specs.Images.{Change, Wrote, Cut, Synced, synced, least, greatest, IsImage}
+use Rattle.host_model.specs.Past.{Event, of, IsDisk}
 use Rattle.host_model.specs.Disks.{EveryDisk}
 use Rattle.host_model.specs.Moments.{Throughout, OnlyOn}
 use Rattle.host_model.proofs.MomentLemmas.{only_on_each, strengthened, weakened}
-use Rattle.extent_file.specs.Slot.{slot_size, slot_start}
+use Rattle.extent_file.specs.Slot.{slot_size}
 use Rattle.checkpoint.specs.Files.{slot_file}
 use Rattle.tier_settings.specs.declared.settings.Settings.{Settings}
 use Rattle.tier_settings.specs.declared.tier.Tier.{Tier}

@@ -10,7 +10,6 @@ use Rattle.tier_settings.specs.declared.settings.Settings.{Settings}
 use Rattle.tier_settings.specs.declared.tier.Tier.{Tier}
 use Rattle.tier_settings.specs.Settings.{tier_with}
 use Rattle.checkpoint_body.specs.declared.body.Body.{Body}
-use Rattle.checkpoint_body.specs.Body.{body_bytes}
 use Rattle.checkpoint_body.specs.Size.{body_limit}
 use Rattle.store_core.specs.declared.disk.sealed.Sealed.{Sealed}
 use Rattle.store_core.specs.disk.Holds.{items_of, journal_file}

@@ -1,4 +1,4 @@
-use Rattle.std.proofs.Common.{List, map, refl, sym, subst, ◌≡◌, ℕ, ◌≤◌}
+use Rattle.std.proofs.Common.{List, map, refl, sym, subst, ◌≡◌, ℕ}
 use Rattle.host_model.specs.declared.file.File.TheVariants.{Tier0, Tier1, Tier2}
 use Rattle.host_model.specs.Moments.{EveryImage}
 use Rattle.host_model.proofs.MomentLemmas.{at_end, joined}

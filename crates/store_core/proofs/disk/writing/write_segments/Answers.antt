@@ -1,4 +1,4 @@
-use Rattle.std.proofs.Common.{◌≡◌, ◌≢◌, map, take, get_or, sym, ap, ◌∙◌, subst, arith, ℕ, ◌+◌, ◌≤◌}
+use Rattle.std.proofs.Common.{◌≡◌, ◌≢◌, map, take, get_or, sym, ap, ◌∙◌, subst, arith, ◌+◌, ◌≤◌}
 use Rattle.std.specs.List.{All}
 use Rattle.std.proofs.lemmas.List.{get_or-map, length-map}
 use Rattle.host_model.specs.Images.{Synced, contents}
