@@ -22,7 +22,7 @@ use Rattle.agent_core.specs.declared.fault.AgentFault.TheVariants as fault
 use Rattle.agent_core.specs.Agent.{AgentState, IsAgentOf}
 use Rattle.agent_core.specs.Answers.{reply_of}
 use Rattle.agent_core.specs.Calls.{Logs, Opens, Queries}
-use Rattle.agent_core.specs.Faults.{IsLogging, IsReading, Reopens, ReopensWith}
+use Rattle.agent_core.specs.Faults.{IsReading, Reopens, ReopensWith}
 use Rattle.agent_core.specs.Stands.{StandsForHistory}
 use Rattle.store_core.specs.declared.fault.Why.{Why}
 use Rattle.link_session.proofs.AckLemmas.{text-front}
@@ -167,14 +167,6 @@ reading-memory before going (fault.Reopen cause) faults reopens = absurd (apart 
     apart e = cc
 reading-memory before going other faults reopens = absurd faults
 
-logging-memory : (before : Option Why) → before ≡ None → (why : AgentFault) → IsLogging why → ReopensWith before why → why ≡ fault.Memory
-logging-memory before going fault.Memory faults reopens = refl
-logging-memory before going (fault.Reopen cause) faults reopens = absurd (apart (sym going ∙ reopens))
-  where
-    apart : none_before ≡ Some cause → ⊥
-    apart e = cc
-logging-memory before going other faults reopens = absurd faults
-
 -- it was asked a question
 module _ (honest : Type 0) (agent : AgentState) (text : List ℕ) (host : Seen) (result : Result (List ℕ) AgentFault) (middle : Seen) (agent' : AgentState) (queries : Queries honest host agent text result middle agent') where
   abbrev answer : Settings → List Beat → List ℕ
@@ -212,7 +204,7 @@ module _ (honest : Type 0) (agent : AgentState) (text : List ℕ) (host : Seen) 
 
 pub memory-logging : (agent : AgentState) → agent.fault ≡ None → (result : Result Log AgentFault) → Logs agent result → (why : AgentFault) → result ≡ Err why → why ≡ fault.Memory
 memory-logging agent going result logs why is =
-    logging-memory agent.fault going why (subst (λ (r : Result Log AgentFault). IfErr r IsLogging) is logs.faults)
+    reading-memory agent.fault going why (subst (λ (r : Result Log AgentFault). IfErr r IsReading) is logs.faults)
     (subst (λ (r : Result Log AgentFault). Reopens agent.fault r) is logs.reopens)
 
 -- it was asked for its log

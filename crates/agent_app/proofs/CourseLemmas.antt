@@ -21,7 +21,7 @@ use Rattle.store_core.specs.Stands.{is_made}
 use Rattle.store_core.proofs.StandLemmas.{stands-made}
 use Rattle.agent_core.specs.Stands.{StandsForHistory, StandsForNew}
 use Rattle.agent_core.specs.Calls.{ReadsAsBefore}
-use Rattle.agent_core.specs.Notes.{HasNotes}
+use Rattle.agent_core.specs.Notes.{NotesGo}
 use Rattle.link_session.specs.declared.fault.SessionFault.TheVariants.{Memory}
 use Rattle.link_session.specs.Keeps.{no_more, IsAckedUpTo, Keeps}
 use Rattle.link_session.specs.Parent.{parent_begins, parent_does}
@@ -70,7 +70,7 @@ abbrev pub GivesNothing : Input → Type 0
 GivesNothing input = (set : Settings) (h : List Beat) → Gives input set h h
 
 pub record IsRunOf (honest : Type 0) (s : Status) (input : Input) (host host' : Seen) : Type 0 where
-  pub found : honest → (HasNotes true (reads_as host.past) → ⊥) → IsHostAsFound honest host host' × GivesNothing input
+  pub found : honest → (NotesGo true (reads_as host.past) → ⊥) → IsHostAsFound honest host host' × GivesNothing input
   pub unmade : honest → is_made (reads_as host.past) ≡ false → (s ≡ status.NotADatabase) ⊎ (s ≡ status.DiskFault) ⊎ (s ≡ status.Memory)
   pub resumes : honest → (set : Settings) (h0 : List Beat) → StandsForHistory set h0 (reads_as host.past) → OnceRead (StoresOn s input set h0 host'.past) (GivesNothing input) s host.past host'.past
 

@@ -25,7 +25,7 @@ use Rattle.plugin_runner.specs.Run.{whole_children}
 use Rattle.plugin_runner.specs.Runner.{IsFault}
 use Rattle.plugin_runner.specs.Text.{Heard, Text, text}
 use Rattle.agent_core.specs.Stands.{StandsForHistory}
-use Rattle.agent_core.specs.Notes.{HasNotes}
+use Rattle.agent_core.specs.Notes.{NotesGo}
 use Rattle.agent_app.specs.declared.collect.Collector.{Collector}
 use Rattle.agent_app.specs.Convert.{ending_status, refusal_status, HasStatusCause, LeavesFiles}
 use Rattle.agent_app.specs.Reading.{Ending, Ends, GoesOn, RefusedAt}
@@ -183,7 +183,7 @@ pub record CollectsAll (honest : Type 0) (asked : Collector) (status : Status) (
   pub statuses : (ends_a_collect status ≡ true) ⊎ (finds_none status ≡ true)
   -- where no database can be opened all is left as it was found, whatever status it ended with
   pub leaves : finds_none status ≡ true → IsUncollected honest outside outside' host host'
-  pub untaken : honest → (HasNotes true (reads_as host.past) → ⊥) → IsUncollected honest outside outside' host host'
+  pub untaken : honest → (NotesGo true (reads_as host.past) → ⊥) → IsUncollected honest outside outside' host host'
   pub others : LeavesOthers honest host host'
   -- each part of the outside counts a failure where that is why it ended
   pub spawns : outside.spawn_faults ≤ outside'.spawn_faults

@@ -20,7 +20,7 @@ use Rattle.agent_core.specs.Agent.{AgentState, IsAgentOf}
 use Rattle.agent_core.specs.Alarms.{events_at}
 use Rattle.agent_core.specs.Health.{health_refusal}
 use Rattle.agent_core.specs.Stands.{StandsForHistory}
-use Rattle.agent_core.specs.Notes.{HasNotes}
+use Rattle.agent_core.specs.Notes.{NotesGo}
 use Rattle.agent_core.specs.Replies.{reply_text}
 use Rattle.link_session.specs.Keeps.{Keeps}
 use Rattle.agent_app.specs.Convert.{LeavesFiles}
@@ -166,7 +166,7 @@ pub record ConfiguresAll (honest : Type 0) (status : Status) (left left' : Optio
   pub input : TakesHealth status left left'
   -- where no database can be opened all is left as it was found
   pub leaves : finds_none status ≡ true → IsAsFound honest left left' source_faults source_faults' host host'
-  pub untaken : honest → (HasNotes true (reads_as host.past) → ⊥) → IsAsFound honest left left' source_faults source_faults' host host'
+  pub untaken : honest → (NotesGo true (reads_as host.past) → ⊥) → IsAsFound honest left left' source_faults source_faults' host host'
   pub others : LeavesOthers honest host host'
   -- each part of the outside counts a failure exactly where that is why it ended
   pub read_cause : HasCause source_faults source_faults' (status ≡ ReadFault)

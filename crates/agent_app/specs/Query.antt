@@ -14,7 +14,7 @@ use Rattle.tier_settings.specs.declared.settings.Settings.{Settings}
 use Rattle.agent_core.specs.Agent.{AgentState, IsAgentOf}
 use Rattle.agent_core.specs.Answers.{reply_of}
 use Rattle.agent_core.specs.Stands.{StandsForHistory}
-use Rattle.agent_core.specs.Notes.{HasNotes}
+use Rattle.agent_core.specs.Notes.{NotesGo}
 use Rattle.agent_app.specs.Convert.{LeavesFiles}
 use Rattle.agent_app.specs.Run.{Finds, LeavesOthers, TellsRun}
 
@@ -74,7 +74,7 @@ pub record Asks (honest : Type 0) (answer : Settings → List Beat → List ℕ)
   -- a failure of the disk and out of memory come before anything is told
   pub unspent : honest → (status ≡ DiskFault) ⊎ (status ≡ Memory) → told host'.past ≡ told host.past
   -- where no database can be opened nothing is told
-  pub silent : honest → (HasNotes true (reads_as host.past) → ⊥) → told host'.past ≡ told host.past
+  pub silent : honest → (NotesGo true (reads_as host.past) → ⊥) → told host'.past ≡ told host.past
   pub finds : Finds honest status host
   pub statuses : IsAskStatus status
   -- each part of the outside counts a failure exactly where that is why it ended

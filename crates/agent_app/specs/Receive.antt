@@ -17,7 +17,7 @@ use Rattle.tier_settings.specs.declared.settings.Settings.{Settings}
 use Rattle.agent_core.specs.declared.fault.AgentFault.TheVariants as agent
 use Rattle.agent_core.specs.Copies.{seen_moment, IsCopyOfChild, SeenBeat}
 use Rattle.agent_core.specs.Stands.{StandsForHistory}
-use Rattle.agent_core.specs.Notes.{HasNotes}
+use Rattle.agent_core.specs.Notes.{NotesGo}
 use Rattle.link_session.specs.declared.fault.SessionFault.TheVariants as session
 use Rattle.link_session.specs.Exchange.{exchange, Course, SessionResult}
 use Rattle.link_session.specs.Keeps.{Keeps}
@@ -114,7 +114,7 @@ pub record ReceivesAll (honest : Type 0) (status : Status) (link link' : LinkSee
   pub input : TakesSession ParentEndsAt EndsAs status link link'
   -- where no database can be opened nobody is spoken to and all is left as it was found, whatever status it ended with
   pub leaves : finds_none status ≡ true → (link' ≡ link) × IsHostAsFound honest host host'
-  pub untaken : honest → (HasNotes true (reads_as host.past) → ⊥) → (link' ≡ link) × IsHostAsFound honest host host'
+  pub untaken : honest → (NotesGo true (reads_as host.past) → ⊥) → (link' ≡ link) × IsHostAsFound honest host host'
   pub others : LeavesOthers honest host host'
   -- each part of the outside counts a failure exactly where that is why it ended
   pub link_cause : HasCause link.faults link'.faults (status ≡ LinkFault)

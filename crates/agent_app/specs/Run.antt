@@ -33,7 +33,7 @@ use Rattle.host_model.specs.Seen.{Seen}
 use Rattle.agent_core.specs.Alarms.{events_at}
 use Rattle.agent_core.specs.Answers.{reply_of}
 use Rattle.agent_core.specs.Stands.{StandsForHistory}
-use Rattle.agent_core.specs.Notes.{HasNotes}
+use Rattle.agent_core.specs.Notes.{NotesGo}
 use Rattle.agent_core.specs.Replies.{reply_text}
 use Rattle.line_stream.specs.Run.{input_limit}
 use Rattle.link_session.specs.Keeps.{Keeps}
@@ -232,16 +232,16 @@ pub record Finds (honest : Type 0) (status : Status) (host : Seen) : Type 0 wher
   -- Damaged says which part: 1 to 4 where there is a database, and it is that of no base and beats. Of these 1 is the
   -- checkpoint's file, 2 its body and 3 an extent; 4 is the journal, where a record is no beat that may follow. 5 where
   -- the side is not good, a note does not go on, or a point is of no series that is there. Where a part of the files is
-  -- damaged, its number is told. A disk holds one database at most, so that IsDamaged and HasNotes true exclude each
+  -- damaged, its number is told. A disk holds one database at most, so that IsDamaged and NotesGo true exclude each
   -- other. So where there is a database, and neither the disk nor memory fails, the status is Damaged exactly where
-  -- HasNotes true does not hold.
+  -- NotesGo true does not hold.
   pub parts : (part : ℕ) → status ≡ Damaged part → (1 ≤ part) × (part ≤ 5)
   pub made : (part : ℕ) → status ≡ Damaged part → honest → is_made (reads_as host.past) ≡ true
   pub damaged_files : (part : ℕ) → part ≤ 4 → status ≡ Damaged part → honest → IsDamaged (reads_as host.past)
   pub damaged_part : (part : ℕ) → part ≤ 3 → status ≡ Damaged part → honest → IsDamagedIn part (reads_as host.past)
   pub damaged_first : (part other : ℕ) → status ≡ Damaged part → honest → IsDamagedIn other (reads_as host.past) → other ≡ part
-  pub damaged_notes : status ≡ Damaged 5 → honest → HasNotes true (reads_as host.past) → ⊥
-  pub opened : is_opened status ≡ true → honest → HasNotes true (reads_as host.past)
+  pub damaged_notes : status ≡ Damaged 5 → honest → NotesGo true (reads_as host.past) → ⊥
+  pub opened : is_opened status ≡ true → honest → NotesGo true (reads_as host.past)
 
 -- `run` ended with this status, and left the source and the host so
 pub record RunsAll (honest : Type 0) (status : Status) (left left' : Option (List ℕ)) (source_faults source_faults' : ℕ) (host host' : Seen) : Type 0 where
@@ -260,7 +260,7 @@ pub record RunsAll (honest : Type 0) (status : Status) (left left' : Option (Lis
   pub input : TakesInput status left left'
   -- a run that finds no database that can be opened leaves all as it found it, whatever status it ended with
   pub leaves : finds_none status ≡ true → IsAsFound honest left left' source_faults source_faults' host host'
-  pub untaken : honest → (HasNotes true (reads_as host.past) → ⊥) → IsAsFound honest left left' source_faults source_faults' host host'
+  pub untaken : honest → (NotesGo true (reads_as host.past) → ⊥) → IsAsFound honest left left' source_faults source_faults' host host'
   -- whatever status it ended with
   pub others : LeavesOthers honest host host'
   -- each part of the outside counts a failure exactly where that is why the run ended

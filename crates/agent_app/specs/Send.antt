@@ -10,7 +10,7 @@ use Rattle.history.specs.History.{Beat}
 use Rattle.tier_settings.specs.declared.settings.Settings.{Settings}
 use Rattle.agent_core.specs.Copies.{data_of_history}
 use Rattle.agent_core.specs.Stands.{StandsForHistory}
-use Rattle.agent_core.specs.Notes.{HasNotes}
+use Rattle.agent_core.specs.Notes.{NotesGo}
 use Rattle.link_session.specs.Child.{child_begins, child_does}
 use Rattle.link_session.specs.Exchange.{SessionResult}
 use Rattle.link_session.specs.Session.{Exchanges, LinkSeen}
@@ -58,7 +58,7 @@ pub record SendsAll (honest : Type 0) (status : Status) (link link' : LinkSeen) 
   pub input : (id : ℕ) × TakesSession (λ ended before f. ChildEndsAt id ended f) (λ result s. s ≡ session_status result) status link link'
   -- where no database can be opened nobody is spoken to, whatever status it ended with
   pub leaves : finds_none status ≡ true → link' ≡ link
-  pub untaken : honest → (HasNotes true (reads_as host.past) → ⊥) → link' ≡ link
+  pub untaken : honest → (NotesGo true (reads_as host.past) → ⊥) → link' ≡ link
   -- each part of the outside counts a failure exactly where that is why it ended
   pub link_cause : HasCause link.faults link'.faults (status ≡ LinkFault)
   pub disk_cause : HasCause host.disk_faults host'.disk_faults (status ≡ DiskFault)

@@ -12,7 +12,7 @@ use Rattle.store_core.specs.Store.{base_of, IsReplayed, IsStoreAt, OpensAt, Repl
 use Rattle.store_core.specs.Stored.{stored_with, stored_with_all, Stored}
 use Rattle.store_core.proofs.StandLemmas.{stands-once}
 use Rattle.agent_core.specs.declared.left.Left.{Left}
-use Rattle.agent_core.specs.Notes.{beats_go_on, entry_at, entry_goes_on, entry_in, left_after, left_by, moment_of, names_series, noted_in, noted_in_side, notes_go_on, same_moment, takes_note, with_entry, with_note, HasNotes, Noted}
+use Rattle.agent_core.specs.Notes.{beats_go_on, entry_at, entry_goes_on, entry_in, left_after, left_by, moment_of, names_series, noted_in, noted_in_side, notes_go_on, same_moment, takes_note, with_entry, with_note, NotesGo, Noted}
 use Rattle.agent_core.specs.Replay.{HasTaken}
 
 -- ---- the entry of a note
@@ -166,9 +166,9 @@ never-good stored bad = ap (λ (o : Option Noted). option_map_or (λ (s : Noted)
 
 -- what is stored does not go on where a store that was opened on the disk tells so
 pub never-notes : (disk : File → List ℕ) (past : List Event) (store : StoreState) → ((stored : Stored) → Stands stored disk → OpensAt past store stored)
-    → ((past : List Event) (stored : Stored) → OpensAt past store stored → notes_go_on stored ≡ false) → HasNotes true disk → ⊥
+    → ((past : List Event) (stored : Stored) → OpensAt past store stored → notes_go_on stored ≡ false) → NotesGo true disk → ⊥
 never-notes disk past store opens stops notes = true≢false (sym notes.notes ∙ stops past notes.stored (opens notes.stored notes.stands))
 
 -- a disk holds one database at most
-pub notes-once : (disk : File → List ℕ) → HasNotes true disk → HasNotes false disk → ⊥
+pub notes-once : (disk : File → List ℕ) → NotesGo true disk → NotesGo false disk → ⊥
 notes-once disk go stop = true≢false (sym go.notes ∙ ap notes_go_on (stands-once go.stored stop.stored disk go.stands stop.stands) ∙ stop.notes)

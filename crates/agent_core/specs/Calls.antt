@@ -38,12 +38,12 @@ use Rattle.agent_core.specs.Alarms.{events_at, log_at}
 use Rattle.agent_core.specs.Answers.{kept_of_history, reply_of}
 use Rattle.agent_core.specs.Copies.{data_of_history}
 use Rattle.agent_core.specs.Copying.{added_by, events_onto, refusal_by}
-use Rattle.agent_core.specs.Faults.{fault_after, HealthRefusedBy, IsCreating, IsLogging, IsOpening, IsReading, LeavesAll, RefusedBy, Reopens}
+use Rattle.agent_core.specs.Faults.{fault_after, HealthRefusedBy, IsCreating, IsOpening, IsReading, LeavesAll, RefusedBy, Reopens}
 use Rattle.agent_core.specs.Fed.{IsFed}
 use Rattle.agent_core.specs.Health.{health_refusal}
 use Rattle.agent_core.specs.Kept.{onto}
 use Rattle.agent_core.specs.Stands.{StandsForFront, StandsForHealth, StandsForHistory, StandsForNew, StandsForOneOf}
-use Rattle.agent_core.specs.Notes.{HasNotes}
+use Rattle.agent_core.specs.Notes.{NotesGo}
 use Rattle.agent_core.specs.Roles.{child_in, copies}
 use Rattle.agent_core.specs.Rules.{beat_refusal, count_with, history_with, last_with, line_refusal}
 use Rattle.agent_core.specs.Said.{Answers, IsSaid, TellsEvents}
@@ -115,7 +115,7 @@ pub record Logs (agent : AgentState) (result : Result Log AgentFault) : Type 0 w
   pub dropped : IfOk result (λ log. (past : List Event) (set : Settings) (h : List Beat) → IsAgentOf past agent set h → log.dropped ≡ (log_at set h).dropped)
   pub events : IfOk result (λ log. (past : List Event) (set : Settings) (h : List Beat) → IsAgentOf past agent set h → log.events ≡ (log_at set h).events)
   pub reopens : Reopens agent.fault result
-  pub faults : IfErr result IsLogging
+  pub faults : IfErr result IsReading
 
 -- each file reads as before, and whatever a crash leaves, it might have left before
 pub record ReadsAsBefore (old new : List Event) : Type 0 where
@@ -170,9 +170,9 @@ pub record Opens (honest : Type 0) (host : Seen) (result : Result AgentState Age
   pub first : (part other : ℕ) → IsErrOf result (Damaged part) → honest → IsDamagedIn other (reads_as host.past) → other ≡ part
   pub made : (part : ℕ) → IsErrOf result (Damaged part) → honest → is_made (reads_as host.past) ≡ true
   -- what was opened goes on from beat to beat
-  pub notes : OnOk result (honest → HasNotes true (reads_as host.past))
+  pub notes : OnOk result (honest → NotesGo true (reads_as host.past))
   -- where the side is not good, a note is no entry that goes on, or a point is of a series that is not there
-  pub damaged_notes : IsErrOf result (Damaged 5) → honest → HasNotes true (reads_as host.past) → ⊥
+  pub damaged_notes : IsErrOf result (Damaged 5) → honest → NotesGo true (reads_as host.past) → ⊥
   pub faults : IfErr result IsOpening
   -- the disk fails exactly where the host counted a failure
   pub cause : HasCause host.disk_faults host'.disk_faults (IsErrOf result DiskFault)

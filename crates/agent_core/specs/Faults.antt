@@ -141,17 +141,6 @@ IsReading (Reopen cause) = Unit {0}
 IsReading Exists = ⊥
 IsReading Memory = Unit {0}
 
--- the faults of `log`
-abbrev pub IsLogging : AgentFault → Type 0
-IsLogging (Refused fault) = ⊥
-IsLogging (Health fault) = ⊥
-IsLogging DiskFault = ⊥
-IsLogging NotADatabase = ⊥
-IsLogging (Damaged part) = ⊥
-IsLogging (Reopen cause) = Unit {0}
-IsLogging Exists = ⊥
-IsLogging Memory = Unit {0}
-
 -- why what is stored is not replayed
 abbrev pub IsUnreplayed : AgentFault → Type 0
 IsUnreplayed fault = (fault ≡ Memory) ⊎ ((fault ≡ Damaged 4) ⊎ (fault ≡ Damaged 5))

@@ -152,7 +152,7 @@ abbrev pub notes_go_on : Stored → Bool
 notes_go_on stored = option_map_or (λ start. beats_go_on start stored.after) (noted_in_side stored.base.side) false
 
 -- the disk holds a database with what is stored, and whether the side and the notes of this go on
-pub record HasNotes (goes : Bool) (disk : File → List ℕ) : Type 0 where
+pub record NotesGo (goes : Bool) (disk : File → List ℕ) : Type 0 where
   pub stored : Stored
   pub stands : Stands stored disk
   pub notes : notes_go_on stored ≡ goes

@@ -26,7 +26,7 @@ ghost use Rattle.agent_core.specs.Faults.{fault_after, HealthRefusedBy, IsCreati
 ghost use Rattle.agent_core.specs.Health.{health_refusal};
 ghost use Rattle.agent_core.specs.Stands.{HoldsHistory, StandsForHealth, StandsForHistory, StandsForNew, StandsForOneOf};
 ghost use Rattle.agent_core.specs.Left.{AwaitsAlarms, IsLeftBy};
-ghost use Rattle.agent_core.specs.Notes.{notes_go_on, HasNotes};
+ghost use Rattle.agent_core.specs.Notes.{notes_go_on, NotesGo};
 ghost use Rattle.agent_core.specs.Replay.{HasReplayed, IsOpenedFor};
 ghost use Rattle.agent_core.specs.Roles.{copies};
 ghost use Rattle.agent_core.specs.Rules.{beat_refusal, HasLimits, IsOpenBeat};
@@ -226,9 +226,9 @@ impl Agent {
             → IsDamagedIn other (reads_as (H.seen host.old).past) → other ≡ part }
         ensures made { (part : ℕ) → IsErrOf result (AgentFault.Damaged part) → H.honest
             → is_made (reads_as (H.seen host.old).past) ≡ true }
-        ensures notes { OnOk result (H.honest → HasNotes true (reads_as (H.seen host.old).past)) }
+        ensures notes { OnOk result (H.honest → NotesGo true (reads_as (H.seen host.old).past)) }
         ensures damaged_notes { IsErrOf result (AgentFault.Damaged 5) → H.honest
-            → HasNotes true (reads_as (H.seen host.old).past) → ⊥ }
+            → NotesGo true (reads_as (H.seen host.old).past) → ⊥ }
         ensures faults { IfErr result IsOpening }
         ensures cause { HasCause (H.seen host.old).disk_faults (H.seen host.new).disk_faults
             (IsErrOf result AgentFault.DiskFault) }

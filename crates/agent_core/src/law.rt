@@ -35,7 +35,7 @@ ghost use Rattle.agent_core.specs.Stands.{StandsForHistory};
 ghost use Rattle.agent_core.specs.Answers.{floor_of_history, points_of_history, tier_beats};
 ghost use Rattle.agent_core.specs.Copies.{data_of_history, seen, seen_moment, span_of, IsCopyOfChild, IsTrueOfChild, SeenBeat};
 ghost use Rattle.agent_core.specs.Copying.{added_to, beats_of, copy_refusal};
-ghost use Rattle.agent_core.specs.Notes.{HasNotes};
+ghost use Rattle.agent_core.specs.Notes.{NotesGo};
 ghost use Rattle.agent_core.specs.Roles.{may_copy, role_of};
 ghost use Rattle.agent_core.specs.Rules.{beat_refusal, line_refusal};
 ghost use Rattle.agent_core.specs.Sound.{closed_by, history_after, history_by, tried_after};
@@ -65,11 +65,11 @@ pub fn accepted_text_keeps_the_rules()
 /// database is not damaged. It does nothing.
 pub fn history_notes_go_on()
     ensures history { (set : ASettings) (h : List Beat) (disk : AFile → List ℕ)
-        → StandsForHistory set h disk → HasNotes true disk }
-    ensures once { (disk : AFile → List ℕ) → HasNotes true disk → HasNotes false disk → ⊥ }
-    ensures records { (goes : Bool) (disk : AFile → List ℕ) → HasNotes goes disk → IsDamaged disk
+        → StandsForHistory set h disk → NotesGo true disk }
+    ensures once { (disk : AFile → List ℕ) → NotesGo true disk → NotesGo false disk → ⊥ }
+    ensures records { (goes : Bool) (disk : AFile → List ℕ) → NotesGo goes disk → IsDamaged disk
         → ⊥ }
-    ensures made { (goes : Bool) (disk : AFile → List ℕ) → HasNotes goes disk
+    ensures made { (goes : Bool) (disk : AFile → List ℕ) → NotesGo goes disk
         → is_made disk ≡ true }
 {}
 

@@ -1,6 +1,6 @@
 //! A child whose floor has risen, and a parent that has the first three of its beats.
 
-use super::ends::{Ending, NEW_CHILD, NEW_PARENT, RECEIVE, SEND, found, host_with, talk, told};
+use super::ends::{Ending, NEW_CHILD, RECEIVE, SEND, found, host_with, talk, told};
 use super::wire::{Message, Says, VALUE, WORD, bytes_of};
 use host_model::{File, Host, MemoryHost, Status};
 use std::alloc::{AllocError, Global};
@@ -75,9 +75,12 @@ pub fn child_at(alloc: Global, fails: &[u64], last: u32) -> Result<Option<Memory
     host_with(alloc, fails, NEW_CHILD, text.as_str())
 }
 
+/// A parent with four points in a segment: it makes a checkpoint within the second session.
+const PARENT: &[&str] = &["new", "8", "4", "2", "100", "1", "100", "1"];
+
 /// A parent that has heard the first message. None where that did not come about.
 pub fn parent_at_three(alloc: Global, fails: &[u64]) -> Result<Option<MemoryHost>, Fail> {
-    let Some(mut host) = host_with(alloc, fails, NEW_PARENT, "")? else {
+    let Some(mut host) = host_with(alloc, fails, PARENT, "")? else {
         return Ok(None);
     };
     let heard = bytes_of(alloc, &[Says::Hello(7), Says::Data(FIRST), Says::Bye(0)])?;
@@ -130,22 +133,11 @@ fn a_parent_keeps_the_loss_as_a_gap(rt: HostRuntime) -> Result<(), Fail> {
     Ok(())
 }
 
-/// A parent with four points in a segment, of which one is kept: it makes a checkpoint within the second session.
-const SMALL_PARENT: &[&str] = &["new", "8", "4", "1", "100", "1", "100", "1"];
-
-/// That parent, once it has heard both sessions.
-fn small_parent(alloc: Global) -> Result<MemoryHost, Fail> {
-    let mut host = found(host_with(alloc, &[], SMALL_PARENT, "")?)?;
-    let heard = bytes_of(alloc, &[Says::Hello(7), Says::Data(FIRST), Says::Bye(0)])?;
-    talk(alloc, &mut host, RECEIVE, heard.as_slice())?;
-    heard_at_three(alloc, &mut host)?;
-    Ok(host)
-}
-
 #[test]
 fn a_checkpoint_keeps_whom_a_parent_copies(rt: HostRuntime) -> Result<(), Fail> {
     let alloc = rt.alloc();
-    let mut parent = small_parent(alloc)?;
+    let mut parent = found(parent_at_three(alloc, &[])?)?;
+    heard_at_three(alloc, &mut parent)?;
     assert!(rt; parent.len(File::JournalB)? > 17);
     let heard = bytes_of(alloc, &[Says::Hello(7), Says::Bye(0)])?;
     let end = talk(alloc, &mut parent, RECEIVE, heard.as_slice())?;

@@ -9,7 +9,7 @@ use std::alloc::{AllocError, Global};
 use std::test::Fail;
 
 /// More calls on the host than a parent makes up to the end of the session.
-const CALLS: u64 = 150;
+const CALLS: u64 = 200;
 
 /// The moments of the child's first twelve beats that a parent may have.
 static MOMENTS: [u32; 7] = [1, 2, 3, 9, 10, 11, 12];
@@ -162,10 +162,40 @@ fn first_unsound(alloc: Global, keep: Keep) -> Result<Option<(u64, &'static str)
 
 #[test]
 fn a_parent_after_a_stop(rt: HostRuntime) -> Result<(), Fail> {
-    for keep in [Keep::All, Keep::Fill(255)] {
+    for keep in [Keep::All, Keep::None, Keep::Fill(255)] {
         let unsound = first_unsound(rt.alloc(), keep)?;
         assert_eq!(rt; unsound, None, "with {keep:?}");
     }
+    Ok(())
+}
+
+/// How the session ends where this call on the host is refused. None where it is one of an earlier
+/// command.
+fn status_at(alloc: Global, fails: u64) -> Result<Option<Status>, Fail> {
+    let Some(mut parent) = parent_at_three(alloc, &[fails])? else {
+        return Ok(None);
+    };
+    let session = second_session(alloc)?;
+    let end = talk(alloc, &mut parent, RECEIVE, session.as_slice())?;
+    Ok(Some(end.status))
+}
+
+/// How many calls of the session fail for the disk where they are refused.
+fn failing_calls(alloc: Global) -> Result<u64, Fail> {
+    let mut count = 0u64;
+    for fails in 0..CALLS {
+        if status_at(alloc, fails)? == Some(Status::DiskFault) {
+            count = count.saturating_add(1);
+        }
+    }
+    Ok(count)
+}
+
+#[test]
+fn the_calls_of_a_session_are_refused(rt: HostRuntime) -> Result<(), Fail> {
+    let failing = failing_calls(rt.alloc())?;
+    assert!(rt; failing >= 12, "{failing} calls");
+    assert_eq!(rt; status_at(rt.alloc(), CALLS - 1)?, Some(Status::Ok));
     Ok(())
 }
 
