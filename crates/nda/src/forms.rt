@@ -21,7 +21,7 @@ usage: nda COMMAND
   nda send ADDRESS
       sends copies of the points here to the parent at ADDRESS: nda send parent.example.org:19999
   nda convert
-      prints the points of the text on standard input, a line MOMENT CHART DIMENSION VALUE for each
+      prints a text's points, a line MOMENT CHART DIMENSION VALUE for each: nda convert < text
   nda --help, nda --version
       prints this, or the version
 
