@@ -1,17 +1,16 @@
 -- What a store has applied for a history gives the answers of the history.
-use Rattle.std.proofs.Common.{◌≡◌, ℕ, nat_eq, Bool, true, false, cond, List, [], ◌∷◌, map, reverse, Option, Some, None, Result, Ok, Err, refl, sym, ap, subst, ◌∙◌}
+use Rattle.std.proofs.Common.{◌≡◌, ℕ, nat_eq, Bool, true, false, cond, List, [], ◌∷◌, map, reverse, Option, Some, None, Result, Ok, Err, refl, sym, ap, ◌∙◌}
 use Rattle.std.specs.List.{cons_option, find}
 use Rattle.std.specs.Option.{option_map, option_map_or, unwrap_or}
 use Rattle.std.proofs.lemmas.Option.{none-some}
 use Rattle.algorithms.specs.Words.{packed}
-use Rattle.host_model.specs.Past.{Event}
 use Rattle.history.specs.History.{Beat, collected, copied, health, missing, registry_of}
 use Rattle.history.specs.Points.{points, Point as HistoryPoint}
 use Rattle.history.specs.Registry.{Registry}
 use Rattle.beat_points.specs.Points.{beat_points}
 use Rattle.beat_points.proofs.LawLemmas.{points-of_beat}
 use Rattle.beat_tiers.specs.declared.item.BeatPoint.{BeatPoint}
-use Rattle.beat_tiers.specs.Beats.{TierBeat, is_series, series_points}
+use Rattle.beat_tiers.specs.Beats.{is_series, series_points}
 use Rattle.tier_rollup.specs.declared.point.Point.{Point}
 use Rattle.query_engine.specs.declared.request.Request.{Request}
 use Rattle.query_engine.specs.Windows.{table_of}

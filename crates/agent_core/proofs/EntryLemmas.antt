@@ -1,9 +1,8 @@
 -- The entry of a copied beat is short, and has a spelling.
-use Rattle.std.proofs.Common.{◌≡◌, ℕ, ◌+◌, ◌*◌, ◌≤◌, ◌<◌, ◌^◌, true, ◌&&◌, nat_le, nat_lt, List, [], ◌∷◌, length, map, All, refl, ap, ◌∙◌, arith, length-append, lt-ltb}
-use Rattle.std.specs.List.{flat_map, list_all, AllByRecursion}
+use Rattle.std.proofs.Common.{◌≡◌, ℕ, ◌≤◌, ◌<◌, ◌^◌, true, ◌&&◌, nat_le, nat_lt, List, [], ◌∷◌, length, map, All, refl, ap, ◌∙◌, arith, length-append, lt-ltb}
+use Rattle.std.specs.List.{list_all, AllByRecursion}
 use Rattle.std.proofs.lemmas.Bool.{and_from, and_parts}
 use Rattle.std.proofs.lemmas.List.{length-map}
-use Rattle.std.proofs.lemmas.List.Concat.{flat_map-cons}
 use Rattle.std.proofs.lemmas.List.Elements.{recursion_from_All}
 use Rattle.history.specs.declared.chart.ChartDef.{ChartDef}
 use Rattle.history.specs.declared.dimension.DimDef.{DimDef}
@@ -14,7 +13,6 @@ use Rattle.history.specs.declared.row.Row.{Row}
 use Rattle.history.specs.declared.numbered.NumberedBeat.{NumberedBeat}
 use Rattle.history.specs.declared.numbered.NumberedChart.{NumberedChart}
 use Rattle.history.specs.declared.numbered.NumberedDimension.{NumberedDimension}
-use Rattle.field_codec.specs.Spelling.{list_bytes, u32_bytes}
 use Rattle.field_codec.proofs.Lengths.{items-length, length-flag_bytes, length-list_bytes, length-text_bytes, length-u32_bytes, length-u64_bytes}
 use Rattle.entry_codec.specs.declared.charts.CopiedChart.{CopiedChart}
 use Rattle.entry_codec.specs.declared.dimensions.CopiedDimension.{CopiedDimension}

@@ -1,20 +1,16 @@
 -- What a store keeps of a history: the points of a beat rise by series, and their words are storage numbers.
-use Rattle.std.proofs.Common.{◌≡◌, ◌*ℤ◌, ℕ, zero, suc, ◌+◌, ◌<◌, ◌≤◌, Bool, true, false, ◌&&◌, List, [], ◌∷◌, map, Option, Some, None, IfSome, ℤ, pos, negsuc, refl, sym, ap, ◌∙◌, subst, arith, rules}
-use Rattle.std.proofs.Math.IntN.{neg_ℤ}
+use Rattle.std.proofs.Common.{◌≡◌, ℕ, ◌+◌, ◌<◌, ◌≤◌, Bool, true, ◌&&◌, List, [], ◌∷◌, map, Option, Some, None, refl, sym, ap, ◌∙◌, subst, arith}
 use Rattle.std.specs.List.{cons_option, enumerate_from, filter_map, find, list_all, AllByRecursion}
 use Rattle.std.specs.Option.{option_and_then, option_map}
 use Rattle.std.proofs.lemmas.Bool.{and_from, and_parts, lt-ltb}
 use Rattle.storage_number.specs.Word.{is_word}
-use Rattle.storage_number.proofs.Laws.{packed_is_word}
 use Rattle.algorithms.specs.Words.{packed}
 use Rattle.history.specs.declared.beat.OpenBeat.{OpenBeat}
 use Rattle.history.specs.declared.beat.OpenDim.{OpenDim}
 use Rattle.history.specs.declared.beat.OpenRow.{OpenRow}
 use Rattle.history.specs.declared.chart.ChartDef.{ChartDef}
-use Rattle.history.specs.declared.dimension.Algorithm.{Algorithm}
-use Rattle.history.specs.declared.dimension.Algorithm.TheVariants.{Absolute, Incremental, PercentageOfAbsoluteRow, PercentageOfIncrementalRow}
 use Rattle.history.specs.History.{Beat, collected, copied, health, missing, registry_of, Copy, Word}
-use Rattle.history.specs.Points.{cell_in, cells_of, difference, is_reset, ratio, rise, row_of, total, total_difference, word_at, word_by, Before, Cell}
+use Rattle.history.specs.Points.{cell_in, cells_of, row_of, total, total_difference, word_at, word_by, Cell}
 use Rattle.history.specs.Registry.{Registry, is_chart}
 use Rattle.beat_points.specs.declared.series_word.SeriesWord.{SeriesWord}
 use Rattle.beat_points.specs.Points.{beat_points}

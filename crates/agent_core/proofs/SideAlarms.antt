@@ -4,10 +4,7 @@ use Rattle.std.proofs.lemmas.Option.{none-some}
 use Rattle.health_config.specs.declared.fault.ConfigFault.{ConfigFault}
 use Rattle.health_config.specs.Config.{config_read, Configuration}
 use Rattle.history.specs.History.{Beat, collected, copied, health, missing, last, registry_of}
-use Rattle.health_config.specs.Entity.{Alarm}
-use Rattle.history.specs.Registry.{empty, Registry}
-use Rattle.alarm_core.specs.Beats.{Beat as AlarmBeat}
-use Rattle.alarm_core.specs.Course.{configured, nothing, stepped_by, Held}
+use Rattle.history.specs.Registry.{empty}
 use Rattle.alarm_core.specs.Kept.{kept, of_kept}
 use Rattle.alarm_core.specs.Whole.{IsTextOf, IsWhole}
 use Rattle.alarm_core.proofs.AgainLemmas.{kept_again, whole_configured, whole_nothing, whole_stepped}

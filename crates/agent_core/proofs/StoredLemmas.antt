@@ -1,5 +1,5 @@
 -- What a store has stored for a history: nothing, one beat more, the next base, and what is known of the history by it.
-use Rattle.std.proofs.Common.{◌≡◌, ℕ, zero, suc, ◌+◌, Bool, true, false, cond, List, [], ◌∷◌, ◌++◌, length, map, refl, sym, ap, ◌∙◌, subst, arith}
+use Rattle.std.proofs.Common.{◌≡◌, ℕ, suc, ◌+◌, Bool, true, false, cond, List, [], ◌∷◌, ◌++◌, length, map, refl, sym, ap, ◌∙◌, subst, arith}
 use Rattle.host_model.specs.Past.{Event}
 use Rattle.history.specs.History.{Beat, collected, copied, health, missing, last}
 use Rattle.beat_tiers.specs.Beats.{TierBeat}

@@ -1,5 +1,5 @@
 -- How a store keeps the beats of a history. A history has its newest beat first, and so has the store.
-use Rattle.std.specs.Prelude.{◌≡◌, ℕ, ◌<◌, true, List, [], ◌∷◌, map, find, slice_get, Option, Some, None, is_some}
+use Rattle.std.specs.Prelude.{◌≡◌, ℕ, ◌<◌, true, List, [], ◌∷◌, map, find, slice_get, Some, None, is_some}
 use Rattle.std.specs.Option.{option_map_or, option_and_then}
 use Rattle.history.specs.declared.beat.OpenBeat.{OpenBeat}
 use Rattle.history.specs.declared.beat.OpenDim.{OpenDim}
