@@ -33,10 +33,10 @@ use Rattle.link_session.specs.declared.fault.SessionFault.TheVariants as session
 use Rattle.link_session.specs.Exchange.{SessionResult}
 use Rattle.link_session.specs.Keeps.{Extends, IsAckedUpTo, Keeps, no_more}
 use Rattle.link_session.specs.Parent.{parent_begins, parent_does}
-use Rattle.link_session.specs.Receiving.{keeps_all, AreTrueOf, Copies, ReceivesHistory}
+use Rattle.link_session.specs.Receiving.{keeps_all, AnswersStored, AreTrueOf, Copies, ReceivesHistory}
 use Rattle.link_session.specs.Session.{says_all, IsEndFor, LinkSeen}
 use Rattle.link_session.proofs.AckLemmas.{acked-more, acked-since, acked-weaker}
-use Rattle.link_session.proofs.LinkLemmas.{sends-nothing}
+use Rattle.link_session.proofs.LinkLemmas.{all-sends, sends-nothing}
 use Rattle.link_session.proofs.ExtendsLemmas.{extends-further, extends-length}
 use Rattle.link_session.proofs.CopyLemmas.{stops-copy}
 use Rattle.link_session.proofs.StoreLemmas.{keeps-more, stands-all}
@@ -313,6 +313,33 @@ module _ (honest : Type 0) (host : Seen) (agent : AgentState) (middle : Seen) (o
         let cut = (receives.copies h set h0 is-of).exchanges.cut in
         stops-copy set floors child rises h0 taken start new (subst (AllByRecursion HasSpelling) (sym cut.handed) cut.frames) truth copy held
 
+    -- what was said answers frames of which all was stored and told, also where more was told behind
+    abbrev Heard : List Event → Type 0
+    Heard new = AnswersStored set h0 taken (receives.copies h set h0 is-of).exchanges.broken start new link.sent link'.sent
+
+    heard-behind : (new : List Event) (text : List ℕ) → told new ≡ told late.past ++ text → EveryDisk (IsDisk late.past) new → Heard new
+    heard-behind new text says disks =
+        let heard = (receives.copies h set h0 is-of).heard in
+        let answered = (done_with set h0 (take heard.n taken)).told in
+        record {
+          n = heard.n;
+          all = heard.all;
+          says = heard.says;
+          stored = record {
+            more = heard.stored.more ++ text;
+            tells =
+                says ∙ ap (λ (t : List ℕ). t ++ text) (heard.stored.tells ∙ ap (λ (t : List ℕ). t ++ (answered ++ heard.stored.more)) silent)
+                ∙ append_assoc (told start) (answered ++ heard.stored.more) text ∙ ap (λ (t : List ℕ). told start ++ t) (append_assoc answered heard.stored.more text);
+            stands = λ disk images. heard.stored.stands disk (disks disk images);
+          };
+        }
+
+    heard-same : (new : List Event) → new ≡ late.past → Heard new
+    heard-same new same = heard-behind new [] (ap told same ∙ sym (append-nil (told late.past))) (λ disk images. subst (λ (p : List Event). IsDisk p disk) same images)
+
+    heard-told : (new : List Event) (text : List ℕ) → new ≡ Told text ∷ late.past → Heard new
+    heard-told new text added = heard-behind new text (ap told added) (λ disk images. subst (λ (p : List Event). IsDisk p disk) added images)
+
     -- nothing was told behind
     quiet-receives : is_refused result ≡ false → Receives (session_status result) set h0 link link' start late.past
     quiet-receives other =
@@ -321,6 +348,7 @@ module _ (honest : Type 0) (host : Seen) (agent : AgentState) (middle : Seen) (o
           result = result;
           ends_as = quiet-ends result other;
           exchanges = copies.exchanges;
+          heard = heard-same late.past refl;
           stops = stops;
           ends = λ all. copies.ends (whole-keeps result all);
           output = record {
@@ -385,11 +413,12 @@ module _ (honest : Type 0) (host : Seen) (agent : AgentState) (middle : Seen) (o
 
       -- of a session that ended so
       ended-so : (s : Status) (new : List Event) → (s ≡ refusal_status 0 (refusal.Block why)) ⊎ (s ≡ status.TellFault) ⊎ (s ≡ status.Memory) → Throughout Kept start new → (is_whole s ≡ true → EveryDisk (StandsForHistory set whole) new)
-          → (sent unsent : List ℕ) → made ++ last ≡ sent ++ unsent → told new ≡ told start ++ sent → (is_whole s ≡ true → unsent ≡ []) → Receives s set h0 link link' start new
-      ended-so s new which held all sent unsent output says complete = record {
+          → Heard new → (sent unsent : List ℕ) → made ++ last ≡ sent ++ unsent → told new ≡ told start ++ sent → (is_whole s ≡ true → unsent ≡ []) → Receives s set h0 link link' start new
+      ended-so s new which held all heard sent unsent output says complete = record {
         result = result;
         ends_as = subst (λ (r : SessionResult). EndsAs r s) (sym is) which;
         exchanges = (receives.copies h set h0 is-of).exchanges;
+        heard = heard;
         stops = held;
         ends = all;
         output = record { sent = sent; unsent = unsent; whole = output-is ∙ output; tells = says; all = complete };
@@ -407,19 +436,19 @@ module _ (honest : Type 0) (host : Seen) (agent : AgentState) (middle : Seen) (o
 
           torn-by : s ≡ status.TellFault → MayAdd (λ (n : ℕ). Told (take n last)) late.past host'.past → Receives s set h0 link link' start host'.past
           torn-by told-not (inl same) =
-              ended-so s host'.past which (torn-stops host'.past (inl same)) (cut s (ap is_whole told-not)) made last refl (ap told same ∙ told-all) (cut s (ap is_whole told-not))
+              ended-so s host'.past which (torn-stops host'.past (inl same)) (cut s (ap is_whole told-not)) (heard-same host'.past same) made last refl (ap told same ∙ told-all) (cut s (ap is_whole told-not))
           torn-by told-not (inr (n, added)) =
-              ended-so s host'.past which (torn-stops host'.past (inr (n, added))) (cut s (ap is_whole told-not)) (made ++ take n last) (drop n last)
+              ended-so s host'.past which (torn-stops host'.past (inr (n, added))) (cut s (ap is_whole told-not)) (heard-told host'.past (take n last) added) (made ++ take n last) (drop n last)
               (ap (λ (t : List ℕ). made ++ t) (sym (take-append-drop n last)) ∙ sym (append_assoc made (take n last) (drop n last)))
               (ap told added ∙ ap (λ (t : List ℕ). t ++ take n last) told-all ∙ append_assoc (told start) made (take n last)) (cut s (ap is_whole told-not))
 
           by : TellsRefusal s honest 0 (refusal.Block why) late.past host'.past (TellRose late host') → Receives s set h0 link link' start host'.past
           by (inl (is-status, done)) =
-              ended-so s host'.past which (told-stops host'.past (done h)) (λ all. subst (λ (p : List Event). EveryDisk (StandsForHistory set whole) p) (sym (done h)) stands) (made ++ last) [] (sym (append-nil (made ++ last)))
+              ended-so s host'.past which (told-stops host'.past (done h)) (λ all. subst (λ (p : List Event). EveryDisk (StandsForHistory set whole) p) (sym (done h)) stands) (heard-told host'.past last (done h)) (made ++ last) [] (sym (append-nil (made ++ last)))
               (ap told (done h) ∙ ap (λ (t : List ℕ). t ++ last) told-all ∙ append_assoc (told start) made last) (λ all. refl)
           by (inr (inl (told-not, rose, torn))) = torn-by told-not (torn h)
           by (inr (inr (no-memory, same))) =
-              ended-so s host'.past which (torn-stops host'.past (inl same)) (cut s (ap is_whole no-memory)) made last refl (ap told same ∙ told-all) (cut s (ap is_whole no-memory))
+              ended-so s host'.past which (torn-stops host'.past (inl same)) (cut s (ap is_whole no-memory)) (heard-same host'.past same) made last refl (ap told same ∙ told-all) (cut s (ap is_whole no-memory))
 
     since : (s : Status) (host' : Seen) → Closes honest result s late host' → Receives s set h0 link link' start host'.past
     since s host' closed = by (ends-so result)
@@ -567,6 +596,16 @@ module _ (honest : Type 0) (host host' : Seen) (first : honest → IsDisk host.p
       breaks = tt;
       says = record { said = []; unsaid = []; whole = refl; sends = sends-nothing link.sent; complete = λ all. refl };
       why = end;
+    };
+    heard = record {
+      n = 0;
+      all = tt;
+      says = all-sends [] link.sent link.sent (sends-nothing link.sent);
+      stored = record {
+        more = [];
+        tells = (opens.only_here h).output ∙ sym (append-nil (told host.past));
+        stands = λ disk images. (h0, no_more, stands disk (at_end (opens.any_moment h) disk images));
+      };
     };
     stops = opening-stops set h0 host.past host'.past stands (opens.only_here h).output (opens.any_moment h);
     ends = λ all. absurd (true≢false (sym all ∙ short));

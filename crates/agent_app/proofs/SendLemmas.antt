@@ -152,6 +152,7 @@ module _ (honest : Type 0) (host : Seen) (agent : AgentState) (middle : Seen) (o
         status_is = refl;
         exchanges = sends.exchanges h set g is-of;
         stands = subst (λ (p : List Event). EveryDisk (StandsForHistory set g) p) (sym (quiet h)) (stands-all middle.past agent set g is-of);
+        unspent = sent-unstored result sends.faults;
       }
 
   link-cause : HasCause link.faults link'.faults (session_status result ≡ status.LinkFault)
@@ -178,6 +179,7 @@ module _ (honest : Type 0) (host : Seen) (agent : AgentState) (middle : Seen) (o
     input = (id_of agent, inl (result, refl, sends.taking));
     leaves = λ none. absurd (found none);
     untaken = λ h none. absurd (none (opens.notes h));
+    unspent = λ is. absurd (sent-unstored result sends.faults is);
     link_cause = link-cause;
     disk_cause = disk-cause;
   }
@@ -207,6 +209,7 @@ module _ (honest : Type 0) (host host' : Seen) (first : honest → IsDisk host.p
     input = (0, inr (opening-none why, refl));
     leaves = λ none. refl;
     untaken = λ h none. refl;
+    unspent = λ is. refl;
     link_cause = unsent-link;
     disk_cause = unsent-disk;
   }

@@ -22,7 +22,7 @@ use Rattle.link_session.specs.declared.fault.SessionFault.TheVariants as session
 use Rattle.link_session.specs.Exchange.{exchange, Course, SessionResult}
 use Rattle.link_session.specs.Keeps.{Keeps}
 use Rattle.link_session.specs.Parent.{parent_begins, parent_does, Parent}
-use Rattle.link_session.specs.Receiving.{AreTrueOf}
+use Rattle.link_session.specs.Receiving.{AnswersStored, AreTrueOf}
 use Rattle.link_session.specs.Session.{Exchanges, LinkSeen}
 use Rattle.link_session.specs.Taking.{ParentEndsAt}
 use Rattle.agent_app.specs.Convert.{refusal_line, refusal_status}
@@ -84,6 +84,8 @@ pub record Receives (status : Status) (set : Settings) (h0 : List Beat) (link li
   -- It did what a parent does with the frames in the bytes that it took. A prefix of what that says was sent, and all of it
   -- unless the output, the disk, the link or memory failed; and that is why it ended.
   pub exchanges : Exchanges (parent_does set) (parent_begins h0) result link link'
+  -- what was said answers frames of which all was stored and told: no Have stands for beats that are not on the disk
+  pub heard : AnswersStored set h0 exchanges.frames exchanges.broken old new link.sent link'.sent
   -- at every moment a crash leaves the history with a prefix of the beats, and with every beat that was acknowledged
   pub stops : Throughout (EveryStop (Keeps set h0 (done_with set h0 exchanges.frames).now.history (told old))) old new
   -- at the end all of them, unless the output, the disk or memory failed

@@ -38,6 +38,8 @@ pub record Sends (status : Status) (set : Settings) (h : List Beat) (link link' 
   pub exchanges : Exchanges (child_does set.id (data_of_history set h)) (child_begins set.id) result link link'
   -- at the end that history is all that a crash leaves
   pub stands : EveryDisk (StandsForHistory set h) new
+  -- no failure of the disk ends a session
+  pub unspent : status ≡ DiskFault → ⊥
 
 -- `send` ended with this status, and left the link and the host so
 pub record SendsAll (honest : Type 0) (status : Status) (link link' : LinkSeen) (host host' : Seen) : Type 0 where
@@ -54,11 +56,13 @@ pub record SendsAll (honest : Type 0) (status : Status) (link link' : LinkSeen) 
   pub finds : Finds honest status host
   -- whatever the host tells, these are the statuses
   pub statuses : (ends_a_send status ≡ true) ⊎ (finds_none status ≡ true)
-  -- no more is taken of the link than a session may take; the id is the database's own
+  -- no more is taken of the link than a session may take; some id is that of the child
   pub input : (id : ℕ) × TakesSession (λ ended before f. ChildEndsAt id ended f) (λ result s. s ≡ session_status result) status link link'
   -- where no database can be opened nobody is spoken to, whatever status it ended with
   pub leaves : finds_none status ≡ true → link' ≡ link
   pub untaken : honest → (NotesGo true (reads_as host.past) → ⊥) → link' ≡ link
+  -- whatever the host tells, a failure of the disk comes before anything is said
+  pub unspent : status ≡ DiskFault → link' ≡ link
   -- each part of the outside counts a failure exactly where that is why it ended
   pub link_cause : HasCause link.faults link'.faults (status ≡ LinkFault)
   pub disk_cause : HasCause host.disk_faults host'.disk_faults (status ≡ DiskFault)
