@@ -1,8 +1,7 @@
-//! What a crash leaves of a collector's beats, with each call on the host refused in turn, and how a collector goes on
-//! behind it. The calls of the spawner are refused in turn too.
+//! A collector each of whose calls on the host, and on the spawner, is refused in turn.
 
 use crate::run::{Ending, call_main, calls, host_of, run_over, told_since};
-use host_model::{CallList, Keep, MemoryHost, MemorySource, MemorySpawner, Status};
+use host_model::{CallList, MemoryHost, MemorySource, MemorySpawner, Status};
 use std::alloc::{AllocError, Global};
 use std::fmt::Write;
 use std::test::Fail;
@@ -77,74 +76,6 @@ fn beats_there(alloc: Global, host: &mut MemoryHost) -> Result<Option<usize>, Fa
         }
     }
     Ok(None)
-}
-
-/// Whether all beats that were told of are there, and at most one more.
-fn is_told(alloc: Global, beats: usize, told: &str) -> Result<bool, AllocError> {
-    let all = stored(alloc, 0, beats)?;
-    let but_one = stored(alloc, 0, beats.saturating_sub(1))?;
-    Ok(told == all.as_str() || told == but_one.as_str())
-}
-
-/// Whether one child more is collected behind so many beats.
-fn goes_on(alloc: Global, host: &mut MemoryHost, beats: usize) -> Result<bool, Fail> {
-    let end = collect(alloc, host, 1, &[])?;
-    let told = stored(alloc, beats, beats.saturating_add(1))?;
-    Ok(end.status == Status::Ok && end.told.as_str() == told.as_str())
-}
-
-/// Whether a collector that ended so may have left this, where the database had been made.
-fn is_left(alloc: Global, host: &mut MemoryHost, end: &Ending) -> Result<bool, Fail> {
-    match beats_there(alloc, host)? {
-        Some(beats) => Ok(
-            is_told(alloc, beats, end.told.as_str())? && goes_on(alloc, host, beats)?,
-        ),
-        None => Ok(false),
-    }
-}
-
-/// Whether the call with this number, refused before a crash, leaves what it may.
-fn is_sound_at(alloc: Global, fails: u64, keep: Keep) -> Result<bool, Fail> {
-    let mut host = host_of(alloc, &[fails])?;
-    let made = run_over(alloc, &mut host, &["new", "7"], b"", &[])?.status;
-    let end = collect(alloc, &mut host, CHILDREN, &[])?;
-    let mut host = host.stop(keep)?;
-    match (made, end.status) {
-        (Status::Ok, Status::Ok | Status::DiskFault | Status::TellFault) => {
-            is_left(alloc, &mut host, &end)
-        }
-        (Status::DiskFault, Status::NotADatabase) => Ok(end.told.as_str() == ""),
-        (Status::DiskFault, Status::Ok) => is_left(alloc, &mut host, &end),
-        _ => Ok(false),
-    }
-}
-
-/// The first of the calls whose refusal and a crash leave what they may not.
-fn first_unsound(alloc: Global, keep: Keep) -> Result<Option<u64>, Fail> {
-    for fails in 0..CALLS {
-        if !is_sound_at(alloc, fails, keep)? {
-            return Ok(Some(fails));
-        }
-    }
-    Ok(None)
-}
-
-#[test]
-fn collected_beats_after_a_crash_that_keeps_all(rt: HostRuntime) -> Result<(), Fail> {
-    assert_eq!(rt; first_unsound(rt.alloc(), Keep::All)?, None);
-    Ok(())
-}
-
-#[test]
-fn collected_beats_after_a_crash_that_keeps_none(rt: HostRuntime) -> Result<(), Fail> {
-    assert_eq!(rt; first_unsound(rt.alloc(), Keep::None)?, None);
-    Ok(())
-}
-
-#[test]
-fn collected_beats_after_a_crash_that_fills(rt: HostRuntime) -> Result<(), Fail> {
-    assert_eq!(rt; first_unsound(rt.alloc(), Keep::Fill(255))?, None);
-    Ok(())
 }
 
 /// How a collector of a new database ends where this call on the host is refused, and whether it tells of each beat.
