@@ -165,10 +165,10 @@ fn a_source_that_fails_behind_a_beat(rt: HostRuntime) -> Result<(), Fail> {
     Ok(())
 }
 
-/// A database whose segments have one item each: a beat behind one with a point makes a checkpoint first, and at 60 one
-/// has a record of minutes, too.
+/// A database whose segments have two points, or one record: the beat behind the moment 60 makes a checkpoint first, with
+/// an extent of points and one of minutes.
 const MAKE_SMALL: Step = (
-    &["new", "7", "1", "1", "1", "1", "1", "1"],
+    &["new", "7", "2", "1", "1", "1", "1", "1"],
     "",
     "",
     Status::Ok,
