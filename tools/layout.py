@@ -637,7 +637,7 @@ class Collecting(Database):
             return None
         rise = value - (last["value"] if last else 0)
         is_reset = rise < 0 and not self.side["dimensions"][series]["marks"] & 2
-        return 0 if is_reset else rise, moment - last["moment"] if last else chart["update_every"], is_reset
+        return max(rise, 0), moment - last["moment"] if last else chart["update_every"], is_reset
 
 
 class Copying(Database):
