@@ -1,5 +1,5 @@
-//! The tests of `agent_core` over its public calls, and tests only: what an agent answers and leaves, over hosts in
-//! memory that fail at chosen calls and crash.
+//! The tests of which databases an agent opens, and tests only: bytes by hand of their sides, notes and journals, on a
+//! host in memory.
 #![tactic(auto)]
 
 #[cfg(test)]

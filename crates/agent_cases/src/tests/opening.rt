@@ -141,6 +141,19 @@ fn a_note_that_is_no_entry_is_damage(rt: HostRuntime) -> Result<(), Fail> {
 }
 
 #[test]
+fn a_journal_that_is_changed_is_damage(rt: HostRuntime) -> Result<(), Fail> {
+    let alloc = rt.alloc();
+    let mut host = host_of(alloc, &[])?;
+    note(alloc, &mut host, EMPTY.as_slice(), &[])?;
+    host.write_at(File::JournalA, 0, b"\xff")?;
+    assert_eq!(rt;
+        opened(alloc, &mut host).err(),
+        Some(AgentFault::Damaged(4))
+    );
+    Ok(())
+}
+
+#[test]
 fn a_chart_whose_id_has_no_dot_is_damage(rt: HostRuntime) -> Result<(), Fail> {
     let alloc = rt.alloc();
     // The entry of a beat at 60 that defines the chart a.b, and the same of a_b.
@@ -175,15 +188,8 @@ fn copying(alloc: Global, copy: &[u8], points: &[BeatPoint]) -> Result<MemoryHos
     Ok(host)
 }
 
-/// What the agent that copies answers to a beat that is handed in.
-fn mixed<H: Host>(alloc: Global, host: &mut H) -> Result<Option<AgentFault>, AgentFault> {
-    let mut taking = open(alloc, host)?;
-    let answer = hand_in(alloc, &mut taking, host, "a", 62);
-    Ok(answer.err())
-}
-
 #[test]
-fn a_database_of_copies_opens_and_collects_nothing(rt: HostRuntime) -> Result<(), Fail> {
+fn a_database_of_copies_opens(rt: HostRuntime) -> Result<(), Fail> {
     let alloc = rt.alloc();
     let mut host = copying(alloc, COPY.as_slice(), &[point(0)])?;
     let two = Seen {
@@ -194,8 +200,6 @@ fn a_database_of_copies_opens_and_collects_nothing(rt: HostRuntime) -> Result<()
         dimensions: 1,
     };
     assert_eq!(rt; opened(alloc, &mut host)?, two);
-    let refused = AgentFault::Refused(BlockFault::MixedRoles);
-    assert_eq!(rt; mixed(alloc, &mut host)?, Some(refused));
     Ok(())
 }
 
