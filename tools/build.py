@@ -87,7 +87,7 @@ def build(running):
 def main():
     signal.signal(signal.SIGTERM, lambda *_: sys.exit(128 + signal.SIGTERM))
     lanes = max(1, min(os.cpu_count() or 1, free_memory() // MEMORY_OF_A_CHECK))
-    tell(f"{number_of_crates()} crates are to be proved, {lanes} at a time; the first time takes about an hour on four processors."
+    tell(f"{number_of_crates()} crates are to be proved, {lanes} at a time; the first time may take an hour or more."
          " Ctrl-C stops it, and the next ./nda goes on from there.")
     running = []
     try:
