@@ -7,7 +7,7 @@ use Rattle.host_model.specs.declared.status.Status.{Status}
 use Rattle.host_model.specs.declared.status.Status.TheVariants as status
 use Rattle.host_model.specs.Disks.{EveryDisk, reads_as}
 use Rattle.host_model.specs.Images.{contents, Change, IsImage}
-use Rattle.host_model.specs.Moments.{EveryStop, Throughout, begins}
+use Rattle.host_model.specs.Moments.{EveryCrash, Throughout, begins}
 use Rattle.host_model.specs.Past.{Event, Told, told, of, IsDisk, IsText, MayAdd}
 use Rattle.host_model.specs.Seen.{Seen}
 use Rattle.host_model.proofs.DiskLemmas.{untold}
@@ -25,7 +25,7 @@ use Rattle.agent_core.specs.Calls.{Logs, Opens, Queries}
 use Rattle.agent_core.specs.Faults.{IsReading, Reopens, ReopensWith}
 use Rattle.agent_core.specs.Stands.{StandsForHistory}
 use Rattle.store_core.specs.declared.fault.Why.{Why}
-use Rattle.link_session.proofs.AckLemmas.{text-front}
+use Rattle.link_session.proofs.AckLemmas.{text-prefix}
 use Rattle.link_session.proofs.StoreLemmas.{stands-all}
 use Rattle.agent_app.specs.Convert.{LeavesDisk}
 use Rattle.agent_app.specs.declared.command.Form.{Form}
@@ -52,13 +52,13 @@ abbrev unanswered : AgentFault → Result (List ℕ) AgentFault
 unanswered why = Err why
 
 -- where nothing is told there is nothing to hold
-settled-yet : (set : Settings) (g : List Beat) (old new : List Event) → told new ≡ told old → Throughout (EveryDisk (IsDisk old)) old new → Throughout (EveryStop (IsSettled set g (told old))) old new
+settled-yet : (set : Settings) (g : List Beat) (old new : List Event) → told new ≡ told old → Throughout (EveryDisk (IsDisk old)) old new → Throughout (EveryCrash (IsSettled set g (told old))) old new
 settled-yet set g old new silent moments = untold silent shows moments
   where
     shows : (disk : File → List ℕ) (text : List ℕ) → IsDisk old disk → IsText old text → IsSettled set g (told old) disk text
     shows disk text images by_then more =
-        let front = text-front old text by_then in
-        absurd (omega (arith, more, ap length front.whole, length-append text front.more))
+        let prefix = text-prefix old text by_then in
+        absurd (omega (arith, more, ap length prefix.whole, length-append text prefix.more))
 
 -- ---- an agent that was asked
 module _ (honest : Type 0) (agent : AgentState) (answer : Settings → List Beat → List ℕ) (host : Seen) where
@@ -84,9 +84,9 @@ module _ (honest : Type 0) (agent : AgentState) (answer : Settings → List Beat
   module _ (middle : Seen) (quiet : honest → middle.past ≡ host.past) (untold : middle.tell_faults ≡ host.tell_faults) (unstored : middle.disk_faults ≡ host.disk_faults)
       (reply : List ℕ) (is-answer : (set : Settings) (g : List Beat) → IsAgentOf host.past agent set g → reply ≡ answer set g) (host' : Seen) (disk : host'.disk_faults ≡ middle.disk_faults) where
     -- a prefix of it was told
-    front : (s : Status) (sent unsent : List ℕ) → reply ≡ sent ++ unsent → (is_whole s ≡ true → unsent ≡ []) → told host'.past ≡ told middle.past ++ sent → honest
+    prefix : (s : Status) (sent unsent : List ℕ) → reply ≡ sent ++ unsent → (is_whole s ≡ true → unsent ≡ []) → told host'.past ≡ told middle.past ++ sent → honest
         → (set : Settings) (g : List Beat) → IsAgentOf host.past agent set g → TellsRun s (answer set g) host.past host'.past
-    front s sent unsent whole all tells h set g is_of = record {
+    prefix s sent unsent whole all tells h set g is_of = record {
       sent = sent;
       unsent = unsent;
       whole = sym (is-answer set g is_of) ∙ whole;
@@ -105,7 +105,7 @@ module _ (honest : Type 0) (agent : AgentState) (answer : Settings → List Beat
 
     answer-told : (honest → host'.past ≡ Told reply ∷ middle.past) → HasCause middle.tell_faults host'.tell_faults (status.Ok ≡ status.TellFault) → Answering honest agent answer status.Ok host host'
     answer-told done cause = record {
-      answered = λ h. front status.Ok reply [] (sym (append-nil reply)) (λ all. refl) (ap told (done h)) h;
+      answered = λ h. prefix status.Ok reply [] (sym (append-nil reply)) (λ all. refl) (ap told (done h)) h;
       leaves = leaves-as (told-leaves honest middle host' reply done disk);
       unspent = λ h. spent;
       statuses = inl refl;
@@ -141,8 +141,8 @@ module _ (honest : Type 0) (agent : AgentState) (answer : Settings → List Beat
         short all = absurd (true≢false (sym all))
 
         by : honest → MayAdd (λ (n : ℕ). Told (take n reply)) middle.past host'.past → (set : Settings) (g : List Beat) → IsAgentOf host.past agent set g → TellsRun status.TellFault (answer set g) host.past host'.past
-        by h (inl same) = front status.TellFault [] reply refl short (ap told same ∙ sym (append-nil (told middle.past))) h
-        by h (inr (n, added)) = front status.TellFault (take n reply) (drop n reply) (sym (take-append-drop n reply)) short (ap told added) h
+        by h (inl same) = prefix status.TellFault [] reply refl short (ap told same ∙ sym (append-nil (told middle.past))) h
+        by h (inr (n, added)) = prefix status.TellFault (take n reply) (drop n reply) (sym (take-append-drop n reply)) short (ap told added) h
 
     abbrev TellsBy : Status → List ℕ → Type 0
     TellsBy s bytes = ((s ≡ status.Ok) × (honest → host'.past ≡ Told bytes ∷ middle.past)) ⊎ ((s ≡ status.TellFault) × (honest → MayAdd (λ (n : ℕ). Told (take n bytes)) middle.past host'.past))

@@ -16,11 +16,11 @@ use Rattle.plugin_runner.specs.declared.fault.RunFault.{RunFault}
 use Rattle.plugin_runner.specs.declared.fault.RunFault.TheVariants as fault
 use Rattle.plugin_runner.specs.declared.fault.Turn.{Turn}
 use Rattle.plugin_runner.specs.declared.fault.Turn.TheVariants as turn
-use Rattle.plugin_runner.specs.Bytes.{bytes_of, IsFront}
+use Rattle.plugin_runner.specs.Bytes.{bytes_of, IsPrefix}
 use Rattle.plugin_runner.specs.Collected.{HasTurned}
 use Rattle.plugin_runner.specs.Course.{answer_after, new_course, text_of, IsTold}
 use Rattle.plugin_runner.specs.Runner.{if_lasting}
-use Rattle.plugin_runner.proofs.TurnsLemmas.{turned_front, turned_whole}
+use Rattle.plugin_runner.proofs.TurnsLemmas.{turned_prefix, turned_whole}
 use Rattle.agent_app.specs.declared.collect.Collector.{Collector}
 use Rattle.agent_app.specs.Collect.{answer_status, collect_status, lines_status, text_status, whole_answer, whole_text, Collects, EndsAsChildren, HasCollectCause, HasHeard, HasMadeAll, IsDisabling, Outside}
 use Rattle.agent_app.specs.Convert.{ending_status, refusal_status}
@@ -29,8 +29,8 @@ use Rattle.agent_app.specs.Run.{run_reading, run_rules}
 use Rattle.agent_app.proofs.HasReadLemmas.{ending-onward, take-append_past}
 
 -- ---- a prefix of a text up to a limit
-front-within : (limit : ℕ) (told more : List ℕ) → (behind : List ℕ) × (take limit (told ++ more) ≡ take limit told ++ behind)
-front-within limit told more =
+prefix-within : (limit : ℕ) (told more : List ℕ) → (behind : List ℕ) × (take limit (told ++ more) ≡ take limit told ++ behind)
+prefix-within limit told more =
     elim (cases_lt (length told) limit) [
       | inl less ↦ (
         take (limit - length told) more,
@@ -59,15 +59,15 @@ module _ (every : ℕ) (set : Settings) (h0 : List Beat) where
   abbrev at_end_of : List ℕ → Option (Result Turn RunFault) → Status
   at_end_of whole answer = if nat_lt (length whole) input_limit then answer_status answer (ending_of true whole) else status.InputLimit
 
-  -- one of whose front the reading is over
+  -- one of whose prefix the reading is over
   text-over : (told more : List ℕ) (answer : Option (Result Turn RunFault)) (ending : Ending Refusal) → (ending ≡ GoesOn → ⊥) → ending_of false (take input_limit told) ≡ ending
       → text_status every set h0 (told ++ more) answer ≡ lines_status ending (at_end_of (told ++ more) answer)
   text-over told more answer ending over is =
-      let front = front-within input_limit told more in
+      let prefix = prefix-within input_limit told more in
       ap (λ (e : Ending Refusal). lines_status e (at_end_of (told ++ more) answer))
-      (ap (ending_of false) front.1 ∙ ending-onward (run_rules every set h0) false ending over (take input_limit told) front.0 is)
+      (ap (ending_of false) prefix.1 ∙ ending-onward (run_rules every set h0) false ending over (take input_limit told) prefix.0 is)
 
-  -- one whose front fills the limit
+  -- one whose prefix fills the limit
   text-full : (told more : List ℕ) (answer : Option (Result Turn RunFault)) → length (take input_limit told) ≡ input_limit → ending_of false (take input_limit told) ≡ GoesOn
       → text_status every set h0 (told ++ more) answer ≡ status.InputLimit
   text-full told more answer size goes =
@@ -123,8 +123,8 @@ module _ (asked : Collector) (set : Settings) (h0 : List Beat) (outside outside'
     abbrev those : Status
     those = collect_status asked set h0 (heard.course.readings ++ later) coming
 
-    front : IsFront heard.course.told whole
-    front = turned_front coming asked.words asked.every asked.starts (last h0) begun heard.course heard.answer outside'.children outside.readings outside'.readings turned later
+    prefix : IsPrefix heard.course.told whole
+    prefix = turned_prefix coming asked.words asked.every asked.starts (last h0) begun heard.course heard.answer outside'.children outside.readings outside'.readings turned later
 
     status-of : (t : List ℕ) → whole ≡ t → those ≡ text_status asked.every set h0 t answered
     status-of t is = ap (λ (w : List ℕ). text_status asked.every set h0 w answered) is
@@ -133,14 +133,14 @@ module _ (asked : Collector) (set : Settings) (h0 : List Beat) (outside outside'
     taken-is ended = ap (λ (t : List ℕ). (run_reading asked.every set h0 ended t).ending) (sym heard.takes)
 
     -- the reading of what was taken is over
-    over-status : (ending : Ending Refusal) → (ending ≡ GoesOn → ⊥) → ending_is false ≡ ending → those ≡ lines_status ending (at_end_of asked.every set h0 (heard.course.told ++ front.0) answered)
+    over-status : (ending : Ending Refusal) → (ending ≡ GoesOn → ⊥) → ending_is false ≡ ending → those ≡ lines_status ending (at_end_of asked.every set h0 (heard.course.told ++ prefix.0) answered)
     over-status ending over is =
-        status-of (heard.course.told ++ front.0) front.1 ∙ text-over asked.every set h0 heard.course.told front.0 answered ending over (taken-is false ∙ is)
+        status-of (heard.course.told ++ prefix.0) prefix.1 ∙ text-over asked.every set h0 heard.course.told prefix.0 answered ending over (taken-is false ∙ is)
 
     -- it fills the limit
     full-status : length taken ≡ input_limit → ending_is false ≡ GoesOn → those ≡ status.InputLimit
     full-status size goes =
-        status-of (heard.course.told ++ front.0) front.1 ∙ text-full asked.every set h0 heard.course.told front.0 answered (ap length (sym heard.takes) ∙ size) (taken-is false ∙ goes)
+        status-of (heard.course.told ++ prefix.0) prefix.1 ∙ text-full asked.every set h0 heard.course.told prefix.0 answered (ap length (sym heard.takes) ∙ size) (taken-is false ∙ goes)
 
     -- the last turn came to an end of the text, and all of it was taken
     module _ (below : length taken < input_limit) (answer : Result Turn RunFault) (told : heard.course.told ≡ bytes_of (text_of heard.course later)) (is : Some answer ≡ answer_after heard.course.starts (text_of heard.course later) heard.course.children) where

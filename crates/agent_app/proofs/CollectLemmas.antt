@@ -254,7 +254,7 @@ module _ {H : Type 0} (honest : Type 0) (seen : H → Seen) (host : Seen) (agent
         (ends_as : EndsAs s0 s answer ended taken source_rose SpawnRose Told Failing) (finished : ended ≡ true → (answer ≡ Ok turn.Ended) × HasMadeAll asked.starts course.children) where
       abbrev stores-as : (set : Settings) (h0 : List Beat) (start : List Event) → Stores s0 asked.every set h0 ended taken start (seen host').past → Stores s asked.every set h0 ended taken start (seen host').past
       stores-as set h0 start stores = record {
-        stops = stores.stops;
+        crashes = stores.crashes;
         ends = λ all. stores.ends (ends_as.whole all);
         output = record { sent = stores.output.sent; unsent = stores.output.unsent; whole = stores.output.whole; tells = stores.output.tells; all = λ all. stores.output.all (ends_as.whole all) };
         told_for = λ is. stores.told_for (ends_as.told is);

@@ -6,7 +6,7 @@ use Rattle.host_model.specs.Cause.{HasCause, Rose}
 use Rattle.host_model.specs.declared.status.Status.{Status}
 use Rattle.host_model.specs.declared.status.Status.TheVariants as status
 use Rattle.host_model.specs.Disks.{EveryDisk, reads_as}
-use Rattle.host_model.specs.Moments.{Throughout, EveryStop, begins}
+use Rattle.host_model.specs.Moments.{Throughout, EveryCrash, begins}
 use Rattle.host_model.specs.Past.{Event, told, IsDisk}
 use Rattle.host_model.specs.Seen.{Seen}
 use Rattle.host_model.proofs.MomentLemmas.{joined}
@@ -32,7 +32,7 @@ use Rattle.agent_app.specs.HealthText.{TakesText}
 use Rattle.agent_app.specs.Run.{ends_a_run, finds_none, is_whole}
 use Rattle.agent_app.specs.Running.{opening_status, Counts, DiskRose, IsTakers, TellRose}
 use Rattle.agent_app.proofs.CauseLemmas.{both-counts, cause-as, same-counts, stayed}
-use Rattle.agent_app.proofs.OpeningLemmas.{by-fault, complete-by, disk-failed, failed_by, fault-is, opened-finds, opened_with, opening-stops, some-each, unopened-finds, unopened-leaves, unread, untold-yet}
+use Rattle.agent_app.proofs.OpeningLemmas.{by-fault, complete-by, disk-failed, failed_by, fault-is, opened-finds, opened_with, opening-crashes, some-each, unopened-finds, unopened-leaves, unread, untold-yet}
 use Rattle.agent_app.proofs.HealthLemmas.{fault-ends, fault-stays, fault-told-files, fault-told-leaves, fault-told-never, fault-told-takers, refused-by}
 use Rattle.agent_app.proofs.LeavesLemmas.{leaves-nothing}
 use Rattle.agent_app.proofs.RunLemmas.{both-others}
@@ -104,8 +104,8 @@ extends-health h0 true taken = by (health_refusal taken)
 
 module _ (taken more : List ℕ) (ended : Bool) (within : length taken ≤ TEXT_LIMIT + 1) (at_end : ended ≡ true → more ≡ []) where
   -- of a source that had these bytes more, the text is what was taken, where it is over
-  front-is : is_over ended taken ≡ true → take (TEXT_LIMIT + 1) (taken ++ more) ≡ taken
-  front-is over = by ended refl over
+  prefix-is : is_over ended taken ≡ true → take (TEXT_LIMIT + 1) (taken ++ more) ≡ taken
+  prefix-is over = by ended refl over
     where
       by : (b : Bool) → ended ≡ b → (b || nat_lt TEXT_LIMIT (length taken)) ≡ true → take (TEXT_LIMIT + 1) (taken ++ more) ≡ taken
       by true e h = ap (λ (m : List ℕ). take (TEXT_LIMIT + 1) (taken ++ m)) (at_end e) ∙ ap (take (TEXT_LIMIT + 1)) (append-nil taken) ∙ take_all (TEXT_LIMIT + 1) taken within
@@ -114,7 +114,7 @@ module _ (taken more : List ℕ) (ended : Bool) (within : length taken ≤ TEXT_
           take-append-le (TEXT_LIMIT + 1) taken more (omega (arith, long)) ∙ take_all (TEXT_LIMIT + 1) taken within
 
   status-is : (why : Option ConfigFault) → is_over ended taken ≡ true → health_refusal taken ≡ why → health_status (taken ++ more) ≡ status_of why
-  status-is why over is = ap (λ (t : List ℕ). status_of (health_refusal t)) (front-is over) ∙ ap status_of is
+  status-is why over is = ap (λ (t : List ℕ). status_of (health_refusal t)) (prefix-is over) ∙ ap status_of is
 
   ends-as : (s : Status) (source tell disk : Type 0) → HasHealthCause s ended taken source tell disk → (source → ⊥) → (tell → ⊥) → (disk → ⊥) → (s ≡ health_status (taken ++ more)) ⊎ (s ≡ status.Memory)
   ends-as status.Ok source tell disk (over, is) a b c = inl (sym (status-is None (ap (λ (b : Bool). b || nat_lt TEXT_LIMIT (length taken)) over) is))
@@ -132,7 +132,7 @@ module _ (set : Settings) (h0 : List Beat) (past : List Event) (here : EveryDisk
   idle-at : (s : Status) (ended : Bool) (taken : List ℕ) (source tell disk : Type 0) → (s ≡ status.TellFault → ⊥) → history_with_health h0 ended taken ≡ h0 → health_output set h0 ended taken ≡ [] ⊎ (is_whole s ≡ false)
       → HasHealthCause s ended taken source tell disk → StopsAt s set h0 ended taken past past source tell disk
   idle-at s ended taken source tell disk untold same none cause = record {
-    stops = keeps-more set h0 h0 (history_with_health h0 ended taken) (told past) (extends-health h0 ended taken) past past (opening-stops set h0 past past here refl (begins (λ disk images. images)));
+    crashes = keeps-more set h0 h0 (history_with_health h0 ended taken) (told past) (extends-health h0 ended taken) past past (opening-crashes set h0 past past here refl (begins (λ disk images. images)));
     ends = λ all. subst (λ (g : List Beat). EveryDisk (StandsForHistory set g) past) (sym same) here;
     output = record { sent = []; unsent = health_output set h0 ended taken; whole = refl; tells = sym (append-nil (told past)); all = λ all. by all none };
     told_for = λ is. absurd (untold is);
@@ -175,7 +175,7 @@ module _ (honest : Type 0) (agent : AgentState) (host : Seen) (left left' : Opti
         let at = stores.at h set h0 is_of in
         subst (λ (t : List ℕ). StopsAt s set h0 true t host.past host'.past (Rose faults faults') (TellRose host host') (DiskRose host host')) takes.ended.all
         (record {
-          stops = at.stops;
+          crashes = at.crashes;
           ends = at.ends;
           output = at.output;
           told_for = at.told_for;
@@ -309,7 +309,7 @@ module _ (honest : Type 0) (host : Seen) (agent : AgentState) (middle : Seen) (o
     at = handled.at h set h0 (opens.opened h set h0 here)
 
     -- since this moment
-    since : (start : List Event) → told middle.past ≡ told start → Throughout (EveryStop (Keeps set h0 h0 (told start))) start middle.past
+    since : (start : List Event) → told middle.past ≡ told start → Throughout (EveryCrash (Keeps set h0 h0 (told start))) start middle.past
         → Configures s set h0 left left' start host'.past (Rose faults faults') (TellRose host host') (DiskRose host host')
     since start silent before = record {
       taken = taken;
@@ -318,9 +318,9 @@ module _ (honest : Type 0) (host : Seen) (agent : AgentState) (middle : Seen) (o
       within = handled.within;
       at_end = handled.at_end;
       at = record {
-        stops =
+        crashes =
             joined (keeps-more set h0 h0 whole (told start) (extends-health h0 ended taken) start middle.past before)
-            (subst (λ (t : List ℕ). Throughout (EveryStop (Keeps set h0 whole t)) middle.past host'.past) silent at.stops);
+            (subst (λ (t : List ℕ). Throughout (EveryCrash (Keeps set h0 whole t)) middle.past host'.past) silent at.crashes);
         ends = at.ends;
         output = record { sent = at.output.sent; unsent = at.output.unsent; whole = at.output.whole; tells = at.output.tells ∙ ap (λ (t : List ℕ). t ++ at.output.sent) silent; all = at.output.all };
         told_for = at.told_for;
@@ -340,7 +340,7 @@ module _ (honest : Type 0) (host : Seen) (agent : AgentState) (middle : Seen) (o
       silent = (opens.only_here h).output;
       after = inl (record {
         stands = stands-now;
-        configures = since middle.past refl (opening-stops set h0 middle.past middle.past stands-now refl (begins (λ disk images. images)));
+        configures = since middle.past refl (opening-crashes set h0 middle.past middle.past stands-now refl (begins (λ disk images. images)));
         quiet = λ same other. handled.quiet h h0 same other;
         stored_for = handled.stored_for;
       });
@@ -349,7 +349,7 @@ module _ (honest : Type 0) (host : Seen) (agent : AgentState) (middle : Seen) (o
   pub configured : ConfiguresAll honest s left left' faults faults' host host'
   configured = record {
     configures = λ h set h0 stands.
-        since h set h0 (stands (reads_as host.past) (first h)) host.past (opens.only_here h).output (opening-stops set h0 host.past middle.past stands (opens.only_here h).output (opens.any_moment h));
+        since h set h0 (stands (reads_as host.past) (first h)) host.past (opens.only_here h).output (opening-crashes set h0 host.past middle.past stands (opens.only_here h).output (opens.any_moment h));
     resumes = resumed;
     complete = λ h set h0 stands.
         complete-by left left' taken (λ text. (Rose faults faults' → ⊥) → (TellRose host host' → ⊥) → (DiskRose host host' → ⊥) → (s ≡ health_status text) ⊎ (s ≡ status.Memory)) handled.takes
@@ -386,7 +386,7 @@ module _ (honest : Type 0) (host host' : Seen) (first : honest → IsDisk host.p
         within = omega arith;
         at_end = λ e. absurd (true≢false (sym e));
         at = record {
-          stops = opening-stops set h0 host.past host'.past stands (opens.only_here h).output (opens.any_moment h);
+          crashes = opening-crashes set h0 host.past host'.past stands (opens.only_here h).output (opens.any_moment h);
           ends = λ all. absurd (true≢false (sym all ∙ part));
           output = record { sent = []; unsent = health_output set h0 false []; whole = refl; tells = (opens.only_here h).output ∙ sym (append-nil (told host.past)); all = λ all. absurd (true≢false (sym all ∙ part)) };
           told_for = λ is. absurd (untold-yet honest host host' first why is);

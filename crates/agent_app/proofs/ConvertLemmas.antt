@@ -216,14 +216,14 @@ some_next [] first others = (first, others, refl)
 some_next (next ∷ left) first others = (next, left ++ first ∷ others, refl)
 
 -- the parts of a text that goes on after these lines
-parts-onward : (text : List ℕ) (front left : List (List ℕ)) (behind : List ℕ) → lines text ≡ front ++ left → (next : List ℕ) × (more : List (List ℕ)) × (parts (text ++ behind) ≡ front ++ next ∷ more)
-parts-onward text front left behind whole =
+parts-onward : (text : List ℕ) (prefix left : List (List ℕ)) (behind : List ℕ) → lines text ≡ prefix ++ left → (next : List ℕ) × (more : List (List ℕ)) × (parts (text ++ behind) ≡ prefix ++ next ∷ more)
+parts-onward text prefix left behind whole =
     let ahead = parts_first (rest text ++ behind) in
     let some = some_next left ahead.0 ahead.1 in (
       some.0,
       some.1,
-      parts-append text behind ∙ ap (λ (l : List (List ℕ)). l ++ parts (rest text ++ behind)) whole ∙ ap (λ (l : List (List ℕ)). (front ++ left) ++ l) ahead.2
-          ∙ append_assoc front left (ahead.0 ∷ ahead.1) ∙ ap (λ (l : List (List ℕ)). front ++ l) some.2,
+      parts-append text behind ∙ ap (λ (l : List (List ℕ)). l ++ parts (rest text ++ behind)) whole ∙ ap (λ (l : List (List ℕ)). (prefix ++ left) ++ l) ahead.2
+          ∙ append_assoc prefix left (ahead.0 ∷ ahead.1) ∙ ap (λ (l : List (List ℕ)). prefix ++ l) some.2,
     )
 
 module _ {H : Type 0} (honest : Type 0) (seen : H → Seen) where
@@ -235,12 +235,12 @@ module _ {H : Type 0} (honest : Type 0) (seen : H → Seen) where
     paused-out converting host (after_pause old new host' host'' paused) = paused.2
 
     -- all lines of a chain were taken
-    chain-converted : (front : List (List ℕ)) (converting : Converting) (host : H) → Chain (converting_acts honest seen) start begin front converting host
-        → HasConverted converting honest front (seen begin).past (seen host).past (seen begin).tell_faults (seen host).tell_faults
-    chain-converted front converting host begins = fresh
-    chain-converted front converting host (goes_on before line old new host' host'' chain takes) =
+    chain-converted : (prefix : List (List ℕ)) (converting : Converting) (host : H) → Chain (converting_acts honest seen) start begin prefix converting host
+        → HasConverted converting honest prefix (seen begin).past (seen host).past (seen begin).tell_faults (seen host).tell_faults
+    chain-converted prefix converting host begins = fresh
+    chain-converted prefix converting host (goes_on before line old new host' host'' chain takes) =
         takes.0 (seen begin).past (seen begin).tell_faults before (chain-converted before old host' chain) refl
-    chain-converted front converting host (pauses before old new host' host'' chain takes) =
+    chain-converted prefix converting host (pauses before old new host' host'' chain takes) =
         takes.0 (seen begin).past (seen begin).tell_faults before (chain-converted before old host' chain)
 
     module _ (status : Status) (converting : Converting) (host : H) (left left' : Option (List ℕ)) (sf sf' : ℕ) (text : List ℕ) (took_bytes : TakesBytes left text left') (within : length text ≤ input_limit) where
@@ -322,44 +322,44 @@ module _ {H : Type 0} (honest : Type 0) (seen : H → Seen) where
 
       pub run-by : Ended (converting_acts honest seen) status start begin text converting host left' (Rose sf sf')
           → HasRun status honest (string_bytes converting.out) left left' (seen begin).past (seen host).past sf sf' (seen begin).tell_faults (seen host).tell_faults
-      run-by (at_line front line next more old host' whole short fit chain takes) = run-stopped_at (λ ended behind.
-          let on = line-onward text front line next more whole behind in
-          (front ++ line ∷ on.next ∷ on.more, on.whole, takes.0 (seen begin).past (seen begin).tell_faults front (chain-converted front old host' chain) refl ended on.next on.more))
+      run-by (at_line prefix line next more old host' whole short fit chain takes) = run-stopped_at (λ ended behind.
+          let on = line-onward text prefix line next more whole behind in
+          (prefix ++ line ∷ on.next ∷ on.more, on.whole, takes.0 (seen begin).past (seen begin).tell_faults prefix (chain-converted prefix old host' chain) refl ended on.next on.more))
       run-by (at_pause old host' took takes) = run-stopped_at (λ ended behind.
           let on = parts-onward text (lines text) [] behind (sym (append-nil (lines text))) in
           (lines text ++ on.0 ∷ on.1, on.2, takes.0 (seen begin).past (seen begin).tell_faults (lines text) (chain-converted (lines text) old host' took.chain) ended on.0 on.1))
-      run-by (at_long_line front long more old host' whole short over chain takes) = run-stopped_at (λ ended behind.
-          let on = IsLongAfter-append text behind front (record { long = long; more = more; whole = whole; short = short; too_long = over }) in
-          (front ++ on.long ∷ on.more, on.whole, takes.0 (seen begin).past (seen begin).tell_faults front (chain-converted front old host' chain) refl ended on.long on.more on.too_long))
+      run-by (at_long_line prefix long more old host' whole short over chain takes) = run-stopped_at (λ ended behind.
+          let on = IsLongAfter-append text behind prefix (record { long = long; more = more; whole = whole; short = short; too_long = over }) in
+          (prefix ++ on.long ∷ on.more, on.whole, takes.0 (seen begin).past (seen begin).tell_faults prefix (chain-converted prefix old host' chain) refl ended on.long on.more on.too_long))
       run-by (at_end old host' short nothing took ends) = run-ended old host' short nothing took ends.0
       run-by (at_fault is rose below took last) = run-open took (inl (is, rose)) (λ _. (below, paused-out converting host last))
       run-by (at_limit is full took) = run-open took (inr (is, full)) (λ e. cc)
-      run-by (at_want front is took) = run-stopped_at (λ ended behind.
-          let on = parts-onward text front took.begins.left behind took.begins.whole in
-          let has = chain-converted front converting host took.chain in
-          (front ++ on.0 ∷ on.1, on.2, no_memory converting honest front (seen begin).past (seen host).past (seen begin).tell_faults (seen host).tell_faults has status (string_bytes converting.out) ended on.0 on.1 is))
+      run-by (at_want prefix is took) = run-stopped_at (λ ended behind.
+          let on = parts-onward text prefix took.begins.left behind took.begins.whole in
+          let has = chain-converted prefix converting host took.chain in
+          (prefix ++ on.0 ∷ on.1, on.2, no_memory converting honest prefix (seen begin).past (seen host).past (seen begin).tell_faults (seen host).tell_faults has status (string_bytes converting.out) ended on.0 on.1 is))
 
   -- ---- the disk
 
   -- at no moment of a chain anything happened to a file
-  chain-leaves : (start : Converting) (begin : H) (front : List (List ℕ)) (converting : Converting) (host : H) → Chain (converting_acts honest seen) start begin front converting host → LeavesDisk honest (seen begin) (seen host)
-  chain-leaves start begin front converting host begins = leaves-none honest (seen begin)
-  chain-leaves start begin front converting host (goes_on before line old new host' host'' chain takes) =
+  chain-leaves : (start : Converting) (begin : H) (prefix : List (List ℕ)) (converting : Converting) (host : H) → Chain (converting_acts honest seen) start begin prefix converting host → LeavesDisk honest (seen begin) (seen host)
+  chain-leaves start begin prefix converting host begins = leaves-none honest (seen begin)
+  chain-leaves start begin prefix converting host (goes_on before line old new host' host'' chain takes) =
       subst (λ (h : H). LeavesDisk honest (seen begin) (seen h)) (sym takes.1) (chain-leaves start begin before old host' chain)
-  chain-leaves start begin front converting host (pauses before old new host' host'' chain takes) =
+  chain-leaves start begin prefix converting host (pauses before old new host' host'' chain takes) =
       leaves-both honest (seen begin) (seen host') (seen host) (chain-leaves start begin before old host' chain) takes.1
 
   -- nor of a whole run
   pub run-leaves : (status : Status) (start : Converting) (begin : H) (text : List ℕ) (converting : Converting) (host : H) (left' : Option (List ℕ)) (source_rose : Type 0)
       → Ended (converting_acts honest seen) status start begin text converting host left' source_rose → LeavesDisk honest (seen begin) (seen host)
-  run-leaves status start begin text converting host left' source_rose (at_line front line next more old host' whole short fit chain takes) =
-      subst (λ (h : H). LeavesDisk honest (seen begin) (seen h)) (sym takes.1) (chain-leaves start begin front old host' chain)
+  run-leaves status start begin text converting host left' source_rose (at_line prefix line next more old host' whole short fit chain takes) =
+      subst (λ (h : H). LeavesDisk honest (seen begin) (seen h)) (sym takes.1) (chain-leaves start begin prefix old host' chain)
   run-leaves status start begin text converting host left' source_rose (at_pause old host' took takes) =
       leaves-both honest (seen begin) (seen host') (seen host) (chain-leaves start begin (lines text) old host' took.chain) takes.1
-  run-leaves status start begin text converting host left' source_rose (at_long_line front long more old host' whole short over chain takes) =
-      subst (λ (h : H). LeavesDisk honest (seen begin) (seen h)) (sym takes.1) (chain-leaves start begin front old host' chain)
+  run-leaves status start begin text converting host left' source_rose (at_long_line prefix long more old host' whole short over chain takes) =
+      subst (λ (h : H). LeavesDisk honest (seen begin) (seen h)) (sym takes.1) (chain-leaves start begin prefix old host' chain)
   run-leaves status start begin text converting host left' source_rose (at_end old host' short nothing took ends) =
       subst (λ (h : H). LeavesDisk honest (seen begin) (seen h)) (sym ends.1) (chain-leaves start begin (lines text) old host' took.chain)
   run-leaves status start begin text converting host left' source_rose (at_fault is rose below took last) = chain-leaves start begin (lines text) converting host took.chain
   run-leaves status start begin text converting host left' source_rose (at_limit is full took) = chain-leaves start begin (lines text) converting host took.chain
-  run-leaves status start begin text converting host left' source_rose (at_want front is took) = chain-leaves start begin front converting host took.chain
+  run-leaves status start begin text converting host left' source_rose (at_want prefix is took) = chain-leaves start begin prefix converting host took.chain

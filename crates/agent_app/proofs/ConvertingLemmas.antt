@@ -18,15 +18,15 @@ use Rattle.point_lines.specs.Reader.{IsReaderOf, ReadsLine}
 use Rattle.point_lines.specs.Told.{told_at, told_at_end}
 use Rattle.agent_app.specs.declared.converting.Converting.{Converting}
 use Rattle.agent_app.specs.Convert.{all_told, ending_line, ending_status, point_rules, IsUnasked}
-use Rattle.agent_app.specs.Converting.{AddsEnding, EndsIn, HasConverted, IsFinal, TellsFront}
+use Rattle.agent_app.specs.Converting.{AddsEnding, EndsIn, HasConverted, IsFinal, TellsPrefix}
 use Rattle.agent_app.specs.Reading.{Ending, Ends, RefusedAt, HasRead, Reading, reading, refused_at}
 use Rattle.agent_app.proofs.CauseLemmas.{apart, ending-inside, is_outside, stayed}
 use Rattle.agent_app.proofs.HasReadLemmas.{read-next, read-start}
 
 -- a call of `tell` that failed told a prefix
-pub front_told : (bytes : List ℕ) (old new : List Event) → MayAdd (λ n. Told (take n bytes)) old new → TellsFront bytes old new
-front_told bytes old new (inl same) = record { sent = []; unsent = bytes; whole = refl; tells = rw same (sym (append-nil (told old))) }
-front_told bytes old new (inr (n, added)) = record { sent = take n bytes; unsent = drop n bytes; whole = sym (take-append-drop n bytes); tells = rw added refl }
+pub prefix_told : (bytes : List ℕ) (old new : List Event) → MayAdd (λ n. Told (take n bytes)) old new → TellsPrefix bytes old new
+prefix_told bytes old new (inl same) = record { sent = []; unsent = bytes; whole = refl; tells = rw same (sym (append-nil (told old))) }
+prefix_told bytes old new (inr (n, added)) = record { sent = take n bytes; unsent = drop n bytes; whole = sym (take-append-drop n bytes); tells = rw added refl }
 
 -- two lists that are empty together are each empty
 pub both-none : (first second : List ℕ) → first ++ second ≡ [] → (first ≡ []) × (second ≡ [])
@@ -57,10 +57,10 @@ too_long : (past : List Line) (long : List ℕ) (more : List (List ℕ)) (ended 
 too_long past long [] ended over = rw over refl
 too_long past long (next ∷ more) ended over = rw over refl
 
-module _ (old : Converting) (honest : Type 0) (front : List (List ℕ)) (past past' : List Event) (tf tf' : ℕ) (before : HasConverted old honest front past past' tf tf') where
+module _ (old : Converting) (honest : Type 0) (prefix : List (List ℕ)) (past past' : List Event) (tf tf' : ℕ) (before : HasConverted old honest prefix past past' tf tf') where
   -- what is told of a text that goes on so
   output-onward : (ended : Bool) (next : List ℕ) (more : List (List ℕ)) →
-      all_told (reading point_rules ended [] (front ++ next ∷ more)) ≡ before.sent ++ (string_bytes old.out ++ all_told (reading point_rules ended before.said (next ∷ more)))
+      all_told (reading point_rules ended [] (prefix ++ next ∷ more)) ≡ before.sent ++ (string_bytes old.out ++ all_told (reading point_rules ended before.said (next ∷ more)))
   output-onward ended next more =
       let ahead = reading point_rules ended before.said (next ∷ more) in
       ap all_told (before.read.onward ended next more) ∙ append_assoc (before.sent ++ string_bytes old.out) ahead.told (ending_line ahead.ending)
@@ -68,7 +68,7 @@ module _ (old : Converting) (honest : Type 0) (front : List (List ℕ)) (past pa
 
   -- memory ran out
   pub no_memory : (status : Status) (waiting : List ℕ) (ended : Bool) (next : List ℕ) (more : List (List ℕ)) → status ≡ Memory
-      → EndsIn status honest waiting (reading point_rules ended [] (front ++ next ∷ more)) past past' tf tf'
+      → EndsIn status honest waiting (reading point_rules ended [] (prefix ++ next ∷ more)) past past' tf tf'
   no_memory status waiting ended next more is =
       let unsent = string_bytes old.out ++ all_told (reading point_rules ended before.said (next ∷ more)) in
       record {
@@ -84,12 +84,12 @@ module _ (old : Converting) (honest : Type 0) (front : List (List ℕ)) (past pa
   -- the reading ends, and what is told last was added to what waits
   pub ends_with : (status : Status) (ending : Ending Refusal) (said added out' : List ℕ) (ended : Bool) (next : List ℕ) (more : List (List ℕ))
       → IsFinal ending → reading point_rules ended before.said (next ∷ more) ≡ record { told = said; ending = ending } → said ++ ending_line ending ≡ added → AddsEnding status ending (string_bytes old.out) added out'
-      → EndsIn status honest out' (reading point_rules ended [] (front ++ next ∷ more)) past past' tf tf'
+      → EndsIn status honest out' (reading point_rules ended [] (prefix ++ next ∷ more)) past past' tf tf'
   ends_with status ending said added out' ended next more final is last (inr none) = no_memory status out' ended next more none
   ends_with status ending said added out' ended next more final is last (inl (as_ending, adds)) =
-      let whole : all_told (reading point_rules ended [] (front ++ next ∷ more)) ≡ before.sent ++ out' =
+      let whole : all_told (reading point_rules ended [] (prefix ++ next ∷ more)) ≡ before.sent ++ out' =
       output-onward ended next more ∙ ap (λ (bytes : List ℕ). before.sent ++ (string_bytes old.out ++ bytes)) (ap all_told is ∙ last) ∙ ap (λ (bytes : List ℕ). before.sent ++ bytes) (sym adds) in
-      let ending_is : (reading point_rules ended [] (front ++ next ∷ more)).ending ≡ ending =
+      let ending_is : (reading point_rules ended [] (prefix ++ next ∷ more)).ending ≡ ending =
       ap (λ (r : Reading Refusal). r.ending) (before.read.onward ended next more) ∙ ap (λ (r : Reading Refusal). r.ending) is in
       record {
         leaves = record {
@@ -103,23 +103,23 @@ module _ (old : Converting) (honest : Type 0) (front : List (List ℕ)) (past pa
 
   -- a line was read
   pub takes-read : (new : Converting) (line : List ℕ) → fits line ≡ true → ReadsLine new.reader before.said line (string_bytes old.out) (string_bytes new.out)
-      → HasConverted new honest (front ++ line ∷ []) past past' tf tf'
+      → HasConverted new honest (prefix ++ line ∷ []) past past' tf tf'
   takes-read new line short step = record {
     said = step.said ∷ before.said;
     sent = before.sent;
     read =
         let adds : (before.sent ++ string_bytes old.out) ++ told_at before.said step.said ≡ before.sent ++ string_bytes new.out =
         append_assoc before.sent (string_bytes old.out) (told_at before.said step.said) ∙ ap (λ (bytes : List ℕ). before.sent ++ bytes) (sym step.added) in
-        subst (HasRead point_rules (front ++ line ∷ []) (step.said ∷ before.said)) adds
-        (read-next point_rules front before.said (before.sent ++ string_bytes old.out) before.read line step.said short step.accepted step.goes_on);
+        subst (HasRead point_rules (prefix ++ line ∷ []) (step.said ∷ before.said)) adds
+        (read-next point_rules prefix before.said (before.sent ++ string_bytes old.out) before.read line step.said short step.accepted step.goes_on);
     has = step.has;
     told = before.told;
   }
 
   -- a line is refused
   pub takes-refused : (status : Status) (number : ℕ) (why : Refusal) (line out out' : List ℕ) (ended : Bool) (next : List ℕ) (more : List (List ℕ))
-      → number ≡ length front + 1 → fits line ≡ true → judge before.said line ≡ Err why → out ≡ string_bytes old.out → AddsEnding status (RefusedAt number why) out (ending_line (RefusedAt number why)) out'
-      → EndsIn status honest out' (reading point_rules ended [] (front ++ line ∷ next ∷ more)) past past' tf tf'
+      → number ≡ length prefix + 1 → fits line ≡ true → judge before.said line ≡ Err why → out ≡ string_bytes old.out → AddsEnding status (RefusedAt number why) out (ending_line (RefusedAt number why)) out'
+      → EndsIn status honest out' (reading point_rules ended [] (prefix ++ line ∷ next ∷ more)) past past' tf tf'
   takes-refused status number why line out out' ended next more at short refused same adds =
       let number_is : length before.said + 1 ≡ number = omega (arith, before.read.count) in
       ends_with status (RefusedAt number why) [] (ending_line (RefusedAt number why)) out' ended line (next ∷ more) tt
@@ -128,31 +128,31 @@ module _ (old : Converting) (honest : Type 0) (front : List (List ℕ)) (past pa
   -- a line ends the text
   pub takes-over : (status : Status) (line out out' : List ℕ) (ended : Bool) (next : List ℕ) (more : List (List ℕ))
       → fits line ≡ true → judge before.said line ≡ Ok Disable → out ≡ string_bytes old.out → AddsEnding status Ends out (told_at_end before.said) out'
-      → EndsIn status honest out' (reading point_rules ended [] (front ++ line ∷ next ∷ more)) past past' tf tf'
+      → EndsIn status honest out' (reading point_rules ended [] (prefix ++ line ∷ next ∷ more)) past past' tf tf'
   takes-over status line out out' ended next more short judged same adds =
       ends_with status Ends (told_at_end before.said) (told_at_end before.said) out' ended line (next ∷ more) tt
       (rw (short, judged) refl) (append-nil (told_at_end before.said)) (rw same at adds)
 
   -- the text ends after a beat
   pub ends-over : (status : Status) (rest out' : List ℕ) → fits rest ≡ true → is_unfinished every before.said rest ≡ false → AddsEnding status Ends (string_bytes old.out) (told_at_end before.said) out'
-      → EndsIn status honest out' (reading point_rules true [] (front ++ rest ∷ [])) past past' tf tf'
+      → EndsIn status honest out' (reading point_rules true [] (prefix ++ rest ∷ [])) past past' tf tf'
   ends-over status rest out' short finished adds =
       ends_with status Ends (told_at_end before.said) (told_at_end before.said) out' true rest [] tt
       (rw (short, finished) refl) (append-nil (told_at_end before.said)) adds
 
   -- it ends in the midst of a beat or of a line
-  pub ends-unfinished : (status : Status) (lines : ℕ) (rest out' : List ℕ) → lines ≡ length front → fits rest ≡ true → is_unfinished every before.said rest ≡ true
+  pub ends-unfinished : (status : Status) (lines : ℕ) (rest out' : List ℕ) → lines ≡ length prefix → fits rest ≡ true → is_unfinished every before.said rest ≡ true
       → AddsEnding status (RefusedAt lines (refusal.Block Unfinished)) (string_bytes old.out) (ending_line (RefusedAt lines (refusal.Block Unfinished))) out'
-      → EndsIn status honest out' (reading point_rules true [] (front ++ rest ∷ [])) past past' tf tf'
+      → EndsIn status honest out' (reading point_rules true [] (prefix ++ rest ∷ [])) past past' tf tf'
   ends-unfinished status lines rest out' at short unfinished adds =
       let number_is : length before.said ≡ lines = before.read.count ∙ sym at in
       ends_with status (RefusedAt lines (refusal.Block Unfinished)) [] (ending_line (RefusedAt lines (refusal.Block Unfinished))) out' true rest [] tt
       (rw (short, unfinished, number_is) refl) refl adds
 
   -- what follows the lines is too long
-  pub overflows-long : (status : Status) (number : ℕ) (out' : List ℕ) (ended : Bool) (long : List ℕ) (more : List (List ℕ)) → number ≡ length front + 1 → fits long ≡ false
+  pub overflows-long : (status : Status) (number : ℕ) (out' : List ℕ) (ended : Bool) (long : List ℕ) (more : List (List ℕ)) → number ≡ length prefix + 1 → fits long ≡ false
       → AddsEnding status (RefusedAt number (refusal.Line LineTooLong)) (string_bytes old.out) (ending_line (RefusedAt number (refusal.Line LineTooLong))) out'
-      → EndsIn status honest out' (reading point_rules ended [] (front ++ long ∷ more)) past past' tf tf'
+      → EndsIn status honest out' (reading point_rules ended [] (prefix ++ long ∷ more)) past past' tf tf'
   overflows-long status number out' ended long more at over adds =
       let number_is : length before.said + 1 ≡ number = omega (arith, before.read.count) in
       ends_with status (RefusedAt number (refusal.Line LineTooLong)) [] (ending_line (RefusedAt number (refusal.Line LineTooLong))) out' ended long more tt
@@ -160,7 +160,7 @@ module _ (old : Converting) (honest : Type 0) (front : List (List ℕ)) (past pa
 
   -- what waits was told
   pub pauses-told : (new : Converting) (past'' : List Event) (tf'' : ℕ) → new.reader ≡ old.reader → string_bytes new.out ≡ [] → (honest → told past'' ≡ told past' ++ string_bytes old.out)
-      → (string_bytes old.out ≡ [] → IsUnasked past' past'' tf' tf'') → tf'' ≡ tf' → HasConverted new honest front past past'' tf tf''
+      → (string_bytes old.out ≡ [] → IsUnasked past' past'' tf' tf'') → tf'' ≡ tf' → HasConverted new honest prefix past past'' tf tf''
   pauses-told new past'' tf'' same none tells silent stays = record {
     said = before.said;
     sent = before.sent ++ string_bytes old.out;
@@ -176,20 +176,20 @@ module _ (old : Converting) (honest : Type 0) (front : List (List ℕ)) (past pa
   }
 
   -- what waits was not told, or not all of it
-  pub pauses-fault : (past'' : List Event) (tf'' : ℕ) (waiting : List ℕ) → (honest → TellsFront (string_bytes old.out) past' past'') → (string_bytes old.out ≡ [] → IsUnasked past' past'' tf' tf'') → tf' ≤ tf'' → Rose tf' tf''
-      → (ended : Bool) (next : List ℕ) (more : List (List ℕ)) → EndsIn TellFault honest waiting (reading point_rules ended [] (front ++ next ∷ more)) past past'' tf tf''
+  pub pauses-fault : (past'' : List Event) (tf'' : ℕ) (waiting : List ℕ) → (honest → TellsPrefix (string_bytes old.out) past' past'') → (string_bytes old.out ≡ [] → IsUnasked past' past'' tf' tf'') → tf' ≤ tf'' → Rose tf' tf''
+      → (ended : Bool) (next : List ℕ) (more : List (List ℕ)) → EndsIn TellFault honest waiting (reading point_rules ended [] (prefix ++ next ∷ more)) past past'' tf tf''
   pauses-fault past'' tf'' waiting torn silent later rose ended next more =
       let ahead = all_told (reading point_rules ended before.said (next ∷ more)) in
       let whole = output-onward ended next more in
       let rose_since : Rose tf tf'' = subst (λ (n : ℕ). Rose n tf'') before.told.count rose in
       record {
         leaves = record {
-          tells = λ is_honest. let front_is = torn is_honest in record {
-            sent = before.sent ++ front_is.sent;
-            unsent = front_is.unsent ++ ahead;
-            whole = whole ∙ ap (λ (bytes : List ℕ). before.sent ++ (bytes ++ ahead)) front_is.whole ∙ ap (λ (bytes : List ℕ). before.sent ++ bytes) (append_assoc front_is.sent front_is.unsent ahead)
-                ∙ sym (append_assoc before.sent front_is.sent (front_is.unsent ++ ahead));
-            tells = front_is.tells ∙ ap (λ (bytes : List ℕ). bytes ++ front_is.sent) (before.told.tells is_honest) ∙ append_assoc (told past) before.sent front_is.sent;
+          tells = λ is_honest. let prefix_is = torn is_honest in record {
+            sent = before.sent ++ prefix_is.sent;
+            unsent = prefix_is.unsent ++ ahead;
+            whole = whole ∙ ap (λ (bytes : List ℕ). before.sent ++ (bytes ++ ahead)) prefix_is.whole ∙ ap (λ (bytes : List ℕ). before.sent ++ bytes) (append_assoc prefix_is.sent prefix_is.unsent ahead)
+                ∙ sym (append_assoc before.sent prefix_is.sent (prefix_is.unsent ++ ahead));
+            tells = prefix_is.tells ∙ ap (λ (bytes : List ℕ). bytes ++ prefix_is.sent) (before.told.tells is_honest) ∙ append_assoc (told past) before.sent prefix_is.sent;
             all = λ all. cc;
           };
           silent = λ nothing.

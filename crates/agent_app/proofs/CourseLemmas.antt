@@ -7,7 +7,7 @@ use Rattle.host_model.specs.declared.status.Status.{Status}
 use Rattle.host_model.specs.declared.status.Status.TheVariants as status
 use Rattle.host_model.specs.Disks.{EveryDisk, reads_as}
 use Rattle.host_model.specs.Images.{Change, IsImage}
-use Rattle.host_model.specs.Moments.{EveryStop, Throughout}
+use Rattle.host_model.specs.Moments.{EveryCrash, Throughout}
 use Rattle.host_model.specs.Past.{told, Event, IsDisk}
 use Rattle.host_model.specs.Seen.{Seen}
 use Rattle.host_model.specs.Source.{Takes}
@@ -26,7 +26,7 @@ use Rattle.link_session.specs.declared.fault.SessionFault.TheVariants.{Memory}
 use Rattle.link_session.specs.Keeps.{no_more, IsAckedUpTo, Keeps}
 use Rattle.link_session.specs.Parent.{parent_begins, parent_does}
 use Rattle.link_session.specs.Session.{Exchanges, LinkSeen}
-use Rattle.link_session.proofs.AckLemmas.{acked-nothing, acked-since, acked-weaker, text-front, IsFront}
+use Rattle.link_session.proofs.AckLemmas.{acked-nothing, acked-since, acked-weaker, text-prefix, IsPrefix}
 use Rattle.link_session.proofs.ExtendsLemmas.{extends-further, extends-length}
 use Rattle.link_session.proofs.LinkLemmas.{sends-nothing}
 use Rattle.agent_app.specs.declared.collect.Collector.{Collector}
@@ -62,7 +62,7 @@ none-some t e = cc
 pub record StoresOn (s : Status) (input : Input) (set : Settings) (h0 : List Beat) (new read : List Event) : Type 0 where
   pub whole : List Beat
   pub gives : Gives input set h0 whole
-  pub stops : Throughout (EveryStop (Keeps set h0 whole (told read))) read new
+  pub crashes : Throughout (EveryCrash (Keeps set h0 whole (told read))) read new
   pub ends : is_whole s ≡ true → EveryDisk (StandsForHistory set whole) new
 
 -- nothing was taken of the input
@@ -112,7 +112,7 @@ module _ (honest : Type 0) (host host' : Seen) where
       nothing same set h = ([], subst (Takes left []) (sym same) (Takes-none left), refl)
 
       by : (set : Settings) (h0 : List Beat) (read : List Event) → RunsOn s run_every set h0 left left' read host'.past (Rose faults faults') (Rose host.tell_faults host'.tell_faults) (Rose host.disk_faults host'.disk_faults) → StoresOn s (OfSource left left') set h0 host'.past read
-      by set h0 read on = record { whole = history_with_text run_every h0 on.runs.taken; gives = (on.runs.taken, on.runs.takes, refl); stops = on.runs.stores.stops; ends = on.runs.stores.ends }
+      by set h0 read on = record { whole = history_with_text run_every h0 on.runs.taken; gives = (on.runs.taken, on.runs.takes, refl); crashes = on.runs.stores.crashes; ends = on.runs.stores.ends }
 
   pub of-collect : (collector : Collector) (s : Status) (outside outside' : Outside) → CollectsAll honest collector s outside outside' host host' → IsRunOf honest s (OfCollector collector outside outside') host host'
   of-collect collector s outside outside' all = record {
@@ -129,7 +129,7 @@ module _ (honest : Type 0) (host host' : Seen) where
       by set h0 read on = record {
         whole = history_with_text collector.every h0 on.collects.taken;
         gives = (on.collects.taken, on.collects.heard, refl);
-        stops = on.collects.stores.stops;
+        crashes = on.collects.stores.crashes;
         ends = on.collects.stores.ends;
       }
 
@@ -149,7 +149,7 @@ module _ (honest : Type 0) (host host' : Seen) where
           record {
             whole = history_with_health h0 configures.ended configures.taken;
             gives = (configures.taken, configures.ended, configures.takes, (λ e. (configures.at_end e).1), refl);
-            stops = configures.at.stops;
+            crashes = configures.at.crashes;
             ends = configures.at.ends;
           }
 
@@ -165,7 +165,7 @@ module _ (honest : Type 0) (host host' : Seen) where
       by set h0 read on = record {
         whole = (done_with set h0 on.receives.exchanges.frames).now.history;
         gives = (on.receives.result, on.receives.exchanges, refl);
-        stops = on.receives.stops;
+        crashes = on.receives.crashes;
         ends = on.receives.ends;
       }
 
@@ -185,8 +185,8 @@ module _ (starts : List (Option Database)) (tried : List Settings) (runs : List 
 
   -- where the run has stored and told nothing
   unchanged : (ended : Option Status) → GivesNothing input ⊎ (ended ≡ None) → ((t : Status) → ended ≡ Some t → is_opened t ≡ false)
-      → (disk : File → List ℕ) (text : List ℕ) → IsDisk host.past disk → IsFront text (told host.past) → Stored ended disk text
-  unchanged ended nothing unopened disk text images front = by here.stored here.are here.holds
+      → (disk : File → List ℕ) (text : List ℕ) → IsDisk host.past disk → IsPrefix text (told host.past) → Stored ended disk text
+  unchanged ended nothing unopened disk text images prefix = by here.stored here.are here.holds
     where
       here : HoldsRuns starts tried runs disk
       here = held disk images
@@ -197,11 +197,11 @@ module _ (starts : List (Option Database)) (tried : List Settings) (runs : List 
 
       by : (o : Option Database) → AreStored tried here.start runs o → HoldsDatabase o disk → Stored ended disk text
       by None are holds =
-          let short : length text ≤ length (told host.past) = omega (arith, ap length front.whole, length-append text front.more) in
+          let short : length text ≤ length (told host.past) = omega (arith, ap length prefix.whole, length-append text prefix.more) in
           record { start = here.start; among = here.among; stored = None; are = none_found runs (run_as ended text) are unopened (drop_of_length-le text short); holds = holds }
       by (Some base) are holds =
           let before = base.history in
-          let acked = acked-since (length before) (told host.past) [] text front.more (front.whole ∙ sym (append-nil (told host.past))) (acked-nothing (length before)) in
+          let acked = acked-since (length before) (told host.past) [] text prefix.more (prefix.whole ∙ sym (append-nil (told host.past))) (acked-nothing (length before)) in
           record {
             start = here.start;
             among = here.among;
@@ -226,10 +226,10 @@ module _ (starts : List (Option Database)) (tried : List Settings) (runs : List 
         by (inr (inl is)) = ap is_opened (sym same ∙ is)
         by (inr (inr is)) = ap is_opened (sym same ∙ is)
 
-    moments-none : Throughout (EveryStop (Stored None)) host.past host'.past
+    moments-none : Throughout (EveryCrash (Stored None)) host.past host'.past
     moments-none =
         untold (found.0.output h)
-        (λ disk text images by_then. unchanged None (inl found.1) (λ t is. absurd (none-some t is)) disk text images (text-front host.past text by_then)) (found.0.any_moment h)
+        (λ disk text images by_then. unchanged None (inl found.1) (λ t is. absurd (none-some t is)) disk text images (text-prefix host.past text by_then)) (found.0.any_moment h)
 
     end-none : EveryDisk (λ disk. Stored (Some s) disk (told host'.past)) host'.past
     end-none disk images =
@@ -252,10 +252,10 @@ module _ (starts : List (Option Database)) (tried : List Settings) (runs : List 
     run = all.resumes h set earlier stands
 
     -- a crash before the database was read: the run had taken nothing
-    opening : Throughout (EveryStop (Stored None)) host.past run.read
+    opening : Throughout (EveryCrash (Stored None)) host.past run.read
     opening =
         untold run.silent
-        (λ disk text images by_then. unchanged None (inr refl) (λ t is. absurd (none-some t is)) disk text images (text-front host.past text by_then)) run.before
+        (λ disk text images by_then. unchanged None (inr refl) (λ t is. absurd (none-some t is)) disk text images (text-prefix host.past text by_then)) run.before
 
     once-read : (ended : Option Status) (whole : List Beat) → Gives input set earlier whole → (disk : File → List ℕ) (text : List ℕ) → (keeps : Keeps set earlier whole (told run.read) disk text)
         → WhereWhole (run_as ended text) (keeps.stored ≡ whole) → Stored ended disk text
@@ -269,21 +269,21 @@ module _ (starts : List (Option Database)) (tried : List Settings) (runs : List 
           holds = keeps.stands;
         }
 
-    moments-some : Throughout (EveryStop (Stored None)) host.past host'.past
+    moments-some : Throughout (EveryCrash (Stored None)) host.past host'.past
     moments-some = by run.after
       where
-        by : OnIt run.read ⊎ (((s ≡ status.DiskFault) ⊎ (s ≡ status.Memory)) × (host'.past ≡ run.read) × GivesNothing input) → Throughout (EveryStop (Stored None)) host.past host'.past
+        by : OnIt run.read ⊎ (((s ≡ status.DiskFault) ⊎ (s ≡ status.Memory)) × (host'.past ≡ run.read) × GivesNothing input) → Throughout (EveryCrash (Stored None)) host.past host'.past
         by (inl on) =
             joined opening
-            (weakened (λ now keeps disk text images told_by. once-read None on.whole on.gives disk text (keeps disk text images told_by) (λ t is. absurd (none-some t is))) on.stops)
-        by (inr (short, is, none)) = subst (Throughout (EveryStop (Stored None)) host.past) (sym is) opening
+            (weakened (λ now keeps disk text images told_by. once-read None on.whole on.gives disk text (keeps disk text images told_by) (λ t is. absurd (none-some t is))) on.crashes)
+        by (inr (short, is, none)) = subst (Throughout (EveryCrash (Stored None)) host.past) (sym is) opening
 
     -- the run on it ended
     end-on : OnIt run.read → EveryDisk (λ disk. Stored (Some s) disk (told host'.past)) host'.past
     end-on on disk images = by (is_whole s) refl
       where
         keeps : Keeps set earlier on.whole (told run.read) disk (told host'.past)
-        keeps = at_end on.stops disk (told host'.past) images (full_text host'.past (told host'.past) refl)
+        keeps = at_end on.crashes disk (told host'.past) images (full_text host'.past (told host'.past) refl)
 
         by : (whole : Bool) → is_whole s ≡ whole → Stored (Some s) disk (told host'.past)
         by false part =
@@ -317,10 +317,10 @@ module _ (starts : List (Option Database)) (tried : List Settings) (runs : List 
         by (inl on) = end-on on
         by (inr (short, is, none)) = end-unread short is none
 
-  pub course-moments : Throughout (EveryStop (Stored None)) host.past host'.past
+  pub course-moments : Throughout (EveryCrash (Stored None)) host.past host'.past
   course-moments = by read-as.stored read-as.are read-as.holds
     where
-      by : (o : Option Database) → AreStored tried read-as.start runs o → HoldsDatabase o (reads_as host.past) → Throughout (EveryStop (Stored None)) host.past host'.past
+      by : (o : Option Database) → AreStored tried read-as.start runs o → HoldsDatabase o (reads_as host.past) → Throughout (EveryCrash (Stored None)) host.past host'.past
       by None are holds = moments-none holds
       by (Some base) are holds = moments-some read-as.start read-as.among base are holds
 

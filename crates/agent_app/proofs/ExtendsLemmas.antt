@@ -75,7 +75,7 @@ module _ (every : ℕ) (h0 : List Beat) where
   extends-whole text = extends-lines (parts text) []
 
   -- and of one of which these lines are read
-  pub extends-text : (set : Settings) (front : List (List ℕ)) (past : List Line) (made : List ℕ) → HasRead (run_rules every set h0) front past made → (text next : List ℕ) (more : List (List ℕ)) → parts text ≡ front ++ next ∷ more
+  pub extends-text : (set : Settings) (prefix : List (List ℕ)) (past : List Line) (made : List ℕ) → HasRead (run_rules every set h0) prefix past made → (text next : List ℕ) (more : List (List ℕ)) → parts text ≡ prefix ++ next ∷ more
       → Extends (history_at every h0 past) (history_with_text every h0 text)
-  extends-text set front past made has text next more whole =
+  extends-text set prefix past made has text next more whole =
       subst (λ (read : List Line). Extends (history_at every h0 past) (history_at every h0 read)) (sym (ap (lines_read rules []) whole ∙ has.says next more)) (extends-lines (next ∷ more) past)

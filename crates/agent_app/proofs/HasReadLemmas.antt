@@ -10,23 +10,23 @@ use Rattle.plugin_text.proofs.PartsLemmas.{but_last-append, parts_first, parts_w
 use Rattle.agent_app.specs.Reading.{Ending, GoesOn, Ends, RefusedAt, HasRead, Reading, Rules, lines_read, over_after, reading, reading_line, reading_of, reads_on, refused_at}
 
 -- a line of a text is one however the text goes on
-pub record LineIn (text : List ℕ) (front : List (List ℕ)) (line : List ℕ) : Type 0 where
+pub record LineIn (text : List ℕ) (prefix : List (List ℕ)) (line : List ℕ) : Type 0 where
   pub next : List ℕ
   pub more : List (List ℕ)
-  pub whole : parts text ≡ front ++ line ∷ next ∷ more
+  pub whole : parts text ≡ prefix ++ line ∷ next ∷ more
 
-pub line-onward : (text : List ℕ) (front : List (List ℕ)) (line next : List ℕ) (more : List (List ℕ)) → parts text ≡ front ++ line ∷ next ∷ more → (behind : List ℕ) → LineIn (text ++ behind) front line
-line-onward text front line next more whole behind =
-    let these : lines text ≡ front ++ line ∷ but_last (next ∷ more) = ap but_last whole ∙ but_last-append front line (next ∷ more) in
+pub line-onward : (text : List ℕ) (prefix : List (List ℕ)) (line next : List ℕ) (more : List (List ℕ)) → parts text ≡ prefix ++ line ∷ next ∷ more → (behind : List ℕ) → LineIn (text ++ behind) prefix line
+line-onward text prefix line next more whole behind =
+    let these : lines text ≡ prefix ++ line ∷ but_last (next ∷ more) = ap but_last whole ∙ but_last-append prefix line (next ∷ more) in
     let ahead = parts_first (rest text ++ behind) in
-    let all : parts (text ++ behind) ≡ front ++ line ∷ (but_last (next ∷ more) ++ ahead.0 ∷ ahead.1) =
-    parts-append text behind ∙ ap (λ (l : List (List ℕ)). l ++ parts (rest text ++ behind)) these ∙ append_assoc front (line ∷ but_last (next ∷ more)) (parts (rest text ++ behind))
-    ∙ ap (λ (l : List (List ℕ)). front ++ line ∷ (but_last (next ∷ more) ++ l)) ahead.2 in
-    by (but_last (next ∷ more)) (text ++ behind) front line ahead.0 ahead.1 all
+    let all : parts (text ++ behind) ≡ prefix ++ line ∷ (but_last (next ∷ more) ++ ahead.0 ∷ ahead.1) =
+    parts-append text behind ∙ ap (λ (l : List (List ℕ)). l ++ parts (rest text ++ behind)) these ∙ append_assoc prefix (line ∷ but_last (next ∷ more)) (parts (rest text ++ behind))
+    ∙ ap (λ (l : List (List ℕ)). prefix ++ line ∷ (but_last (next ∷ more) ++ l)) ahead.2 in
+    by (but_last (next ∷ more)) (text ++ behind) prefix line ahead.0 ahead.1 all
   where
-    by : (between : List (List ℕ)) (text' : List ℕ) (front' : List (List ℕ)) (line' first : List ℕ) (others : List (List ℕ)) → parts text' ≡ front' ++ line' ∷ (between ++ first ∷ others) → LineIn text' front' line'
-    by [] text' front' line' first others is = record { next = first; more = others; whole = is }
-    by (x ∷ between) text' front' line' first others is = record { next = x; more = between ++ first ∷ others; whole = is }
+    by : (between : List (List ℕ)) (text' : List ℕ) (prefix' : List (List ℕ)) (line' first : List ℕ) (others : List (List ℕ)) → parts text' ≡ prefix' ++ line' ∷ (between ++ first ∷ others) → LineIn text' prefix' line'
+    by [] text' prefix' line' first others is = record { next = first; more = others; whole = is }
+    by (x ∷ between) text' prefix' line' first others is = record { next = x; more = between ++ first ∷ others; whole = is }
 
 -- what is taken past the end of a text comes from what follows it
 pub take-append_past : (limit : ℕ) (text more : List ℕ) → length text ≤ limit → take limit (text ++ more) ≡ text ++ take (limit - length text) more
@@ -120,34 +120,34 @@ module _ {Line Refusal : Type 0} (rules : Rules Line Refusal) where
         ap (λ (ps : List (List ℕ)). (reading rules ended [] ps).ending) (parts-append_parts text more some.0 some.1 some.2)
         ∙ lines-over (lines text) [] (rest text) some.0 some.1 (ap (λ (ps : List (List ℕ)). (reading rules false [] ps).ending) (sym (parts_whole text)) ∙ is)
 
-  module _ (front : List (List ℕ)) (past : List Line) (made : List ℕ) (has : HasRead rules front past made) where
+  module _ (prefix : List (List ℕ)) (past : List Line) (made : List ℕ) (has : HasRead rules prefix past made) where
     -- one line more was read
-    pub read-next : (line : List ℕ) (said : Line) → fits line ≡ true → rules.lines.judge past line ≡ Ok said → rules.lines.ends_text said ≡ false → HasRead rules (front ++ line ∷ []) (said ∷ past) (made ++ rules.tell past said)
+    pub read-next : (line : List ℕ) (said : Line) → fits line ≡ true → rules.lines.judge past line ≡ Ok said → rules.lines.ends_text said ≡ false → HasRead rules (prefix ++ line ∷ []) (said ∷ past) (made ++ rules.tell past said)
     read-next line said short judged goes_on = record {
-      count = omega (arith, has.count, length-append front (line ∷ []));
+      count = omega (arith, has.count, length-append prefix (line ∷ []));
       onward = λ ended next more.
-          ap (reading rules ended []) (append_assoc front (line ∷ []) (next ∷ more)) ∙ has.onward ended line (next ∷ more)
+          ap (reading rules ended []) (append_assoc prefix (line ∷ []) (next ∷ more)) ∙ has.onward ended line (next ∷ more)
           ∙ ap (reads_on made) (line-reads past line said short judged goes_on ended next more) ∙ reads_on-twice made (rules.tell past said) (reading rules ended (said ∷ past) (next ∷ more));
       says = λ next more.
-          ap (lines_read rules.lines []) (append_assoc front (line ∷ []) (next ∷ more)) ∙ has.says line (next ∷ more) ∙ line-says past line said short judged goes_on next more;
+          ap (lines_read rules.lines []) (append_assoc prefix (line ∷ []) (next ∷ more)) ∙ has.says line (next ∷ more) ∙ line-says past line said short judged goes_on next more;
     }
 
     -- the next line is refused
-    pub read-refused : (text : List ℕ) (line next : List ℕ) (more : List (List ℕ)) (why : Refusal) (ended : Bool) → parts text ≡ front ++ line ∷ next ∷ more → fits line ≡ true → rules.lines.judge past line ≡ Err why
-        → reading_of rules ended text ≡ record { told = made; ending = RefusedAt (length front + 1) why }
+    pub read-refused : (text : List ℕ) (line next : List ℕ) (more : List (List ℕ)) (why : Refusal) (ended : Bool) → parts text ≡ prefix ++ line ∷ next ∷ more → fits line ≡ true → rules.lines.judge past line ≡ Err why
+        → reading_of rules ended text ≡ record { told = made; ending = RefusedAt (length prefix + 1) why }
     read-refused text line next more why ended whole short judged =
         ap (reading rules ended []) whole ∙ has.onward ended line (next ∷ more) ∙ rw (short, judged, append-nil made, has.count) refl
 
-    pub says-refused : (text : List ℕ) (line next : List ℕ) (more : List (List ℕ)) (why : Refusal) → parts text ≡ front ++ line ∷ next ∷ more → fits line ≡ true → rules.lines.judge past line ≡ Err why → lines_read rules.lines [] (parts text) ≡ past
+    pub says-refused : (text : List ℕ) (line next : List ℕ) (more : List (List ℕ)) (why : Refusal) → parts text ≡ prefix ++ line ∷ next ∷ more → fits line ≡ true → rules.lines.judge past line ≡ Err why → lines_read rules.lines [] (parts text) ≡ past
     says-refused text line next more why whole short judged = ap (lines_read rules.lines []) whole ∙ has.says line (next ∷ more) ∙ rw (short, judged) refl
 
     -- the next line ends the text
-    pub read-over : (text : List ℕ) (line next : List ℕ) (more : List (List ℕ)) (said : Line) (ended : Bool) → parts text ≡ front ++ line ∷ next ∷ more → fits line ≡ true → rules.lines.judge past line ≡ Ok said → rules.lines.ends_text said ≡ true
+    pub read-over : (text : List ℕ) (line next : List ℕ) (more : List (List ℕ)) (said : Line) (ended : Bool) → parts text ≡ prefix ++ line ∷ next ∷ more → fits line ≡ true → rules.lines.judge past line ≡ Ok said → rules.lines.ends_text said ≡ true
         → reading_of rules ended text ≡ record { told = made ++ rules.tell_end past; ending = Ends }
     read-over text line next more said ended whole short judged ends =
         ap (reading rules ended []) whole ∙ has.onward ended line (next ∷ more) ∙ rw (short, judged, ends) refl
 
-    pub says-over : (text : List ℕ) (line next : List ℕ) (more : List (List ℕ)) (said : Line) → parts text ≡ front ++ line ∷ next ∷ more → fits line ≡ true → rules.lines.judge past line ≡ Ok said → rules.lines.ends_text said ≡ true → lines_read rules.lines [] (parts text) ≡ past
+    pub says-over : (text : List ℕ) (line next : List ℕ) (more : List (List ℕ)) (said : Line) → parts text ≡ prefix ++ line ∷ next ∷ more → fits line ≡ true → rules.lines.judge past line ≡ Ok said → rules.lines.ends_text said ≡ true → lines_read rules.lines [] (parts text) ≡ past
     says-over text line next more said whole short judged ends = ap (lines_read rules.lines []) whole ∙ has.says line (next ∷ more) ∙ rw (short, judged, ends) refl
 
     -- what follows the lines is too long
@@ -155,35 +155,35 @@ module _ {Line Refusal : Type 0} (rules : Rules Line Refusal) where
     long-says long [] over = refl
     long-says long (next ∷ more) over = rw over refl
 
-    pub read-long : (text : List ℕ) (long : List ℕ) (more : List (List ℕ)) (ended : Bool) → parts text ≡ front ++ long ∷ more → fits long ≡ false → reading_of rules ended text ≡ record { told = made; ending = RefusedAt (length front + 1) rules.too_long }
+    pub read-long : (text : List ℕ) (long : List ℕ) (more : List (List ℕ)) (ended : Bool) → parts text ≡ prefix ++ long ∷ more → fits long ≡ false → reading_of rules ended text ≡ record { told = made; ending = RefusedAt (length prefix + 1) rules.too_long }
     read-long text long more ended whole over =
         ap (reading rules ended []) whole ∙ has.onward ended long more ∙ ap (reads_on made) (long-reads past long more ended over) ∙ rw (append-nil made, has.count) refl
 
-    pub says-long : (text : List ℕ) (long : List ℕ) (more : List (List ℕ)) → parts text ≡ front ++ long ∷ more → fits long ≡ false → lines_read rules.lines [] (parts text) ≡ past
+    pub says-long : (text : List ℕ) (long : List ℕ) (more : List (List ℕ)) → parts text ≡ prefix ++ long ∷ more → fits long ≡ false → lines_read rules.lines [] (parts text) ≡ past
     says-long text long more whole over = ap (lines_read rules.lines []) whole ∙ has.says long more ∙ long-says long more over
 
     -- the same, however the text goes on
-    pub refused-onward : (text : List ℕ) (line next : List ℕ) (more : List (List ℕ)) (why : Refusal) → parts text ≡ front ++ line ∷ next ∷ more → fits line ≡ true → rules.lines.judge past line ≡ Err why
-        → (ended : Bool) (behind : List ℕ) → reading_of rules ended (text ++ behind) ≡ record { told = made; ending = RefusedAt (length front + 1) why }
+    pub refused-onward : (text : List ℕ) (line next : List ℕ) (more : List (List ℕ)) (why : Refusal) → parts text ≡ prefix ++ line ∷ next ∷ more → fits line ≡ true → rules.lines.judge past line ≡ Err why
+        → (ended : Bool) (behind : List ℕ) → reading_of rules ended (text ++ behind) ≡ record { told = made; ending = RefusedAt (length prefix + 1) why }
     refused-onward text line next more why whole short judged ended behind =
-        let on = line-onward text front line next more whole behind in
+        let on = line-onward text prefix line next more whole behind in
         read-refused (text ++ behind) line on.next on.more why ended on.whole short judged
 
-    pub over-onward : (text : List ℕ) (line next : List ℕ) (more : List (List ℕ)) (said : Line) → parts text ≡ front ++ line ∷ next ∷ more → fits line ≡ true → rules.lines.judge past line ≡ Ok said → rules.lines.ends_text said ≡ true
+    pub over-onward : (text : List ℕ) (line next : List ℕ) (more : List (List ℕ)) (said : Line) → parts text ≡ prefix ++ line ∷ next ∷ more → fits line ≡ true → rules.lines.judge past line ≡ Ok said → rules.lines.ends_text said ≡ true
         → (ended : Bool) (behind : List ℕ) → reading_of rules ended (text ++ behind) ≡ record { told = made ++ rules.tell_end past; ending = Ends }
     over-onward text line next more said whole short judged ends ended behind =
-        let on = line-onward text front line next more whole behind in
+        let on = line-onward text prefix line next more whole behind in
         read-over (text ++ behind) line on.next on.more said ended on.whole short judged ends
 
-    pub long-onward : (text : List ℕ) (long : List ℕ) (more : List (List ℕ)) → parts text ≡ front ++ long ∷ more → AllPass fits front → fits long ≡ false
-        → (ended : Bool) (behind : List ℕ) → reading_of rules ended (text ++ behind) ≡ record { told = made; ending = RefusedAt (length front + 1) rules.too_long }
+    pub long-onward : (text : List ℕ) (long : List ℕ) (more : List (List ℕ)) → parts text ≡ prefix ++ long ∷ more → AllPass fits prefix → fits long ≡ false
+        → (ended : Bool) (behind : List ℕ) → reading_of rules ended (text ++ behind) ≡ record { told = made; ending = RefusedAt (length prefix + 1) rules.too_long }
     long-onward text long more whole short over ended behind =
-        let after = IsLongAfter-append text behind front (record { long = long; more = more; whole = whole; short = short; too_long = over }) in
+        let after = IsLongAfter-append text behind prefix (record { long = long; more = more; whole = whole; short = short; too_long = over }) in
         read-long (text ++ behind) after.long after.more ended after.whole after.too_long
 
     -- all lines of the text were read
-    module _ (text : List ℕ) (all : front ≡ lines text) where
-      whole-is : parts text ≡ front ++ rest text ∷ []
+    module _ (text : List ℕ) (all : prefix ≡ lines text) where
+      whole-is : parts text ≡ prefix ++ rest text ∷ []
       whole-is = parts_whole text ∙ ap (λ (l : List (List ℕ)). l ++ rest text ∷ []) (sym all)
 
       pub says-all : lines_read rules.lines [] (parts text) ≡ past
@@ -194,7 +194,7 @@ module _ {Line Refusal : Type 0} (rules : Rules Line Refusal) where
       read-open short = ap (reading rules false []) whole-is ∙ has.onward false (rest text) [] ∙ rw (short, append-nil made) refl
 
       -- the text ends
-      pub read-unfinished : fits (rest text) ≡ true → rules.is_unfinished past (rest text) ≡ true → reading_of rules true text ≡ record { told = made; ending = RefusedAt (length front) rules.unfinished }
+      pub read-unfinished : fits (rest text) ≡ true → rules.is_unfinished past (rest text) ≡ true → reading_of rules true text ≡ record { told = made; ending = RefusedAt (length prefix) rules.unfinished }
       read-unfinished short unfinished = ap (reading rules true []) whole-is ∙ has.onward true (rest text) [] ∙ rw (short, unfinished, append-nil made, has.count) refl
 
       pub read-ended : fits (rest text) ≡ true → rules.is_unfinished past (rest text) ≡ false → reading_of rules true text ≡ record { told = made ++ rules.tell_end past; ending = Ends }

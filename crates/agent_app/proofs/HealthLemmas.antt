@@ -7,7 +7,7 @@ use Rattle.host_model.specs.declared.file.File.{File}
 use Rattle.host_model.specs.declared.status.Status.{Status}
 use Rattle.host_model.specs.declared.status.Status.TheVariants.{Ok as Done, Refused, Limit, TellFault, DiskFault, ReadFault, Memory}
 use Rattle.host_model.specs.Disks.{EveryDisk}
-use Rattle.host_model.specs.Moments.{Throughout, EveryStop, begins}
+use Rattle.host_model.specs.Moments.{Throughout, EveryCrash, begins}
 use Rattle.host_model.specs.Past.{Event, Told, of, told, IsText, MayAdd}
 use Rattle.host_model.specs.Seen.{Seen}
 use Rattle.host_model.proofs.CallLemmas.{may_have_moved, moved}
@@ -32,7 +32,7 @@ use Rattle.agent_core.specs.Stands.{StandsForHealth, StandsForHistory}
 use Rattle.agent_core.specs.Replies.{reply_text}
 use Rattle.agent_core.proofs.StoredLemmas.{were_kept}
 use Rattle.link_session.specs.Keeps.{Extends, no_more, one_more, IsAckedUpTo, Keeps}
-use Rattle.link_session.proofs.AckLemmas.{acked-nothing, acked-one, acked-since, decimal-free, text-front}
+use Rattle.link_session.proofs.AckLemmas.{acked-nothing, acked-one, acked-since, decimal-free, text-prefix}
 use Rattle.link_session.proofs.StoreLemmas.{stands-all}
 use Rattle.agent_app.specs.Convert.{LeavesFiles}
 use Rattle.agent_app.specs.Health.{fault_status, fault_text, health_output, history_by, history_with_health, is_limit, is_over, line_by, status_by, told_by, HasHealthCause, StopsAt, StoresHealth, TellsFault}
@@ -146,43 +146,43 @@ module _ (status : Status) (honest : Type 0) (text : List ℕ) (old new : List E
 module _ (set : Settings) (h0 stored whole : List Beat) (since : Extends h0 stored) (within : Extends stored whole) (start : List Event) where
   shows : (disk : File → List ℕ) (text : List ℕ) → StandsForHistory set stored disk → IsText start text → Keeps set h0 whole (told start) disk text
   shows disk text stands by_then =
-      let front = text-front start text by_then in
+      let prefix = text-prefix start text by_then in
       record {
         stored = stored;
         since = since;
         within = within;
         stands = stands;
-        acked = acked-since (length stored) (told start) [] text front.more (front.whole ∙ sym (append-nil (told start))) (acked-nothing (length stored));
+        acked = acked-since (length stored) (told start) [] text prefix.more (prefix.whole ∙ sym (append-nil (told start))) (acked-nothing (length stored));
       }
 
   -- nothing was told since, and then this was
   module _ (past : List Event) (silent : told past ≡ told start) (here : EveryDisk (StandsForHistory set stored) past) (text : List ℕ) (acked : IsAckedUpTo (length stored) text) where
-    front-stop : (sent left : List ℕ) → sent ++ left ≡ text → EveryStop (Keeps set h0 whole (told start)) (Told sent ∷ past)
-    front-stop sent left is disk said images by_then =
+    prefix-crash : (sent left : List ℕ) → sent ++ left ≡ text → EveryCrash (Keeps set h0 whole (told start)) (Told sent ∷ past)
+    prefix-crash sent left is disk said images by_then =
         let more = drop by_then.0 sent ++ left in
-        let front : said ++ more ≡ told start ++ text =
+        let prefix : said ++ more ≡ told start ++ text =
         ap (λ (t : List ℕ). t ++ more) by_then.1 ∙ append_assoc (told past) (take by_then.0 sent) more
         ∙ ap (λ (t : List ℕ). told past ++ t) (sym (append_assoc (take by_then.0 sent) (drop by_then.0 sent) left) ∙ ap (λ (t : List ℕ). t ++ left) (take-append-drop by_then.0 sent) ∙ is)
         ∙ ap (λ (t : List ℕ). t ++ text) silent in
-        record { stored = stored; since = since; within = within; stands = here disk images; acked = acked-since (length stored) (told start) text said more front acked }
+        record { stored = stored; since = since; within = within; stands = here disk images; acked = acked-since (length stored) (told start) text said more prefix acked }
 
-    here-stop : EveryStop (Keeps set h0 whole (told start)) past
-    here-stop disk said images by_then =
-        let front = text-front past said by_then in
+    here-crash : EveryCrash (Keeps set h0 whole (told start)) past
+    here-crash disk said images by_then =
+        let prefix = text-prefix past said by_then in
         record {
           stored = stored;
           since = since;
           within = within;
           stands = here disk images;
-          acked = acked-since (length stored) (told start) [] said front.more (front.whole ∙ silent ∙ sym (append-nil (told start))) (acked-nothing (length stored));
+          acked = acked-since (length stored) (told start) [] said prefix.more (prefix.whole ∙ silent ∙ sym (append-nil (told start))) (acked-nothing (length stored));
         }
 
-    told-after : (new : List Event) → new ≡ Told text ∷ past → Throughout (EveryStop (Keeps set h0 whole (told start))) past new
-    told-after new is = moved (EveryStop (Keeps set h0 whole (told start))) (Told text) past new is here-stop (front-stop text [] (append-nil text))
+    told-after : (new : List Event) → new ≡ Told text ∷ past → Throughout (EveryCrash (Keeps set h0 whole (told start))) past new
+    told-after new is = moved (EveryCrash (Keeps set h0 whole (told start))) (Told text) past new is here-crash (prefix-crash text [] (append-nil text))
 
-    torn-after : (new : List Event) → MayAdd (λ (n : ℕ). Told (take n text)) past new → Throughout (EveryStop (Keeps set h0 whole (told start))) past new
+    torn-after : (new : List Event) → MayAdd (λ (n : ℕ). Told (take n text)) past new → Throughout (EveryCrash (Keeps set h0 whole (told start))) past new
     torn-after new may =
-        may_have_moved (EveryStop (Keeps set h0 whole (told start))) (λ (n : ℕ). Told (take n text)) past new may here-stop (λ n. front-stop (take n text) (drop n text) (take-append-drop n text))
+        may_have_moved (EveryCrash (Keeps set h0 whole (told start))) (λ (n : ℕ). Told (take n text)) past new may here-crash (λ n. prefix-crash (take n text) (drop n text) (take-append-drop n text))
 
 -- the configuration follows the history, where nothing refuses it
 extends-by : (h0 : List Beat) (text : List ℕ) (why : Option ConfigFault) → Extends h0 (history_by h0 text why)
@@ -194,7 +194,7 @@ module _ (set : Settings) (h0 : List Beat) (text : List ℕ) (start new : List E
   abbrev whole : List Beat
   whole = history_by h0 text (health_refusal text)
 
-  stores-moments : Throughout (EveryStop (Keeps set h0 whole (told start))) start new
+  stores-moments : Throughout (EveryCrash (Keeps set h0 whole (told start))) start new
   stores-moments = untold silent by moments
     where
       by : (disk : File → List ℕ) (said : List ℕ) → StandsForHealth set h0 text disk → IsText start said → Keeps set h0 whole (told start) disk said
@@ -208,7 +208,7 @@ module _ (set : Settings) (h0 : List Beat) (text : List ℕ) (start : List Event
   Ends status new = StopsAt status set h0 true text start new ⊥ tell_rose disk_rose
 
   abbrev Kept : List Event → Type 0
-  Kept new = Throughout (EveryStop (Keeps set h0 (history_by h0 text (health_refusal text)) (told start))) start new
+  Kept new = Throughout (EveryCrash (Keeps set h0 (history_by h0 text (health_refusal text)) (told start))) start new
 
   abbrev output : List ℕ
   output = told_by set h0 text (health_refusal text)
@@ -216,7 +216,7 @@ module _ (set : Settings) (h0 : List Beat) (text : List ℕ) (start : List Event
   short-end : (status : Status) (new : List Event) (sent unsent : List ℕ) → is_whole status ≡ false → Kept new → output ≡ sent ++ unsent → told new ≡ told start ++ sent
       → (status ≡ TellFault → output ≡ [] → ⊥) → ((status ≡ DiskFault) ⊎ (status ≡ Memory) → told new ≡ told start) → HasHealthCause status true text ⊥ tell_rose disk_rose → Ends status new
   short-end status new sent unsent short kept whole_is tells told_for unspent cause = record {
-    stops = kept;
+    crashes = kept;
     ends = λ all. absurd (true≢false (sym all ∙ short));
     output = record { sent = sent; unsent = unsent; whole = whole_is; tells = tells; all = λ all. absurd (true≢false (sym all ∙ short)) };
     told_for = told_for;
@@ -237,7 +237,7 @@ module _ (set : Settings) (h0 : List Beat) (text : List ℕ) (start : List Event
 
     whole-end : (new : List Event) → new ≡ Told next ∷ past → HasHealthCause Done true text ⊥ tell_rose disk_rose → Ends Done new
     whole-end new is cause = record {
-      stops = joined kept (told-after set h0 stored (history_by h0 text (health_refusal text)) since within start past silent here next acked new is);
+      crashes = joined kept (told-after set h0 stored (history_by h0 text (health_refusal text)) since within start past silent here next acked new is);
       ends = λ all. subst (λ (g : List Beat). EveryDisk (StandsForHistory set g) new) (sym stored-is) (subst (λ (p : List Event). EveryDisk (StandsForHistory set stored) p) (sym is) here);
       output = record { sent = next; unsent = []; whole = next-is ∙ sym (append-nil next); tells = ap told is ∙ ap (λ (t : List ℕ). t ++ next) silent; all = λ all. refl };
       told_for = λ is. absurd (apart Done TellFault refl refl is);
@@ -303,7 +303,7 @@ module _ (set : Settings) (h0 : List Beat) (ended : Bool) (taken : List ℕ) (st
   pub fault-ends : (honest : Type 0) (s : Status) (new : List Event) → honest → (s ≡ TellFault → fault_text why ≡ [] → ⊥) → TellsFault s honest why start new tell → StopsAt s set h0 ended taken start new source tell disk
   fault-ends honest s new h some (inl (status-is, done)) =
       subst (λ (t : Status). StopsAt t set h0 ended taken start new source tell disk) (sym status-is) (record {
-        stops = told-after set h0 h0 left no_more within-left start start refl here (fault_text why) (acked-fault (length h0) why) new (done h);
+        crashes = told-after set h0 h0 left no_more within-left start start refl here (fault_text why) (acked-fault (length h0) why) new (done h);
         ends = λ all. subst (λ (p : List Event). EveryDisk (StandsForHistory set left) p) (sym (done h)) stays-left;
         output = record { sent = fault_text why; unsent = []; whole = output-why ∙ sym (append-nil (fault_text why)); tells = ap told (done h); all = λ all. refl };
         told_for = λ untold. absurd (apart (fault_status why) TellFault (fault-inside why) refl untold);
@@ -316,12 +316,12 @@ module _ (set : Settings) (h0 : List Beat) (ended : Bool) (taken : List ℕ) (st
       silent-why (inr e) = ap told (done h) ∙ ap (λ (t : List ℕ). told start ++ t) (fault-none why e) ∙ append-nil (told start)
   fault-ends honest s new h some (inr (inl (status-is, rose, torn))) = subst (λ (t : Status). StopsAt t set h0 ended taken start new source tell disk) (sym status-is) (by (torn h))
     where
-      after : Throughout (EveryStop (Keeps set h0 left (told start))) start new
+      after : Throughout (EveryCrash (Keeps set h0 left (told start))) start new
       after = torn-after set h0 h0 left no_more within-left start start refl here (fault_text why) (acked-fault (length h0) why) new (torn h)
 
       short : (sent unsent : List ℕ) → fault_text why ≡ sent ++ unsent → told new ≡ told start ++ sent → StopsAt TellFault set h0 ended taken start new source tell disk
       short sent unsent whole_is tells = record {
-        stops = after;
+        crashes = after;
         ends = λ all. absurd (true≢false (sym all));
         output = record { sent = sent; unsent = unsent; whole = output-why ∙ whole_is; tells = tells; all = λ all. absurd (true≢false (sym all)) };
         told_for = λ untold none. some status-is (sym output-why ∙ none);
@@ -335,7 +335,7 @@ module _ (set : Settings) (h0 : List Beat) (ended : Bool) (taken : List ℕ) (st
   fault-ends honest s new h some (inr (inr (status-is, unmoved))) =
       subst (λ (t : Status). StopsAt t set h0 ended taken start new source tell disk) (sym status-is)
       (subst (λ (p : List Event). StopsAt Memory set h0 ended taken start p source tell disk) (sym unmoved) (record {
-        stops = begins (here-stop set h0 h0 left no_more within-left start start refl here (fault_text why) (acked-fault (length h0) why));
+        crashes = begins (here-crash set h0 h0 left no_more within-left start start refl here (fault_text why) (acked-fault (length h0) why));
         ends = λ all. absurd (true≢false (sym all));
         output = record { sent = []; unsent = health_output set h0 ended taken; whole = refl; tells = sym (append-nil (told start)); all = λ all. absurd (true≢false (sym all)) };
         told_for = λ untold. absurd (apart Memory TellFault refl refl untold);
@@ -370,7 +370,7 @@ module _ (honest : Type 0) (agent : AgentState) (text : List ℕ) (host : Seen) 
   silent h = (sets.only_here h).output
 
   kept : honest → (set : Settings) (h0 : List Beat) → IsAgentOf host.past agent set h0
-      → Throughout (EveryStop (Keeps set h0 (history_by h0 text (health_refusal text)) (told host.past))) host.past middle.past
+      → Throughout (EveryCrash (Keeps set h0 (history_by h0 text (health_refusal text)) (told host.past))) host.past middle.past
   kept h set h0 is_of = stores-moments set h0 text host.past middle.past (sets.any_moment h set h0 is_of) (silent h)
 
   others-by : (host' : Seen) → (honest → (file : File) → of file host'.past ≡ of file middle.past) → LeavesOthers honest host host'

@@ -5,7 +5,7 @@ use Rattle.host_model.specs.Cause.{Rose}
 use Rattle.host_model.specs.declared.status.Status.{Status}
 use Rattle.host_model.specs.declared.status.Status.TheVariants as status
 use Rattle.host_model.specs.Disks.{EveryDisk, reads_as}
-use Rattle.host_model.specs.Moments.{Throughout, EveryStop, begins}
+use Rattle.host_model.specs.Moments.{Throughout, EveryCrash, begins}
 use Rattle.host_model.specs.Past.{Event, told, IsDisk, IsText}
 use Rattle.host_model.specs.Source.{Takes}
 use Rattle.host_model.proofs.DiskLemmas.{untold}
@@ -24,7 +24,7 @@ use Rattle.host_model.specs.Seen.{Seen}
 use Rattle.agent_core.specs.Faults.{IsOpening}
 use Rattle.agent_core.specs.Stands.{StandsForHistory}
 use Rattle.link_session.specs.Keeps.{Keeps, no_more}
-use Rattle.link_session.proofs.AckLemmas.{acked-nothing, acked-since, text-front}
+use Rattle.link_session.proofs.AckLemmas.{acked-nothing, acked-since, text-prefix}
 use Rattle.link_session.proofs.StoreLemmas.{stands-all}
 use Rattle.agent_app.specs.declared.running.Running.{Running}
 use Rattle.agent_app.specs.Convert.{LeavesFiles}
@@ -37,18 +37,18 @@ use Rattle.agent_app.proofs.HasReadLemmas.{read-start}
 use Rattle.agent_app.proofs.RunLemmas.{EndsFor, Over, both-others, is-by-end, run-for, run-over, run-quiet, stops-wider}
 
 -- at each moment of the opening a crash leaves the history
-pub opening-stops : (set : Settings) (h0 : List Beat) (old new : List Event) → EveryDisk (StandsForHistory set h0) old → told new ≡ told old → Throughout (EveryDisk (IsDisk old)) old new → Throughout (EveryStop (Keeps set h0 h0 (told old))) old new
-opening-stops set h0 old new stands silent moments = untold silent shows moments
+pub opening-crashes : (set : Settings) (h0 : List Beat) (old new : List Event) → EveryDisk (StandsForHistory set h0) old → told new ≡ told old → Throughout (EveryDisk (IsDisk old)) old new → Throughout (EveryCrash (Keeps set h0 h0 (told old))) old new
+opening-crashes set h0 old new stands silent moments = untold silent shows moments
   where
     shows : (disk : File → List ℕ) (text : List ℕ) → IsDisk old disk → IsText old text → Keeps set h0 h0 (told old) disk text
     shows disk text images by_then =
-        let front = text-front old text by_then in
+        let prefix = text-prefix old text by_then in
         record {
           stored = h0;
           since = no_more;
           within = no_more;
           stands = stands disk images;
-          acked = acked-since (length h0) (told old) [] text front.more (front.whole ∙ sym (append-nil (told old))) (acked-nothing (length h0));
+          acked = acked-since (length h0) (told old) [] text prefix.more (prefix.whole ∙ sym (append-nil (told old))) (acked-nothing (length h0));
         }
 
 pub some-each : (o : Option (List ℕ)) (P : List ℕ → Type 0) → ((x : List ℕ) → o ≡ Some x → P x) → IfSome o P
@@ -92,7 +92,7 @@ module _ (honest : Type 0) (host host' : Seen) (first : honest → IsDisk host.p
       let which = opens.stands h set h0 (stands (reads_as host.past) (first h)) in
       let short : is_whole (opening_status why) ≡ false = by-fault (λ (f : AgentFault). is_whole (opening_status f) ≡ false) why which refl refl in
       record {
-        stops = opening-stops set h0 host.past host'.past stands (opens.only_here h).output (opens.any_moment h);
+        crashes = opening-crashes set h0 host.past host'.past stands (opens.only_here h).output (opens.any_moment h);
         ends = λ all. absurd (true≢false (sym all ∙ short));
         output = record { sent = []; unsent = run_output every set h0 false []; whole = refl; tells = (opens.only_here h).output ∙ sym (append-nil (told host.past)); all = λ all. absurd (true≢false (sym all ∙ short)) };
         told_for = λ is. absurd (untold-yet why is);
@@ -318,7 +318,7 @@ module _ {H : Type 0} (honest : Type 0) (seen : H → Seen) (host : Seen) (agent
   module _ (every : ℕ) (running : Running) (agent-is : running.agent ≡ agent) (feed-is : IsFeedOf running.feed every []) (feed-counts : (registry : Registry) → CountsFor running.feed registry) where
     -- by whatever history the disk reads as, and since whatever moment
     begins-at : honest → (set : Settings) (h0 : List Beat) → StandsForHistory set h0 (reads_as host.past) → (start : List Event) → told (seen middle).past ≡ told start
-        → Throughout (EveryStop (Keeps set h0 h0 (told start))) start (seen middle).past → IsRunning (seen middle).past running every set h0 [] start
+        → Throughout (EveryCrash (Keeps set h0 h0 (told start))) start (seen middle).past → IsRunning (seen middle).past running every set h0 [] start
     begins-at h set h0 here start silent stops =
         let kept = were_kept set h0 here.stored here.are in
         record {
@@ -334,14 +334,14 @@ module _ {H : Type 0} (honest : Type 0) (seen : H → Seen) (host : Seen) (agent
             tells = silent ∙ sym (append-nil (told start));
             closed = refl;
             acked = acked-nothing (length h0);
-            stops = stops;
+            crashes = stops;
           };
         }
 
     begins-so : honest → (set : Settings) (h0 : List Beat) → EveryDisk (StandsForHistory set h0) host.past → IsRunning (seen middle).past running every set h0 [] host.past
     begins-so h set h0 stands =
         begins-at h set h0 (stands (reads_as host.past) (first h)) host.past (opens.only_here h).output
-        (opening-stops set h0 host.past (seen middle).past stands (opens.only_here h).output (opens.any_moment h))
+        (opening-crashes set h0 host.past (seen middle).past stands (opens.only_here h).output (opens.any_moment h))
 
     stands-now : honest → (set : Settings) (h0 : List Beat) → StandsForHistory set h0 (reads_as host.past) → EveryDisk (StandsForHistory set h0) (seen middle).past
     stands-now h set h0 here = stands-all (seen middle).past agent set h0 (opens.opened h set h0 here)
@@ -350,7 +350,7 @@ module _ {H : Type 0} (honest : Type 0) (seen : H → Seen) (host : Seen) (agent
     begins-read : honest → (set : Settings) (h0 : List Beat) → StandsForHistory set h0 (reads_as host.past) → IsRunning (seen middle).past running every set h0 [] (seen middle).past
     begins-read h set h0 here =
         let now = (seen middle).past in
-        begins-at h set h0 here now refl (opening-stops set h0 now now (stands-now h set h0 here) refl (begins (λ disk images. images)))
+        begins-at h set h0 here now refl (opening-crashes set h0 now now (stands-now h set h0 here) refl (begins (λ disk images. images)))
 
     module _ (s : Status) (running' : Running) (host' : H) (text : List ℕ) (left : Option (List ℕ)) (source_rose : Type 0) (within : length text ≤ input_limit)
         (how : Ended (run_acts honest seen) s running middle text running' host' left source_rose) where

@@ -7,7 +7,7 @@ use Rattle.host_model.specs.Cause.{HasCause, Rose}
 use Rattle.host_model.specs.declared.status.Status.{Status}
 use Rattle.host_model.specs.declared.status.Status.TheVariants as status
 use Rattle.host_model.specs.Disks.{EveryDisk, reads_as}
-use Rattle.host_model.specs.Moments.{EveryStop, Throughout, begins}
+use Rattle.host_model.specs.Moments.{EveryCrash, Throughout, begins}
 use Rattle.host_model.specs.Past.{of, told, Event, IsDisk, MayAdd, Told}
 use Rattle.host_model.specs.Seen.{Seen}
 use Rattle.host_model.proofs.CallLemmas.{may_have_moved, moved}
@@ -38,7 +38,7 @@ use Rattle.link_session.specs.Session.{says_all, IsEndFor, LinkSeen}
 use Rattle.link_session.proofs.AckLemmas.{acked-more, acked-since, acked-weaker}
 use Rattle.link_session.proofs.LinkLemmas.{all-sends, sends-nothing}
 use Rattle.link_session.proofs.ExtendsLemmas.{extends-further, extends-length}
-use Rattle.link_session.proofs.CopyLemmas.{stops-copy}
+use Rattle.link_session.proofs.CopyLemmas.{crashes-copy}
 use Rattle.link_session.proofs.StoreLemmas.{keeps-more, stands-all}
 use Rattle.agent_app.specs.Convert.{is_limit, refusal_line, refusal_status}
 use Rattle.agent_app.specs.Receive.{done_with, ends_a_receive, last_line, Closes, EndsAs, HoldsCopy, Receives, ReceivesAll, ReceivesOn, TellsWhy}
@@ -47,7 +47,7 @@ use Rattle.agent_app.specs.Running.{opening_status, TellRose, TellsRefusal}
 use Rattle.agent_app.specs.Sessions.{session_status, EndsAsBytes}
 use Rattle.agent_app.proofs.AckLemmas.{acked-refusal}
 use Rattle.agent_app.proofs.CauseLemmas.{apart, cause-as, refusal-inside, stayed, stayed-before}
-use Rattle.agent_app.proofs.OpeningLemmas.{by-fault, complete-by, disk-failed, failed_by, fault-is, found-finds, opened-disk, opening-stops, some-each, unopened-finds, unopened-host, untold-yet}
+use Rattle.agent_app.proofs.OpeningLemmas.{by-fault, complete-by, disk-failed, failed_by, fault-is, found-finds, opened-disk, opening-crashes, some-each, unopened-finds, unopened-host, untold-yet}
 use Rattle.agent_app.proofs.SendLemmas.{ended_with, opening-none, unlinked}
 use Rattle.agent_app.proofs.SessionLemmas.{ends-as-bytes, NoFault}
 
@@ -277,7 +277,7 @@ module _ (honest : Type 0) (host : Seen) (agent : AgentState) (middle : Seen) (o
     (then_reads : honest → IsDisk middle.past (reads_as middle.past)) (late_reads : honest → IsDisk late.past (reads_as late.past)) where
   -- over this history, since some moment
   module _ (h : honest) (set : Settings) (h0 : List Beat) (is-of : IsAgentOf middle.past agent set h0) (start : List Event) (silent : told middle.past ≡ told start)
-      (opening : Throughout (EveryStop (Keeps set h0 h0 (told start))) start middle.past) where
+      (opening : Throughout (EveryCrash (Keeps set h0 h0 (told start))) start middle.past) where
     copies : Copies set h0 result middle.past late.past link link'
     copies = receives.copies h set h0 is-of
 
@@ -288,17 +288,17 @@ module _ (honest : Type 0) (host : Seen) (agent : AgentState) (middle : Seen) (o
     made = (done_with set h0 (receives.copies h set h0 is-of).exchanges.frames).told
 
     abbrev Kept : List Event → Type 0
-    Kept past = EveryStop (Keeps set h0 whole (told start)) past
+    Kept past = EveryCrash (Keeps set h0 whole (told start)) past
 
     extends : Extends h0 whole
     extends =
-        let kept = at_start (receives.copies h set h0 is-of).stops (reads_as middle.past) (told middle.past) (then_reads h) (full_text middle.past (told middle.past) refl) in
+        let kept = at_start (receives.copies h set h0 is-of).crashes (reads_as middle.past) (told middle.past) (then_reads h) (full_text middle.past (told middle.past) refl) in
         extends-further h0 kept.stored whole kept.since kept.within
 
-    stops : Throughout Kept start late.past
-    stops =
+    crashes : Throughout Kept start late.past
+    crashes =
         joined (keeps-more set h0 h0 whole (told start) extends start middle.past opening)
-        (subst (λ (t : List ℕ). Throughout (EveryStop (Keeps set h0 whole t)) middle.past late.past) silent (receives.copies h set h0 is-of).stops)
+        (subst (λ (t : List ℕ). Throughout (EveryCrash (Keeps set h0 whole t)) middle.past late.past) silent (receives.copies h set h0 is-of).crashes)
 
     tells : told late.past ≡ told start ++ (receives.copies h set h0 is-of).output.said
     tells = (receives.copies h set h0 is-of).output.tells ∙ ap (λ (t : List ℕ). t ++ (receives.copies h set h0 is-of).output.said) silent
@@ -311,7 +311,7 @@ module _ (honest : Type 0) (host : Seen) (agent : AgentState) (middle : Seen) (o
         → Throughout (EveryDisk (HoldsCopy set floors child)) start new
     stays-copy new held floors child rises copy truth =
         let cut = (receives.copies h set h0 is-of).exchanges.cut in
-        stops-copy set floors child rises h0 taken start new (subst (AllByRecursion HasSpelling) (sym cut.handed) cut.frames) truth copy held
+        crashes-copy set floors child rises h0 taken start new (subst (AllByRecursion HasSpelling) (sym cut.handed) cut.frames) truth copy held
 
     -- what was said answers frames of which all was stored and told, also where more was told behind
     abbrev Heard : List Event → Type 0
@@ -349,7 +349,7 @@ module _ (honest : Type 0) (host : Seen) (agent : AgentState) (middle : Seen) (o
           ends_as = quiet-ends result other;
           exchanges = copies.exchanges;
           heard = heard-same late.past refl;
-          stops = stops;
+          crashes = crashes;
           ends = λ all. copies.ends (whole-keeps result all);
           output = record {
             sent = copies.output.said;
@@ -358,7 +358,7 @@ module _ (honest : Type 0) (host : Seen) (agent : AgentState) (middle : Seen) (o
             tells = tells;
             all = λ all. copies.output.complete (whole-keeps result all);
           };
-          copy = stays-copy late.past stops;
+          copy = stays-copy late.past crashes;
         }
 
     -- the refusal was told, or that was cut short
@@ -377,7 +377,7 @@ module _ (honest : Type 0) (host : Seen) (agent : AgentState) (middle : Seen) (o
 
       acked : IsAckedUpTo (length whole) made
       acked =
-          let kept = at_end stops (reads_as late.past) (told late.past) (late_reads h) (full_text late.past (told late.past) refl) in
+          let kept = at_end crashes (reads_as late.past) (told late.past) (late_reads h) (full_text late.past (told late.past) refl) in
           let since : drop (length (told start)) (told late.past) ≡ made = ap (λ (t : List ℕ). drop (length (told start)) t) told-all ∙ drop-append_seam (told start) made in
           acked-weaker (length kept.stored) (length whole) made (extends-length kept.stored whole kept.within) (subst (IsAckedUpTo (length kept.stored)) since kept.acked)
 
@@ -388,9 +388,9 @@ module _ (honest : Type 0) (host : Seen) (agent : AgentState) (middle : Seen) (o
       stands = (receives.copies h set h0 is-of).ends keeps
 
       -- a prefix of the line was told
-      front-stop : (sent left : List ℕ) → sent ++ left ≡ last → Kept (Told sent ∷ late.past)
-      front-stop sent left line-is disk said images by_then =
-          let front : said ++ (drop by_then.0 sent ++ left) ≡ told start ++ (made ++ last) =
+      prefix-crash : (sent left : List ℕ) → sent ++ left ≡ last → Kept (Told sent ∷ late.past)
+      prefix-crash sent left line-is disk said images by_then =
+          let prefix : said ++ (drop by_then.0 sent ++ left) ≡ told start ++ (made ++ last) =
           ap (λ (t : List ℕ). t ++ (drop by_then.0 sent ++ left)) by_then.1 ∙ append_assoc (told late.past) (take by_then.0 sent) (drop by_then.0 sent ++ left)
           ∙ ap (λ (t : List ℕ). told late.past ++ t) (sym (append_assoc (take by_then.0 sent) (drop by_then.0 sent) left) ∙ ap (λ (t : List ℕ). t ++ left) (take-append-drop by_then.0 sent) ∙ line-is)
           ∙ ap (λ (t : List ℕ). t ++ last) told-all ∙ append_assoc (told start) made last in
@@ -399,14 +399,14 @@ module _ (honest : Type 0) (host : Seen) (agent : AgentState) (middle : Seen) (o
             since = extends;
             within = no_more;
             stands = stands disk images;
-            acked = acked-since (length whole) (told start) (made ++ last) said (drop by_then.0 sent ++ left) front acked-last;
+            acked = acked-since (length whole) (told start) (made ++ last) said (drop by_then.0 sent ++ left) prefix acked-last;
           }
 
-      told-stops : (new : List Event) → new ≡ Told last ∷ late.past → Throughout Kept start new
-      told-stops new added = joined stops (moved Kept (Told last) late.past new added (at_end stops) (front-stop last [] (append-nil last)))
+      told-crashes : (new : List Event) → new ≡ Told last ∷ late.past → Throughout Kept start new
+      told-crashes new added = joined crashes (moved Kept (Told last) late.past new added (at_end crashes) (prefix-crash last [] (append-nil last)))
 
-      torn-stops : (new : List Event) → MayAdd (λ (n : ℕ). Told (take n last)) late.past new → Throughout Kept start new
-      torn-stops new may = joined stops (may_have_moved Kept (λ (n : ℕ). Told (take n last)) late.past new may (at_end stops) (λ n. front-stop (take n last) (drop n last) (take-append-drop n last)))
+      torn-crashes : (new : List Event) → MayAdd (λ (n : ℕ). Told (take n last)) late.past new → Throughout Kept start new
+      torn-crashes new may = joined crashes (may_have_moved Kept (λ (n : ℕ). Told (take n last)) late.past new may (at_end crashes) (λ n. prefix-crash (take n last) (drop n last) (take-append-drop n last)))
 
       output-is : made ++ last_line result ≡ made ++ last
       output-is = ap (λ (r : SessionResult). made ++ last_line r) is
@@ -419,7 +419,7 @@ module _ (honest : Type 0) (host : Seen) (agent : AgentState) (middle : Seen) (o
         ends_as = subst (λ (r : SessionResult). EndsAs r s) (sym is) which;
         exchanges = (receives.copies h set h0 is-of).exchanges;
         heard = heard;
-        stops = held;
+        crashes = held;
         ends = all;
         output = record { sent = sent; unsent = unsent; whole = output-is ∙ output; tells = says; all = complete };
         copy = stays-copy new held;
@@ -436,19 +436,19 @@ module _ (honest : Type 0) (host : Seen) (agent : AgentState) (middle : Seen) (o
 
           torn-by : s ≡ status.TellFault → MayAdd (λ (n : ℕ). Told (take n last)) late.past host'.past → Receives s set h0 link link' start host'.past
           torn-by told-not (inl same) =
-              ended-so s host'.past which (torn-stops host'.past (inl same)) (cut s (ap is_whole told-not)) (heard-same host'.past same) made last refl (ap told same ∙ told-all) (cut s (ap is_whole told-not))
+              ended-so s host'.past which (torn-crashes host'.past (inl same)) (cut s (ap is_whole told-not)) (heard-same host'.past same) made last refl (ap told same ∙ told-all) (cut s (ap is_whole told-not))
           torn-by told-not (inr (n, added)) =
-              ended-so s host'.past which (torn-stops host'.past (inr (n, added))) (cut s (ap is_whole told-not)) (heard-told host'.past (take n last) added) (made ++ take n last) (drop n last)
+              ended-so s host'.past which (torn-crashes host'.past (inr (n, added))) (cut s (ap is_whole told-not)) (heard-told host'.past (take n last) added) (made ++ take n last) (drop n last)
               (ap (λ (t : List ℕ). made ++ t) (sym (take-append-drop n last)) ∙ sym (append_assoc made (take n last) (drop n last)))
               (ap told added ∙ ap (λ (t : List ℕ). t ++ take n last) told-all ∙ append_assoc (told start) made (take n last)) (cut s (ap is_whole told-not))
 
           by : TellsRefusal s honest 0 (refusal.Block why) late.past host'.past (TellRose late host') → Receives s set h0 link link' start host'.past
           by (inl (is-status, done)) =
-              ended-so s host'.past which (told-stops host'.past (done h)) (λ all. subst (λ (p : List Event). EveryDisk (StandsForHistory set whole) p) (sym (done h)) stands) (heard-told host'.past last (done h)) (made ++ last) [] (sym (append-nil (made ++ last)))
+              ended-so s host'.past which (told-crashes host'.past (done h)) (λ all. subst (λ (p : List Event). EveryDisk (StandsForHistory set whole) p) (sym (done h)) stands) (heard-told host'.past last (done h)) (made ++ last) [] (sym (append-nil (made ++ last)))
               (ap told (done h) ∙ ap (λ (t : List ℕ). t ++ last) told-all ∙ append_assoc (told start) made last) (λ all. refl)
           by (inr (inl (told-not, rose, torn))) = torn-by told-not (torn h)
           by (inr (inr (no-memory, same))) =
-              ended-so s host'.past which (torn-stops host'.past (inl same)) (cut s (ap is_whole no-memory)) (heard-same host'.past same) made last refl (ap told same ∙ told-all) (cut s (ap is_whole no-memory))
+              ended-so s host'.past which (torn-crashes host'.past (inl same)) (cut s (ap is_whole no-memory)) (heard-same host'.past same) made last refl (ap told same ∙ told-all) (cut s (ap is_whole no-memory))
 
     since : (s : Status) (host' : Seen) → Closes honest result s late host' → Receives s set h0 link link' start host'.past
     since s host' closed = by (ends-so result)
@@ -549,7 +549,7 @@ module _ (honest : Type 0) (host : Seen) (agent : AgentState) (middle : Seen) (o
           silent = (opens.only_here h).output;
           after = inl (record {
             stands = stands-now;
-            receives = since h set h0 is-of middle.past refl (opening-stops set h0 middle.past middle.past stands-now refl (begins (λ disk images. images))) s host' closed;
+            receives = since h set h0 is-of middle.past refl (opening-crashes set h0 middle.past middle.past stands-now refl (begins (λ disk images. images))) s host' closed;
           });
         }
 
@@ -557,7 +557,7 @@ module _ (honest : Type 0) (host : Seen) (agent : AgentState) (middle : Seen) (o
     opened-receives = record {
       receives = λ h set h0 stands.
           since h set h0 (opens.opened h set h0 (stands (reads_as host.past) (first h))) host.past (opens.only_here h).output
-          (opening-stops set h0 host.past middle.past stands (opens.only_here h).output (opens.any_moment h)) s host' closed;
+          (opening-crashes set h0 host.past middle.past stands (opens.only_here h).output (opens.any_moment h)) s host' closed;
       resumes = resumes-so;
       complete = λ h set h0 here. read-whole s set h0 link link' host host' link-cause tell-cause disk-cause host.past host'.past (resumes-so h set h0 here);
       finds = found-finds honest host agent middle opens s found;
@@ -607,7 +607,7 @@ module _ (honest : Type 0) (host host' : Seen) (first : honest → IsDisk host.p
         stands = λ disk images. (h0, no_more, stands disk (at_end (opens.any_moment h) disk images));
       };
     };
-    stops = opening-stops set h0 host.past host'.past stands (opens.only_here h).output (opens.any_moment h);
+    crashes = opening-crashes set h0 host.past host'.past stands (opens.only_here h).output (opens.any_moment h);
     ends = λ all. absurd (true≢false (sym all ∙ short));
     output = record {
       sent = [];
@@ -616,7 +616,7 @@ module _ (honest : Type 0) (host host' : Seen) (first : honest → IsDisk host.p
       tells = (opens.only_here h).output ∙ sym (append-nil (told host.past));
       all = λ all. absurd (true≢false (sym all ∙ short));
     };
-    copy = λ floors child rises copy truth. stops-copy set floors child rises h0 [] host.past host'.past tt truth copy (opening-stops set h0 host.past host'.past stands (opens.only_here h).output (opens.any_moment h));
+    copy = λ floors child rises copy truth. crashes-copy set floors child rises h0 [] host.past host'.past tt truth copy (opening-crashes set h0 host.past host'.past stands (opens.only_here h).output (opens.any_moment h));
   }
 
   unheard-since : (h : honest) (set : Settings) (h0 : List Beat) → StandsForHistory set h0 (reads_as host.past)

@@ -83,22 +83,22 @@ pub rest-fits : (text : List ℕ) → HasNoLongLine text → fits (rest text) �
 rest-fits text short =
     last-passes (lines text) (rest text) (recursion_from_All (λ (part : List ℕ). fits part ≡ true) (lines text ++ rest text ∷ []) (subst (AllPass fits) (parts_whole text) short))
   where
-    last-passes : (front : List (List ℕ)) (last : List ℕ) → AllByRecursion (λ (part : List ℕ). fits part ≡ true) (front ++ last ∷ []) → fits last ≡ true
+    last-passes : (prefix : List (List ℕ)) (last : List ℕ) → AllByRecursion (λ (part : List ℕ). fits part ≡ true) (prefix ++ last ∷ []) → fits last ≡ true
     last-passes [] last all = all.0
-    last-passes (part ∷ front) last all = last-passes front last all.1
+    last-passes (part ∷ prefix) last all = last-passes prefix last all.1
 
 -- some part follows the lines that a text begins with
-pub record Followed (text : List ℕ) (front : List (List ℕ)) : Type 0 where
+pub record Followed (text : List ℕ) (prefix : List (List ℕ)) : Type 0 where
   pub next : List ℕ
   pub more : List (List ℕ)
-  pub whole : parts text ≡ front ++ next ∷ more
+  pub whole : parts text ≡ prefix ++ next ∷ more
 
-front-followed : (text : List ℕ) (front : List (List ℕ)) → BeginsWithLines text front → Followed text front
-front-followed text front begins_with = by begins_with.left begins_with.whole
+prefix-followed : (text : List ℕ) (prefix : List (List ℕ)) → BeginsWithLines text prefix → Followed text prefix
+prefix-followed text prefix begins_with = by begins_with.left begins_with.whole
   where
-    by : (left : List (List ℕ)) → lines text ≡ front ++ left → Followed text front
-    by [] is = record { next = rest text; more = []; whole = parts_whole text ∙ ap (λ (l : List (List ℕ)). l ++ rest text ∷ []) (is ∙ append-nil front) }
-    by (next ∷ left) is = record { next = next; more = left ++ rest text ∷ []; whole = parts_whole text ∙ ap (λ (l : List (List ℕ)). l ++ rest text ∷ []) is ∙ append_assoc front (next ∷ left) (rest text ∷ []) }
+    by : (left : List (List ℕ)) → lines text ≡ prefix ++ left → Followed text prefix
+    by [] is = record { next = rest text; more = []; whole = parts_whole text ∙ ap (λ (l : List (List ℕ)). l ++ rest text ∷ []) (is ∙ append-nil prefix) }
+    by (next ∷ left) is = record { next = next; more = left ++ rest text ∷ []; whole = parts_whole text ∙ ap (λ (l : List (List ℕ)). l ++ rest text ∷ []) is ∙ append_assoc prefix (next ∷ left) (rest text ∷ []) }
 
 -- nothing happens to a file but the journal, call by call
 pub both-others : (honest : Type 0) (first middle last : Seen) → LeavesOthers honest first middle → LeavesOthers honest middle last → LeavesOthers honest first last
@@ -171,40 +171,40 @@ is-by-end acts s taker host text taker'' host'' left source_rose other = false
 
 -- ---- a run
 module _ {H : Type 0} (honest : Type 0) (seen : H → Seen) where
-  pub chain-counts : (running : Running) (host : H) (front : List (List ℕ)) (running' : Running) (host' : H) → Chain (run_acts honest seen) running host front running' host' → Counts (seen host) (seen host') ⊥ ⊥
-  chain-counts running host front running' host' begins = same-counts (seen host) ⊥ ⊥ (λ never. never) (λ never. never)
-  chain-counts running host front running' host' (goes_on lines line between running'' middle host'' before step) =
+  pub chain-counts : (running : Running) (host : H) (prefix : List (List ℕ)) (running' : Running) (host' : H) → Chain (run_acts honest seen) running host prefix running' host' → Counts (seen host) (seen host') ⊥ ⊥
+  chain-counts running host prefix running' host' begins = same-counts (seen host) ⊥ ⊥ (λ never. never) (λ never. never)
+  chain-counts running host prefix running' host' (goes_on lines line between running'' middle host'' before step) =
       both-counts (seen host) (seen middle) (seen host') ⊥ ⊥ (chain-counts running host lines between middle before) (gone-counts (seen middle) (seen host') step.counts)
-  chain-counts running host front running' host' (pauses lines between running'' middle host'' before step) =
+  chain-counts running host prefix running' host' (pauses lines between running'' middle host'' before step) =
       subst (λ (m : H). Counts (seen host) (seen m) ⊥ ⊥) (sym step.2) (chain-counts running host lines between middle before)
 
-  pub chain-others : (running : Running) (host : H) (front : List (List ℕ)) (running' : Running) (host' : H) → Chain (run_acts honest seen) running host front running' host' → LeavesOthers honest (seen host) (seen host')
-  chain-others running host front running' host' begins = λ h file other. refl
-  chain-others running host front running' host' (goes_on lines line between running'' middle host'' before step) =
+  pub chain-others : (running : Running) (host : H) (prefix : List (List ℕ)) (running' : Running) (host' : H) → Chain (run_acts honest seen) running host prefix running' host' → LeavesOthers honest (seen host) (seen host')
+  chain-others running host prefix running' host' begins = λ h file other. refl
+  chain-others running host prefix running' host' (goes_on lines line between running'' middle host'' before step) =
       both-others honest (seen host) (seen middle) (seen host') (chain-others running host lines between middle before) step.others
-  chain-others running host front running' host' (pauses lines between running'' middle host'' before step) =
+  chain-others running host prefix running' host' (pauses lines between running'' middle host'' before step) =
       subst (λ (m : H). LeavesOthers honest (seen host) (seen m)) (sym step.2) (chain-others running host lines between middle before)
 
   module _ (h : honest) (every : ℕ) (set : Settings) (h0 : List Beat) (start : List Event) where
-    pub chain-runs : (running : Running) (host : H) → IsRunning (seen host).past running every set h0 [] start → (front : List (List ℕ)) (running' : Running) (host' : H) → Chain (run_acts honest seen) running host front running' host'
-        → IsRunning (seen host').past running' every set h0 front start
-    chain-runs running host first front running' host' begins = first
-    chain-runs running host first front running' host' (goes_on lines line between running'' middle host'' before step) =
+    pub chain-runs : (running : Running) (host : H) → IsRunning (seen host).past running every set h0 [] start → (prefix : List (List ℕ)) (running' : Running) (host' : H) → Chain (run_acts honest seen) running host prefix running' host'
+        → IsRunning (seen host').past running' every set h0 prefix start
+    chain-runs running host first prefix running' host' begins = first
+    chain-runs running host first prefix running' host' (goes_on lines line between running'' middle host'' before step) =
         step.run h every set h0 lines start (chain-runs running host first lines between middle before) refl
-    chain-runs running host first front running' host' (pauses lines between running'' middle host'' before step) =
+    chain-runs running host first prefix running' host' (pauses lines between running'' middle host'' before step) =
         subst (λ (m : H). IsRunning (seen m).past running'' every set h0 lines start) (sym step.2)
         (subst (λ (r : Running). IsRunning (seen middle).past r every set h0 lines start) (sym step.1) (chain-runs running host first lines between middle before))
 
     -- where the text closes no beat, nothing happens to any file
     module _ (text : List ℕ) (none : history_with_text every h0 text ≡ h0) where
-      chain-quiet : (running : Running) (host : H) → IsRunning (seen host).past running every set h0 [] start → (front : List (List ℕ)) (running' : Running) (host' : H) → Chain (run_acts honest seen) running host front running' host'
-          → (next : List ℕ) (more : List (List ℕ)) → parts text ≡ front ++ next ∷ more → LeavesFiles (seen host).past (seen host').past
-      chain-quiet running host first front running' host' begins next more whole = leaves-nothing (seen host).past
-      chain-quiet running host first front running' host' (goes_on lines line between running'' middle host'' before step) next more whole =
+      chain-quiet : (running : Running) (host : H) → IsRunning (seen host).past running every set h0 [] start → (prefix : List (List ℕ)) (running' : Running) (host' : H) → Chain (run_acts honest seen) running host prefix running' host'
+          → (next : List ℕ) (more : List (List ℕ)) → parts text ≡ prefix ++ next ∷ more → LeavesFiles (seen host).past (seen host').past
+      chain-quiet running host first prefix running' host' begins next more whole = leaves-nothing (seen host).past
+      chain-quiet running host first prefix running' host' (goes_on lines line between running'' middle host'' before step) next more whole =
           let sooner : parts text ≡ lines ++ line ∷ next ∷ more = whole ∙ append_assoc lines (line ∷ []) (next ∷ more) in
           leaves-further (seen host).past (seen middle).past (seen host').past (chain-quiet running host first lines between middle before line (next ∷ more) sooner)
           (step.quiet h every set h0 lines start (chain-runs running host first lines between middle before) text next more sooner none)
-      chain-quiet running host first front running' host' (pauses lines between running'' middle host'' before step) next more whole =
+      chain-quiet running host first prefix running' host' (pauses lines between running'' middle host'' before step) next more whole =
           subst (λ (m : H). LeavesFiles (seen host).past (seen m).past) (sym step.2) (chain-quiet running host first lines between middle before next more whole)
 
       module _ (s : Status) (running : Running) (host : H) (first : IsRunning (seen host).past running every set h0 [] start) (left : Option (List ℕ)) (source_rose : Type 0) where
@@ -213,19 +213,19 @@ module _ {H : Type 0} (honest : Type 0) (seen : H → Seen) where
         lines-quiet running' middle chain = chain-quiet running host first (lines text) running' middle chain (rest text) [] (parts_whole text)
 
         pub run-quiet : (running'' : Running) (host'' : H) → Ended (run_acts honest seen) s running host text running'' host'' left source_rose → LeavesFiles (seen host).past (seen host'').past
-        run-quiet running'' host'' (at_line front line next more running' middle whole short_front short chain step) =
-            leaves-further (seen host).past (seen middle).past (seen host'').past (chain-quiet running host first front running' middle chain line (next ∷ more) whole)
-            (step.quiet h every set h0 front start (chain-runs running host first front running' middle chain) text next more whole none)
+        run-quiet running'' host'' (at_line prefix line next more running' middle whole short_prefix short chain step) =
+            leaves-further (seen host).past (seen middle).past (seen host'').past (chain-quiet running host first prefix running' middle chain line (next ∷ more) whole)
+            (step.quiet h every set h0 prefix start (chain-runs running host first prefix running' middle chain) text next more whole none)
         run-quiet running'' host'' (at_pause running' middle took step) = absurd (not-ok s (Err s) refl step.0)
-        run-quiet running'' host'' (at_long_line front long more running' middle whole short over chain step) =
-            leaves-further (seen host).past (seen middle).past (seen host'').past (chain-quiet running host first front running' middle chain long more whole) (step.quiet h)
+        run-quiet running'' host'' (at_long_line prefix long more running' middle whole short over chain step) =
+            leaves-further (seen host).past (seen middle).past (seen host'').past (chain-quiet running host first prefix running' middle chain long more whole) (step.quiet h)
         run-quiet running'' host'' (at_end running' middle below nothing took step) =
             leaves-further (seen host).past (seen middle).past (seen host'').past (lines-quiet running' middle took.chain) (step.quiet h)
         run-quiet running'' host'' (at_fault is rose below took last) = lines-quiet running'' host'' took.chain
         run-quiet running'' host'' (at_limit is full took) = lines-quiet running'' host'' took.chain
-        run-quiet running'' host'' (at_want front is took) =
-            let follows = front-followed text front took.begins in
-            chain-quiet running host first front running'' host'' took.chain follows.next follows.more follows.whole
+        run-quiet running'' host'' (at_want prefix is took) =
+            let follows = prefix-followed text prefix took.begins in
+            chain-quiet running host first prefix running'' host'' took.chain follows.next follows.more follows.whole
 
     -- how a run over this text ended, and that its status is that of the text where nothing outside fails
     pub record Over (s : Status) (ended : Bool) (text : List ℕ) (left : Option (List ℕ)) (new : List Event) (source_rose tell_rose disk_rose : Type 0) : Type 0 where
@@ -292,17 +292,17 @@ module _ {H : Type 0} (honest : Type 0) (seen : H → Seen) where
       module _ (running : Running) (first : IsRunning (seen host).past running every set h0 [] start) where
         pub run-over : (running'' : Running) (host'' : H) → (how : Ended (run_acts honest seen) s running host text running'' host'' left source_rose)
             → Over s (is-by-end (run_acts honest seen) s running host text running'' host'' left source_rose how) text left (seen host'').past source_rose (TellRose (seen host) (seen host'')) (DiskRose (seen host) (seen host''))
-        run-over running'' host'' (at_line front line next more running' middle whole short_front short chain step) =
-            let going = chain-runs running host first front running' middle chain in
-            over-onward middle host'' _ _ (chain-counts running host front running' middle chain) step.counts
-            (λ ended behind. let on = line-onward text front line next more whole behind in step.run h every set h0 front start going refl ended (text ++ behind) on.next on.more on.whole)
+        run-over running'' host'' (at_line prefix line next more running' middle whole short_prefix short chain step) =
+            let going = chain-runs running host first prefix running' middle chain in
+            over-onward middle host'' _ _ (chain-counts running host prefix running' middle chain) step.counts
+            (λ ended behind. let on = line-onward text prefix line next more whole behind in step.run h every set h0 prefix start going refl ended (text ++ behind) on.next on.more on.whole)
         run-over running'' host'' (at_pause running' middle took step) = absurd (not-ok s (Err s) refl step.0)
-        run-over running'' host'' (at_long_line front long more running' middle whole short over chain step) =
-            let going = chain-runs running host first front running' middle chain in
-            over-onward middle host'' _ _ (chain-counts running host front running' middle chain) step.counts
+        run-over running'' host'' (at_long_line prefix long more running' middle whole short over chain step) =
+            let going = chain-runs running host first prefix running' middle chain in
+            over-onward middle host'' _ _ (chain-counts running host prefix running' middle chain) step.counts
             (λ ended behind.
-            let on = IsLongAfter-append text behind front (record { long = long; more = more; whole = whole; short = short; too_long = over }) in
-            step.run h every set h0 front start going refl ended (text ++ behind) on.long on.more on.whole on.too_long)
+            let on = IsLongAfter-append text behind prefix (record { long = long; more = more; whole = whole; short = short; too_long = over }) in
+            step.run h every set h0 prefix start going refl ended (text ++ behind) on.long on.more on.whole on.too_long)
         run-over running'' host'' (at_end running' middle below nothing took step) =
             let going = chain-runs running host first (lines text) running' middle took.chain in
             let stop = over-by middle host'' _ _ (chain-counts running host (lines text) running' middle took.chain) step.counts true text (step.run h every set h0 text start going refl refl) in
@@ -326,16 +326,16 @@ module _ {H : Type 0} (honest : Type 0) (seen : H → Seen) where
             over-open running'' host'' going took.short (λ e. cc) (λ e. cc)
             (λ ending goes. subst (λ (a : Status). HasRunCause a false ending text source_rose (TellRose (seen host) (seen host'')) (DiskRose (seen host) (seen host''))) (sym is) (refl, goes, full))
             (λ more there none. inl (is ∙ ap (λ (r : Reading Refusal). ending_status r.ending) (sym reads) ∙ status-full every set h0 input_limit text more full))
-        run-over running'' host'' (at_want front is took) =
-            let going = chain-runs running host first front running'' host'' took.chain in
-            let follows = front-followed text front took.begins in
+        run-over running'' host'' (at_want prefix is took) =
+            let going = chain-runs running host first prefix running'' host'' took.chain in
+            let follows = prefix-followed text prefix took.begins in
             record {
               at_end = λ e. not-ended e;
               plain = λ e. not-ended e;
               stops = subst (λ (a : Status). StopsIn a every set h0 false text start (seen host'').past source_rose (TellRose (seen host) (seen host'')) (DiskRose (seen host) (seen host''))) (sym is)
                   (want-stop (seen host'').past running'' every set h0 start going.read going.made going.at false text source_rose (TellRose (seen host) (seen host'')) (DiskRose (seen host) (seen host''))
-                  (extends-text every h0 set front going.read going.made going.has text follows.next follows.more follows.whole)
-                  (output-behind every set h0 front going.read going.made going.has false text follows.next follows.more follows.whole));
+                  (extends-text every h0 set prefix going.read going.made going.has text follows.next follows.more follows.whole)
+                  (output-behind every set h0 prefix going.read going.made going.has false text follows.next follows.more follows.whole));
               whole = λ more there none_read none_told none_disk. inr is;
             }
 
@@ -345,24 +345,24 @@ module _ {H : Type 0} (honest : Type 0) (seen : H → Seen) where
     EndsSo host'' = EndsFor honest s text source_rose (seen host) (seen host'')
 
     -- a step behind these lines ended it
-    step-for : (front : List (List ℕ)) (running' : Running) (middle host'' : H) → Chain (run_acts honest seen) running host front running' middle → IsTakers s
+    step-for : (prefix : List (List ℕ)) (running' : Running) (middle host'' : H) → Chain (run_acts honest seen) running host prefix running' middle → IsTakers s
         → Counts (seen middle) (seen host'') (s ≡ status.TellFault) (s ≡ status.DiskFault) → LeavesOthers honest (seen middle) (seen host'') → EndsSo host''
-    step-for front running' middle host'' chain takers counts others =
+    step-for prefix running' middle host'' chain takers counts others =
         takers-for honest s text source_rose (seen host) (seen host'')
-        (both-others honest (seen host) (seen middle) (seen host'') (chain-others running host front running' middle chain) others) takers
-        (both-counts (seen host) (seen middle) (seen host'') (s ≡ status.TellFault) (s ≡ status.DiskFault) (chain-counts running host front running' middle chain) counts)
+        (both-others honest (seen host) (seen middle) (seen host'') (chain-others running host prefix running' middle chain) others) takers
+        (both-counts (seen host) (seen middle) (seen host'') (s ≡ status.TellFault) (s ≡ status.DiskFault) (chain-counts running host prefix running' middle chain) counts)
 
     pub run-for : (running'' : Running) (host'' : H) (left : Option (List ℕ)) → Ended (run_acts honest seen) s running host text running'' host'' left source_rose → EndsSo host''
-    run-for running'' host'' left (at_line front line next more running' middle whole short_front short chain step) =
-        step-for front running' middle host'' chain step.statuses (status-counts (seen middle) (seen host'') s step.counts) step.others
+    run-for running'' host'' left (at_line prefix line next more running' middle whole short_prefix short chain step) =
+        step-for prefix running' middle host'' chain step.statuses (status-counts (seen middle) (seen host'') s step.counts) step.others
     run-for running'' host'' left (at_pause running' middle took step) = absurd (not-ok s (Err s) refl step.0)
-    run-for running'' host'' left (at_long_line front long more running' middle whole short over chain step) =
-        step-for front running' middle host'' chain step.statuses step.counts step.others
+    run-for running'' host'' left (at_long_line prefix long more running' middle whole short over chain step) =
+        step-for prefix running' middle host'' chain step.statuses step.counts step.others
     run-for running'' host'' left (at_end running' middle below nothing took step) =
         step-for (lines text) running' middle host'' took.chain step.statuses step.counts step.others
     run-for running'' host'' left (at_fault is rose below took last) =
         read-for honest s text source_rose (seen host) (seen host'') (chain-others running host (lines text) running'' host'' took.chain) (chain-counts running host (lines text) running'' host'' took.chain) is rose below
     run-for running'' host'' left (at_limit is full took) =
         limit-for honest s text source_rose (seen host) (seen host'') (chain-others running host (lines text) running'' host'' took.chain) (chain-counts running host (lines text) running'' host'' took.chain) is full
-    run-for running'' host'' left (at_want front is took) =
-        want-for honest s text source_rose (seen host) (seen host'') (chain-others running host front running'' host'' took.chain) (chain-counts running host front running'' host'' took.chain) is
+    run-for running'' host'' left (at_want prefix is took) =
+        want-for honest s text source_rose (seen host) (seen host'') (chain-others running host prefix running'' host'' took.chain) (chain-counts running host prefix running'' host'' took.chain) is

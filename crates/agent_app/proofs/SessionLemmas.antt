@@ -20,7 +20,7 @@ use Rattle.link_session.specs.Exchange.{both, broken_by, exchange, refuses, then
 use Rattle.link_session.specs.Session.{Exchanges, IsBrokenBy, IsEndFor, LinkSeen}
 use Rattle.agent_app.specs.Sessions.{session_status, EndsAsBytes, EndsBehind, EndsOver}
 
--- ---- frames at the front of the same bytes
+-- ---- frames at the start of the same bytes
 -- the second list goes on from the first, by frames that stand behind that
 record GoesOnFrom (fs gs : List Frame) (rest end : List ℕ) : Type 0 where
   more : List Frame
@@ -182,9 +182,9 @@ module _ {S : Type 0} (does : S → Frame → Course S) (begin : Course S) where
             let so : s ≡ session_status r = subst (λ (e : Option SessionResult). EndsOver s e bytes rest) (ended-on gs fs on.more r on.whole is) over in
             subst (λ (e : Option SessionResult). EndsOver s e bytes end) (sym is) so
 
-    each-list : (front : List ℕ) (fs gs : List Frame) (rest end : List ℕ) → HandsOut front [] fs rest → Over fs rest → ((done_by fs).ended ≡ no_result → HasNoFrame rest) → HandsOut front [] gs end → Over gs end
-    each-list front fs gs rest end one over none two =
-        by (either-on fs gs rest end (all-of front rest fs one) (all-of front end gs two) (sym (spelt-of front rest fs one) ∙ spelt-of front end gs two))
+    each-list : (prefix : List ℕ) (fs gs : List Frame) (rest end : List ℕ) → HandsOut prefix [] fs rest → Over fs rest → ((done_by fs).ended ≡ no_result → HasNoFrame rest) → HandsOut prefix [] gs end → Over gs end
+    each-list prefix fs gs rest end one over none two =
+        by (either-on fs gs rest end (all-of prefix rest fs one) (all-of prefix end gs two) (sym (spelt-of prefix rest fs one) ∙ spelt-of prefix end gs two))
       where
         by : GoesOnFrom fs gs rest end ⊎ GoesOnFrom gs fs end rest → Over gs end
         by (inl on) = longer fs gs rest end on over none
@@ -262,8 +262,8 @@ module _ {S : Type 0} (does : S → Frame → Course S) (begin : Course S) where
     ends-as : EndsAsBytes does begin s bytes
     ends-as = by settled
       where
-        front : take input_limit bytes ≡ taken ++ untaken
-        front = more_bytes input_limit taken more within
+        prefix : take input_limit bytes ≡ taken ++ untaken
+        prefix = more_bytes input_limit taken more within
 
         all-cut : HandsOut (taken ++ untaken) [] frames (rest ++ untaken)
         all-cut = record {
@@ -275,7 +275,7 @@ module _ {S : Type 0} (does : S → Frame → Course S) (begin : Course S) where
 
         by : Settled ⊎ (s ≡ status.Memory) → EndsAsBytes does begin s bytes
         by (inl (over, stands)) =
-            inl (λ gs end other. each-list s bytes (taken ++ untaken) frames gs (rest ++ untaken) end all-cut over stands (subst (λ (bs : List ℕ). HandsOut bs [] gs end) front other))
+            inl (λ gs end other. each-list s bytes (taken ++ untaken) frames gs (rest ++ untaken) end all-cut over stands (subst (λ (bs : List ℕ). HandsOut bs [] gs end) prefix other))
         by (inr so) = inr so
 
   -- a session that took its bytes of these

@@ -4,7 +4,7 @@ use Rattle.std.proofs.lemmas.List.{take-append-drop}
 use Rattle.host_model.specs.declared.status.Status.{Status}
 use Rattle.host_model.specs.declared.status.Status.TheVariants.{Refused, Limit, TellFault, DiskFault, Memory}
 use Rattle.host_model.specs.Disks.{EveryDisk}
-use Rattle.host_model.specs.Moments.{Throughout, EveryStop}
+use Rattle.host_model.specs.Moments.{Throughout, EveryCrash}
 use Rattle.host_model.specs.Past.{Event, Told, told, MayAdd}
 use Rattle.history.specs.declared.fault.BlockFault.{BlockFault}
 use Rattle.history.specs.declared.line.Line.{Line}
@@ -25,7 +25,7 @@ use Rattle.agent_app.specs.Run.{history_with_text, is_whole, run_output, run_rea
 use Rattle.agent_app.specs.Running.{IsCutShort, RunsAt, StopsIn, TellsRefusal}
 use Rattle.agent_app.proofs.AckLemmas.{acked-refusal, middle-none, refusal-some}
 use Rattle.agent_app.proofs.CauseLemmas.{apart, refusal-inside}
-use Rattle.agent_app.proofs.RunningLemmas.{line-stops, told-stops, torn-stops}
+use Rattle.agent_app.proofs.RunningLemmas.{line-crashes, told-crashes, torn-crashes}
 
 -- these bytes were told of the output, and others were not
 pub record Behind (made output : List ℕ) : Type 0 where
@@ -33,9 +33,9 @@ pub record Behind (made output : List ℕ) : Type 0 where
   pub whole : output ≡ made ++ left
 
 -- what was told of the lines that were read is a prefix of the output
-pub output-behind : (every : ℕ) (set : Settings) (h0 : List Beat) (front : List (List ℕ)) (read : List Line) (made : List ℕ) → HasRead (run_rules every set h0) front read made → (ended : Bool) (text next : List ℕ) (more : List (List ℕ)) → parts text ≡ front ++ next ∷ more
+pub output-behind : (every : ℕ) (set : Settings) (h0 : List Beat) (prefix : List (List ℕ)) (read : List Line) (made : List ℕ) → HasRead (run_rules every set h0) prefix read made → (ended : Bool) (text next : List ℕ) (more : List (List ℕ)) → parts text ≡ prefix ++ next ∷ more
     → Behind made (run_output every set h0 ended text)
-output-behind every set h0 front read made has ended text next more whole =
+output-behind every set h0 prefix read made has ended text next more whole =
     let on = reading (run_rules every set h0) ended read (next ∷ more) in
     record {
       left = on.told ++ ending_line on.ending;
@@ -59,13 +59,13 @@ module _ (past : List Event) (running : Running) (every : ℕ) (set : Settings) 
     Stops status new = StopsIn status every set h0 ended text start new source_rose tell_rose disk_rose
 
     abbrev Kept : List Event → Type 0
-    Kept new = Throughout (EveryStop (Keeps set h0 (history_with_text every h0 text) (told start))) start new
+    Kept new = Throughout (EveryCrash (Keeps set h0 (history_with_text every h0 text) (told start))) start new
 
     short-stop : (status : Status) (new : List Event) (sent unsent : List ℕ) → is_whole status ≡ false → Kept new → run_output every set h0 ended text ≡ sent ++ unsent → told new ≡ told start ++ sent
         → (status ≡ TellFault → run_output every set h0 ended text ≡ [] → ⊥) → FailsAtBeat status every set h0 ended text sent → HasRunCause status ended (run_reading every set h0 ended text).ending text source_rose tell_rose disk_rose → Stops status new
     short-stop status new sent unsent short kept whole tells told_for stored_for cause = record {
       stores = record {
-        stops = kept;
+        crashes = kept;
         ends = λ all. absurd (true≢false (sym all ∙ short));
         output = record { sent = sent; unsent = unsent; whole = whole; tells = tells; all = λ all. absurd (true≢false (sym all ∙ short)) };
         told_for = told_for;
@@ -78,7 +78,7 @@ module _ (past : List Event) (running : Running) (every : ℕ) (set : Settings) 
     pub whole-stop : (status : Status) → (status ≡ TellFault → ⊥) → (status ≡ DiskFault → ⊥) → run_output every set h0 ended text ≡ made → history_with_text every h0 text ≡ now → HasRunCause status ended (run_reading every set h0 ended text).ending text source_rose tell_rose disk_rose → Stops status past
     whole-stop status untold stored output history cause = record {
       stores = record {
-        stops = subst (λ (h : List Beat). Throughout (EveryStop (Keeps set h0 h (told start))) start past) (sym history) at.stops;
+        crashes = subst (λ (h : List Beat). Throughout (EveryCrash (Keeps set h0 h (told start))) start past) (sym history) at.crashes;
         ends = λ _. subst (λ (h : List Beat). EveryDisk (StandsForHistory set h) past) (sym history) (stands-all past running.agent set now at.agent);
         output = record { sent = made; unsent = []; whole = output ∙ sym (append-nil made); tells = at.tells; all = λ _. refl };
         told_for = λ is. absurd (untold is);
@@ -89,7 +89,7 @@ module _ (past : List Event) (running : Running) (every : ℕ) (set : Settings) 
 
     -- memory ran out
     pub want-stop : Extends now (history_with_text every h0 text) → Behind made (run_output every set h0 ended text) → Stops Memory past
-    want-stop more behind = short-stop Memory past made behind.left refl (keeps-more set h0 now (history_with_text every h0 text) (told start) more start past at.stops) behind.whole at.tells (λ is. absurd (short is)) (λ is. absurd (stored is)) tt
+    want-stop more behind = short-stop Memory past made behind.left refl (keeps-more set h0 now (history_with_text every h0 text) (told start) more start past at.crashes) behind.whole at.tells (λ is. absurd (short is)) (λ is. absurd (stored is)) tt
       where
         short : Memory ≡ TellFault → ⊥
         short e = cc
@@ -102,7 +102,7 @@ module _ (past : List Event) (running : Running) (every : ℕ) (set : Settings) 
         → Throughout (EveryDisk (StandsForOneOf set now reason (history_with now every read said))) past new → told new ≡ told past
         → Extends now (history_with_text every h0 text) → (reason ≡ None → Extends (history_at every h0 (said ∷ read)) (history_with_text every h0 text)) → Behind made (run_output every set h0 ended text) → Stops status new
     line-stop status said reason new short untold stored_for cause moments silent here there behind =
-        short-stop status new made behind.left short (line-stops past running every set h0 start read made at said reason new (history_with_text every h0 text) here there moments silent) behind.whole (silent ∙ at.tells) (λ is. absurd (untold is)) stored_for cause
+        short-stop status new made behind.left short (line-crashes past running every set h0 start read made at said reason new (history_with_text every h0 text) here there moments silent) behind.whole (silent ∙ at.tells) (λ is. absurd (untold is)) stored_for cause
 
     -- a text that is told next was not told whole
     pub cut-stop : (status : Status) (honest : Type 0) (next : List ℕ) (new : List Event) → honest → IsCutShort status honest next past new tell_rose → IsAckedUpTo (length now) next → (next ≡ [] → ⊥)
@@ -110,7 +110,7 @@ module _ (past : List Event) (running : Running) (every : ℕ) (set : Settings) 
     cut-stop status honest next new h (inl (is, rose, torn)) acked some more behind = subst (λ (s : Status). Stops s new) (sym is) (by (torn h))
       where
         kept : Kept new
-        kept = keeps-more set h0 now (history_with_text every h0 text) (told start) more start new (torn-stops past running every set h0 start read made at next acked new (torn h))
+        kept = keeps-more set h0 now (history_with_text every h0 text) (told start) more start new (torn-crashes past running every set h0 start read made at next acked new (torn h))
 
         output : run_output every set h0 ended text ≡ made ++ (next ++ behind.left)
         output = behind.whole ∙ append_assoc made next behind.left
@@ -140,8 +140,8 @@ module _ (past : List Event) (running : Running) (every : ℕ) (set : Settings) 
         let stands : EveryDisk (StandsForHistory set now) (Told line ∷ past) = stands-all past running.agent set now at.agent in
         subst (λ (s : Status). Stops s new) (sym is) (record {
           stores = record {
-            stops = subst (λ (w : List Beat). Throughout (EveryStop (Keeps set h0 w (told start))) start new) (sym history)
-                (told-stops past running every set h0 start read made at line (acked-refusal (length now) number why) new (done h));
+            crashes = subst (λ (w : List Beat). Throughout (EveryCrash (Keeps set h0 w (told start))) start new) (sym history)
+                (told-crashes past running every set h0 start read made at line (acked-refusal (length now) number why) new (done h));
             ends = λ _. subst (λ (w : List Beat). EveryDisk (StandsForHistory set w) new) (sym history) (subst (λ (p : List Event). EveryDisk (StandsForHistory set now) p) (sym (done h)) stands);
             output = record {
               sent = made ++ line;

@@ -164,12 +164,12 @@ module _ (honest : Type 0) (running : Running) (host : Seen) (number : ℕ) (byt
       → TellsRefusal status honest number why host.past host'.past (TellRose host host') → HasCause host.tell_faults host'.tell_faults (status ≡ TellFault) → host'.disk_faults ≡ host.disk_faults
       → TakesLine honest running host number bytes (Err status) running' host'
   refused-line running' status host' why judged telling cause same = record {
-    run = λ h every set h0 front start going number_is ended text next more whole.
+    run = λ h every set h0 prefix start going number_is ended text next more whole.
         let judge = judged h every set h0 start going.read going.made going.at in
         refusal-stop host.past running every set h0 start going.read going.made going.at ended text ⊥ (TellRose host host') (DiskRose host host') status honest number why host'.past h telling
-        (read-refused (run_rules every set h0) front going.read going.made going.has text bytes next more why ended whole short judge ∙ ap (λ (n : ℕ). record { told = going.made; ending = RefusedAt n why }) (sym number_is))
-        (ap (history_at every h0) (says-refused (run_rules every set h0) front going.read going.made going.has text bytes next more why whole short judge));
-    quiet = λ h every set h0 front start going text next more whole none. refusal-leaves status honest number why host.past host'.past (TellRose host host') telling h;
+        (read-refused (run_rules every set h0) prefix going.read going.made going.has text bytes next more why ended whole short judge ∙ ap (λ (n : ℕ). record { told = going.made; ending = RefusedAt n why }) (sym number_is))
+        (ap (history_at every h0) (says-refused (run_rules every set h0) prefix going.read going.made going.has text bytes next more why whole short judge));
+    quiet = λ h every set h0 prefix start going text next more whole none. refusal-leaves status honest number why host.past host'.past (TellRose host host') telling h;
     statuses = refusal-takers status honest number why host.past host'.past (TellRose host host') telling;
     counts = ended-counts host host' status (told-counts host host' (status ≡ TellFault) (status ≡ DiskFault) cause same (refusal-stored status honest number why host.past host'.past (TellRose host host') telling));
     others = λ h file other. at_end (refusal-leaves status honest number why host.past host'.past (TellRose host host') telling h) file;
@@ -178,10 +178,10 @@ module _ (honest : Type 0) (running : Running) (host : Seen) (number : ℕ) (byt
   -- there was no memory to read it
   pub want-line : TakesLine honest running host number bytes (Err Memory) running host
   want-line = record {
-    run = λ h every set h0 front start going number_is ended text next more whole.
+    run = λ h every set h0 prefix start going number_is ended text next more whole.
         want-stop host.past running every set h0 start going.read going.made going.at ended text ⊥ (TellRose host host) (DiskRose host host)
-        (extends-text every h0 set front going.read going.made going.has text bytes (next ∷ more) whole) (output-behind every set h0 front going.read going.made going.has ended text bytes (next ∷ more) whole);
-    quiet = λ h every set h0 front start going text next more whole none. leaves-nothing host.past;
+        (extends-text every h0 set prefix going.read going.made going.has text bytes (next ∷ more) whole) (output-behind every set h0 prefix going.read going.made going.has ended text bytes (next ∷ more) whole);
+    quiet = λ h every set h0 prefix start going text next more whole none. leaves-nothing host.past;
     statuses = tt;
     counts = ended-counts host host Memory (same-counts host (Memory ≡ TellFault) (Memory ≡ DiskFault) (λ e. cc) (λ e. cc));
     others = λ h file other. refl;
@@ -242,27 +242,27 @@ module _ (honest : Type 0) (running : Running) (host : Seen) (number : ℕ) (byt
             (subst (λ (r : Result Said AgentFault). OnOk r (CountsFor running.feed running.agent.registry → CountsFor feed agent.registry)) ok lined.counts_on at.counts) moments (lined.only_here h).output
 
       -- the history with the line's beat is within that of the text, if nothing stands against the line
-      module _ (front : List (List ℕ)) (has : HasRead (run_rules every set h0) front read made) (text next : List ℕ) (more : List (List ℕ)) (whole : parts text ≡ front ++ bytes ∷ next ∷ more) where
-        with-next : parts text ≡ (front ++ bytes ∷ []) ++ next ∷ more
-        with-next = whole ∙ sym (append_assoc front (bytes ∷ []) (next ∷ more))
+      module _ (prefix : List (List ℕ)) (has : HasRead (run_rules every set h0) prefix read made) (text next : List ℕ) (more : List (List ℕ)) (whole : parts text ≡ prefix ++ bytes ∷ next ∷ more) where
+        with-next : parts text ≡ (prefix ++ bytes ∷ []) ++ next ∷ more
+        with-next = whole ∙ sym (append_assoc prefix (bytes ∷ []) (next ∷ more))
 
         reaches : reason every read ≡ None → Extends (history_at every h0 (said ∷ read)) (history_with_text every h0 text)
         reaches none = by (is_disable said) refl
           where
             by : (ends : Bool) → is_disable said ≡ ends → Extends (history_at every h0 (said ∷ read)) (history_with_text every h0 text)
-            by true ends = subst (λ (g : List Beat). Extends g (history_with_text every h0 text)) (sym (disable-same every h0 read said ends)) (extends-text every h0 set front read made has text bytes (next ∷ more) whole)
+            by true ends = subst (λ (g : List Beat). Extends g (history_with_text every h0 text)) (sym (disable-same every h0 read said ends)) (extends-text every h0 set prefix read made has text bytes (next ∷ more) whole)
             by false ends =
                 let judge = judged-free every h0 read bytes said is (sym reason-is ∙ none) in
-                extends-text every h0 set (front ++ bytes ∷ []) (said ∷ read) (made ++ told_of every set h0 read said) (read-next (run_rules every set h0) front read made has bytes said short judge ends) text next more with-next
+                extends-text every h0 set (prefix ++ bytes ∷ []) (said ∷ read) (made ++ told_of every set h0 read said) (read-next (run_rules every set h0) prefix read made has bytes said short judge ends) text next more with-next
 
     module _ (h : honest) (every : ℕ) (set : Settings) (h0 : List Beat) (start : List Event) (read : List Line) (made : List ℕ) (at : RunsAt host.past running every set h0 start read made)
-        (front : List (List ℕ)) (has : HasRead (run_rules every set h0) front read made) (ended : Bool) (text next : List ℕ) (more : List (List ℕ)) (whole : parts text ≡ front ++ bytes ∷ next ∷ more) where
+        (prefix : List (List ℕ)) (has : HasRead (run_rules every set h0) prefix read made) (ended : Bool) (text next : List ℕ) (more : List (List ℕ)) (whole : parts text ≡ prefix ++ bytes ∷ next ∷ more) where
       -- nothing stands against the line, and it is a MOMENT
       fails-at : (moment : ℕ) → said ≡ line.Moment moment → refusal_at every h0 read said ≡ None → FailsAtMoment every set h0 ended text made
       fails-at moment same none =
-          let has' = read-next (run_rules every set h0) front read made has bytes said short (judged-free every h0 read bytes said is none) (ap is_disable same) in
+          let has' = read-next (run_rules every set h0) prefix read made has bytes said short (judged-free every h0 read bytes said is none) (ap is_disable same) in
           let on = reading (run_rules every set h0) ended (said ∷ read) (next ∷ more) in
-          let split = whole ∙ sym (append_assoc front (bytes ∷ []) (next ∷ more)) in
+          let split = whole ∙ sym (append_assoc prefix (bytes ∷ []) (next ∷ more)) in
           let reads : (run_reading every set h0 ended text).told ≡ (made ++ told_of every set h0 read said) ++ on.told =
           ap (λ (ps : List (List ℕ)). (reading (run_rules every set h0) ended [] ps).told) split ∙ ap (λ (r : Reading Refusal). r.told) (has'.onward ended next more) in
           let beyond = lines-after every h0 (next ∷ more) (said ∷ read) in
@@ -287,9 +287,9 @@ module _ (honest : Type 0) (running : Running) (host : Seen) (number : ℕ) (byt
           by other same closes = absurd closes
 
     -- where the text closes no beat, the agent did nothing to the disk
-    asked-nothing : (h : honest) (every : ℕ) (set : Settings) (h0 : List Beat) (front : List (List ℕ)) (start : List Event) → IsRunning host.past running every set h0 front start → (text next : List ℕ) (more : List (List ℕ)) → parts text ≡ front ++ bytes ∷ next ∷ more
+    asked-nothing : (h : honest) (every : ℕ) (set : Settings) (h0 : List Beat) (prefix : List (List ℕ)) (start : List Event) → IsRunning host.past running every set h0 prefix start → (text next : List ℕ) (more : List (List ℕ)) → parts text ≡ prefix ++ bytes ∷ next ∷ more
         → history_with_text every h0 text ≡ h0 → middle.past ≡ host.past
-    asked-nothing h every set h0 front start going text next more whole none = by (moment-or-not said)
+    asked-nothing h every set h0 prefix start going text next more whole none = by (moment-or-not said)
       where
         here : List Line
         here = going.read
@@ -297,7 +297,7 @@ module _ (honest : Type 0) (running : Running) (host : Seen) (number : ℕ) (byt
         -- the history of the text would be longer
         accepted : (moment : ℕ) → said ≡ line.Moment moment → reason every here ≡ None → ⊥
         accepted moment same free =
-            let reached = extends-length (history_at every h0 (said ∷ here)) (history_with_text every h0 text) (reaches h every set h0 start here going.made going.at front going.has text next more whole free) in
+            let reached = extends-length (history_at every h0 (said ∷ here)) (history_with_text every h0 text) (reaches h every set h0 start here going.made going.at prefix going.has text next more whole free) in
             let one_more : length (history_at every h0 (said ∷ here)) ≡ length (history_at every h0 here) + 1 = ap (λ (l : Line). length (history_at every h0 (l ∷ here))) same ∙ omega arith in
             omega (arith, reached, one_more, ap length none, extends-length h0 (history_at every h0 here) (extends-start every h0 here))
 
@@ -312,27 +312,27 @@ module _ (honest : Type 0) (running : Running) (host : Seen) (number : ℕ) (byt
         by (inr other) = lined.quiet other h
 
     -- nor did what was told since
-    written-by : (h : honest) (every : ℕ) (set : Settings) (h0 : List Beat) (front : List (List ℕ)) (start : List Event) → IsRunning host.past running every set h0 front start → (text next : List ℕ) (more : List (List ℕ)) → parts text ≡ front ++ bytes ∷ next ∷ more
+    written-by : (h : honest) (every : ℕ) (set : Settings) (h0 : List Beat) (prefix : List (List ℕ)) (start : List Event) → IsRunning host.past running every set h0 prefix start → (text next : List ℕ) (more : List (List ℕ)) → parts text ≡ prefix ++ bytes ∷ next ∷ more
         → history_with_text every h0 text ≡ h0 → (host' : Seen) → LeavesFiles middle.past host'.past → LeavesFiles host.past host'.past
-    written-by h every set h0 front start going text next more whole none host' leaves = subst (λ (p : List Event). LeavesFiles p host'.past) (asked-nothing h every set h0 front start going text next more whole none) leaves
+    written-by h every set h0 prefix start going text next more whole none host' leaves = subst (λ (p : List Event). LeavesFiles p host'.past) (asked-nothing h every set h0 prefix start going text next more whole none) leaves
 
-    unwritten : honest → (every : ℕ) (set : Settings) (h0 : List Beat) (front : List (List ℕ)) (start : List Event) → IsRunning host.past running every set h0 front start → (text next : List ℕ) (more : List (List ℕ)) → parts text ≡ front ++ bytes ∷ next ∷ more
+    unwritten : honest → (every : ℕ) (set : Settings) (h0 : List Beat) (prefix : List (List ℕ)) (start : List Event) → IsRunning host.past running every set h0 prefix start → (text next : List ℕ) (more : List (List ℕ)) → parts text ≡ prefix ++ bytes ∷ next ∷ more
         → history_with_text every h0 text ≡ h0 → LeavesFiles host.past middle.past
-    unwritten h every set h0 front start going text next more whole none = written-by h every set h0 front start going text next more whole none middle (leaves-nothing middle.past)
+    unwritten h every set h0 prefix start going text next more whole none = written-by h every set h0 prefix start going text next more whole none middle (leaves-nothing middle.past)
 
     -- the disk failed, or memory ran out
     pub torn-line : (status : Status) → is_whole status ≡ false → IsTakers status → (status ≡ TellFault → ⊥) → (status ≡ DiskFault → result ≡ Err agent_fault.DiskFault) → (result ≡ Err agent_fault.DiskFault → status ≡ DiskFault)
         → ((ended : Bool) (ending : Ending Refusal) (text : List ℕ) → HasRunCause status ended ending text ⊥ (TellRose host middle) (DiskRose host middle))
         → TakesLine honest running host number bytes (Err status) now middle
     torn-line status part takers untold back on cause = record {
-      run = λ h every set h0 front start going number_is ended text next more whole.
+      run = λ h every set h0 prefix start going number_is ended text next more whole.
           let read = going.read in
           let made = going.made in
           line-stop host.past running every set h0 start read made going.at ended text ⊥ (TellRose host middle) (DiskRose host middle) status said (reason every read) middle.past part untold
-          (λ is_disk. failed-at h every set h0 start read made going.at front going.has ended text next more whole (back is_disk))
+          (λ is_disk. failed-at h every set h0 start read made going.at prefix going.has ended text next more whole (back is_disk))
           (cause ended (run_reading every set h0 ended text).ending text) (moments h every set h0 start read made going.at) (lined.only_here h).output
-          (extends-text every h0 set front read made going.has text bytes (next ∷ more) whole) (reaches h every set h0 start read made going.at front going.has text next more whole)
-          (output-behind every set h0 front read made going.has ended text bytes (next ∷ more) whole);
+          (extends-text every h0 set prefix read made going.has text bytes (next ∷ more) whole) (reaches h every set h0 start read made going.at prefix going.has text next more whole)
+          (output-behind every set h0 prefix read made going.has ended text bytes (next ∷ more) whole);
       quiet = unwritten;
       statuses = takers;
       counts = ended-counts host middle status (record { tells = lined-tell (status ≡ TellFault) untold; disk = lined-disk (status ≡ DiskFault) back on });
@@ -342,14 +342,14 @@ module _ (honest : Type 0) (running : Running) (host : Seen) (number : ℕ) (byt
     -- it was taken, and nothing is told of it
     pub quiet-line : (reply : Said) → result ≡ Ok reply → ((every : ℕ) (set : Settings) (h0 : List Beat) (read : List Line) → (is_disable said ≡ false) × (told_of every set h0 read said ≡ [])) → TakesLine honest running host number bytes (Ok tt) now middle
     quiet-line reply ok quiet = record {
-      run = λ h every set h0 front start going number_is.
+      run = λ h every set h0 prefix start going number_is.
           let read = going.read in
           let made = going.made in
           let silent = quiet every set h0 read in
           record {
             read = said ∷ read;
             made = made ++ told_of every set h0 read said;
-            has = read-next (run_rules every set h0) front read made going.has bytes said short (judged h every set h0 start read made going.at reply ok) silent.0;
+            has = read-next (run_rules every set h0) prefix read made going.has bytes said short (judged h every set h0 start read made going.at reply ok) silent.0;
             at = subst (λ (t : List ℕ). RunsAt middle.past now every set h0 start (said ∷ read) t) (sym (ap (λ (l : List ℕ). made ++ l) silent.1 ∙ append-nil made)) (taken h every set h0 start read made going.at reply ok);
           };
       quiet = unwritten;
@@ -361,14 +361,14 @@ module _ (honest : Type 0) (running : Running) (host : Seen) (number : ℕ) (byt
     -- it ends the text
     pub last-line : (reply : Said) → result ≡ Ok reply → is_disable said ≡ true → TakesLine honest running host number bytes (Err Done) now middle
     last-line reply ok ends = record {
-      run = λ h every set h0 front start going number_is ended text next more whole.
+      run = λ h every set h0 prefix start going number_is ended text next more whole.
           let read = going.read in
           let made = going.made in
           let judge = judged h every set h0 start read made going.at reply ok in
-          let reads = read-over (run_rules every set h0) front read made going.has text bytes next more said ended whole short judge ends in
+          let reads = read-over (run_rules every set h0) prefix read made going.has text bytes next more said ended whole short judge ends in
           whole-stop middle.past now every set h0 start (said ∷ read) made (taken h every set h0 start read made going.at reply ok) ended text ⊥ (TellRose host middle) (DiskRose host middle) Done (λ e. cc) (λ e. cc)
           (ap all_told reads ∙ append-nil (made ++ []) ∙ append-nil made)
-          (ap (history_at every h0) (says-over (run_rules every set h0) front read made going.has text bytes next more said whole short judge ends) ∙ sym (disable-same every h0 read said ends))
+          (ap (history_at every h0) (says-over (run_rules every set h0) prefix read made going.has text bytes next more said whole short judge ends) ∙ sym (disable-same every h0 read said ends))
           (ap (λ (r : Reading Refusal). r.ending) reads);
       quiet = unwritten;
       statuses = tt;
@@ -394,7 +394,7 @@ module _ (honest : Type 0) (running : Running) (host : Seen) (number : ℕ) (byt
         → RunsAt middle.past now every set h0 start (said ∷ read) made → IsToldOf every set h0 read said next) where
       told-ok : (host' : Seen) → (honest → host'.past ≡ Told next ∷ middle.past) → Counts middle host' (went_on ≡ ended_so TellFault) (went_on ≡ ended_so DiskFault) → TakesLine honest running host number bytes (Ok tt) now host'
       told-ok host' telling counts = record {
-        run = λ h every set h0 front start going number_is.
+        run = λ h every set h0 prefix start going number_is.
             let read = going.read in
             let made = going.made in
             let at = taken h every set h0 start read made going.at reply ok in
@@ -402,12 +402,12 @@ module _ (honest : Type 0) (running : Running) (host : Seen) (number : ℕ) (byt
             record {
               read = said ∷ read;
               made = made ++ told_of every set h0 read said;
-              has = read-next (run_rules every set h0) front read made going.has bytes said short (judged h every set h0 start read made going.at reply ok) goes;
+              has = read-next (run_rules every set h0) prefix read made going.has bytes said short (judged h every set h0 start read made going.at reply ok) goes;
               at = subst (λ (t : List ℕ). RunsAt host'.past now every set h0 start (said ∷ read) (made ++ t)) of.is
                   (text-told middle.past now every set h0 start (said ∷ read) made at next of.acked host'.past (telling h) of.closed);
             };
-        quiet = λ h every set h0 front start going text after_next more whole none.
-            written-by h every set h0 front start going text after_next more whole none host' (subst (LeavesFiles middle.past) (sym (telling h)) (one-told middle.past next));
+        quiet = λ h every set h0 prefix start going text after_next more whole none.
+            written-by h every set h0 prefix start going text after_next more whole none host' (subst (LeavesFiles middle.past) (sym (telling h)) (one-told middle.past next));
         statuses = tt;
         counts = both-counts host middle host' (went_on ≡ ended_so TellFault) (went_on ≡ ended_so DiskFault) (lined-ok reply ok) counts;
         others = λ h file other. ap (of file) (telling h) ∙ lined-others h file other;
@@ -418,19 +418,19 @@ module _ (honest : Type 0) (running : Running) (host : Seen) (number : ℕ) (byt
       told-err status host' cut counts =
           let cut' : IsCutShort status honest next middle.past host'.past (TellRose host host') = subst (λ (n : ℕ). IsCutShort status honest next middle.past host'.past (Rose n host'.tell_faults)) lined.tells cut in
           record {
-            run = λ h every set h0 front start going number_is ended text after_next more whole.
+            run = λ h every set h0 prefix start going number_is ended text after_next more whole.
                 let read = going.read in
                 let made = going.made in
                 let at = taken h every set h0 start read made going.at reply ok in
                 let is_of = tells h every set h0 start read made going.at at in
-                let has = read-next (run_rules every set h0) front read made going.has bytes said short (judged h every set h0 start read made going.at reply ok) goes in
-                let whole' = with-next h every set h0 start read made going.at front going.has text after_next more whole in
-                let behind = output-behind every set h0 (front ++ bytes ∷ []) (said ∷ read) (made ++ told_of every set h0 read said) has ended text after_next more whole' in
+                let has = read-next (run_rules every set h0) prefix read made going.has bytes said short (judged h every set h0 start read made going.at reply ok) goes in
+                let whole' = with-next h every set h0 start read made going.at prefix going.has text after_next more whole in
+                let behind = output-behind every set h0 (prefix ++ bytes ∷ []) (said ∷ read) (made ++ told_of every set h0 read said) has ended text after_next more whole' in
                 cut-stop middle.past now every set h0 start (said ∷ read) made at ended text ⊥ (TellRose host host') (DiskRose host host') status honest next host'.past h cut' is_of.acked is_of.some
-                (extends-text every h0 set (front ++ bytes ∷ []) (said ∷ read) (made ++ told_of every set h0 read said) has text after_next more whole')
+                (extends-text every h0 set (prefix ++ bytes ∷ []) (said ∷ read) (made ++ told_of every set h0 read said) has text after_next more whole')
                 (subst (λ (t : List ℕ). Behind (made ++ t) (run_output every set h0 ended text)) (sym is_of.is) behind);
-            quiet = λ h every set h0 front start going text after_next more whole none.
-                written-by h every set h0 front start going text after_next more whole none host' (cut-leaves status honest next middle.past host'.past (TellRose host host') cut' h);
+            quiet = λ h every set h0 prefix start going text after_next more whole none.
+                written-by h every set h0 prefix start going text after_next more whole none host' (cut-leaves status honest next middle.past host'.past (TellRose host host') cut' h);
             statuses = cut-takers status honest next middle.past host'.past (TellRose host host') cut';
             counts = both-counts host middle host' (ended_so status ≡ ended_so TellFault) (ended_so status ≡ ended_so DiskFault) (lined-ok reply ok) counts;
             others = λ h file other. at_end (cut-leaves status honest next middle.past host'.past (TellRose host host') cut' h) file ∙ lined-others h file other;
@@ -587,10 +587,10 @@ module _ (honest : Type 0) (running : Running) (host : Seen) where
   pub long-line : (number : ℕ) (status : Status) (host' : Seen) → TellsRefusal status honest number (refusal.Line line_fault.LineTooLong) host.past host'.past (TellRose host host')
       → HasCause host.tell_faults host'.tell_faults (status ≡ TellFault) → host'.disk_faults ≡ host.disk_faults → Overflows honest running host number status host'
   long-line number status host' telling cause same = record {
-    run = λ h every set h0 front start going number_is ended text long more whole over.
+    run = λ h every set h0 prefix start going number_is ended text long more whole over.
         refusal-stop host.past running every set h0 start going.read going.made going.at ended text ⊥ (TellRose host host') (DiskRose host host') status honest number (refusal.Line line_fault.LineTooLong) host'.past h telling
-        (read-long (run_rules every set h0) front going.read going.made going.has text long more ended whole over ∙ ap (λ (n : ℕ). record { told = going.made; ending = RefusedAt n (refusal.Line line_fault.LineTooLong) }) (sym number_is))
-        (ap (history_at every h0) (says-long (run_rules every set h0) front going.read going.made going.has text long more whole over));
+        (read-long (run_rules every set h0) prefix going.read going.made going.has text long more ended whole over ∙ ap (λ (n : ℕ). record { told = going.made; ending = RefusedAt n (refusal.Line line_fault.LineTooLong) }) (sym number_is))
+        (ap (history_at every h0) (says-long (run_rules every set h0) prefix going.read going.made going.has text long more whole over));
     quiet = refusal-leaves status honest number (refusal.Line line_fault.LineTooLong) host.past host'.past (TellRose host host') telling;
     statuses = refusal-takers status honest number (refusal.Line line_fault.LineTooLong) host.past host'.past (TellRose host host') telling;
     counts = told-counts host host' (status ≡ TellFault) (status ≡ DiskFault) cause same (refusal-stored status honest number (refusal.Line line_fault.LineTooLong) host.past host'.past (TellRose host host') telling);

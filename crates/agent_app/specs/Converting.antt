@@ -17,7 +17,7 @@ use Rattle.agent_app.specs.Convert.{all_told, converted, ending_status, output_o
 use Rattle.agent_app.specs.Reading.{Ending, GoesOn, Ends as IsOver, RefusedAt, HasRead, Reading, reading}
 
 -- a prefix of the bytes was told
-pub record TellsFront (bytes : List ℕ) (old new : List Event) : Type 0 where
+pub record TellsPrefix (bytes : List ℕ) (old new : List Event) : Type 0 where
   pub sent : List ℕ
   pub unsent : List ℕ
   pub whole : bytes ≡ sent ++ unsent
@@ -37,10 +37,10 @@ pub record HasTold (honest : Type 0) (sent : List ℕ) (past past' : List Event)
   pub count : tell_faults' ≡ tell_faults
 
 -- these lines were taken, and what they tell was told, but for what waits
-pub record HasConverted (converting : Converting) (honest : Type 0) (front : List (List ℕ)) (past past' : List Event) (tell_faults tell_faults' : ℕ) : Type 0 where
+pub record HasConverted (converting : Converting) (honest : Type 0) (prefix : List (List ℕ)) (past past' : List Event) (tell_faults tell_faults' : ℕ) : Type 0 where
   pub said : List Line
   pub sent : List ℕ
-  pub read : HasRead point_rules front said (sent ++ string_bytes converting.out)
+  pub read : HasRead point_rules prefix said (sent ++ string_bytes converting.out)
   pub has : IsReaderOf converting.reader said
   pub told : HasTold honest sent past past' tell_faults tell_faults'
 
@@ -86,29 +86,29 @@ AddsEnding status ending out added out' = ((status ≡ ending_status ending) × 
 -- the next line was taken, or it ends the run, however the text goes on
 abbrev pub Takes : Type 0 → ℕ → List ℕ → Result (Unit {0}) Status → (old new : Converting) → (past past' : List Event) → (tell_faults tell_faults' : ℕ) → Type 0
 Takes honest number line result old new past past' tell_faults tell_faults' =
-    (begin : List Event) (faults : ℕ) (front : List (List ℕ)) → HasConverted old honest front begin past faults tell_faults → number ≡ length front + 1 →
-    MatchResult result (λ _. HasConverted new honest (front ++ line ∷ []) begin past' faults tell_faults')
-    (λ status. (ended : Bool) (next : List ℕ) (more : List (List ℕ)) → EndsIn status honest (string_bytes new.out) (reading point_rules ended [] (front ++ line ∷ next ∷ more)) begin past' faults tell_faults')
+    (begin : List Event) (faults : ℕ) (prefix : List (List ℕ)) → HasConverted old honest prefix begin past faults tell_faults → number ≡ length prefix + 1 →
+    MatchResult result (λ _. HasConverted new honest (prefix ++ line ∷ []) begin past' faults tell_faults')
+    (λ status. (ended : Bool) (next : List ℕ) (more : List (List ℕ)) → EndsIn status honest (string_bytes new.out) (reading point_rules ended [] (prefix ++ line ∷ next ∷ more)) begin past' faults tell_faults')
 
 -- what waits was told, or the output failed
 abbrev pub Pauses : Type 0 → Result (Unit {0}) Status → (old new : Converting) → (past past' : List Event) → (tell_faults tell_faults' : ℕ) → Type 0
 Pauses honest result old new past past' tell_faults tell_faults' =
-    (begin : List Event) (faults : ℕ) (front : List (List ℕ)) → HasConverted old honest front begin past faults tell_faults →
-    MatchResult result (λ _. HasConverted new honest front begin past' faults tell_faults')
-    (λ status. (ended : Bool) (next : List ℕ) (more : List (List ℕ)) → EndsIn status honest (string_bytes new.out) (reading point_rules ended [] (front ++ next ∷ more)) begin past' faults tell_faults')
+    (begin : List Event) (faults : ℕ) (prefix : List (List ℕ)) → HasConverted old honest prefix begin past faults tell_faults →
+    MatchResult result (λ _. HasConverted new honest prefix begin past' faults tell_faults')
+    (λ status. (ended : Bool) (next : List ℕ) (more : List (List ℕ)) → EndsIn status honest (string_bytes new.out) (reading point_rules ended [] (prefix ++ next ∷ more)) begin past' faults tell_faults')
 
 -- the text ends after these lines, with these bytes behind the last line feed
 abbrev pub Ends : Type 0 → ℕ → List ℕ → Status → (old new : Converting) → (past past' : List Event) → (tell_faults tell_faults' : ℕ) → Type 0
 Ends honest lines rest status old new past past' tell_faults tell_faults' =
-    (begin : List Event) (faults : ℕ) (front : List (List ℕ)) → HasConverted old honest front begin past faults tell_faults → lines ≡ length front →
-    EndsIn status honest (string_bytes new.out) (reading point_rules true [] (front ++ rest ∷ [])) begin past' faults tell_faults'
+    (begin : List Event) (faults : ℕ) (prefix : List (List ℕ)) → HasConverted old honest prefix begin past faults tell_faults → lines ≡ length prefix →
+    EndsIn status honest (string_bytes new.out) (reading point_rules true [] (prefix ++ rest ∷ [])) begin past' faults tell_faults'
 
 -- what follows these lines is too long, however it goes on
 abbrev pub Overflows : Type 0 → ℕ → Status → (old new : Converting) → (past past' : List Event) → (tell_faults tell_faults' : ℕ) → Type 0
 Overflows honest number status old new past past' tell_faults tell_faults' =
-    (begin : List Event) (faults : ℕ) (front : List (List ℕ)) → HasConverted old honest front begin past faults tell_faults → number ≡ length front + 1 →
+    (begin : List Event) (faults : ℕ) (prefix : List (List ℕ)) → HasConverted old honest prefix begin past faults tell_faults → number ≡ length prefix + 1 →
     (ended : Bool) (long : List ℕ) (more : List (List ℕ)) → fits long ≡ false →
-    EndsIn status honest (string_bytes new.out) (reading point_rules ended [] (front ++ long ∷ more)) begin past' faults tell_faults'
+    EndsIn status honest (string_bytes new.out) (reading point_rules ended [] (prefix ++ long ∷ more)) begin past' faults tell_faults'
 
 -- what each call of the taker does
 abbrev pub converting_acts : {H : Type 0} → (honest : Type 0) → (H → Seen) → Acts Converting H

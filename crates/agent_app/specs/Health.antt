@@ -5,7 +5,7 @@ use Rattle.host_model.specs.declared.status.Status.{Status}
 use Rattle.host_model.specs.declared.status.Status.TheVariants.{Ok as Done, Refused, Limit, TellFault, DiskFault, ReadFault, Memory}
 use Rattle.host_model.specs.Cause.{HasCause, Rose}
 use Rattle.host_model.specs.Disks.{EveryDisk, reads_as}
-use Rattle.host_model.specs.Moments.{Throughout, EveryStop}
+use Rattle.host_model.specs.Moments.{Throughout, EveryCrash}
 use Rattle.host_model.specs.Past.{Event, Told, told}
 use Rattle.host_model.specs.Seen.{Seen}
 use Rattle.host_model.specs.Source.{Takes}
@@ -98,7 +98,7 @@ HasHealthCause status ended taken source_rose tell_rose disk_rose = ⊥
 -- a text that was taken, and the database of this history, ended so
 pub record StopsAt (status : Status) (set : Settings) (h0 : List Beat) (ended : Bool) (taken : List ℕ) (old new : List Event) (source_rose tell_rose disk_rose : Type 0) : Type 0 where
   -- at every moment a crash leaves the history, or the one with the configuration, and with it where that was acknowledged
-  pub stops : Throughout (EveryStop (Keeps set h0 (history_with_health h0 ended taken) (told old))) old new
+  pub crashes : Throughout (EveryCrash (Keeps set h0 (history_with_health h0 ended taken) (told old))) old new
   -- at the end the one with the configuration, unless the output, the disk or memory failed
   pub ends : is_whole status ≡ true → EveryDisk (StandsForHistory set (history_with_health h0 ended taken)) new
   pub output : TellsRun status (health_output set h0 ended taken) old new

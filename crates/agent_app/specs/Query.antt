@@ -6,7 +6,7 @@ use Rattle.host_model.specs.declared.file.File.{File}
 use Rattle.host_model.specs.declared.status.Status.{Status}
 use Rattle.host_model.specs.declared.status.Status.TheVariants.{Ok as Done, TellFault, DiskFault, NotADatabase, Damaged, Memory}
 use Rattle.host_model.specs.Disks.{EveryDisk, reads_as}
-use Rattle.host_model.specs.Moments.{EveryStop, Throughout}
+use Rattle.host_model.specs.Moments.{EveryCrash, Throughout}
 use Rattle.host_model.specs.Past.{told, IsDisk}
 use Rattle.host_model.specs.Seen.{Seen}
 use Rattle.history.specs.History.{Beat}
@@ -68,7 +68,7 @@ pub record Asks (honest : Type 0) (answer : Settings → List Beat → List ℕ)
   pub any_moment : honest → Throughout (EveryDisk (IsDisk host.past)) host.past host'.past
   pub same : honest → (file : File) → reads_as host'.past file ≡ reads_as host.past file
   -- before a byte is told of the history that the files read as, that is all that a crash leaves, and so it stays
-  pub settled : honest → (set : Settings) (h : List Beat) → StandsForHistory set h (reads_as host.past) → Throughout (EveryStop (IsSettled set h (told host.past))) host.past host'.past
+  pub settled : honest → (set : Settings) (h : List Beat) → StandsForHistory set h (reads_as host.past) → Throughout (EveryCrash (IsSettled set h (told host.past))) host.past host'.past
   pub done : honest → (set : Settings) (h : List Beat) → StandsForHistory set h (reads_as host.past) → status ≡ Done → EveryDisk (StandsForHistory set h) host'.past
   pub others : LeavesOthers honest host host'
   -- a failure of the disk and out of memory come before anything is told

@@ -88,7 +88,7 @@ lines_read rules past (line ∷ next ∷ more) =
     if not (fits line) then past else line_read rules past (rules.judge past line) (λ said. lines_read rules (said ∷ past) (next ∷ more))
 
 -- these parts of a text were read: they say these lines, and tell so much, however the text goes on
-pub record HasRead {Line Refusal : Type 0} (rules : Rules Line Refusal) (front : List (List ℕ)) (past : List Line) (made : List ℕ) : Type 0 where
-  pub count : length past ≡ length front
-  pub onward : (ended : Bool) (next : List ℕ) (more : List (List ℕ)) → reading rules ended [] (front ++ next ∷ more) ≡ reads_on made (reading rules ended past (next ∷ more))
-  pub says : (next : List ℕ) (more : List (List ℕ)) → lines_read rules.lines [] (front ++ next ∷ more) ≡ lines_read rules.lines past (next ∷ more)
+pub record HasRead {Line Refusal : Type 0} (rules : Rules Line Refusal) (prefix : List (List ℕ)) (past : List Line) (made : List ℕ) : Type 0 where
+  pub count : length past ≡ length prefix
+  pub onward : (ended : Bool) (next : List ℕ) (more : List (List ℕ)) → reading rules ended [] (prefix ++ next ∷ more) ≡ reads_on made (reading rules ended past (next ∷ more))
+  pub says : (next : List ℕ) (more : List (List ℕ)) → lines_read rules.lines [] (prefix ++ next ∷ more) ≡ lines_read rules.lines past (next ∷ more)

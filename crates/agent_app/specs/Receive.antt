@@ -5,7 +5,7 @@ use Rattle.host_model.specs.declared.status.Status.{Status}
 use Rattle.host_model.specs.declared.status.Status.TheVariants.{Ok as Done, Refused, Limit, TellFault, DiskFault, LinkFault, PeerRefused, LinkEnded, InputLimit, Memory}
 use Rattle.host_model.specs.Cause.{HasCause, Rose}
 use Rattle.host_model.specs.Disks.{EveryDisk, reads_as}
-use Rattle.host_model.specs.Moments.{EveryStop, Throughout}
+use Rattle.host_model.specs.Moments.{EveryCrash, Throughout}
 use Rattle.host_model.specs.Past.{told, Event}
 use Rattle.host_model.specs.Seen.{Seen}
 use Rattle.history.specs.declared.fault.BlockFault.{BlockFault}
@@ -87,7 +87,7 @@ pub record Receives (status : Status) (set : Settings) (h0 : List Beat) (link li
   -- what was said answers frames of which all was stored and told: no Have stands for beats that are not on the disk
   pub heard : AnswersStored set h0 exchanges.frames exchanges.broken old new link.sent link'.sent
   -- at every moment a crash leaves the history with a prefix of the beats, and with every beat that was acknowledged
-  pub stops : Throughout (EveryStop (Keeps set h0 (done_with set h0 exchanges.frames).now.history (told old))) old new
+  pub crashes : Throughout (EveryCrash (Keeps set h0 (done_with set h0 exchanges.frames).now.history (told old))) old new
   -- at the end all of them, unless the output, the disk or memory failed
   pub ends : is_whole status ≡ true → EveryDisk (StandsForHistory set (done_with set h0 exchanges.frames).now.history) new
   pub output : TellsRun status ((done_with set h0 exchanges.frames).told ++ last_line result) old new

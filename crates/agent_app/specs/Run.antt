@@ -6,7 +6,7 @@ use Rattle.host_model.specs.declared.status.Status.{Status}
 use Rattle.host_model.specs.declared.status.Status.TheVariants.{Ok as Done, Refused, Limit, TellFault, DiskFault, ReadFault, InputLimit, NotADatabase, Damaged, Memory}
 use Rattle.host_model.specs.Cause.{HasCause, Rose}
 use Rattle.host_model.specs.Disks.{EveryDisk, reads_as}
-use Rattle.host_model.specs.Moments.{Throughout, EveryStop}
+use Rattle.host_model.specs.Moments.{Throughout, EveryCrash}
 use Rattle.host_model.specs.Past.{Event, of, told, IsDisk}
 use Rattle.host_model.specs.Source.{Takes}
 use Rattle.history.specs.declared.chart.TheConstants.{USUAL_UPDATE_EVERY}
@@ -114,7 +114,7 @@ HasRunCause status ended ending taken source_rose tell_rose disk_rose = HasStatu
 -- a text of which this was taken, on a database of these settings and this history: what a crash leaves, and what was told
 pub record Stores (status : Status) (every : ℕ) (set : Settings) (h0 : List Beat) (ended : Bool) (taken : List ℕ) (old new : List Event) : Type 0 where
   -- at every moment a crash leaves the history with a prefix of the beats, and with every beat that was acknowledged
-  pub stops : Throughout (EveryStop (Keeps set h0 (history_with_text every h0 taken) (told old))) old new
+  pub crashes : Throughout (EveryCrash (Keeps set h0 (history_with_text every h0 taken) (told old))) old new
   -- at the end all of them, unless the output, the disk or memory failed
   pub ends : is_whole status ≡ true → EveryDisk (StandsForHistory set (history_with_text every h0 taken)) new
   pub output : TellsRun status (run_output every set h0 ended taken) old new

@@ -3,7 +3,7 @@ use Rattle.std.specs.Prelude.{◌≡◌, ℕ, ◌+◌, Bool, true, false, List, 
 use Rattle.host_model.specs.declared.status.Status.{Status}
 use Rattle.host_model.specs.declared.status.Status.TheVariants.{Ok as Done, Refused, Limit, TellFault, DiskFault, NotADatabase, Damaged, Memory}
 use Rattle.host_model.specs.Cause.{HasCause, Rose}
-use Rattle.host_model.specs.Moments.{Throughout, EveryStop}
+use Rattle.host_model.specs.Moments.{Throughout, EveryCrash}
 use Rattle.host_model.specs.Past.{Event, Told, told, MayAdd}
 use Rattle.history.specs.declared.line.Line.{Line}
 use Rattle.history.specs.History.{Beat, registry_of}
@@ -37,13 +37,13 @@ pub record RunsAt (past : List Event) (running : Running) (every : ℕ) (set : S
   pub tells : told past ≡ told start ++ made
   pub closed : rest made ≡ []
   pub acked : IsAckedUpTo (length (history_at every h0 read)) made
-  pub stops : Throughout (EveryStop (Keeps set h0 (history_at every h0 read) (told start))) start past
+  pub crashes : Throughout (EveryCrash (Keeps set h0 (history_at every h0 read) (told start))) start past
 
 -- the run has taken these lines of its text, and goes on
-pub record IsRunning (past : List Event) (running : Running) (every : ℕ) (set : Settings) (h0 : List Beat) (front : List (List ℕ)) (start : List Event) : Type 0 where
+pub record IsRunning (past : List Event) (running : Running) (every : ℕ) (set : Settings) (h0 : List Beat) (prefix : List (List ℕ)) (start : List Event) : Type 0 where
   pub read : List Line
   pub made : List ℕ
-  pub has : HasRead (run_rules every set h0) front read made
+  pub has : HasRead (run_rules every set h0) prefix read made
   pub at : RunsAt past running every set h0 start read made
 
 -- the run over this text ended so
@@ -94,12 +94,12 @@ pub record IsFit (honest : Type 0) (running : Running) (host : Seen) : Type 0 wh
 
 -- the line was taken, or the run ends at it
 pub record TakesLine (honest : Type 0) (running : Running) (host : Seen) (number : ℕ) (bytes : List ℕ) (result : Result (Unit {0}) Status) (running' : Running) (host' : Seen) : Type 0 where
-  pub run : honest → (every : ℕ) (set : Settings) (h0 : List Beat) (front : List (List ℕ)) (start : List Event) → IsRunning host.past running every set h0 front start → number ≡ length front + 1
-      → MatchResult result (λ _. IsRunning host'.past running' every set h0 (front ++ bytes ∷ []) start)
-      (λ status. (ended : Bool) (text next : List ℕ) (more : List (List ℕ)) → parts text ≡ front ++ bytes ∷ next ∷ more → StopsIn status every set h0 ended text start host'.past ⊥ (TellRose host host') (DiskRose host host'))
+  pub run : honest → (every : ℕ) (set : Settings) (h0 : List Beat) (prefix : List (List ℕ)) (start : List Event) → IsRunning host.past running every set h0 prefix start → number ≡ length prefix + 1
+      → MatchResult result (λ _. IsRunning host'.past running' every set h0 (prefix ++ bytes ∷ []) start)
+      (λ status. (ended : Bool) (text next : List ℕ) (more : List (List ℕ)) → parts text ≡ prefix ++ bytes ∷ next ∷ more → StopsIn status every set h0 ended text start host'.past ⊥ (TellRose host host') (DiskRose host host'))
   -- where the text closes no beat, nothing happens to any file
-  pub quiet : honest → (every : ℕ) (set : Settings) (h0 : List Beat) (front : List (List ℕ)) (start : List Event) → IsRunning host.past running every set h0 front start
-      → (text next : List ℕ) (more : List (List ℕ)) → parts text ≡ front ++ bytes ∷ next ∷ more → history_with_text every h0 text ≡ h0 → LeavesFiles host.past host'.past
+  pub quiet : honest → (every : ℕ) (set : Settings) (h0 : List Beat) (prefix : List (List ℕ)) (start : List Event) → IsRunning host.past running every set h0 prefix start
+      → (text next : List ℕ) (more : List (List ℕ)) → parts text ≡ prefix ++ bytes ∷ next ∷ more → history_with_text every h0 text ≡ h0 → LeavesFiles host.past host'.past
   pub statuses : IfErr result IsTakers
   pub counts : Counts host host' (IsErrOf result TellFault) (IsErrOf result DiskFault)
   pub others : LeavesOthers honest host host'
@@ -119,8 +119,8 @@ pub record EndsRun (honest : Type 0) (running : Running) (host : Seen) (count : 
 
 -- a line is too long
 pub record Overflows (honest : Type 0) (running : Running) (host : Seen) (number : ℕ) (status : Status) (host' : Seen) : Type 0 where
-  pub run : honest → (every : ℕ) (set : Settings) (h0 : List Beat) (front : List (List ℕ)) (start : List Event) → IsRunning host.past running every set h0 front start → number ≡ length front + 1
-      → (ended : Bool) (text long : List ℕ) (more : List (List ℕ)) → parts text ≡ front ++ long ∷ more → fits long ≡ false
+  pub run : honest → (every : ℕ) (set : Settings) (h0 : List Beat) (prefix : List (List ℕ)) (start : List Event) → IsRunning host.past running every set h0 prefix start → number ≡ length prefix + 1
+      → (ended : Bool) (text long : List ℕ) (more : List (List ℕ)) → parts text ≡ prefix ++ long ∷ more → fits long ≡ false
       → StopsIn status every set h0 ended text start host'.past ⊥ (TellRose host host') (DiskRose host host')
   pub quiet : honest → LeavesFiles host.past host'.past
   pub statuses : IsTakers status

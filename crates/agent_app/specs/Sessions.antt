@@ -68,7 +68,7 @@ abbrev pub EndsOver : Status → (ended : Option SessionResult) → (bytes rest 
 EndsOver s (Some result) bytes rest = s ≡ session_status result
 EndsOver s None bytes rest = HasNoFrame rest → EndsBehind s bytes rest
 
--- The status is that of the frames at the front of the bytes that a session may take, or memory ran out. Of two lists
+-- The status is that of the frames at the start of the bytes that a session may take, or memory ran out. Of two lists
 -- of such frames one goes on from the other, and a session that has ended stays so.
 abbrev pub EndsAsBytes : {S : Type 0} → (does : S → Frame → Course S) → (begin : Course S) → Status → (bytes : List ℕ) → Type 0
 EndsAsBytes does begin s bytes =

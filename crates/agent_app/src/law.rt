@@ -2,7 +2,7 @@ ghost use Rattle.std.specs.Prelude.{ℕ, List, ◌∷◌, length, drop, Contains
 ghost use Rattle.host_model.specs.declared.file.File.{File as AFile};
 ghost use Rattle.host_model.specs.declared.status.Status.{Status as AStatus};
 ghost use Rattle.host_model.specs.Disks.{EveryDisk};
-ghost use Rattle.host_model.specs.Moments.{EveryStop, Throughout};
+ghost use Rattle.host_model.specs.Moments.{EveryCrash, Throughout};
 ghost use Rattle.host_model.specs.Past.{told};
 ghost use Rattle.history.specs.History.{Beat};
 ghost use Rattle.tier_settings.specs.declared.settings.Settings.{Settings as ASettings};
@@ -38,7 +38,7 @@ pub fn crashes_leave_what_was_stored<H: Host>()
         → Course H.honest H.seen starts tried runs host
         → RunsAll H.honest status left left' source_faults source_faults' (H.seen host)
         (H.seen host')
-        → Throughout (EveryStop (λ disk text. HoldsRuns starts tried (record {
+        → Throughout (EveryCrash (λ disk text. HoldsRuns starts tried (record {
           status = None;
           input = OfSource left left';
           text = drop (length (told (H.seen host).past)) text;
@@ -49,7 +49,7 @@ pub fn crashes_leave_what_was_stored<H: Host>()
         (asked : ACollector) (status : AStatus) (outside outside' : Outside)
         → Course H.honest H.seen starts tried runs host
         → CollectsAll H.honest asked status outside outside' (H.seen host) (H.seen host')
-        → Throughout (EveryStop (λ disk text. HoldsRuns starts tried (record {
+        → Throughout (EveryCrash (λ disk text. HoldsRuns starts tried (record {
           status = None;
           input = OfCollector asked outside outside';
           text = drop (length (told (H.seen host).past)) text;
@@ -61,7 +61,7 @@ pub fn crashes_leave_what_was_stored<H: Host>()
         → Course H.honest H.seen starts tried runs host
         → ConfiguresAll H.honest status left left' source_faults source_faults' (H.seen host)
         (H.seen host')
-        → Throughout (EveryStop (λ disk text. HoldsRuns starts tried (record {
+        → Throughout (EveryCrash (λ disk text. HoldsRuns starts tried (record {
           status = None;
           input = OfHealth left left';
           text = drop (length (told (H.seen host).past)) text;
@@ -71,7 +71,7 @@ pub fn crashes_leave_what_was_stored<H: Host>()
         (runs : List OneRun) (host host' : H) (status : AStatus) (link link' : LinkSeen)
         → Course H.honest H.seen starts tried runs host
         → ReceivesAll H.honest status link link' (H.seen host) (H.seen host')
-        → Throughout (EveryStop (λ disk text. HoldsRuns starts tried (record {
+        → Throughout (EveryCrash (λ disk text. HoldsRuns starts tried (record {
           status = None;
           input = OfLink link link';
           text = drop (length (told (H.seen host).past)) text;

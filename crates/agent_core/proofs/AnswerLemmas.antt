@@ -44,17 +44,17 @@ module _ (moment series : ℕ) where
 
   module _ {W : Type 0} (as_point : W → BeatPoint) (words : List W) (others : List Point) (before : List HistoryPoint) (same : others ≡ map told_point before) where
     -- the history's point of the first word of the series
-    abbrev in_front : Option W → List HistoryPoint
-    in_front found = option_map_or (λ (word : W). record { moment = moment; word = (as_point word).word } ∷ before) found before
+    abbrev in_prefix : Option W → List HistoryPoint
+    in_prefix found = option_map_or (λ (word : W). record { moment = moment; word = (as_point word).word } ∷ before) found before
 
-    front-is : (found : Option W) → cons_option (option_map tier_point (option_map as_point found)) others ≡ map told_point (in_front found)
-    front-is None = same
-    front-is (Some word) = λ i. record { moment = moment; word = (as_point word).word } ∷ same i
+    prefix-is : (found : Option W) → cons_option (option_map tier_point (option_map as_point found)) others ≡ map told_point (in_prefix found)
+    prefix-is None = same
+    prefix-is (Some word) = λ i. record { moment = moment; word = (as_point word).word } ∷ same i
 
-    first-is : cons_option (option_map tier_point (find (is_series series) (map as_point words))) others ≡ map told_point (in_front (find (λ (word : W). nat_eq (as_point word).series series) words))
+    first-is : cons_option (option_map tier_point (find (is_series series) (map as_point words))) others ≡ map told_point (in_prefix (find (λ (word : W). nat_eq (as_point word).series series) words))
     first-is =
         ap (λ (found : Option BeatPoint). cons_option (option_map tier_point found) others) (find-map as_point (is_series series) words)
-        ∙ front-is (find (λ (word : W). nat_eq (as_point word).series series) words)
+        ∙ prefix-is (find (λ (word : W). nat_eq (as_point word).series series) words)
 
 -- the points that tiers see of a series are those of the history
 pub tier-points : (h : List Beat) (series : ℕ) → series_points (tier_beats h) series ≡ map told_point (points packed h series)

@@ -27,7 +27,7 @@ use Rattle.replication.specs.declared.beats.Beat.{Beat as SentBeat}
 use Rattle.replication.specs.declared.message.Data.{Data}
 use Rattle.replication.specs.declared.named.NamedBeat.{NamedBeat}
 use Rattle.replication.specs.declared.names.Names.{Names}
-use Rattle.replication.specs.Answer.{data_of, data_with, from_of, front, with_front}
+use Rattle.replication.specs.Answer.{data_of, data_with, from_of, prefix, with_prefix}
 use Rattle.replication.specs.Copies.{above, between, had_floor, Message, IsTrueOf, RisesFrom}
 use Rattle.replication.specs.Names.{beat_moment, message_of, named_beat, named_beats, named_moment}
 use Rattle.replication.proofs.NamesLaws.{above-map, answer-true, latest-map}
@@ -192,17 +192,17 @@ answer-floor child floor names beats ask message is =
       | inr other ↦ absurd (none-some message (sym (cond-false (child == ask.child) _ _ other) ∙ is))
     ]
   where
-    by : (later : List SentBeat) → with_front (data_with child floor ask.last names) later ≡ Some message → message.floor ≡ floor
+    by : (later : List SentBeat) → with_prefix (data_with child floor ask.last names) later ≡ Some message → message.floor ≡ floor
     by [] e = absurd (none-some message e)
-    by (x ∷ xs) e = ap (λ (message : Data). message.floor) (sym (same_Some (data_with child floor ask.last names (front (data_with child floor ask.last names) (x ∷ xs))) message e))
+    by (x ∷ xs) e = ap (λ (message : Data). message.floor) (sym (same_Some (data_with child floor ask.last names (prefix (data_with child floor ask.last names) (x ∷ xs))) message e))
 
 -- there is no answer only where nothing lies above
 answer-none : (child floor : ℕ) (names : Names) (beats : List SentBeat) (ask : Ask) → child ≡ ask.child → data_of child floor names beats ask ≡ None → above beat_moment (from_of floor ask.last) beats ≡ []
 answer-none child floor names beats ask same is = by (above beat_moment (from_of floor ask.last) beats) refl (sym (cond-true (child == ask.child) _ _ (eq-eqb child ask.child same)) ∙ is)
   where
-    by : (later : List SentBeat) → above beat_moment (from_of floor ask.last) beats ≡ later → with_front (data_with child floor ask.last names) later ≡ None → above beat_moment (from_of floor ask.last) beats ≡ []
+    by : (later : List SentBeat) → above beat_moment (from_of floor ask.last) beats ≡ later → with_prefix (data_with child floor ask.last names) later ≡ None → above beat_moment (from_of floor ask.last) beats ≡ []
     by [] later_is e = later_is
-    by (x ∷ xs) later_is e = absurd (none-some (data_with child floor ask.last names (front (data_with child floor ask.last names) (x ∷ xs))) (sym e))
+    by (x ∷ xs) later_is e = absurd (none-some (data_with child floor ask.last names (prefix (data_with child floor ask.last names) (x ∷ xs))) (sym e))
 
 module _ (set : Settings) (h : List Beat) (beats : List StoreBeat) (are : AreBeatsOf h beats) (ask : Ask) where
   abbrev names : Names

@@ -27,7 +27,7 @@ use Rattle.replication.specs.Answer.{data_of, from_of, AreBeatsOf as AreSentOf, 
 use Rattle.replication.specs.Copies.{above, RisesFrom}
 use Rattle.replication.specs.Names.{beat_moment}
 use Rattle.replication.proofs.Copies.{all-map}
-use Rattle.replication.proofs.FrontLaws.{data_of-take}
+use Rattle.replication.proofs.PrefixLaws.{data_of-take}
 use Rattle.replication.proofs.NamesLaws.{above-map}
 use Rattle.replication.proofs.Wholes.{all-of-map}
 use Rattle.tier_settings.specs.declared.settings.Settings.{Settings}
@@ -224,10 +224,10 @@ module _ (past : List Event) (store : StoreState) (set : Settings) (h : List Bea
         let whole_is : kept ≡ whole = λ i. (kept-is set h i).beats in
         let floor_now : floor ≡ floor_of_history set h 0 = floor_is ∙ floor-is set h 0 in
         let id : store.body.settings.id ≡ set.id = ap (λ (set : Settings). set.id) (settings-of past store set h holds) in
-        let front : map sent_beat found ≡ take 64 (above beat_moment from (map sent_beat whole)) =
+        let prefix : map sent_beat found ≡ take 64 (above beat_moment from (map sent_beat whole)) =
         ap (map sent_beat) found_is ∙ sym (take-map sent_beat 64 (filter (is_above from) kept))
         ∙ ap (take 64) (ap (λ (kept : List KeptBeat). map sent_beat (filter (is_above from) kept)) whole_is ∙ sym (above-map (λ (beat : KeptBeat). beat.moment) beat_moment sent_beat (λ beat. refl) from whole)) in
         is
-        ∙ ap (λ (beats : List SentBeat). data_of store.body.settings.id floor (names_of registry) beats ask) front
+        ∙ ap (λ (beats : List SentBeat). data_of store.body.settings.id floor (names_of registry) beats ask) prefix
         ∙ data_of-take store.body.settings.id floor (names_of registry) (map sent_beat whole) ask (let all = were_kept set h holds.stored holds.are in sent-rises set h all.beats all.are ask)
         ∙ (λ i. data_of (id i) (floor_now i) (names_of (registry_is i)) (map sent_beat whole) ask)

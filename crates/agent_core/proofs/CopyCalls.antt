@@ -17,11 +17,11 @@ use Rattle.agent_core.specs.Agent.{left_in, AgentState, IsAgentOf}
 use Rattle.agent_core.specs.Calls.{agent_adds, agent_verdict}
 use Rattle.agent_core.specs.Copying.{added_by, added_to, beats_of, copy_refusal, definitions_in, events_onto, names_refusal}
 use Rattle.agent_core.specs.Kept.{onto}
-use Rattle.agent_core.specs.Stands.{StandsForFront}
+use Rattle.agent_core.specs.Stands.{StandsForPrefix}
 use Rattle.agent_core.specs.declared.left.Role.{Role}
 use Rattle.agent_core.specs.Roles.{may_copy}
 use Rattle.agent_core.specs.Storing.{HasAdded}
-use Rattle.agent_core.proofs.FrontLemmas.{onto-length}
+use Rattle.agent_core.proofs.PrefixLemmas.{onto-length}
 use Rattle.agent_core.proofs.KeptLemmas.{child-is, stays, store-last}
 
 -- what an agent adds, its history adds
@@ -30,7 +30,7 @@ adds-are past agent set h is_of message =
     λ i. added_by (verdict_by (child-is past agent set h is_of i) (is_of.last_is i) message.child message.prev) (is_of.left_by.registry_is i) (is_of.left_by.role_is i) message
 
 -- before anything has happened
-pub none-added : (past : List Event) (agent : AgentState) (set : Settings) (h : List Beat) → IsAgentOf past agent set h → (more : List Beat) → Throughout (EveryDisk (StandsForFront set h more)) past past
+pub none-added : (past : List Event) (agent : AgentState) (set : Settings) (h : List Beat) → IsAgentOf past agent set h → (more : List Beat) → Throughout (EveryDisk (StandsForPrefix set h more)) past past
 none-added past agent set h is_of more = begins (λ disk images. (0, stays past agent.store set h is_of.holds disk images))
 
 -- ---- a message that is left

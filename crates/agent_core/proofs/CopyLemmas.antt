@@ -266,10 +266,10 @@ module _ (number : ℕ) (registry : Registry) (names : Names) where
       let same : registry_of next ≡ made = ap (λ (r : Registry). with_definitions r (definitions_in names).charts (definitions_in names).dimensions) is in
       first-then g beat (definitions_in names) beats (onto next (map (copied_of number made nothing_defined) (named_beats names beats))) same all.0 (with-later next beats same all.1)
 
-  front-copies : (m : ℕ) (beats : List SentBeat) → take m (copied_beats number made (definitions_in names) (named_beats names beats)) ≡ copied_beats number made (definitions_in names) (named_beats names (take m beats))
-  front-copies zero beats = refl
-  front-copies (suc m) [] = refl
-  front-copies (suc m) (beat ∷ beats) =
+  prefix-copies : (m : ℕ) (beats : List SentBeat) → take m (copied_beats number made (definitions_in names) (named_beats names beats)) ≡ copied_beats number made (definitions_in names) (named_beats names (take m beats))
+  prefix-copies zero beats = refl
+  prefix-copies (suc m) [] = refl
+  prefix-copies (suc m) (beat ∷ beats) =
       ap (λ later. copied_of number made (definitions_in names) (named_beat names beat) ∷ later)
       (take-map (copied_of number made nothing_defined) m (named_beats names beats) ∙ ap (map (copied_of number made nothing_defined)) (take-map (named_beat names) m beats))
 
@@ -300,7 +300,7 @@ module _ (h : List Beat) (message : Data) (data_is : IsData message) where
       ap (onto h) (
       take-both n (map (gap_beat message.child) gap) copies
       ∙ (λ i. take-map (gap_beat message.child) n gap i ++ take (least i) copies)
-      ∙ ap (λ later. map (gap_beat message.child) (take n gap) ++ later) (front-copies message.child before message.names (n - length gap) message.beats)
+      ∙ ap (λ later. map (gap_beat message.child) (take n gap) ++ later) (prefix-copies message.child before message.names (n - length gap) message.beats)
       ) ∙ onto-append h (map (gap_beat message.child) (take n gap)) _
 
   record Takes (n : ℕ) : Type 0 where
@@ -344,8 +344,8 @@ module _ (h : List Beat) (message : Data) (data_is : IsData message) where
   module _ (floors : List ℕ) (child : List SeenBeat) (rises : RisesFrom seen_moment 0 child) (ends : AllByRecursion (EndsBy (last h)) (map span_of (gaps h))) (copies : IsCopyOfChild floors child h)
       (truth : IsTrueOfChild floors child message) where
     -- the copy with the first of the beats that it makes of the Data
-    pub front-copy : message.prev ≡ last h → (n : ℕ) → IsCopyOfChild floors child (new n)
-    front-copy prev n =
+    pub prefix-copy : message.prev ≡ last h → (n : ℕ) → IsCopyOfChild floors child (new n)
+    prefix-copy prev n =
         let new_is = takes n in
         let kept = keeps-copy seen_moment 0 floors child (seen h) (map span_of (gaps h)) (last h) (message_seen message) n rises ends copies truth prev in
         let same : IsCopy seen_moment floors child (seen h ++ first_beats n (message_seen message)) (map span_of (gaps h) ++ first_gaps n (message_seen message))
@@ -355,4 +355,4 @@ module _ (h : List Beat) (message : Data) (data_is : IsData message) where
 
     -- with the first of what it adds
     pub added-copy : (n : ℕ) → IsCopyOfChild floors child (onto h (take n (added_to h message)))
-    added-copy = added-so (IsCopyOfChild floors child) front-copy copies
+    added-copy = added-so (IsCopyOfChild floors child) prefix-copy copies

@@ -12,9 +12,9 @@ use Rattle.replication.proofs.Copies.{all-map, copy-later, ends-within, latest-l
 use Rattle.agent_core.specs.Copies.{message_seen, seen, seen_moment, span_of, IsCopyOfChild, IsTrueOfChild, SeenBeat}
 
 module _ {B : Type 0} (moment : B → ℕ) where
-  rises-front : (low : ℕ) (xs ys : List B) → RisesFrom moment low (xs ++ ys) → RisesFrom moment low xs
-  rises-front low [] ys rises = tt
-  rises-front low (x ∷ xs) ys rises = (rises.0, rises-front (moment x) xs ys rises.1)
+  rises-prefix : (low : ℕ) (xs ys : List B) → RisesFrom moment low (xs ++ ys) → RisesFrom moment low xs
+  rises-prefix low [] ys rises = tt
+  rises-prefix low (x ∷ xs) ys rises = (rises.0, rises-prefix (moment x) xs ys rises.1)
 
   rises-next : (low : ℕ) (xs : List B) (y : B) (ys : List B) → RisesFrom moment low (xs ++ y ∷ ys) → latest moment low xs < moment y
   rises-next low [] y ys rises = rises.0
@@ -34,7 +34,7 @@ goes-on : (floors : List ℕ) (child later : List SeenBeat) (message : Message S
 goes-on floors child [] message rises truth = (floors, subst (λ all. IsTrueOf seen_moment floors all message) (sym (append-nil child)) truth)
 goes-on floors child (beat ∷ later) message rises truth =
     let next = rises-next seen_moment 0 child beat later rises in
-    let within = ends-within seen_moment 0 floors child message (rises-front seen_moment 0 child (beat ∷ later) rises) truth in
+    let within = ends-within seen_moment 0 floors child message (rises-prefix seen_moment 0 child (beat ∷ later) rises) truth in
     let step = true-later seen_moment floors child 0 beat message (omega (arith, next, within)) truth in
     let same = append_assoc child (beat ∷ []) later in
     let rest = goes-on (floors ++ 0 ∷ []) (child ++ beat ∷ []) later message (subst (RisesFrom seen_moment 0) (sym same) rises) step in

@@ -26,7 +26,7 @@ use Rattle.agent_core.specs.Kept.{copied_point, point_of, stored_points, AreBeat
 use Rattle.agent_core.specs.LastSeen.{is_point_at, is_row_at, latest_of, with_room, HasTaken, IsLatestOf}
 use Rattle.agent_core.proofs.FollowLemmas.{follows-owned, follows-regular}
 use Rattle.agent_core.proofs.UnseenLemmas.{only-collected, only-copied, only-health, only-missing, only-none, HasOnlyDefined}
-use Rattle.agent_core.proofs.SeenLemmas.{charts-collected, charts-copied, in_front, points-taken, raws-collected, raws-copied}
+use Rattle.agent_core.proofs.SeenLemmas.{charts-collected, charts-copied, in_prefix, points-taken, raws-collected, raws-copied}
 
 pub latest-is : (latest : Latest) (h : List Beat) → IsLatestOf latest h → latest ≡ latest_of latest.before h
 latest-is latest h is = λ i. record { before = latest.before; charts = is.charts i; points = is.points i; raws = is.raws i }
@@ -71,7 +71,7 @@ module _ (registry : Registry) (h : List Beat) (only : HasOnlyDefined h) (lasts 
         (more_definitions (registry_of h) beat.charts beat.dimensions)
         (λ n.
         points-of_beat h numbered.moment n beat
-        ∙ ap (λ (r : Registry). in_front (point_of registry) numbered.moment (points_of_series packed h n)
+        ∙ ap (λ (r : Registry). in_prefix (point_of registry) numbered.moment (points_of_series packed h n)
         (find (λ (word : SeriesWord). nat_eq word.series n) (beat_points r h numbered.moment beat))) (sym same))
         (subst (λ (r : Registry). HasTaken is_series (own_point numbered.moment) None (map (point_of registry) (beat_points registry h numbered.moment beat)) (with_room None (length r.dimensions) old.points) new.points) same
         (subst (λ (all : List BeatPoint). HasTaken is_series (own_point numbered.moment) None all (with_room None (length registry.dimensions) old.points) new.points) stored taken));

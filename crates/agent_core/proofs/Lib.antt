@@ -10,7 +10,7 @@ pub mod EntryLemmas
 pub mod FedLemmas
 pub mod FollowLemmas
 pub mod FormLemmas
-pub mod FrontLemmas
+pub mod PrefixLemmas
 pub mod GoingOnLemmas
 pub mod HealthLemmas
 pub mod HistoryLemmas

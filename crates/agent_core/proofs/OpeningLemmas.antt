@@ -26,19 +26,19 @@ use Rattle.agent_core.proofs.StoredLemmas.{answers, applied-at, stored_less, sto
 
 -- a history, cut where its store is
 record IsCut (set : Settings) (h : List Beat) (stored : Stored) (rest : List StoreBeat) : Type 0 where
-  front : List Beat
+  prefix : List Beat
   more : List Beat
-  whole : onto front more ≡ h
-  are : IsStoredOf set front stored
-  next : AreNextOf front more rest
+  whole : onto prefix more ≡ h
+  are : IsStoredOf set prefix stored
+  next : AreNextOf prefix more rest
 
 -- the cut one beat earlier
-cut-earlier : (set : Settings) (h : List Beat) (kept : StoreBeat) (stored : Stored) (rest : List StoreBeat) (front more : List Beat) → onto front more ≡ h
-    → IsStoredOf set front (stored_with stored kept) → AreNextOf front more rest → IsCut set h stored (kept ∷ rest)
-cut-earlier set h kept stored rest front more whole are next =
-    let less = stored_less set front stored kept are in
+cut-earlier : (set : Settings) (h : List Beat) (kept : StoreBeat) (stored : Stored) (rest : List StoreBeat) (prefix more : List Beat) → onto prefix more ≡ h
+    → IsStoredOf set prefix (stored_with stored kept) → AreNextOf prefix more rest → IsCut set h stored (kept ∷ rest)
+cut-earlier set h kept stored rest prefix more whole are next =
+    let less = stored_less set prefix stored kept are in
     record {
-      front = less.before;
+      prefix = less.before;
       more = less.beat ∷ more;
       whole = ap (λ (g : List Beat). onto g more) less.whole ∙ whole;
       are = less.are;
@@ -46,10 +46,10 @@ cut-earlier set h kept stored rest front more whole are next =
     }
 
 cut : (set : Settings) (h : List Beat) (stored : Stored) (rest : List StoreBeat) → IsStoredOf set h (stored_with_all stored rest) → IsCut set h stored rest
-cut set h stored [] are = record { front = h; more = []; whole = refl; are = are; next = tt }
+cut set h stored [] are = record { prefix = h; more = []; whole = refl; are = are; next = tt }
 cut set h stored (kept ∷ rest) are =
     let later = cut set h (stored_with stored kept) rest are in
-    cut-earlier set h kept stored rest later.front later.more later.whole later.are later.next
+    cut-earlier set h kept stored rest later.prefix later.more later.whole later.are later.next
 
 -- a store that was opened for a history stands at what it has of an earlier one, and has the side of this
 pub record IsOpenedAt (past : List Event) (store : StoreState) (set : Settings) (h : List Beat) : Type 0 where
@@ -86,25 +86,25 @@ opened-at past store set h opened =
 -- ---- a step
 
 -- the beat that was replayed, and what is left
-pub record IsNextBeat (past : List Event) (store : StoreState) (h : List Beat) (front : List Beat) (stored : Stored) (kept : StoreBeat) : Type 0 where
+pub record IsNextBeat (past : List Event) (store : StoreState) (h : List Beat) (prefix : List Beat) (stored : Stored) (kept : StoreBeat) : Type 0 where
   pub beat : Beat
   pub more : List Beat
   pub rest : List StoreBeat
-  pub of : IsBeatOf front beat kept
-  pub whole : onto (beat ∷ front) more ≡ h
-  pub next : AreNextOf (beat ∷ front) more rest
+  pub of : IsBeatOf prefix beat kept
+  pub whole : onto (beat ∷ prefix) more ≡ h
+  pub next : AreNextOf (beat ∷ prefix) more rest
   pub is_at : IsStoreAt past store (stored_with stored kept) rest
 
 module _ (past : List Event) (store : StoreState) (h : List Beat) where
-  step-of : (front more : List Beat) (stored : Stored) (rest : List StoreBeat) (kept : StoreBeat) → onto front more ≡ h → AreNextOf front more rest → Replays past store stored rest (Some kept)
-      → IsNextBeat past store h front stored kept
-  step-of front more stored [] kept whole next replays = absurd replays
-  step-of front [] stored (first ∷ rest) kept whole next replays = absurd next
-  step-of front (beat ∷ more) stored (first ∷ rest) kept whole next replays = record {
+  step-of : (prefix more : List Beat) (stored : Stored) (rest : List StoreBeat) (kept : StoreBeat) → onto prefix more ≡ h → AreNextOf prefix more rest → Replays past store stored rest (Some kept)
+      → IsNextBeat past store h prefix stored kept
+  step-of prefix more stored [] kept whole next replays = absurd replays
+  step-of prefix [] stored (first ∷ rest) kept whole next replays = absurd next
+  step-of prefix (beat ∷ more) stored (first ∷ rest) kept whole next replays = record {
     beat = beat;
     more = more;
     rest = rest;
-    of = subst (IsBeatOf front beat) (sym replays.0) next.0;
+    of = subst (IsBeatOf prefix beat) (sym replays.0) next.0;
     whole = whole;
     next = next.1;
     is_at = replays.1;
@@ -159,9 +159,9 @@ module _ (past : List Event) (store store' : StoreState) (left : Left) (set : Se
 
 -- ---- the end
 
-no-more : (front more : List Beat) → AreNextOf front more [] → more ≡ []
-no-more front [] next = refl
-no-more front (beat ∷ more) next = absurd next
+no-more : (prefix more : List Beat) → AreNextOf prefix more [] → more ≡ []
+no-more prefix [] next = refl
+no-more prefix (beat ∷ more) next = absurd next
 
 -- a store that has replayed all holds the history, whose beats left what is left
 module _ (past : List Event) (store : StoreState) (left : Left) (set : Settings) (h : List Beat) (was : IsReplaying past store left set h) (done : IsReplayed store) where

@@ -13,7 +13,7 @@ lines-append (first ∷ events) event =
 pub lines-more : (events : List Event) (n : ℕ) (event : Event) (start old new : List ℕ) → n < length events → get_or events n event ≡ event
     → new ≡ old ++ event_line event → old ≡ start ++ event_lines (take n events) → new ≡ start ++ event_lines (take (n + 1) events)
 lines-more events n event start old new within at pushed before =
-    let front : event_lines (take n events) ++ event_line event ≡ event_lines (take (n + 1) events)
+    let prefix : event_lines (take n events) ++ event_line event ≡ event_lines (take (n + 1) events)
     = sym (lines-append (take n events) event) ∙ ap event_lines (ap (λ (y : Event). take n events ++ y ∷ []) (sym at) ∙ sym (take_more events n event within)) in
     pushed ∙ ap (λ (text : List ℕ). text ++ event_line event) before ∙ append_assoc start (event_lines (take n events)) (event_line event)
-    ∙ ap (λ (lines : List ℕ). start ++ lines) front
+    ∙ ap (λ (lines : List ℕ). start ++ lines) prefix

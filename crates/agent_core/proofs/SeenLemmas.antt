@@ -260,16 +260,16 @@ raws-copied registry h copy lasts old new same are is grown =
 -- ---- the points of series
 
 -- the points of a series, with that of a word in front
-abbrev pub in_front : {W : Type 0} → (W → BeatPoint) → ℕ → List HistoryPoint → Option W → List HistoryPoint
-in_front as_point moment before found = option_map_or (λ word. record { moment = moment; word = (as_point word).word } ∷ before) found before
+abbrev pub in_prefix : {W : Type 0} → (W → BeatPoint) → ℕ → List HistoryPoint → Option W → List HistoryPoint
+in_prefix as_point moment before found = option_map_or (λ word. record { moment = moment; word = (as_point word).word } ∷ before) found before
 
 module _ {W : Type 0} (as_point : W → BeatPoint) (moment : ℕ) (words : List W) (h h' : List Beat) (old new : List (Option Point)) where
   abbrev own_point : BeatPoint → Option Point
   own_point point = Some (record { moment = moment; word = point.word })
 
-  point-front : (before : List HistoryPoint) (found : Option W) → option_map_or own_point (option_map as_point found) (option_map told_point (slice_get before 0)) ≡ option_map told_point (slice_get (in_front as_point moment before found) 0)
-  point-front before None = refl
-  point-front before (Some word) = refl
+  point-prefix : (before : List HistoryPoint) (found : Option W) → option_map_or own_point (option_map as_point found) (option_map told_point (slice_get before 0)) ≡ option_map told_point (slice_get (in_prefix as_point moment before found) 0)
+  point-prefix before None = refl
+  point-prefix before (Some word) = refl
 
   module _ (only : HasOnlyDefined h) (is : old ≡ points_seen h) where
     point-before : (room n : ℕ) → get_or (old ++ replicate room None) n None ≡ last_point h n
@@ -280,7 +280,7 @@ module _ {W : Type 0} (as_point : W → BeatPoint) (moment : ℕ) (words : List 
         by false past =
             get_or_past (points_seen h) n None (omega (arith, length-map-range_with_len (last_point h) 0 (length (registry_of h).dimensions), ltb-false n (length (registry_of h).dimensions) past)) ∙ sym (ap (λ (all : List HistoryPoint). option_map told_point (slice_get all 0)) (only.points n (ltb-false n (length (registry_of h).dimensions) past)))
 
-    pub points-taken : length (registry_of h).dimensions ≤ length (registry_of h').dimensions → ((n : ℕ) → points packed h' n ≡ in_front as_point moment (points packed h n) (find (λ (word : W). nat_eq (as_point word).series n) words))
+    pub points-taken : length (registry_of h).dimensions ≤ length (registry_of h').dimensions → ((n : ℕ) → points packed h' n ≡ in_prefix as_point moment (points packed h n) (find (λ (word : W). nat_eq (as_point word).series n) words))
         → HasTaken is_series own_point None (map as_point words) (old ++ replicate (length (registry_of h').dimensions - length old) None) new → new ≡ points_seen h'
     points-taken few gives takes =
         fill_by_all (last_point h') new (length (registry_of h').dimensions) None
@@ -288,5 +288,5 @@ module _ {W : Type 0} (as_point : W → BeatPoint) (moment : ℕ) (words : List 
         (λ n less.
         takes.0 n
         ∙ (λ i. option_map_or own_point (find-map as_point (is_series n) words i) (point-before (length (registry_of h').dimensions - length old) n i))
-        ∙ point-front (points packed h n) (find (λ (word : W). nat_eq (as_point word).series n) words)
+        ∙ point-prefix (points packed h n) (find (λ (word : W). nat_eq (as_point word).series n) words)
         ∙ ap (λ (all : List HistoryPoint). option_map told_point (slice_get all 0)) (sym (gives n)))

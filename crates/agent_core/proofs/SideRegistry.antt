@@ -28,7 +28,7 @@ use Rattle.chart_registry.proofs.RegistryLemmas.{or_false}
 use Rattle.beat_entries.specs.Following.{AreOwned, MayFollow}
 use Rattle.beat_entries.specs.Next.{goes_on, with_numbered}
 use Rattle.beat_entries.proofs.CopiedLemmas.{regular-without}
-use Rattle.beat_entries.proofs.DefinedLemmas.{chart-itself}
+use Rattle.beat_entries.proofs.DefinedLemmas.{chart-alike, chart-itself, dimension-alike}
 use Rattle.beat_entries.proofs.FollowLemmas.{beat-goes-on, last-is}
 use Rattle.beat_entries.proofs.PutLemmas.{self-any}
 use Rattle.beat_entries.proofs.Slots.{all-both}
@@ -66,12 +66,6 @@ module _ {A : Type 0} (same : A → A → Bool) (itself_ : (x : A) → same x x 
 
   pub put-once : (xs : List A) → AreApart same xs → put_all same [] xs ≡ xs
   put-once xs apart = put-more xs [] apart
-
-chart-alike : (x y z : ChartDef) → same_chart x y ≡ true → same_chart x z ≡ same_chart y z
-chart-alike x y z same i = chart-left x y same i z
-
-dimension-alike : (x y z : OpenDim) → same_dimension x y ≡ true → same_dimension x z ≡ same_dimension y z
-dimension-alike x y z same i = left x y same i z
 
 all-of : {A : Type 0} (P : A → Type 0) → ((x : A) → P x) → (xs : List A) → AllByRecursion P xs
 all-of P each [] = tt

@@ -31,7 +31,7 @@ use Rattle.host_model.specs.Seen.{Seen}
 use Rattle.agent_core.specs.Faults.{cause_of, fault_after, IsHealthRefusal, IsRefusal, LeavesAll, ReopensWith}
 use Rattle.agent_core.specs.Health.{health_refusal}
 use Rattle.agent_core.specs.Kept.{onto}
-use Rattle.agent_core.specs.Stands.{StandsForFront, StandsForHealth, StandsForHistory, StandsForOneOf}
+use Rattle.agent_core.specs.Stands.{StandsForPrefix, StandsForHealth, StandsForHistory, StandsForOneOf}
 use Rattle.agent_core.specs.Roles.{copies}
 use Rattle.agent_core.specs.Rules.{beat_refusal, history_with, line_refusal}
 use Rattle.agent_core.specs.Sound.{closed_by, history_after, history_by, tried_after, tried_with}
@@ -45,10 +45,10 @@ never agent cause now none = none-some cause (sym none ∙ now)
 
 -- ---- a call that was refused
 -- a disk with the history, and one with a beat more
-none-first : (set : Settings) (h more : List Beat) (disk : File → List ℕ) → StandsForHistory set h disk → StandsForFront set h more disk
+none-first : (set : Settings) (h more : List Beat) (disk : File → List ℕ) → StandsForHistory set h disk → StandsForPrefix set h more disk
 none-first set h more disk stands = (0, stands)
 
-one-first : (set : Settings) (h : List Beat) (beat : Beat) (disk : File → List ℕ) → StandsForHistory set (beat ∷ h) disk → StandsForFront set h (beat ∷ []) disk
+one-first : (set : Settings) (h : List Beat) (beat : Beat) (disk : File → List ℕ) → StandsForHistory set (beat ∷ h) disk → StandsForPrefix set h (beat ∷ []) disk
 one-first set h beat disk stands = (1, stands)
 
 abbrev unstored : AgentFault → Result Reply AgentFault
@@ -104,7 +104,7 @@ module _ (host : Seen) (agent : AgentState) (host' : Seen) (agent' : AgentState)
       subst (λ (s : Seen). IsSoundBy s.past agent' set h tried) (sym hosts) (subst (λ (a : AgentState). IsSoundBy host.past a set h tried) (sym agents) sound)
 
   -- a call of an agent that was going, and was refused for the disk or for memory
-  spent : (fault : AgentFault) (cause : Why) → Did fault → IsAgentOf host.past agent set h → cause_of fault ≡ Some cause → EveryDisk (StandsForFront set h beats) host'.past → IsSoundBy host'.past agent' set h beats
+  spent : (fault : AgentFault) (cause : Why) → Did fault → IsAgentOf host.past agent set h → cause_of fault ≡ Some cause → EveryDisk (StandsForPrefix set h beats) host'.past → IsSoundBy host'.past agent' set h beats
   spent fault cause did is_of leaves images =
       inr (record {
         cause = cause;
@@ -115,7 +115,7 @@ module _ (host : Seen) (agent : AgentState) (host' : Seen) (agent' : AgentState)
         images = images;
       })
 
-  of-going : (fault : AgentFault) → Did fault → IsAgentOf host.past agent set h → EveryDisk (StandsForFront set h beats) host'.past → IsSoundBy host'.past agent' set h (tried_with fault beats tried)
+  of-going : (fault : AgentFault) → Did fault → IsAgentOf host.past agent set h → EveryDisk (StandsForPrefix set h beats) host'.past → IsSoundBy host'.past agent' set h (tried_with fault beats tried)
   of-going (Refused reason) did is_of images = let kept = did.unchanged tt in same kept.0 kept.1 (inl is_of)
   of-going (Health reason) did is_of images = let kept = did.unchanged tt in same kept.0 kept.1 (inl is_of)
   of-going DiskFault did is_of images = spent DiskFault why.Disk did is_of refl images
@@ -136,7 +136,7 @@ module _ (host : Seen) (agent : AgentState) (host' : Seen) (agent' : AgentState)
   of-spent Memory did was = absurd (never agent was.cause was.spent did.reopens)
 
   -- a refused call keeps an agent sound
-  failed-sound : (fault : AgentFault) → Did fault → (IsAgentOf host.past agent set h → EveryDisk (StandsForFront set h beats) host'.past) → IsSoundBy host.past agent set h tried
+  failed-sound : (fault : AgentFault) → Did fault → (IsAgentOf host.past agent set h → EveryDisk (StandsForPrefix set h beats) host'.past) → IsSoundBy host.past agent set h tried
       → IsSoundBy host'.past agent' set h (tried_with fault beats tried)
   failed-sound fault did images (inl is_of) = of-going fault did is_of (images is_of)
   failed-sound fault did images (inr was) = of-spent fault did was
@@ -157,7 +157,7 @@ module _ (honest : Type 0) (host : Seen) (agent : AgentState) (beat : OpenBeat) 
     id = did.id;
   }
 
-  beat-left : (disk : File → List ℕ) → StandsForOneOf set h beat_reason (collected moment beat ∷ h) disk → StandsForFront set h (collected moment beat ∷ []) disk
+  beat-left : (disk : File → List ℕ) → StandsForOneOf set h beat_reason (collected moment beat ∷ h) disk → StandsForPrefix set h (collected moment beat ∷ []) disk
   beat-left disk (inl stands) = none-first set h (collected moment beat ∷ []) disk stands
   beat-left disk (inr stands) = one-first set h (collected moment beat) disk stands.1
 
@@ -182,7 +182,7 @@ module _ (honest : Type 0) (host : Seen) (agent : AgentState) (text : List ℕ) 
     id = did.id;
   }
 
-  health-left : (disk : File → List ℕ) → StandsForHealth set h text disk → StandsForFront set h (health text ∷ []) disk
+  health-left : (disk : File → List ℕ) → StandsForHealth set h text disk → StandsForPrefix set h (health text ∷ []) disk
   health-left disk (inl stands) = none-first set h (health text ∷ []) disk stands
   health-left disk (inr stands) = one-first set h (health text) disk stands.1
 
@@ -211,11 +211,11 @@ module _ (honest : Type 0) (host : Seen) (agent : AgentState) (feed : Feed) (lin
     id = did.id;
   }
 
-  closed-left : (line : Line) (disk : File → List ℕ) → StandsForHistory set (history_with h every past line) disk → StandsForFront set h (closed_by every past line) disk
+  closed-left : (line : Line) (disk : File → List ℕ) → StandsForHistory set (history_with h every past line) disk → StandsForPrefix set h (closed_by every past line) disk
   closed-left (Moment moment) disk stands = one-first set h (collected moment (open_beat every past)) disk stands
   closed-left line disk stands = none-first set h [] disk stands
 
-  line-left : (disk : File → List ℕ) → StandsForOneOf set h line_reason (history_with h every past line) disk → StandsForFront set h (closed_by every past line) disk
+  line-left : (disk : File → List ℕ) → StandsForOneOf set h line_reason (history_with h every past line) disk → StandsForPrefix set h (closed_by every past line) disk
   line-left disk (inl stands) = none-first set h (closed_by every past line) disk stands
   line-left disk (inr stands) = closed-left line disk stands.1
 
@@ -231,9 +231,9 @@ module _ (honest : Type 0) (host : Seen) (agent : AgentState) (feed : Feed) (lin
 -- ---- a call that reads
 module _ (honest : Type 0) (host : Seen) (agent : AgentState) (host' : Seen) (agent' : AgentState) (set : Settings) (h tried : List Beat) (true_host : honest) where
   -- nothing happened to the disk, so that a crash leaves the history
-  read-left : IsAgentOf host.past agent set h → host'.past ≡ host.past → EveryDisk (StandsForFront set h []) host'.past
+  read-left : IsAgentOf host.past agent set h → host'.past ≡ host.past → EveryDisk (StandsForPrefix set h []) host'.past
   read-left is_of quiet =
-      subst (EveryDisk (StandsForFront set h [])) (sym quiet) (λ disk images. none-first set h [] disk (stays host.past agent.store set h is_of.holds disk images))
+      subst (EveryDisk (StandsForPrefix set h [])) (sym quiet) (λ disk images. none-first set h [] disk (stays host.past agent.store set h is_of.holds disk images))
 
   module _ (T : Type 0) where
     abbrev unread : AgentFault → Result T AgentFault
@@ -273,10 +273,10 @@ pub data-sound : (honest : Type 0) (host host' : Seen) (agent agent' : AgentStat
 data-sound honest host host' agent agent' ask result set h tried true_host did = read-sound honest host agent host' agent' set h tried true_host _ result did.reads
 
 -- ---- a message of a child
-module _ (honest : Type 0) (host : Seen) (agent : AgentState) (message : Data) (host' : Seen) (agent' : AgentState) (set : Settings) (h tried : List Beat) (true_host : honest) where
-  abbrev untaken : AgentFault → Result (Verdict × Reply) AgentFault
-  untaken fault = Err fault
+abbrev pub untaken : AgentFault → Result (Verdict × Reply) AgentFault
+untaken fault = Err fault
 
+module _ (honest : Type 0) (host : Seen) (agent : AgentState) (message : Data) (host' : Seen) (agent' : AgentState) (set : Settings) (h tried : List Beat) (true_host : honest) where
   take-failed : (fault : AgentFault) → TakesData honest host agent message (untaken fault) host' agent' → Failed host agent fault host' agent'
   take-failed fault did = record {
     possible = λ going. of-refusal (refusal_by (agent_verdict agent message) agent.registry agent.role message) fault (did.refused going);
@@ -296,4 +296,4 @@ module _ (honest : Type 0) (host : Seen) (agent : AgentState) (message : Data) (
   take-sound (Ok taken) did (inr was) = absurd (never agent was.cause was.spent did.reopens)
   take-sound (Err fault) did sound =
       failed-sound host agent host' agent' set h (added_to h message) tried fault (take-failed fault did)
-      (λ is_of disk images. subst (λ (more : List Beat). StandsForFront set h more disk) (adds-are host.past agent set h is_of message) (at_end (did.any_moment true_host set h is_of) disk images)) sound
+      (λ is_of disk images. subst (λ (more : List Beat). StandsForPrefix set h more disk) (adds-are host.past agent set h is_of message) (at_end (did.any_moment true_host set h is_of) disk images)) sound

@@ -16,7 +16,7 @@ use Rattle.store_core.specs.Store.{IsReady, IsReplayed, StoreState}
 use Rattle.store_core.specs.Stored.{Stored}
 use Rattle.agent_core.specs.declared.left.Left.{Left}
 use Rattle.agent_core.specs.declared.left.Role.{Role}
-use Rattle.agent_core.specs.Stands.{HoldsHistory, StandsForFront}
+use Rattle.agent_core.specs.Stands.{HoldsHistory, StandsForPrefix}
 use Rattle.agent_core.specs.Left.{IsLeftBy}
 use Rattle.agent_core.specs.Notes.{left_by, noted_in}
 use Rattle.agent_core.specs.Rules.{HasLimits}
@@ -86,7 +86,7 @@ pub record IsSpentAfter (past : List Event) (agent : AgentState) (set : Settings
   pub count : agent.count ≡ counted (length h)
   pub last_is : agent.last ≡ last h
   pub id : id_of agent ≡ set.id
-  pub images : EveryDisk (StandsForFront set h tried) past
+  pub images : EveryDisk (StandsForPrefix set h tried) past
 
 -- the agent is of this history, or was before a call with these beats
 abbrev pub IsSoundBy : List Event → AgentState → Settings → List Beat → List Beat → Type 0

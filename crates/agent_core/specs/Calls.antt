@@ -42,7 +42,7 @@ use Rattle.agent_core.specs.Faults.{fault_after, HealthRefusedBy, IsCreating, Is
 use Rattle.agent_core.specs.Fed.{IsFed}
 use Rattle.agent_core.specs.Health.{health_refusal}
 use Rattle.agent_core.specs.Kept.{onto}
-use Rattle.agent_core.specs.Stands.{StandsForFront, StandsForHealth, StandsForHistory, StandsForNew, StandsForOneOf}
+use Rattle.agent_core.specs.Stands.{StandsForPrefix, StandsForHealth, StandsForHistory, StandsForNew, StandsForOneOf}
 use Rattle.agent_core.specs.Notes.{NotesGo}
 use Rattle.agent_core.specs.Roles.{child_in, copies}
 use Rattle.agent_core.specs.Rules.{beat_refusal, count_with, history_with, last_with, line_refusal}
@@ -295,7 +295,7 @@ pub record TakesData (honest : Type 0) (host : Seen) (agent : AgentState) (messa
   -- the verdict is that of the child and the last moment of the agent
   pub verdict : IfOk result (λ taken. taken.0 ≡ agent_verdict agent message)
   -- at every moment a crash leaves the history with the first of the beats that it adds, or with none or all of them
-  pub any_moment : honest → (set : Settings) (h : List Beat) → IsAgentOf host.past agent set h → Throughout (EveryDisk (StandsForFront set h (agent_adds agent message))) host.past host'.past
+  pub any_moment : honest → (set : Settings) (h : List Beat) → IsAgentOf host.past agent set h → Throughout (EveryDisk (StandsForPrefix set h (agent_adds agent message))) host.past host'.past
   -- at Ok the agent is of the history with all of them
   pub done : OnOk result (honest → (set : Settings) (h : List Beat) → IsAgentOf host.past agent set h → IsAgentOf host'.past agent' set (onto h (agent_adds agent message)))
   -- the reply has the number of the last beat, and the events that alarms make of all of them

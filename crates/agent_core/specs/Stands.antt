@@ -45,8 +45,8 @@ pub record StandsForHistory (set : Settings) (h : List Beat) (disk : File → Li
   pub stands : Stands stored disk
 
 -- the disk holds this history with the first of these beats, with none or with all of them
-abbrev pub StandsForFront : Settings → List Beat → List Beat → (File → List ℕ) → Type 0
-StandsForFront set h more disk = (n : ℕ) × StandsForHistory set (onto h (take n more)) disk
+abbrev pub StandsForPrefix : Settings → List Beat → List Beat → (File → List ℕ) → Type 0
+StandsForPrefix set h more disk = (n : ℕ) × StandsForHistory set (onto h (take n more)) disk
 
 -- the disk holds no database, or the one with these settings and without beats
 abbrev pub StandsForNew : Settings → (File → List ℕ) → Type 0

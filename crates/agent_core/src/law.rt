@@ -158,7 +158,7 @@ pub fn copy_stays_a_copy()
         → IsCopyOfChild floors child h → IsTrueOfChild floors child message
         → message.prev ≡ last h
         → IsCopyOfChild floors child (onto h (take n (beats_of (registry_of h) message))) }
-    ensures front { (h : List Beat) (beats : List StoreBeat) (floors : List ℕ)
+    ensures prefix { (h : List Beat) (beats : List StoreBeat) (floors : List ℕ)
         (child : List SeenBeat) (message : Data) (n : ℕ)
         → AreBeatsOf h beats → IsData message → RisesFrom seen_moment 0 child
         → IsCopyOfChild floors child h → IsTrueOfChild floors child message

@@ -20,7 +20,7 @@ ghost use Rattle.store_core.specs.Store.{is_due, IsReady, IsReplayed};
 ghost use Rattle.agent_core.specs.Copying.{beats_of, definitions_in, names_refusal};
 ghost use Rattle.agent_core.specs.Keeping.{KeepsStore};
 ghost use Rattle.agent_core.specs.Kept.{onto, IsCopyOf};
-ghost use Rattle.agent_core.specs.Stands.{HoldsHistory, StandsForFront, StandsForHistory};
+ghost use Rattle.agent_core.specs.Stands.{HoldsHistory, StandsForPrefix, StandsForHistory};
 ghost use Rattle.agent_core.specs.Left.{AwaitsAlarms, IsLeftBy};
 ghost use Rattle.agent_core.specs.Notes.{names_series};
 ghost use Rattle.agent_core.specs.Roles.{may_copy, role_of};
@@ -230,7 +230,7 @@ fn add_later<H: Host>(
         → let more = later_copies left.old.registry message.now beats.now in
         HoldsHistory (H.seen host.old).past store.old set g → IsLeftBy set g left.old
         → MayTakeAll g more
-        → Throughout (EveryDisk (StandsForFront set g more)) (H.seen host.old).past
+        → Throughout (EveryDisk (StandsForPrefix set g more)) (H.seen host.old).past
         (H.seen host.new).past }
     ensures done { IfOk result
         (λ events. H.honest → (set : ASettings) (g : List HistoryBeat)
@@ -290,7 +290,7 @@ fn add_beats<H: Host>(
         HoldsHistory (H.seen host.old).past store.old set g
         → IsLeftBy set g (record left.old { registry = before })
         → left.old.registry ≡ with_names before message.now → MayTakeAll g more
-        → Throughout (EveryDisk (StandsForFront set g more)) (H.seen host.old).past
+        → Throughout (EveryDisk (StandsForPrefix set g more)) (H.seen host.old).past
         (H.seen host.new).past }
     ensures done { IfOk result
         (λ events. H.honest → (before : ARegistry) (set : ASettings) (g : List HistoryBeat)
@@ -336,7 +336,7 @@ fn add_gap_before<H: Host>(
     ensures any_moment { H.honest → (set : ASettings) (h : List HistoryBeat)
         → HoldsHistory (H.seen host.old).past store.old set h → IsLeftBy set h left.old
         → may_copy (role_of h) ≡ true
-        → Throughout (EveryDisk (StandsForFront set h (gap_beats message.now)))
+        → Throughout (EveryDisk (StandsForPrefix set h (gap_beats message.now)))
         (H.seen host.old).past (H.seen host.new).past }
     ensures done { OnOk result (H.honest → (set : ASettings) (h : List HistoryBeat)
         → HoldsHistory (H.seen host.old).past store.old set h → IsLeftBy set h left.old
@@ -427,7 +427,7 @@ pub(crate) fn add_message<H: Host>(
     ensures any_moment { H.honest → (set : ASettings) (h : List HistoryBeat)
         → HoldsHistory (H.seen host.old).past store.old set h → IsLeftBy set h left.old
         → may_copy (role_of h) ≡ true
-        → Throughout (EveryDisk (StandsForFront set h (beats_of left.old.registry message.now)))
+        → Throughout (EveryDisk (StandsForPrefix set h (beats_of left.old.registry message.now)))
         (H.seen host.old).past (H.seen host.new).past }
     ensures done { IfOk result
         (λ events. H.honest → (set : ASettings) (h : List HistoryBeat)

@@ -71,7 +71,7 @@ flat_map_each : (f g : ℕ → List Pair) → ((n : ℕ) → f n ≡ g n) → (x
 flat_map_each f g same [] = refl
 flat_map_each f g same (x ∷ xs) =
     flat_map-cons f x xs
-    ∙ ap (λ (front : List Pair). front ++ flat_map f xs) (same x)
+    ∙ ap (λ (prefix : List Pair). prefix ++ flat_map f xs) (same x)
     ∙ ap (λ (rest : List Pair). g x ++ rest) (flat_map_each f g same xs)
     ∙ sym (flat_map-cons g x xs)
 

@@ -23,9 +23,9 @@ words-chain left (step ∷ steps) =
 binary_words : (self head : Expr) (first : Box Expr Global) (rest : Vec (Operator × Expr) Global) (old middle new : List Word)
     → self ≡ Binary first rest → head ≡ first.value
     → middle ≡ old ++ words (tree_of head) → new ≡ middle ++ row_words rest.items → new ≡ old ++ words (tree_of self)
-binary_words self head first rest old middle new is at front back =
+binary_words self head first rest old middle new is at prefix back =
     back
-    ∙ ap (λ (more : List Word). more ++ row_words rest.items) (front ∙ ap (λ (e : Expr). old ++ words (tree_of e)) at)
+    ∙ ap (λ (more : List Word). more ++ row_words rest.items) (prefix ∙ ap (λ (e : Expr). old ++ words (tree_of e)) at)
     ∙ append_assoc old (words (tree_of first.value)) (row_words rest.items)
     ∙ ap (λ (more : List Word). old ++ more) (sym (words-chain (tree_of first.value) rest.items) ∙ ap words (sym (tree_of-Binary first rest)) ∙ ap (λ (e : Expr). words (tree_of e)) (sym is))
 
@@ -33,8 +33,8 @@ binary_words self head first rest old middle new is at front back =
 pub words-Binary : (self head : Expr) (first : Box Expr Global) (rest : Vec (Operator × Expr) Global) (old middle new : List Word) (r : Result (Unit {0}) AllocError)
     → self ≡ Binary first rest → head ≡ first.value → middle ≡ old ++ words (tree_of head)
     → OnOk r (new ≡ middle ++ row_words rest.items) → OnOk r (new ≡ old ++ words (tree_of self))
-words-Binary self head first rest old middle new (Ok u) is at front back = binary_words self head first rest old middle new is at front back
-words-Binary self head first rest old middle new (Err e) is at front back = back
+words-Binary self head first rest old middle new (Ok u) is at prefix back = binary_words self head first rest old middle new is at prefix back
+words-Binary self head first rest old middle new (Err e) is at prefix back = back
 
 tree_of-Choice : (condition first second : Box Expr Global) → tree_of (Choice condition first second) ≡ chosen (tree_of condition.value) (tree_of first.value) (tree_of second.value)
 tree_of-Choice condition first second = search (rules, the_lemmas)

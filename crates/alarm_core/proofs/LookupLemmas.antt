@@ -232,51 +232,51 @@ pub gathered_more : (registry : Registry) (lookup : Lookup) (start stop : ℕ) (
     → IsGathered registry lookup start stop told (take (i + 1) series) after
 gathered_more registry lookup start stop told series i d before after rise short inside few was adds =
     let next : ℕ = get_or series i d in
-    let front : List ℕ = take i series in
+    let prefix : List ℕ = take i series in
     let some : Option ℤ = number lookup start stop (told next) in
-    let all : List ℤ = numbers lookup start stop told front in
-    let kept : List ℕ = filter (is_taken registry lookup) front in
+    let all : List ℤ = numbers lookup start stop told prefix in
+    let kept : List ℕ = filter (is_taken registry lookup) prefix in
     let taken : List ℤ = numbers lookup start stop told kept in
-    let short_front : length front ≤ i = length-take_le series i in
+    let short_prefix : length prefix ≤ i = length-take_le series i in
     let small = number_small lookup start stop (told next) (rise next) short in
-    let few_kept : length kept ≤ length front = filter_le (is_taken registry lookup) front in
+    let few_kept : length kept ≤ length prefix = filter_le (is_taken registry lookup) prefix in
     let room_taken : HaveRoom (come_to taken) (one_of some) =
-    option_room taken some (numbers_small lookup start stop told kept rise short) small (omega (arith, numbers_few lookup start stop told kept, few_kept, short_front, inside, few)) in
+    option_room taken some (numbers_small lookup start stop told kept rise short) small (omega (arith, numbers_few lookup start stop told kept, few_kept, short_prefix, inside, few)) in
     let room_all : HaveRoom (come_to all) (one_of some) =
-    option_room all some (numbers_small lookup start stop told front rise short) small (omega (arith, numbers_few lookup start stop told front, short_front, inside, few)) in
+    option_room all some (numbers_small lookup start stop told prefix rise short) small (omega (arith, numbers_few lookup start stop told prefix, short_prefix, inside, few)) in
     let has : HasRoomFor lookup.percentage some before = record {
       taken = subst (λ (r : Option Record). HaveRoom r (one_of some)) (sym was.taken) room_taken;
       all = λ asked. subst (λ (r : Option Record). HaveRoom r (one_of some)) (sym (was.all asked)) room_all;
     } in
     let added = adds has in
-    let more : take (i + 1) series ≡ front ++ next ∷ [] = take_more series i d inside in
+    let more : take (i + 1) series ≡ prefix ++ next ∷ [] = take_more series i d inside in
     record {
       taken =
           added.taken
-          ∙ kept_more (is_taken registry lookup) front next before.taken was.taken (is_taken registry lookup next) refl
+          ∙ kept_more (is_taken registry lookup) prefix next before.taken was.taken (is_taken registry lookup next) refl
           ∙ ap (λ (l : List ℕ). come_to (numbers lookup start stop told (filter (is_taken registry lookup) l))) (sym more);
       all = λ asked.
           added.all asked
           ∙ ap (λ (r : Option Record). joined r (one_of some)) (was.all asked)
           ∙ sym (option_more all some)
-          ∙ ap come_to (sym (numbers-more lookup start stop told front next))
+          ∙ ap come_to (sym (numbers-more lookup start stop told prefix next))
           ∙ ap (λ (l : List ℕ). come_to (numbers lookup start stop told l)) (sym more);
     }
   where
     -- the taken ones with the next
-    kept_more : (keep : ℕ → Bool) (front : List ℕ) (next : ℕ) (before : Option Record) → before ≡ come_to (numbers lookup start stop told (filter keep front)) → (b : Bool) → keep next ≡ b
-        → cond b (joined before (one_of (number lookup start stop (told next)))) before ≡ come_to (numbers lookup start stop told (filter keep (front ++ next ∷ [])))
-    kept_more keep front next before was true e =
+    kept_more : (keep : ℕ → Bool) (prefix : List ℕ) (next : ℕ) (before : Option Record) → before ≡ come_to (numbers lookup start stop told (filter keep prefix)) → (b : Bool) → keep next ≡ b
+        → cond b (joined before (one_of (number lookup start stop (told next)))) before ≡ come_to (numbers lookup start stop told (filter keep (prefix ++ next ∷ [])))
+    kept_more keep prefix next before was true e =
         ap (λ (r : Option Record). joined r (one_of (number lookup start stop (told next)))) was
-        ∙ sym (option_more (numbers lookup start stop told (filter keep front)) (number lookup start stop (told next)))
-        ∙ ap come_to (sym (numbers-more lookup start stop told (filter keep front) next))
-        ∙ ap (λ (l : List ℕ). come_to (numbers lookup start stop told (filter keep front ++ l))) (sym (ap (λ (t : Bool). cond t (next ∷ []) []) e))
-        ∙ ap (λ (l : List ℕ). come_to (numbers lookup start stop told l)) (sym (filter-append keep front (next ∷ [])))
-    kept_more keep front next before was false e =
+        ∙ sym (option_more (numbers lookup start stop told (filter keep prefix)) (number lookup start stop (told next)))
+        ∙ ap come_to (sym (numbers-more lookup start stop told (filter keep prefix) next))
+        ∙ ap (λ (l : List ℕ). come_to (numbers lookup start stop told (filter keep prefix ++ l))) (sym (ap (λ (t : Bool). cond t (next ∷ []) []) e))
+        ∙ ap (λ (l : List ℕ). come_to (numbers lookup start stop told l)) (sym (filter-append keep prefix (next ∷ [])))
+    kept_more keep prefix next before was false e =
         was
-        ∙ ap (λ (l : List ℕ). come_to (numbers lookup start stop told l)) (sym (append-nil (filter keep front)))
-        ∙ ap (λ (l : List ℕ). come_to (numbers lookup start stop told (filter keep front ++ l))) (sym (ap (λ (t : Bool). cond t (next ∷ []) []) e))
-        ∙ ap (λ (l : List ℕ). come_to (numbers lookup start stop told l)) (sym (filter-append keep front (next ∷ [])))
+        ∙ ap (λ (l : List ℕ). come_to (numbers lookup start stop told l)) (sym (append-nil (filter keep prefix)))
+        ∙ ap (λ (l : List ℕ). come_to (numbers lookup start stop told (filter keep prefix ++ l))) (sym (ap (λ (t : Bool). cond t (next ∷ []) []) e))
+        ∙ ap (λ (l : List ℕ). come_to (numbers lookup start stop told l)) (sym (filter-append keep prefix (next ∷ [])))
 
 -- nothing yet
 pub gathered_none : (registry : Registry) (lookup : Lookup) (start stop : ℕ) (told : ℕ → List Point) (series : List ℕ)

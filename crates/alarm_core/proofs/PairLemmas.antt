@@ -97,11 +97,11 @@ pub chart_more : (p : ℕ → Bool) (pair : ℕ → Pair) (old before after : Li
     → after ≡ first_pairs (before ++ cond wanted (pair i ∷ []) [])
     → after ≡ first_pairs (old ++ map pair (filter p (range_with_len 0 (i + 1))))
 chart_more p pair old before after i wanted is was made =
-    let front : List Pair = map pair (filter p (range_with_len 0 i)) in
+    let prefix : List Pair = map pair (filter p (range_with_len 0 i)) in
     made
     ∙ ap (λ (l : List Pair). first_pairs (l ++ cond wanted (pair i ∷ []) [])) was
-    ∙ first_again (old ++ front) (cond wanted (pair i ∷ []) [])
-    ∙ ap first_pairs (append_assoc old front (cond wanted (pair i ∷ []) []))
+    ∙ first_again (old ++ prefix) (cond wanted (pair i ∷ []) [])
+    ∙ ap first_pairs (append_assoc old prefix (cond wanted (pair i ∷ []) []))
     ∙ ap (λ (l : List Pair). first_pairs (old ++ l)) (joined wanted is)
   where
     map-append : (xs ys : List ℕ) → map pair (xs ++ ys) ≡ map pair xs ++ map pair ys

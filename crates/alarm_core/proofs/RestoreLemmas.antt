@@ -30,15 +30,15 @@ pub states_more : (alarms : List Alarm) (pairs : List Pair) (kepts : List KeptSt
     → after ≡ map (state_at alarms pairs kepts) (enumerate_from 0 (take (i + 1) kepts))
 states_more alarms pairs kepts i kept before after lost inside is was names made =
     let name : KeptState → List ℕ = λ (kept : KeptState). kept.alarm in
-    let front : List State = map (state_at alarms pairs kepts) (enumerate_from 0 (take i kepts)) in
+    let prefix : List State = map (state_at alarms pairs kepts) (enumerate_from 0 (take i kepts)) in
     let one : ℕ → State = λ (n : ℕ). state_by (holder_of n (pair_of alarms pairs kept)) kept in
     let so_many : length lost ≡ length (lost_among alarms pairs (take i kepts)) = ap length names ∙ length-map (lost_among alarms pairs (take i kepts)) name in
     let number : i ≡ 0 + i = omega arith in
     made
     ∙ ap (λ (states : List State). states ++ one (length lost) ∷ []) was
-    ∙ ap (λ (n : ℕ). front ++ one n ∷ []) so_many
-    ∙ ap (λ (n : ℕ). front ++ state_at alarms pairs kepts (n, kept) ∷ []) number
-    ∙ ap (λ (k : KeptState). front ++ state_at alarms pairs kepts (0 + i, k) ∷ []) is
+    ∙ ap (λ (n : ℕ). prefix ++ one n ∷ []) so_many
+    ∙ ap (λ (n : ℕ). prefix ++ state_at alarms pairs kepts (n, kept) ∷ []) number
+    ∙ ap (λ (k : KeptState). prefix ++ state_at alarms pairs kepts (0 + i, k) ∷ []) is
     ∙ sym (numbered_more (state_at alarms pairs kepts) kepts 0 i kept inside)
 
 -- and the name that is lost with it

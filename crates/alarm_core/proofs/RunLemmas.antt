@@ -108,7 +108,7 @@ pub in_place : {A : Type 0} (f : A → A) (xs : List A) (i : ℕ) (y d : A) → 
     → take (i + 1) (set xs i y) ++ map f (drop (i + 1) (set xs i y)) ≡ take i xs ++ map f (drop i xs)
 in_place {A} f xs i y d inside is =
     let next : i < i + 1 = omega arith in
-    ap (λ (front : List A). front ++ map f (drop (i + 1) (set xs i y))) (take_more_set xs i y inside)
+    ap (λ (prefix : List A). prefix ++ map f (drop (i + 1) (set xs i y))) (take_more_set xs i y inside)
     ∙ ap (λ (rest : List A). (take i xs ++ y ∷ []) ++ map f rest) (drop-set-lt (i + 1) xs i y next)
     ∙ append_assoc (take i xs) (y ∷ []) (map f (drop (i + 1) xs))
     ∙ ap (λ (z : A). take i xs ++ z ∷ map f (drop (i + 1) xs)) is
@@ -226,7 +226,7 @@ pub run_in_place : {A : Type 0} (f : A → A) (xs ys : List A) (first stop : ℕ
 run_in_place {A} f xs ys first stop order within long is =
     let rest : List A = drop first xs in
     let k : ℕ = stop - first in
-    ap (λ (front : List A). front ++ map f (drop stop (put_mid first k xs ys))) (up_to_run xs ys first stop order within long)
+    ap (λ (prefix : List A). prefix ++ map f (drop stop (put_mid first k xs ys))) (up_to_run xs ys first stop order within long)
     ∙ ap (λ (back : List A). (take first xs ++ ys) ++ map f back) (behind_run xs ys first stop order within long)
     ∙ append_assoc (take first xs) ys (map f (drop k rest))
     ∙ ap (λ (zs : List A). take first xs ++ (zs ++ map f (drop k rest))) is
@@ -253,9 +253,9 @@ owners_of_run {A} {B} h xs ys first stop order within long same =
     let put : List A = put_mid first k xs ys in
     ap (map h) (sym (take-append-drop stop put))
     ∙ map-append h (take stop put) (drop stop put)
-    ∙ ap (λ (front : List A). map h front ++ map h (drop stop put)) (up_to_run xs ys first stop order within long)
+    ∙ ap (λ (prefix : List A). map h prefix ++ map h (drop stop put)) (up_to_run xs ys first stop order within long)
     ∙ ap (λ (back : List A). map h (take first xs ++ ys) ++ map h back) (behind_run xs ys first stop order within long)
-    ∙ ap (λ (front : List B). front ++ map h (drop k rest)) (map-append h (take first xs) ys)
+    ∙ ap (λ (prefix : List B). prefix ++ map h (drop k rest)) (map-append h (take first xs) ys)
     ∙ append_assoc (map h (take first xs)) (map h ys) (map h (drop k rest))
     ∙ ap (λ (zs : List B). map h (take first xs) ++ (zs ++ map h (drop k rest))) same
     ∙ ap (λ (zs : List B). map h (take first xs) ++ zs) (sym (map-append h (take k rest) (drop k rest)))

@@ -33,13 +33,13 @@ take_more_series chart (one ∷ others) first zero dimension here =
 take_more_series chart (one ∷ others) first (suc place) dimension here =
     let next : suc place + 1 ≡ suc (place + 1) = omega arith in
     let number : first + 1 + place ≡ first + suc place = omega arith in
-    let front : List ℕ = one_or_none chart first one in
+    let prefix : List ℕ = one_or_none chart first one in
     let middle : List ℕ = series_from chart (first + 1) (take place others) in
     let back : List ℕ = one_or_none chart (first + suc place) dimension in
     ap (λ (n : ℕ). series_from chart first (take n (one ∷ others))) next
     ∙ starts_with chart first one (take (place + 1) others)
-    ∙ ap (λ (l : List ℕ). front ++ l) (take_more_series chart others (first + 1) place dimension here ∙ ap (λ (n : ℕ). middle ++ one_or_none chart n dimension) number)
-    ∙ sym (append_assoc front middle back)
+    ∙ ap (λ (l : List ℕ). prefix ++ l) (take_more_series chart others (first + 1) place dimension here ∙ ap (λ (n : ℕ). middle ++ one_or_none chart n dimension) number)
+    ∙ sym (append_assoc prefix middle back)
     ∙ ap (λ (l : List ℕ). l ++ back) (sym (starts_with chart first one (take place others)))
 
 take_series : (chart : List ℕ) (dimensions : List OpenDim) (first place : ℕ) (dimension : OpenDim) → slice_get dimensions place ≡ Some dimension

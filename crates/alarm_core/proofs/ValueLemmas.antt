@@ -57,17 +57,17 @@ pub values_more : (absolute : Bool) (start stop i : ℕ) (points : List Point) (
     → after ≡ record_of (members absolute start stop (take (i + 1) points))
 values_more absolute start stop i points d before after inside rising short was h =
     let point : Point = get_or points i d in
-    let front : List Added = members absolute start stop (take i points) in
+    let prefix : List Added = members absolute start stop (take i points) in
     let next : List Added = members absolute start stop (point ∷ []) in
-    let all : members absolute start stop (take (i + 1) points) ≡ front ++ next =
+    let all : members absolute start stop (take (i + 1) points) ≡ prefix ++ next =
     ap (members absolute start stop) (take_more points i d inside) ∙ all-append absolute start stop (take i points) (point ∷ []) in
     let few : length (members absolute start stop (take (i + 1) points)) ≤ stop - start = all_few absolute start stop (take (i + 1) points) (rising_take 0 (i + 1) points rising) in
-    let count : length (front ++ next) < 2 ^ 32 = omega (arith, few, ap length all) in
-    let within : AreWithin (front ++ next) = subst AreWithin all (all_within absolute start stop (take (i + 1) points)) in
-    let has : HaveRoom before (record_of next) = subst (λ (r : Option Record). HaveRoom r (record_of next)) (sym was) (room front next within count) in
+    let count : length (prefix ++ next) < 2 ^ 32 = omega (arith, few, ap length all) in
+    let within : AreWithin (prefix ++ next) = subst AreWithin all (all_within absolute start stop (take (i + 1) points)) in
+    let has : HaveRoom before (record_of next) = subst (λ (r : Option Record). HaveRoom r (record_of next)) (sym was) (room prefix next within count) in
     h has
     ∙ ap (λ (r : Option Record). joined r (record_of next)) was
-    ∙ sym (record_of-append front next)
+    ∙ sym (record_of-append prefix next)
     ∙ ap record_of (sym all)
 
 -- ---- the points that were asked for

@@ -126,7 +126,7 @@ fn meant(scene: &Scene, name: &str) -> Option<u32>
 
 /// What stands before `_raw` at the end of a name.
 fn before_raw(name: &str) -> Option<&str>
-    ensures { option_map (λ front. front.now) result ≡ of_series.before_raw name.now }
+    ensures { option_map (λ prefix. prefix.now) result ≡ of_series.before_raw name.now }
 {
     name.strip_suffix("_raw")
 }
@@ -136,10 +136,10 @@ fn raw_named(scene: &Scene, name: &str) -> Value
     ensures { result
         ≡ spec.raw_named scene.now.registry.now scene.now.latest.now scene.now.chart name.now }
 {
-    let Some(front) = before_raw(name) else {
+    let Some(prefix) = before_raw(name) else {
         return Value::Nan;
     };
-    match meant(scene, front) {
+    match meant(scene, prefix) {
         Some(series) => last_raw(scene.latest, series),
         None => Value::Nan,
     }

@@ -80,8 +80,8 @@ status_found n after None s rest is e = absurd cc
 status_found n after (Some found) s rest is e =
     let at = done_is (found, after) (s, rest) e in
     let same : number found ≡ n = number_again n found is in
-    let front : n ∷ after ≡ number found ∷ after = ap (λ (m : ℕ). m ∷ after) (sym same) in
-    front ∙ ap (λ (read : Status × List ℕ). number read.0 ∷ read.1) at
+    let prefix : n ∷ after ≡ number found ∷ after = ap (λ (m : ℕ). m ∷ after) (sym same) in
+    prefix ∙ ap (λ (read : Status × List ℕ). number read.0 ∷ read.1) at
 
 status_taken : (bytes : List ℕ) (s : Status) (rest : List ℕ) → read_status bytes ≡ Ok (s, rest) → bytes ≡ status_bytes s ++ rest
 unfolding status_bytes read_status read_u8 u8_bytes

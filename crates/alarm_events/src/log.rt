@@ -136,8 +136,8 @@ impl EventLog {
         ensures events { IfOk result (λ log. log.events ≡ self.now.events) }
     {
         let mut events = EventList::new(self.alloc);
-        let (front, back) = self.shown.as_slices();
-        copy_events(&mut events, front)?;
+        let (prefix, back) = self.shown.as_slices();
+        copy_events(&mut events, prefix)?;
         copy_events(&mut events, back)?;
         Ok(Log {
             dropped: self.dropped,

@@ -19,14 +19,14 @@ use Rattle.history.specs.Registry.{Registry, chart_of, same_chart, same_dimensio
 use Rattle.chart_registry.proofs.Applying.{put_all-push}
 use Rattle.chart_registry.proofs.Finding.{all-weaker}
 use Rattle.beat_entries.specs.Next.{all_taken, chart_def, takes_chart, with_chart, dimension_back, takes_dimension, with_dimension, is_number, is_of_chart, takes_row, with_charts, with_dimensions, with_numbered, goes_on}
-use Rattle.beat_entries.proofs.Steps.{and-no, take-front}
+use Rattle.beat_entries.proofs.Steps.{and-no, take-prefix}
 
 -- ---- one definition more
 mapped-push : {X A : Type 0} (f : X → A) (same : A → A → Bool) (ys : List A) (xs : List X) (i : ℕ) (x : X) → i < length xs → get_or xs i x ≡ x
     → put_all same (put_all same ys (map f (take i xs))) (f x ∷ []) ≡ put_all same ys (map f (take (i + 1) xs))
 mapped-push f same ys xs i x within at =
     sym (put_all-push same ys (map f (take i xs)) (f x))
-    ∙ ap (put_all same ys) (sym (map-append f (take i xs) (x ∷ [])) ∙ ap (map f) (take-front xs i x within at))
+    ∙ ap (put_all same ys) (sym (map-append f (take i xs) (x ∷ [])) ∙ ap (map f) (take-prefix xs i x within at))
 
 pub charts-pushed : (first old new : Registry) (charts : List NumberedChart) (i : ℕ) (chart : NumberedChart) → i < length charts → get_or charts i chart ≡ chart
     → old ≡ with_charts first (take i charts) → new ≡ with_chart old chart → new ≡ with_charts first (take (i + 1) charts)

@@ -14,8 +14,8 @@ number-yes n m found e same = ap (is_number n) e ∙ ap (nat_eq n) same ∙ nat_
 pub number-no : (n m : ℕ) (found : Option ℕ) → found ≡ Some m → (m ≡ n → ⊥) → is_number n found ≡ false
 number-no n m found e other = ap (is_number n) e ∙ nat_eq_other n m (λ same. other (sym same))
 
-front : {X : Type 0} (xs : List X) (i : ℕ) (x : X) → i < length xs → get_or xs i x ≡ x → drop i xs ≡ x ∷ drop (i + 1) xs
-front xs i x within at = drop_more xs i x within ∙ ap (λ y. y ∷ drop (i + 1) xs) at
+prefix : {X : Type 0} (xs : List X) (i : ℕ) (x : X) → i < length xs → get_or xs i x ≡ x → drop i xs ≡ x ∷ drop (i + 1) xs
+prefix xs i x within at = drop_more xs i x within ∙ ap (λ y. y ∷ drop (i + 1) xs) at
 
 module _ {S X : Type 0} (takes : S → X → Bool) (next : S → X → S) (first : S) (xs : List X) where
   pub steps-more : (i : ℕ) (x : X) (old new : S) → i < length xs → get_or xs i x ≡ x → takes old x ≡ true → new ≡ next old x
@@ -23,15 +23,15 @@ module _ {S X : Type 0} (takes : S → X → Bool) (next : S → X → S) (first
   steps-more i x old new within at taken is before =
       ap (λ (s : S). all_taken takes next s (drop (i + 1) xs)) is
       ∙ sym (ap (λ (b : Bool). b && all_taken takes next (next old x) (drop (i + 1) xs)) taken)
-      ∙ sym (ap (all_taken takes next old) (front xs i x within at)) ∙ before
+      ∙ sym (ap (all_taken takes next old) (prefix xs i x within at)) ∙ before
 
   pub steps-stop : (i : ℕ) (x : X) (old : S) → i < length xs → get_or xs i x ≡ x → takes old x ≡ false
       → all_taken takes next old (drop i xs) ≡ all_taken takes next first xs → all_taken takes next first xs ≡ false
   steps-stop i x old within at taken before =
-      sym before ∙ ap (all_taken takes next old) (front xs i x within at) ∙ ap (λ (b : Bool). b && all_taken takes next (next old x) (drop (i + 1) xs)) taken
+      sym before ∙ ap (all_taken takes next old) (prefix xs i x within at) ∙ ap (λ (b : Bool). b && all_taken takes next (next old x) (drop (i + 1) xs)) taken
 
   pub steps-all : (i : ℕ) (old : S) → length xs ≤ i → all_taken takes next old (drop i xs) ≡ all_taken takes next first xs → all_taken takes next first xs ≡ true
   steps-all i old all before = sym before ∙ ap (all_taken takes next old) (drop_all i xs all)
 
-pub take-front : {X : Type 0} (xs : List X) (i : ℕ) (x : X) → i < length xs → get_or xs i x ≡ x → take i xs ++ x ∷ [] ≡ take (i + 1) xs
-take-front xs i x within at = ap (λ y. take i xs ++ y ∷ []) (sym at) ∙ sym (take_more xs i x within)
+pub take-prefix : {X : Type 0} (xs : List X) (i : ℕ) (x : X) → i < length xs → get_or xs i x ≡ x → take i xs ++ x ∷ [] ≡ take (i + 1) xs
+take-prefix xs i x within at = ap (λ y. take i xs ++ y ∷ []) (sym at) ∙ sym (take_more xs i x within)

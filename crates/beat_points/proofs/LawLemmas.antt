@@ -59,12 +59,12 @@ module _ (h : List Beat) (moment series : ℕ) (beat : OpenBeat) where
   abbrev word_in : OpenDim → Option ℕ
   word_in d = word_at packed (registry_of after) h moment beat d
 
-  abbrev front : Option SeriesWord → List Point
-  front found = option_map_or (λ (point : SeriesWord). record { moment = moment; word = point.word } ∷ points packed h series) found (points packed h series)
+  abbrev prefix : Option SeriesWord → List Point
+  prefix found = option_map_or (λ (point : SeriesWord). record { moment = moment; word = point.word } ∷ points packed h series) found (points packed h series)
 
-  front-some : (found : Option ℕ) → front (at_number word_in series found) ≡ option_map_or (λ (word : ℕ). record { moment = moment; word = word } ∷ points packed h series) found (points packed h series)
-  front-some None = refl
-  front-some (Some w) = refl
+  prefix-some : (found : Option ℕ) → prefix (at_number word_in series found) ≡ option_map_or (λ (word : ℕ). record { moment = moment; word = word } ∷ points packed h series) found (points packed h series)
+  prefix-some None = refl
+  prefix-some (Some w) = refl
 
   found-there : find (has series) (beat_points (registry_of after) h moment beat) ≡ at_number word_in series (option_and_then word_in (slice_get (registry_of after).dimensions series))
   found-there =
@@ -76,7 +76,7 @@ module _ (h : List Beat) (moment series : ℕ) (beat : OpenBeat) where
   pub points-of_beat : points packed (collected moment beat ∷ h) series
       ≡ option_map_or (λ (point : SeriesWord). record { moment = moment; word = point.word } ∷ points packed h series)
       (find (λ (point : SeriesWord). nat_eq point.series series) (beat_points (registry_of (collected moment beat ∷ h)) h moment beat)) (points packed h series)
-  points-of_beat = sym (ap front found-there ∙ front-some (option_and_then word_in (slice_get (registry_of after).dimensions series)))
+  points-of_beat = sym (ap prefix found-there ∙ prefix-some (option_and_then word_in (slice_get (registry_of after).dimensions series)))
 
 pub before-none : (moment : ℕ) → IsBefore [] moment
 before-none moment chart id = tt

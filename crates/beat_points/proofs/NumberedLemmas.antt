@@ -18,7 +18,7 @@ pub cells-more : (cell : Value → Option Cell) (values : List Value) (k : ℕ) 
     → k < length values → samples' ≡ samples ++ sample ∷ [] → cell (get_or values k value) ≡ Some (cell_at sample)
     → map cell_at samples ≡ filter_map cell (take k values) → map cell_at samples' ≡ filter_map cell (take (k + 1) values)
 cells-more cell values k value samples samples' sample within pushed is before =
-    ap (map cell_at) pushed ∙ map-append cell_at samples (sample ∷ []) ∙ ap (λ (front : List Cell). front ++ cell_at sample ∷ []) before
+    ap (map cell_at) pushed ∙ map-append cell_at samples (sample ∷ []) ∙ ap (λ (prefix : List Cell). prefix ++ cell_at sample ∷ []) before
     ∙ sym (ap (filter_map cell) (take_more values k value within) ∙ filter_map-append cell (take k values) (get_or values k value ∷ []) ∙ ap (λ (c : Option Cell). filter_map cell (take k values) ++ cons_option c []) is)
 
 -- a word more, and those behind it
@@ -26,7 +26,7 @@ pub words-more : (points new : List SeriesWord) (values : List Value) (words : L
     → k < length values → k < length words → new ≡ points ++ word_list (get_or values k value).series (get_or words k word)
     → points ++ words_by (drop k values) (drop k words) ≡ whole → new ++ words_by (drop (k + 1) values) (drop (k + 1) words) ≡ whole
 words-more points new values words k value word whole within within' pushed before =
-    ap (λ (front : List SeriesWord). front ++ words_by (drop (k + 1) values) (drop (k + 1) words)) pushed
+    ap (λ (prefix : List SeriesWord). prefix ++ words_by (drop (k + 1) values) (drop (k + 1) words)) pushed
     ∙ append_assoc points (word_list (get_or values k value).series (get_or words k word)) (words_by (drop (k + 1) values) (drop (k + 1) words))
     ∙ (λ i. points ++ words_by (sym (drop_more values k value within) i) (sym (drop_more words k word within') i)) ∙ before
 
@@ -35,6 +35,6 @@ pub rows-more : (registry : Registry) (lasts : List (Option Last)) (moment : ℕ
     → k < length rows → get_or rows k row ≡ row → new ≡ points ++ row_pairs registry lasts moment row
     → points ++ rows_pairs registry lasts moment (drop k rows) ≡ whole → new ++ rows_pairs registry lasts moment (drop (k + 1) rows) ≡ whole
 rows-more registry lasts moment points new rows k row whole within at pushed before =
-    ap (λ (front : List SeriesWord). front ++ rows_pairs registry lasts moment (drop (k + 1) rows)) pushed
+    ap (λ (prefix : List SeriesWord). prefix ++ rows_pairs registry lasts moment (drop (k + 1) rows)) pushed
     ∙ append_assoc points (row_pairs registry lasts moment row) (rows_pairs registry lasts moment (drop (k + 1) rows))
     ∙ ap (λ (rs : List Row). points ++ rows_pairs registry lasts moment rs) (sym (drop_more rows k row within ∙ ap (λ (y : Row). y ∷ drop (k + 1) rows) at)) ∙ before

@@ -213,8 +213,8 @@ module _ {S : Type 0} (f : S → List (Item Stepped)) (from : ℕ) where
 module _ (most least : ℕ) (old mid new : List KeptBeat) (all done here rest : List (Item Stepped)) (split : all ≡ (done ++ here) ++ rest) (is : mid ≡ behind_all old done) where
   pub part-rises : RiseFrom (least_behind least old) all → RiseFrom (least_behind least mid) here
   part-rises rises =
-      let front : RiseFrom (least_behind least old) (done ++ here) = rises-left (least_behind least old) (done ++ here) rest (subst (RiseFrom (least_behind least old)) split rises) in
-      subst (λ (bs : List KeptBeat). RiseFrom (least_behind least bs) here) (sym is) (rises-on least old done here front)
+      let prefix : RiseFrom (least_behind least old) (done ++ here) = rises-left (least_behind least old) (done ++ here) rest (subst (RiseFrom (least_behind least old)) split rises) in
+      subst (λ (bs : List KeptBeat). RiseFrom (least_behind least bs) here) (sym is) (rises-on least old done here prefix)
 
   pub part-adds : (going : Bool) → going ≡ true → Adds most mid here new going → new ≡ behind_all old (done ++ here)
   part-adds going on adds =

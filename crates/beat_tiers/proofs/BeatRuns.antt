@@ -16,13 +16,13 @@ both-none : (x y : Item Stepped) (same : Bool) → (x.place == y.place) ≡ same
 both-none x y true e = simp e (ap (λ place. record { moment = place; points = point_of_item x ∷ point_of_item y ∷ [] } ∷ []) (eqb-true x.place y.place e))
 both-none x y false e = simp e
 
-both-one : (x y : Item Stepped) (beat : KeptBeat) (front back : Bool) → (x.place == beat.moment) ≡ front → (beat.moment == y.place) ≡ back → behind_beats (before_beats x (beat ∷ [])) y ≡ before_beats x (behind_beats (beat ∷ []) y)
+both-one : (x y : Item Stepped) (beat : KeptBeat) (prefix back : Bool) → (x.place == beat.moment) ≡ prefix → (beat.moment == y.place) ≡ back → behind_beats (before_beats x (beat ∷ [])) y ≡ before_beats x (behind_beats (beat ∷ []) y)
 both-one x y beat true true e f = simp (e, f)
 both-one x y beat true false e f = simp (e, f)
 both-one x y beat false true e f = simp (e, f)
 both-one x y beat false false e f = simp (e, f)
 
-both-more : (x y : Item Stepped) (beat next : KeptBeat) (beats : List KeptBeat) (front : Bool) → (x.place == beat.moment) ≡ front → behind_beats (before_beats x (beat ∷ next ∷ beats)) y ≡ before_beats x (behind_beats (beat ∷ next ∷ beats) y)
+both-more : (x y : Item Stepped) (beat next : KeptBeat) (beats : List KeptBeat) (prefix : Bool) → (x.place == beat.moment) ≡ prefix → behind_beats (before_beats x (beat ∷ next ∷ beats)) y ≡ before_beats x (behind_beats (beat ∷ next ∷ beats) y)
 both-more x y beat next beats true e = simp e
 both-more x y beat next beats false e = simp e
 

@@ -158,7 +158,7 @@ module _ {T : Type 0} where
   drop_same low (suc i) (segment ∷ segments) ordered below =
       drop_same low i segments (ordered-right segment.items (items_in segments) ordered) (λ k d lo hi. below (suc k) d (omega arith) (omega arith))
       ∙ sym (filter_both (is_from low) segment.items (items_in segments)
-      ∙ ap (λ (front : List (Item T)). front ++ filter (is_from low) (items_in segments))
+      ∙ ap (λ (prefix : List (Item T)). prefix ++ filter (is_from low) (items_in segments))
       (none_before low (last_place segment) segment.items (ltb-true (last_place segment) low (below 0 segment (omega arith) (omega arith))) (up_to_last segment.items (ordered-left segment.items (items_in segments) ordered))))
 
   none_in : (high : ℕ) (segments : List (Segment T)) → AreOrdered (items_in segments) → AllWithin (λ segment. leb (first_place segment) high ≡ false) segments 0 (length segments)
@@ -166,7 +166,7 @@ module _ {T : Type 0} where
   none_in high [] ordered past = refl
   none_in high (segment ∷ segments) ordered past =
       filter_both (is_up_to high) segment.items (items_in segments)
-      ∙ ap (λ (front : List (Item T)). front ++ filter (is_up_to high) (items_in segments))
+      ∙ ap (λ (prefix : List (Item T)). prefix ++ filter (is_up_to high) (items_in segments))
       (none_after (first_place segment) high segment.items (let no = past 0 segment (omega arith) (omega arith) in grind (arith, nat_tests)) (from_head segment.items (ordered-left segment.items (items_in segments) ordered)))
       ∙ none_in high segments (ordered-right segment.items (items_in segments) ordered) (λ k d lo hi. past (suc k) d (omega arith) (omega arith))
 

@@ -33,10 +33,10 @@ less-back : (limit : ℕ) (xs : List ℕ) → AreLess limit xs → AreLess limit
 less-back limit [] less = tt
 less-back limit (x ∷ xs) less = subst (AreLess limit) (sym (reverse_cons x xs)) (less-both limit (reverse xs) (x ∷ []) (less-back limit xs less.1) (less.0, tt))
 
-less-front : (limit n : ℕ) (xs : List ℕ) → AreLess limit xs → AreLess limit (take n xs)
-less-front limit zero xs less = tt
-less-front limit (suc n) [] less = tt
-less-front limit (suc n) (x ∷ xs) less = (less.0, less-front limit n xs less.1)
+less-prefix : (limit n : ℕ) (xs : List ℕ) → AreLess limit xs → AreLess limit (take n xs)
+less-prefix limit zero xs less = tt
+less-prefix limit (suc n) [] less = tt
+less-prefix limit (suc n) (x ∷ xs) less = (less.0, less-prefix limit n xs less.1)
 
 less-at : (limit n : ℕ) (xs : List ℕ) → AreLess limit xs → is_after (slice_get xs n) limit ≡ true
 less-at limit n [] less = refl
@@ -159,4 +159,4 @@ before-more tier moment (point ∷ points) beats segments set are later short is
     (points_placed beats are) (points_have beats) is.floor
     (less-at moment tier.extents (cuts_of 0 tier beats).sealed grown) counts
     (point_items moment (point ∷ points)) is.split
-    (subst (AreLess moment) (sym is.sealed) (less-back moment (take tier.extents (cuts_of 0 tier beats).sealed) (less-front moment tier.extents (cuts_of 0 tier beats).sealed grown)))
+    (subst (AreLess moment) (sym is.sealed) (less-back moment (take tier.extents (cuts_of 0 tier beats).sealed) (less-prefix moment tier.extents (cuts_of 0 tier beats).sealed grown)))

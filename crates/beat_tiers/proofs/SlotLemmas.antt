@@ -31,9 +31,9 @@ above_from low series (slot ∷ slots) le above =
 
 -- ---- a record in a slot
 
-insert_front : (series : ℕ) (one : Record) (slots : List Slot) → AreKeysAbove series slots → insert_entry nat_cmp (filled slots) series one ≡ (series, one) ∷ filled slots
-insert_front series one [] above = refl
-insert_front series one (slot ∷ slots) above = by slot.1 (insert_front series one slots above.1)
+insert_prefix : (series : ℕ) (one : Record) (slots : List Slot) → AreKeysAbove series slots → insert_entry nat_cmp (filled slots) series one ≡ (series, one) ∷ filled slots
+insert_prefix series one [] above = refl
+insert_prefix series one (slot ∷ slots) above = by slot.1 (insert_prefix series one slots above.1)
   where
     by : (was : Option Record) → insert_entry nat_cmp (filled slots) series one ≡ (series, one) ∷ filled slots
         → insert_entry nat_cmp (filled ((slot.0, was) ∷ slots)) series one ≡ (series, one) ∷ filled ((slot.0, was) ∷ slots)
@@ -52,10 +52,10 @@ filled_with series one (slot ∷ slots) sorted =
         ≡ insert_entry nat_cmp (filled ((slot.0, was) ∷ slots)) series one
     by Less was order above rest =
         let lt = ranked series slot.0 Less (sym order) in
-        sym (insert_front series one ((slot.0, was) ∷ slots) (order, above_from series slot.0 slots (omega (arith, lt)) above))
+        sym (insert_prefix series one ((slot.0, was) ∷ slots) (order, above_from series slot.0 slots (omega (arith, lt)) above))
     by Equal None order above rest =
         let same : series ≡ slot.0 = ranked series slot.0 Equal (sym order) in
-        ap (λ n. (n, one) ∷ filled slots) (sym same) ∙ sym (insert_front series one slots (above_from series slot.0 slots (omega (arith, same)) above))
+        ap (λ n. (n, one) ∷ filled slots) (sym same) ∙ sym (insert_prefix series one slots (above_from series slot.0 slots (omega (arith, same)) above))
     by Equal (Some was) order above rest =
         sym (ap (λ order. match_ordering order ((series, one) ∷ (slot.0, was) ∷ filled slots) ((slot.0, one) ∷ filled slots) ((slot.0, was) ∷ insert_entry nat_cmp (filled slots) series one)) order)
     by Greater None order above rest = rest

@@ -141,7 +141,7 @@ module _ (last moment : ℕ) (points : List BeatPoint) (later : last < moment) (
       sound = record {
         settings = is.settings;
         form = and_from _ _ (and_from _ _ (eq-eqb segments.before 0 none) (kept-is state.tier moment (moment / state.tier.width) segments given.kept)) (open-points 0 current points order above);
-        series = all-right IsRecordOfSeries given.ends.front (items_of segments)
+        series = all-right IsRecordOfSeries given.ends.prefix (items_of segments)
             (subst (AllByRecursion IsRecordOfSeries) (sym given.ends.is) (all-append IsRecordOfSeries (items_of state.segments) items is.series all));
       };
       tier = refl;
@@ -224,7 +224,7 @@ sound-next state moment points sound after =
         first = sound.first;
         others = tiers.others;
         form = and_from _ _ (kept-is state.first moment (moment + 1) now given.kept) tiers.form;
-        points = all-right IsPointItem given.ends.front (items_of now)
+        points = all-right IsPointItem given.ends.prefix (items_of now)
             (subst (AllByRecursion IsPointItem) (sym given.ends.is)
             (all-append IsPointItem (items_of state.points) (point_items moment points) sound.points (points-items moment 0 points after.order after.points)));
         records = tiers.records;

@@ -26,8 +26,8 @@ all-right P (x ∷ xs) ys all = all-right P xs ys all.1
 
 -- a list ends with another
 pub record EndsWith {A : Type 0} (whole end : List A) : Type 0 where
-  pub front : List A
-  pub is : front ++ end ≡ whole
+  pub prefix : List A
+  pub is : prefix ++ end ≡ whole
 
 module _ {T : Type 0} where
   below-right : (limit : ℕ) (xs ys : List (Item T)) → AreBelow limit (xs ++ ys) → AreBelow limit ys
@@ -172,7 +172,7 @@ module _ {T : Type 0} where
         let parts = and_parts (is_sealed 0 moment first) _ (ap (are_sealed 0 moment) same ∙ cut-sealed) in
         record {
           items = record {
-            front = first.items;
+            prefix = first.items;
             is = sym (append_assoc first.items (items_in rest) []) ∙ ap (λ (all : List (Segment T)). items_in all ++ []) same ∙ cut-items;
           };
           most = omega (arith, size, cut-length, is.most);
@@ -194,7 +194,7 @@ module _ {T : Type 0} where
 
     all-stay : nat_lt tier.extents (length cut.sealed) ≡ false → IsEnded kind tier moment kept cut
     all-stay fits = record {
-      items = record { front = []; is = cut-items };
+      items = record { prefix = []; is = cut-items };
       most = ltb-false tier.extents (length cut.sealed) fits;
       few = omega (arith, items);
       sealed = cut-sealed;
@@ -208,7 +208,7 @@ module _ {T : Type 0} where
     ended-is =
         cond_both (nat_lt (length kept.unsealed) tier.items) kept (expired_from kind tier cut) (IsEnded kind tier moment kept)
         (λ few. record {
-          items = record { front = []; is = refl };
+          items = record { prefix = []; is = refl };
           most = is.most;
           few = ltb-true (length kept.unsealed) tier.items few;
           sealed = sealed-to 0 last moment kept.sealed is.sealed (omega (arith, is.later));
@@ -239,7 +239,7 @@ module _ {T : Type 0} where
       ordered = is.ordered;
       below = below_to limit high (items_of kept) is.below rises;
     };
-    ends = record { front = []; is = sym (append-nil (items_of kept)) };
+    ends = record { prefix = []; is = sym (append-nil (items_of kept)) };
     seals = none-sealed kind tier moment kept;
   }
 
@@ -258,15 +258,15 @@ module _ {T : Type 0} where
       let end : IsEnded kind tier moment together (ended kind tier moment together) = ended-is kind tier last moment together some
       (record { later = later; extents = keeps; most = is.most; sealed = is.sealed; some = omega (arith, size); bound = omega (arith, size, is.few, are.few) }) in
       let now : KeptItems T = ended kind tier moment together in
-      let split : end.items.front ++ items_of now ≡ items_of kept ++ all = end.items.is ∙ whole in
+      let split : end.items.prefix ++ items_of now ≡ items_of kept ++ all = end.items.is ∙ whole in
       record {
         kept = record {
           most = end.most;
           few = end.few;
           sealed = end.sealed;
-          ordered = ordered-right end.items.front (items_of now) (subst AreOrdered (sym split) ordered);
-          below = below-right high end.items.front (items_of now) (subst (AreBelow high) (sym split) below);
+          ordered = ordered-right end.items.prefix (items_of now) (subst AreOrdered (sym split) ordered);
+          below = below-right high end.items.prefix (items_of now) (subst (AreBelow high) (sym split) below);
         };
-        ends = record { front = end.items.front; is = split };
+        ends = record { prefix = end.items.prefix; is = split };
         seals = seals-same kind tier moment kept now all end.seals;
       }

@@ -78,7 +78,7 @@ fn survive(
 }
 
 #[test]
-fn a_stop_leaves_the_old_checkpoint_or_the_new_one(rt: HostRuntime) -> Result<(), Fail> {
+fn a_crash_leaves_the_old_checkpoint_or_the_new_one(rt: HostRuntime) -> Result<(), Fail> {
     for call in 0..36u64 {
         for keep in [
             Keep::All,

@@ -207,9 +207,9 @@ fn takes_each_field_in_its_range(rt: HostRuntime) -> Result<(), Fail> {
 #[test]
 fn is_short_wherever_it_is_cut(rt: HostRuntime) {
     for length in 0..BEAT.len() {
-        let front = BEAT.get(..length).unwrap_or(BEAT);
+        let prefix = BEAT.get(..length).unwrap_or(BEAT);
         assert_eq!(rt;
-            fault_of(rt.alloc(), front),
+            fault_of(rt.alloc(), prefix),
             Some(EntryFault::Short),
             "{length}"
         );

@@ -130,8 +130,8 @@ fn takes_each_field_in_its_range(rt: HostRuntime) -> Result<(), Fail> {
 #[test]
 fn is_no_side_wherever_it_is_cut(rt: HostRuntime) {
     for length in 0..SIDE.len() {
-        let front = SIDE.get(..length).unwrap_or(SIDE);
-        let fault = read_side(rt.alloc(), front).err();
+        let prefix = SIDE.get(..length).unwrap_or(SIDE);
+        let fault = read_side(rt.alloc(), prefix).err();
         assert_eq!(rt; fault, Some(SideFault::BadBytes), "{length}");
     }
 }

@@ -14,7 +14,7 @@ use Rattle.chart_registry.specs.declared.charts.Chart.{Chart}
 use Rattle.chart_registry.specs.declared.dimensions.Dimension.{Dimension}
 use Rattle.chart_registry.specs.Changes.{AddsChart, ReplacesChart, AddsDimension, ReplacesDimension, IsChange, AreChanges}
 use Rattle.chart_registry.specs.Rows.{Mark, row_of, row_at, ids, belongs, marks, open_dims, redefined, AreKept}
-use Rattle.chart_registry.proofs.LeavingLemmas.{front-same, last-same}
+use Rattle.chart_registry.proofs.LeavingLemmas.{prefix-same, last-same}
 use Rattle.chart_registry.proofs.RegistryLemmas.{registry_of, chart_id-get_or, chart_id-row, chart_of-ids, unowned}
 
 abbrev defs : List Chart → List ChartDef
@@ -137,8 +137,8 @@ module _ (charts : List Chart) (dimensions : List Dimension) (before after : Def
 
     pub chart-taken : registry_of new dimensions ≡ before
     chart-taken =
-        let front = front-same (defs new) before.charts last.def adds.def same-charts in
-        λ i. record { charts = front i; dimensions = same-dimensions i }
+        let prefix = prefix-same (defs new) before.charts last.def adds.def same-charts in
+        λ i. record { charts = prefix i; dimensions = same-dimensions i }
 
     pub taken-unowned : list_any (belongs last.def.id) (marks dimensions) ≡ false
     taken-unowned =
@@ -176,9 +176,9 @@ module _ (charts : List Chart) (dimensions : List Dimension) (before after : Def
     dimension-taken kept new last same split =
         let opens : open_dims new ++ last.definition ∷ [] ≡ before.dimensions ++ adds.dimension ∷ []
         = sym (ap open_dims split ∙ map-append (λ (dimension : Dimension). dimension.definition) new (last ∷ [])) ∙ ap (λ (seen : Definitions). seen.dimensions) view ∙ adds.dimensions in
-        let front = front-same (open_dims new) before.dimensions last.definition adds.dimension opens in
+        let prefix = prefix-same (open_dims new) before.dimensions last.definition adds.dimension opens in
         let charts_same = same ∙ ap (λ (seen : Definitions). seen.charts) view ∙ adds.charts in
-        λ i. record { charts = charts_same i; dimensions = front i }
+        λ i. record { charts = charts_same i; dimensions = prefix i }
 
   module _ (n : ℕ) (old : DimDef) (replaces : ReplacesDimension before n old after) where
     had : (dimension : OpenDim) × (slice_get before.dimensions n ≡ Some dimension) × (dimension.def ≡ old)

@@ -32,5 +32,5 @@ any-found {A} p (x ∷ xs) some none = by (p x) some none (any-found p xs)
 
 -- ---- lists
 -- the prefix of a list that was put together
-pub take-front : {A : Type 0} (xs ys : List A) (n : ℕ) → length xs ≡ n → take n (xs ++ ys) ≡ xs
-take-front xs ys n e = let within : n ≤ length xs = omega arith in take-append-le n xs ys within ∙ take_all n xs (omega arith)
+pub take-prefix : {A : Type 0} (xs ys : List A) (n : ℕ) → length xs ≡ n → take n (xs ++ ys) ≡ xs
+take-prefix xs ys n e = let within : n ≤ length xs = omega arith in take-append-le n xs ys within ∙ take_all n xs (omega arith)

@@ -9,7 +9,7 @@ use Rattle.std.proofs.lemmas.List.{map-append, map-set, get_or_append_left, get_
 use Rattle.std.proofs.lemmas.Option.{same_Some}
 use Rattle.chart_registry.specs.Rows.{Row, Mark, row_at, ids, belongs, is_mark, same_mark, series_in, IsTableOf, AreDistinct, IsOwned, AreKept}
 use Rattle.chart_registry.specs.Leaving.{RemovesSeries}
-use Rattle.chart_registry.proofs.Finding.{take-front}
+use Rattle.chart_registry.proofs.Finding.{take-prefix}
 use Rattle.chart_registry.proofs.Places.{IsFirst, first-from_position, position-first, position-append, position-within, position-push_other, count_by-push, get_or-map_any}
 use Rattle.chart_registry.proofs.RegistryLemmas.{or_false, row_at-position}
 use Rattle.chart_registry.proofs.RowsLemmas.{same_text, bytes_eq_same}
@@ -22,32 +22,32 @@ module _ {A : Type 0} (xs ys : List A) (x y : A) (same : xs ++ x ∷ [] ≡ ys +
   same_length : length xs ≡ length ys
   same_length = omega (arith, ap length same, length_push xs x, length_push ys y)
 
-  pub front-same : xs ≡ ys
-  front-same = sym (take-front xs (x ∷ []) (length ys) same_length) ∙ ap (take (length ys)) same ∙ take-front ys (y ∷ []) (length ys) refl
+  pub prefix-same : xs ≡ ys
+  prefix-same = sym (take-prefix xs (x ∷ []) (length ys) same_length) ∙ ap (take (length ys)) same ∙ take-prefix ys (y ∷ []) (length ys) refl
 
   pub last-same : x ≡ y
   last-same = sym (get_or_push xs x x (length ys) same_length) ∙ ap (λ l. get_or l (length ys) x) same ∙ get_or_push ys y x (length ys) refl
 
-pub all-front : {A : Type 0} (P : A → Type 0) (xs : List A) (x : A) → All P (xs ++ x ∷ []) → All P xs
-all-front P xs x all = λ k d within. subst P (get_or_append_left xs (x ∷ []) d k within) (all k d (omega (arith, within, length_push xs x)))
+pub all-prefix : {A : Type 0} (P : A → Type 0) (xs : List A) (x : A) → All P (xs ++ x ∷ []) → All P xs
+all-prefix P xs x all = λ k d within. subst P (get_or_append_left xs (x ∷ []) d k within) (all k d (omega (arith, within, length_push xs x)))
 
 module _ {A : Type 0} (p : A → Bool) where
-  first-front : (xs ys : List A) (n : ℕ) → IsFirst p (xs ++ ys) n → n < length xs → IsFirst p xs n
-  first-front [] ys n h within = absurd (omega (arith, within))
-  first-front (x ∷ xs) ys zero h within = h
-  first-front (x ∷ xs) ys (suc n) h within = (h.0, first-front xs ys n h.1 (omega (arith, within)))
+  first-prefix : (xs ys : List A) (n : ℕ) → IsFirst p (xs ++ ys) n → n < length xs → IsFirst p xs n
+  first-prefix [] ys n h within = absurd (omega (arith, within))
+  first-prefix (x ∷ xs) ys zero h within = h
+  first-prefix (x ∷ xs) ys (suc n) h within = (h.0, first-prefix xs ys n h.1 (omega (arith, within)))
 
-  position-front : (xs ys : List A) (n : ℕ) → position p (xs ++ ys) ≡ Some n → n < length xs → position p xs ≡ Some n
-  position-front xs ys n found within = position-first p xs n (first-front xs ys n (first-from_position p (xs ++ ys) n found) within)
+  position-prefix : (xs ys : List A) (n : ℕ) → position p (xs ++ ys) ≡ Some n → n < length xs → position p xs ≡ Some n
+  position-prefix xs ys n found within = position-first p xs n (first-prefix xs ys n (first-from_position p (xs ++ ys) n found) within)
 
   none-at : (xs : List A) → list_any p xs ≡ false → (k : ℕ) (d : A) → k < length xs → p (get_or xs k d) ≡ false
   none-at [] none k d within = absurd (omega (arith, within))
   none-at (x ∷ xs) none zero d within = (or_false (p x) (list_any p xs) none).0
   none-at (x ∷ xs) none (suc k) d within = none-at xs (or_false (p x) (list_any p xs) none).1 k d (omega (arith, within))
 
-distinct-front : {A : Type 0} (same : A → A → Bool) (xs : List A) (x : A) → AreDistinct same (xs ++ x ∷ []) → AreDistinct same xs
-distinct-front same xs x distinct = λ k d within.
-    position-front (same (get_or xs k d)) xs (x ∷ []) k
+distinct-prefix : {A : Type 0} (same : A → A → Bool) (xs : List A) (x : A) → AreDistinct same (xs ++ x ∷ []) → AreDistinct same xs
+distinct-prefix same xs x distinct = λ k d within.
+    position-prefix (same (get_or xs k d)) xs (x ∷ []) k
     (ap (λ y. position (same y) (xs ++ x ∷ [])) (sym (get_or_append_left xs (x ∷ []) d k within)) ∙ distinct k d (omega (arith, within, length_push xs x))) within
 
 -- ---- texts that differ
@@ -70,9 +70,9 @@ module _ (rows : List Row) (row : Row) (marks : List Mark) (known : AreKept (row
 
   pub AreKept-without_chart : AreKept rows marks
   AreKept-without_chart = record {
-    tables = all-front (IsTableOf marks) rows row known.tables;
+    tables = all-prefix (IsTableOf marks) rows row known.tables;
     owners = owner-stays;
-    distinct_charts = distinct-front bytes_eq (ids rows) row.id (subst (AreDistinct bytes_eq) ids-last known.distinct_charts);
+    distinct_charts = distinct-prefix bytes_eq (ids rows) row.id (subst (AreDistinct bytes_eq) ids-last known.distinct_charts);
     distinct_dimensions = known.distinct_dimensions;
   }
 
@@ -172,7 +172,7 @@ module _ (rows : List Row) (marks : List Mark) (mark : Mark) (known : AreKept ro
     pub AreKept-without_dimension : AreKept (set rows mark.owner left) marks
     AreKept-without_dimension = record {
       tables = table-left;
-      owners = λ k d within. ap (position (bytes_eq (get_or marks k d).chart)) ids-left ∙ all-front (IsOwned rows) marks mark known.owners k d within;
+      owners = λ k d within. ap (position (bytes_eq (get_or marks k d).chart)) ids-left ∙ all-prefix (IsOwned rows) marks mark known.owners k d within;
       distinct_charts = subst (AreDistinct bytes_eq) (sym ids-left) known.distinct_charts;
-      distinct_dimensions = distinct-front same_mark marks mark known.distinct_dimensions;
+      distinct_dimensions = distinct-prefix same_mark marks mark known.distinct_dimensions;
     }

@@ -97,8 +97,8 @@ any-found {A} p q (y ∷ ys) x e passes = by (q y) e (any-found p q ys x)
     by true e rest = or-left (p y) (list_any p ys) (ap p (same_Some y x e) ∙ passes)
     by false e rest = or-right (p y) (list_any p ys) (rest e passes)
 
-any-front : {A : Type 0} (p : A → Bool) (xs : List A) (n : ℕ) → list_any p (take n xs) ≡ true → list_any p xs ≡ true
-any-front p xs n any = ap (list_any p) (sym (take-append-drop n xs)) ∙ list_any-append p (take n xs) (drop n xs) ∙ or-left (list_any p (take n xs)) (list_any p (drop n xs)) any
+any-prefix : {A : Type 0} (p : A → Bool) (xs : List A) (n : ℕ) → list_any p (take n xs) ≡ true → list_any p xs ≡ true
+any-prefix p xs n any = ap (list_any p) (sym (take-append-drop n xs)) ∙ list_any-append p (take n xs) (drop n xs) ∙ or-left (list_any p (take n xs)) (list_any p (drop n xs)) any
 
 position-found : {A : Type 0} (p : A → Bool) (xs : List A) (k : ℕ) → position p xs ≡ Some k → find p xs ≡ None → ⊥
 position-found p xs k e none = true≢false (sym (ap is_some e) ∙ list_any-position p xs ∙ nothing p xs none)
@@ -142,7 +142,7 @@ module _ (registry : Registry) (charts : List ChartDef) (n : ℕ) (def : ChartDe
         where
           later : (b : Bool) → (b || list_any (other_grid def) (take n charts)) ≡ true → (b || list_any (other_grid def) charts) ≡ true
           later true e = refl
-          later false e = any-front (other_grid def) charts n e
+          later false e = any-prefix (other_grid def) charts n e
 
   charts-reason : chart_refusal made nothing_open def ≡ Some block.TooManyCharts → 4096 < length (with_definitions registry charts []).charts
   charts-reason refused = by (chart_of made def.id) refl (find (is_chart def.id) made.charts) refl refused

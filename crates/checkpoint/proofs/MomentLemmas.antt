@@ -35,7 +35,7 @@ pub gate_moments : (file : File) (old new : List Event) → 0 < length (contents
 gate_moments file old new inside moments =
     weakened (λ past run bytes image.
     let kept = RunsFrom-images file 1 old past (omega arith) run bytes image in
-    record { reaches = omega (arith, kept.enough); gate = kept.front }) moments
+    record { reaches = omega (arith, kept.enough); gate = kept.prefix }) moments
 
 -- the bytes after a gate was written
 pub written-gate : (old : List ℕ) (gate : ℕ) → written old 0 (gate ∷ []) ≡ gate ∷ drop 1 old
@@ -135,17 +135,17 @@ pub rested : (head body old first second third : List ℕ) → length head ≡ 1
     → third ≡ take (17 + length body) second
     → third ≡ take 1 old ++ (head ++ body)
 rested head body old first second third size inside one two three =
-    let front = take 1 old in
-    let front_size : length front ≡ 1 = omega (arith, length-take 1 old) in
-    let one' : first ≡ (front ++ head) ++ drop (1 + length head) old = one in
-    let two' : second ≡ ((front ++ head) ++ body) ++ drop (length body) (drop (1 + length head) old) =
+    let prefix = take 1 old in
+    let prefix_size : length prefix ≡ 1 = omega (arith, length-take 1 old) in
+    let one' : first ≡ (prefix ++ head) ++ drop (1 + length head) old = one in
+    let two' : second ≡ ((prefix ++ head) ++ body) ++ drop (length body) (drop (1 + length head) old) =
     two ∙ ap (λ (l : List ℕ). written l 17 body) one'
-    ∙ written-behind (front ++ head) (drop (1 + length head) old) 17 body (omega (arith, length-append front head)) in
+    ∙ written-behind (prefix ++ head) (drop (1 + length head) old) 17 body (omega (arith, length-append prefix head)) in
     three
     ∙ ap (λ (l : List ℕ). take (17 + length body) l) two'
-    ∙ take_at ((front ++ head) ++ body) (drop (length body) (drop (1 + length head) old)) (17 + length body)
-    (omega (arith, length-append (front ++ head) body, length-append front head))
-    ∙ append_assoc front head body
+    ∙ take_at ((prefix ++ head) ++ body) (drop (length body) (drop (1 + length head) old)) (17 + length body)
+    (omega (arith, length-append (prefix ++ head) body, length-append prefix head))
+    ∙ append_assoc prefix head body
 
 -- the file reaches to the end of the body before it is cut
 pub rest_reaches : (head body old first second : List ℕ) → length head ≡ 16 → 0 < length old
@@ -160,14 +160,14 @@ pub closed_still : (old bytes : List ℕ) → get_or old 0 0 ≢ 1 → KeepsGate
 closed_still old bytes closed kept =
     inr (λ gate. closed (sym (get_or-take 1 old 0 0 (omega arith)) ∙ ap (λ (l : List ℕ). get_or l 0 0) (sym kept.gate) ∙ get_or-take 1 bytes 0 0 (omega arith) ∙ gate))
 
-behind_front : (old rest : List ℕ) → 0 < length old → drop 1 (take 1 old ++ rest) ≡ rest
-behind_front old rest inside = drop_at (take 1 old) rest 1 (omega (arith, length-take 1 old))
+behind_prefix : (old rest : List ℕ) → 0 < length old → drop 1 (take 1 old ++ rest) ≡ rest
+behind_prefix old rest inside = drop_at (take 1 old) rest 1 (omega (arith, length-take 1 old))
 
 -- a gate that is being opened
 pub half_open : (rest start middle bytes : List ℕ) → 0 < length start → middle ≡ take 1 start ++ rest
     → KeepsBehindGate middle bytes → IsShut bytes ⊎ (bytes ≡ 1 ∷ rest)
 half_open rest start middle bytes inside is_middle kept =
-    let same : drop 1 bytes ≡ rest = kept.rest ∙ ap (λ (l : List ℕ). drop 1 l) is_middle ∙ behind_front start rest inside in
+    let same : drop 1 bytes ≡ rest = kept.rest ∙ ap (λ (l : List ℕ). drop 1 l) is_middle ∙ behind_prefix start rest inside in
     let reaches : 0 < length bytes =
     omega (arith, kept.size, ap length is_middle, length-append (take 1 start) rest, length-take 1 start) in
     ⊎_elim
@@ -180,7 +180,7 @@ pub whole_open : (rest start middle new : List ℕ) → 0 < length start → mid
     → new ≡ written middle 0 (1 ∷ []) → new ≡ 1 ∷ rest
 whole_open rest start middle new inside is_middle opened =
     opened ∙ written-gate middle 1
-    ∙ ap (λ (l : List ℕ). 1 ∷ l) (ap (λ (l : List ℕ). drop 1 l) is_middle ∙ behind_front start rest inside)
+    ∙ ap (λ (l : List ℕ). 1 ∷ l) (ap (λ (l : List ℕ). drop 1 l) is_middle ∙ behind_prefix start rest inside)
 
 -- a file that is closing is one that is being replaced
 pub closing_replaced : (past : List Change) (whole bytes : List ℕ) → IsSameOrShut past bytes → IsReplacing past whole bytes

@@ -34,11 +34,11 @@ has_from b fits canonical =
     let fourth = is_record_tier (tier_with b.settings 2) b.hours in
     let last = and_parts (first && second && third) fourth canonical in
     let next = and_parts (first && second) third last.0 in
-    let front = and_parts first second next.0 in
+    let prefix = and_parts first second next.0 in
     record {
       fits = fits;
-      settings = record { id = fits.settings.id; widths = fits.settings.widths; tiers = front.0 };
-      points = front.1;
+      settings = record { id = fits.settings.id; widths = fits.settings.widths; tiers = prefix.0 };
+      points = prefix.1;
       minutes = next.1;
       hours = last.1;
     }

@@ -26,7 +26,7 @@ same_spelling V s t read same field =
     (λ x rest fits. ap (λ (bytes : List ℕ). read (bytes ++ rest)) (sym (same x fits)) ∙ field.reads_back x rest fits)
     (λ bytes x rest fits e.
     let has = field.has_spelling bytes x rest fits e in
-    (has, field.is_spelt bytes x rest fits e ∙ ap (λ (front : List ℕ). front ++ rest) (same x has)))
+    (has, field.is_spelt bytes x rest fits e ∙ ap (λ (prefix : List ℕ). prefix ++ rest) (same x has)))
 
 -- ---- settings
 
@@ -83,14 +83,14 @@ pairs_back id tiers small (three a b c first second third) quotas =
 spelt_three : (id : ℕ) (tiers : List Tier) → AreThree id tiers → pairs_bytes (settings_with id tiers) ≡ settings_bytes (settings_with id tiers)
 unfolding settings_with settings_bytes quota_bytes pair_bytes
 spelt_three id tiers (three a b c first second third) =
-    let front = u8_bytes 1 ++ u64_bytes id in
+    let prefix = u8_bytes 1 ++ u64_bytes id in
     let all : flat_map quota_bytes (a ∷ b ∷ c ∷ []) ≡ quota_bytes a ++ (quota_bytes b ++ quota_bytes c) =
     flat_map-cons quota_bytes a (b ∷ c ∷ [])
     ∙ ap (λ (rest : List ℕ). quota_bytes a ++ rest)
     (flat_map-cons quota_bytes b (c ∷ []) ∙ ap (λ (rest : List ℕ). quota_bytes b ++ rest) (flat_map-cons quota_bytes c [] ∙ append-nil (quota_bytes c))) in
-    append_assoc (front ++ quota_bytes a) (quota_bytes b) (quota_bytes c)
-    ∙ append_assoc front (quota_bytes a) (quota_bytes b ++ quota_bytes c)
-    ∙ ap (λ (rest : List ℕ). front ++ rest) (sym all)
+    append_assoc (prefix ++ quota_bytes a) (quota_bytes b) (quota_bytes c)
+    ∙ append_assoc prefix (quota_bytes a) (quota_bytes b ++ quota_bytes c)
+    ∙ ap (λ (rest : List ℕ). prefix ++ rest) (sym all)
 
 pub settings_field : IsField FitsSettings settings_bytes read_settings
 unfolding read_settings settings_with

@@ -21,10 +21,10 @@ module _ {Page Item : Type 0} (added : Page → Item → Option Page) (begun : I
         → (next : Option Page) → added page item ≡ next
         → flat_map items_in (pages_next page item items next) ≡ items_in page ++ item ∷ items
     items-next page item items are behind (Some more) is =
-        behind more ∙ ap (λ (front : List Item). front ++ items) (of_added page item more are is) ∙ append_assoc (items_in page) (item ∷ []) items
+        behind more ∙ ap (λ (prefix : List Item). prefix ++ items) (of_added page item more are is) ∙ append_assoc (items_in page) (item ∷ []) items
     items-next page item items are behind None is =
         flat_map-cons items_in page (pages_from added begun (begun item) items)
-        ∙ ap (λ (rest : List Item). items_in page ++ rest) (behind (begun item) ∙ ap (λ (front : List Item). front ++ items) (of_begun item are))
+        ∙ ap (λ (rest : List Item). items_in page ++ rest) (behind (begun item) ∙ ap (λ (prefix : List Item). prefix ++ items) (of_begun item are))
 
     items-pages_from : (page : Page) (items : List Item) → AllByRecursion IsItem items → flat_map items_in (pages_from added begun page items) ≡ items_in page ++ items
     items-pages_from page [] are = flat_map-cons items_in page []
@@ -35,7 +35,7 @@ module _ {Page Item : Type 0} (added : Page → Item → Option Page) (begun : I
     pub items-pages_of : (items : List Item) → AllByRecursion IsItem items → flat_map items_in (pages_of added begun items) ≡ items
     items-pages_of [] are = refl
     items-pages_of (item ∷ items) are =
-        items-pages_from (begun item) items are.1 ∙ ap (λ (front : List Item). front ++ items) (of_begun item are.0)
+        items-pages_from (begun item) items are.1 ∙ ap (λ (prefix : List Item). prefix ++ items) (of_begun item are.0)
 
   module _ (size : Page → ℕ) (most : ℕ)
       (of_begun : (item : Item) → size (begun item) ≤ most)

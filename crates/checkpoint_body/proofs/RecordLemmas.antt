@@ -8,13 +8,13 @@ use Rattle.checkpoint_body.specs.declared.page.RecordPage.{RecordPage}
 use Rattle.checkpoint_body.specs.Records.{is_next, record_page_of, record_page_size, records_from, records_in, with_record}
 
 module _ (series step : ℕ) where
-  records_from-append : (moment : ℕ) (front rest : List Record)
-      → records_from series step moment (front ++ rest) ≡ records_from series step moment front ++ records_from series step (moment + length front * step) rest
+  records_from-append : (moment : ℕ) (prefix rest : List Record)
+      → records_from series step moment (prefix ++ rest) ≡ records_from series step moment prefix ++ records_from series step (moment + length prefix * step) rest
   records_from-append moment [] rest = ap (λ (at : ℕ). records_from series step at rest) (omega arith)
-  records_from-append moment (one ∷ front) rest =
+  records_from-append moment (one ∷ prefix) rest =
       ap (λ (items : List BucketRecord). record { series = series; bucket = moment / step; value = one } ∷ items)
-      (records_from-append (moment + step) front rest
-      ∙ ap (λ (at : ℕ). records_from series step (moment + step) front ++ records_from series step at rest) (omega arith))
+      (records_from-append (moment + step) prefix rest
+      ∙ ap (λ (at : ℕ). records_from series step (moment + step) prefix ++ records_from series step at rest) (omega arith))
 
 -- a page that takes a record
 pub record TakesNext (width : ℕ) (page : RecordPage) (item : BucketRecord) (more : RecordPage) : Type 0 where
@@ -37,10 +37,10 @@ takes_next width page item more e =
     let fourth : Bool = ltb (length page.records) 73 in
     let last = and_parts (first && second && third) fourth known.0 in
     let next = and_parts (first && second) third last.0 in
-    let front = and_parts first second next.0 in
+    let prefix = and_parts first second next.0 in
     record {
-      series = eqb-true page.series item.series front.0;
-      step = eqb-true page.step width front.1;
+      series = eqb-true page.series item.series prefix.0;
+      step = eqb-true page.step width prefix.1;
       moment = eqb-true (page.first + length page.records * width) (item.bucket * width) next.1;
       room = ltb-true (length page.records) 73 last.1;
       is = known.1;

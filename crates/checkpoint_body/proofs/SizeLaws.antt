@@ -143,8 +143,8 @@ slot_page-within page is =
     let third : Bool = list_all is_slot page.words in
     let last = and_parts (first && second && third) (ends_in_time (slot_span page)) is in
     let next = and_parts (first && second) third last.0 in
-    let front = and_parts first second next.0 in
-    omega (arith, length-slot_page_bytes page, spaced-slots 6 page.words (omega arith) front.1)
+    let prefix = and_parts first second next.0 in
+    omega (arith, length-slot_page_bytes page, spaced-slots 6 page.words (omega arith) prefix.1)
 
 record_page-within : (width : ℕ) (page : RecordPage) → is_record_page width page ≡ true → length (record_page_bytes page) ≤ 72 * length page.records
 record_page-within width page is =
@@ -166,8 +166,8 @@ extents-within : (tier : Tier) (extents : List Extent) → are_extents tier exte
 extents-within tier extents are =
     let few : Bool = leb (length extents) tier.extents in
     let slots : Bool = list_all (λ (extent : Extent). leb extent.slot tier.extents) extents in
-    let front = and_parts few slots (and_parts (few && slots) (are_apart extents) are).0 in
-    omega (arith, length-list_bytes extent_bytes extents, flat-each extent_bytes 32 length-extent_bytes extents, leb-true (length extents) tier.extents front.0)
+    let prefix = and_parts few slots (and_parts (few && slots) (are_apart extents) are).0 in
+    omega (arith, length-list_bytes extent_bytes extents, flat-each extent_bytes 32 length-extent_bytes extents, leb-true (length extents) tier.extents prefix.0)
 
 -- numbers that rise and are below a limit are at most so many
 rising-count : (limit one : ℕ) (others : List ℕ) → list_all (λ n. ltb n limit) (one ∷ others) ≡ true → is_ascending (one ∷ others) ≡ true → one + length others < limit

@@ -13,16 +13,16 @@ use Rattle.checkpoint_body.specs.Slots.{gaps, points_from, points_in, slot_page_
 -- ---- the points of a page
 
 module _ (series step : ℕ) where
-  points_from-append : (moment : ℕ) (front rest : List ℕ)
-      → points_from series step moment (front ++ rest) ≡ points_from series step moment front ++ points_from series step (moment + length front * step) rest
+  points_from-append : (moment : ℕ) (prefix rest : List ℕ)
+      → points_from series step moment (prefix ++ rest) ≡ points_from series step moment prefix ++ points_from series step (moment + length prefix * step) rest
   points_from-append moment [] rest = ap (λ (at : ℕ). points_from series step at rest) (omega arith)
-  points_from-append moment (zero ∷ front) rest =
-      points_from-append (moment + step) front rest
-      ∙ ap (λ (at : ℕ). points_from series step (moment + step) front ++ points_from series step at rest) (omega arith)
-  points_from-append moment (suc word ∷ front) rest =
+  points_from-append moment (zero ∷ prefix) rest =
+      points_from-append (moment + step) prefix rest
+      ∙ ap (λ (at : ℕ). points_from series step (moment + step) prefix ++ points_from series step at rest) (omega arith)
+  points_from-append moment (suc word ∷ prefix) rest =
       ap (λ (points : List Point). record { series = series; moment = moment; step = step; word = suc word } ∷ points)
-      (points_from-append (moment + step) front rest
-      ∙ ap (λ (at : ℕ). points_from series step (moment + step) front ++ points_from series step at rest) (omega arith))
+      (points_from-append (moment + step) prefix rest
+      ∙ ap (λ (at : ℕ). points_from series step (moment + step) prefix ++ points_from series step at rest) (omega arith))
 
   points_from-empty : (moment count : ℕ) → points_from series step moment (replicate count 0) ≡ []
   points_from-empty moment zero = refl
@@ -66,12 +66,12 @@ takes_is page point more e =
     let fourth : Bool = ltb (length page.words + empty) 1024 in
     let last = and_parts (first && second && third) fourth passes in
     let next = and_parts (first && second) third last.0 in
-    let front = and_parts first second next.0 in
+    let prefix = and_parts first second next.0 in
     record {
       empty = empty;
       few = few;
-      series = eqb-true page.series point.series front.0;
-      step = eqb-true page.step point.step front.1;
+      series = eqb-true page.series point.series prefix.0;
+      step = eqb-true page.step point.step prefix.1;
       moment = eqb-true (page.first + (length page.words + empty) * page.step) point.moment next.1;
       room = ltb-true (length page.words + empty) 1024 last.1;
       is = found.2;
@@ -88,21 +88,21 @@ unfolding point_from
 of_added page point more some e =
     let known = takes_is page point more e in
     let empty = known.empty in
-    let front = page.words ++ replicate empty 0 in
-    let before : points_from page.series page.step page.first front ≡ points_in page =
+    let prefix = page.words ++ replicate empty 0 in
+    let before : points_from page.series page.step page.first prefix ≡ points_in page =
     points_from-append page.series page.step page.first page.words (replicate empty 0)
     ∙ ap (λ (rest : List Point). points_in page ++ rest) (points_from-empty page.series page.step (page.first + length page.words * page.step) empty)
     ∙ append-nil (points_in page) in
-    let at : page.first + length front * page.step ≡ point.moment =
+    let at : page.first + length prefix * page.step ≡ point.moment =
     ap (λ (n : ℕ). page.first + n * page.step) (length-append page.words (replicate empty 0) ∙ ap (λ (n : ℕ). length page.words + n) (length-empty empty)) ∙ known.moment in
-    let one : points_from page.series page.step (page.first + length front * page.step) (point.word ∷ []) ≡ point ∷ [] =
-    points_from-one page.series page.step (page.first + length front * page.step) point.word some
+    let one : points_from page.series page.step (page.first + length prefix * page.step) (point.word ∷ []) ≡ point ∷ [] =
+    points_from-one page.series page.step (page.first + length prefix * page.step) point.word some
     ∙ ap (λ (n : ℕ). point_from page.series page.step n point.word ∷ []) at
     ∙ ap (λ (n : ℕ). point_from n page.step point.moment point.word ∷ []) known.series
     ∙ ap (λ (n : ℕ). point_from point.series n point.moment point.word ∷ []) known.step in
     ap points_in (sym known.is)
-    ∙ points_from-append page.series page.step page.first front (point.word ∷ [])
-    ∙ ap (λ (points : List Point). points ++ points_from page.series page.step (page.first + length front * page.step) (point.word ∷ [])) before
+    ∙ points_from-append page.series page.step page.first prefix (point.word ∷ [])
+    ∙ ap (λ (points : List Point). points ++ points_from page.series page.step (page.first + length prefix * page.step) (point.word ∷ [])) before
     ∙ ap (λ (points : List Point). points_in page ++ points) one
 
 -- ---- its size

@@ -89,17 +89,17 @@ fn prefix_row(alloc: Global, prefix: &str) -> Result<Text, Fail> {
     Ok(out)
 }
 
-/// So many fronts, a middle, and so many backs.
+/// So many prefixes, a middle, and so many backs.
 fn nested(
     alloc: Global,
-    front: &str,
+    prefix: &str,
     middle: &str,
     back: &str,
     count: usize,
 ) -> Result<Text, Fail> {
     let mut out = Text::new(alloc);
     for _ in 0..count {
-        out.push_str(front)?;
+        out.push_str(prefix)?;
     }
     out.push_str(middle)?;
     for _ in 0..count {
@@ -110,12 +110,12 @@ fn nested(
 
 fn shown_nested(
     alloc: Global,
-    front: &str,
+    prefix: &str,
     middle: &str,
     back: &str,
     count: usize,
 ) -> Result<Text, Fail> {
-    shown(alloc, nested(alloc, front, middle, back, count)?.as_str())
+    shown(alloc, nested(alloc, prefix, middle, back, count)?.as_str())
 }
 
 #[test]

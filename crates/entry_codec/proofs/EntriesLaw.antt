@@ -49,11 +49,11 @@ kind_taken : {X : Type 0} {V : X → Type 0} {s : X → List ℕ} {r : List ℕ 
     → entry_as make (r bytes) ≡ Ok (e, rest) → IsShort e × (kind ∷ bytes ≡ entry_bytes e ++ rest)
 kind_taken {s = s} {r = r} field make kind bytes e rest short spelt fits is =
     let found = entry_as-ok make (r bytes) e rest is in
-    let front : kind ∷ bytes ≡ entry_bytes (make found.0) ++ rest =
+    let prefix : kind ∷ bytes ≡ entry_bytes (make found.0) ++ rest =
     ap (λ (after : List ℕ). kind ∷ after) (field.is_spelt bytes found.0 rest fits found.1)
     ∙ ap (λ (all : List ℕ). all ++ rest) (spelt found.0) in
     subst (λ (made : Entry). IsShort made × (kind ∷ bytes ≡ entry_bytes made ++ rest)) found.2
-    (short found.0 (field.has_spelling bytes found.0 rest fits found.1), front)
+    (short found.0 (field.has_spelling bytes found.0 rest fits found.1), prefix)
 
 -- what bytes read as, they begin with
 fields_taken : (bytes : List ℕ) (e : Entry) (rest : List ℕ) → IsBytes bytes → read_fields bytes ≡ Ok (e, rest) → IsShort e × (bytes ≡ entry_bytes e ++ rest)

@@ -28,8 +28,8 @@ five_on old p₁ p₂ p₃ p₄ new a b c d e e₁ e₂ e₃ e₄ e₅ =
 items-push : (pages : List Page) (bytes : List ℕ) (page : Page) (more : List ℕ) → AreItems pages bytes → IsEncoded page more → AreItems (pages ++ page ∷ []) (bytes ++ more)
 items-push [] bytes page more none is =
     (more, [], ap (λ (l : List ℕ). l ++ more) none ∙ sym (append-nil more), is, refl)
-items-push (first ∷ pages) bytes page more (front, rest, split, is_first, others) is =
-    (front, rest ++ more, ap (λ (l : List ℕ). l ++ more) split ∙ append_assoc front rest more, is_first, items-push pages rest page more others is)
+items-push (first ∷ pages) bytes page more (prefix, rest, split, is_first, others) is =
+    (prefix, rest ++ more, ap (λ (l : List ℕ). l ++ more) split ∙ append_assoc prefix rest more, is_first, items-push pages rest page more others is)
 
 pub items-more : (pages : List Page) (i : ℕ) (d : Page) (start out new : List ℕ) → i < length pages
     → ((bytes : List ℕ) × (out ≡ start ++ bytes) × AreItems (take i pages) bytes)

@@ -18,10 +18,10 @@ number-append [] ys m =
 number-append (x ∷ xs) ys m =
     let e : length (x ∷ xs) + m ≡ suc (length xs + m) = omega arith in
     let all = little_from-cons 0 (length xs + m) x (xs ++ ys) in
-    let front = little_from-cons 0 (length xs) x xs in
+    let prefix = little_from-cons 0 (length xs) x xs in
     let rest = number-append xs ys m in
     let apart = mul_assoc 256 (256 ^ length xs) (little_number m ys) in
-    rw (e, all, front, rest, pow-succ' 256 (length xs), apart) (omega arith)
+    rw (e, all, prefix, rest, pow-succ' 256 (length xs), apart) (omega arith)
 
 -- each byte of a number is below 256
 byte-lt : (i x : ℕ) → byte_at i x < 256
@@ -44,12 +44,12 @@ quotient-lt n m q value low high =
 number-join : (n : ℕ) (xs ys : List ℕ) (m : ℕ) → length xs ≡ n → little_number (n + m) (xs ++ ys) ≡ little_number n xs + 256 ^ n * little_number m ys
 number-join n xs ys m size = rw (← size) (number-append xs ys m)
 
-number-front : (n : ℕ) (bytes more : List ℕ) (m : ℕ) → n ≤ length bytes
+number-prefix : (n : ℕ) (bytes more : List ℕ) (m : ℕ) → n ≤ length bytes
     → little_number (n + m) (take n bytes ++ more) ≡ little_number n bytes + 256 ^ n * little_number m more
-number-front n bytes more m within =
+number-prefix n bytes more m within =
     let size : length (take n bytes) ≡ n = omega (arith, length-take n bytes, within) in
-    let front = little_from-take 0 n n bytes (omega arith) in
-    number-join n (take n bytes) more m size ∙ ap (λ (f : ℕ). f + 256 ^ n * little_number m more) front
+    let prefix = little_from-take 0 n n bytes (omega arith) in
+    number-join n (take n bytes) more m size ∙ ap (λ (f : ℕ). f + 256 ^ n * little_number m more) prefix
 
 pub goes_on : (field : Field) (n : ℕ) (bytes : List ℕ) (more : ℕ) → IsField field → n ≤ field.width → n ≤ length bytes
     → IsAllowed field (little_number n bytes + 256 ^ n * more) → GoesOn field n bytes
@@ -63,7 +63,7 @@ goes_on field n bytes more form short within allowed =
     ap (little_number m) (sym (append-nil (little_bytes m more))) ∙ little_number-reads_back m more [] small in
     let value : little_number field.width (take n bytes ++ little_bytes m more) ≡ little_number n bytes + 256 ^ n * more =
     ap (λ (w : ℕ). little_number w (take n bytes ++ little_bytes m more)) (sym whole)
-    ∙ number-front n bytes (little_bytes m more) m within ∙ ap (λ (q : ℕ). little_number n bytes + 256 ^ n * q) back in
+    ∙ number-prefix n bytes (little_bytes m more) m within ∙ ap (λ (q : ℕ). little_number n bytes + 256 ^ n * q) back in
     record {
       more = little_bytes m more;
       size = omega (arith, whole, long);
@@ -76,7 +76,7 @@ pub multiple_of : (field : Field) (n : ℕ) (bytes : List ℕ) → n ≤ length 
 multiple_of field n bytes within goes =
     let m : ℕ = length goes.more in
     let value : little_number field.width (take n bytes ++ goes.more) ≡ little_number n bytes + 256 ^ n * little_number m goes.more =
-    ap (λ (w : ℕ). little_number w (take n bytes ++ goes.more)) (sym goes.size) ∙ number-front n bytes goes.more m within in
+    ap (λ (w : ℕ). little_number w (take n bytes ++ goes.more)) (sym goes.size) ∙ number-prefix n bytes goes.more m within in
     (little_number m goes.more, subst (IsAllowed field) value goes.allowed)
 
 -- of an allowed value that is the number of all bytes of the field nothing is left

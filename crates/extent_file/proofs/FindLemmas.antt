@@ -83,7 +83,7 @@ module _ (p : Entry → Bool) where
 
 -- what halving gives
 module _ (tier series moment : ℕ) (before : Before) (entries : List Entry) (i : ℕ) (order : AreInOrder tier before entries)
-    (front : AllWithin (λ (entry : Entry). is_before series moment entry ≡ true) entries 0 i)
+    (prefix : AllWithin (λ (entry : Entry). is_before series moment entry ≡ true) entries 0 i)
     (rest : AllWithin (λ (entry : Entry). is_before series moment entry ≡ false) entries i (length entries)) where
   passed : (entry : Entry) → is_before series moment entry ≡ true → is_wanted series moment entry ≡ false
   passed entry held = grind (arith, nat_tests)
@@ -103,14 +103,14 @@ module _ (tier series moment : ℕ) (before : Before) (entries : List Entry) (i 
   pub found : i < length entries → ((d : Entry) → (get_or entries i d).series ≡ series) → Some i ≡ position (is_wanted series moment) entries
   found within same =
       found_at (is_wanted series moment) entries i within
-      (λ k d less. passed (get_or entries k d) (front k d (omega arith) less))
+      (λ k d less. passed (get_or entries k d) (prefix k d (omega arith) less))
       (λ d. reached (get_or entries i d) (rest i d (omega arith) within) (same d))
 
   pub found_other : i < length entries → ((d : Entry) → ¬ ((get_or entries i d).series ≡ series)) → None ≡ position (is_wanted series moment) entries
   found_other within other =
       found_none (is_wanted series moment) entries
       (λ k d less. elim (cases_lt k i) [
-        | inl low ↦ passed (get_or entries k d) (front k d (omega arith) low)
+        | inl low ↦ passed (get_or entries k d) (prefix k d (omega arith) low)
         | inr high ↦ unwanted (get_or entries k d) (λ wanted.
             false≢true (sym (above (get_or entries i d) (rest i d (omega arith) within) (other d))
             ∙ partitioned tier (suc series) 0 before entries order i k d high less (wanted_low (get_or entries k d) wanted)))
@@ -119,4 +119,4 @@ module _ (tier series moment : ℕ) (before : Before) (entries : List Entry) (i 
   pub found_end : length entries ≤ i → None ≡ position (is_wanted series moment) entries
   found_end end =
       found_none (is_wanted series moment) entries
-      (λ k d less. passed (get_or entries k d) (front k d (omega arith) (omega (arith, less, end))))
+      (λ k d less. passed (get_or entries k d) (prefix k d (omega arith) (omega (arith, less, end))))

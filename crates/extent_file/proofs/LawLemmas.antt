@@ -43,9 +43,9 @@ held_at tier place (first ∷ pages) bytes (suc index) page entry hold same_page
 goes_on-less : (field : Field) (n m : ℕ) (bytes : List ℕ) → AreBytes bytes → m ≤ n → n ≤ length bytes → GoesOn field n bytes → GoesOn field m bytes
 goes_on-less field n m bytes are less within goes =
     let between_them : List ℕ = drop m (take n bytes) in
-    let front : take m bytes ≡ take m (take n bytes) = sym (take-take m n bytes less) in
+    let prefix : take m bytes ≡ take m (take n bytes) = sym (take-take m n bytes less) in
     let whole : take m bytes ++ (between_them ++ goes.more) ≡ take n bytes ++ goes.more =
-    ap (λ (l : List ℕ). l ++ (between_them ++ goes.more)) front
+    ap (λ (l : List ℕ). l ++ (between_them ++ goes.more)) prefix
     ∙ sym (append_assoc (take m (take n bytes)) between_them goes.more)
     ∙ ap (λ (l : List ℕ). l ++ goes.more) (take-append-drop m (take n bytes)) in
     let cut = length-drop m (take n bytes) in let long = length-take n bytes in let size = goes.size in

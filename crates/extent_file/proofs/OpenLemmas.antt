@@ -60,16 +60,16 @@ module _ (tier same_tier slot same_slot start same_start size : ℕ) (bytes : Li
       (leads : Leads (extent_form same_tier same_slot size) (drop same_start bytes) (24 + 24 * pages) (Rest (size - (24 + 24 * pages)) entries)) where
     pub bad_end : (place : ℕ) → len - same_start < size → len ≡ place → IsBadAt (extent_form tier slot size) start bytes place
     bad_end place short is =
-        let front : ℕ = 24 + 24 * pages in
-        let cut = length-drop same_start bytes in let left = length-drop front (drop same_start bytes) in let inside = leads.inside in
-        let stop = leads.stops (length (drop front (drop same_start bytes))) (omega (arith, cut, left, inside, long, short), refl) in (
-          front + length (drop front (drop same_start bytes)),
-          moved_stop (front + length (drop front (drop same_start bytes))) stop,
+        let prefix : ℕ = 24 + 24 * pages in
+        let cut = length-drop same_start bytes in let left = length-drop prefix (drop same_start bytes) in let inside = leads.inside in
+        let stop = leads.stops (length (drop prefix (drop same_start bytes))) (omega (arith, cut, left, inside, long, short), refl) in (
+          prefix + length (drop prefix (drop same_start bytes)),
+          moved_stop (prefix + length (drop prefix (drop same_start bytes))) stop,
           omega (arith, cut, left, inside, long, enough, is, start_is),
         )
 
     pub opened : size ≤ len - same_start → Says (extent_form tier slot size) (drop start bytes) entries
     opened whole =
-        let front : ℕ = 24 + 24 * pages in
-        let cut = length-drop same_start bytes in let left = length-drop front (drop same_start bytes) in
+        let prefix : ℕ = 24 + 24 * pages in
+        let cut = length-drop same_start bytes in let left = length-drop prefix (drop same_start bytes) in
         moved_says entries (leads.says entries (omega (arith, cut, left, long, whole), refl))

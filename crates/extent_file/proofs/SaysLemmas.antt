@@ -109,10 +109,10 @@ counted tier before (page ∷ pages) are =
 
 pub items_long : (tier : ℕ) (before : Before) (pages : List Page) (bytes : List ℕ) → ArePages tier before pages → AreItems pages bytes → length bytes ≡ items_of pages * item_size tier
 items_long tier before [] bytes are none = let e = ap length none in omega (arith, e)
-items_long tier before (page ∷ pages) bytes are (front, rest, split, is, others) =
+items_long tier before (page ∷ pages) bytes are (prefix, rest, split, is, others) =
     let more = items_long tier (after_entry tier (entry_of before.place page)) pages rest are.2 others in
-    let here = page_long tier page front are.0 is.items in
-    let long = ap length split in let both = length-append front rest in
+    let here = page_long tier page prefix are.0 is.items in
+    let long = ap length split in let both = length-append prefix rest in
     let sum = add-mul (entry_of 0 page).count (items_of pages) (item_size tier) in
     omega (arith, more, here, long, both, sum)
 
@@ -186,11 +186,11 @@ fits_of tier size before page pages bytes small are is whole =
     let roomy = count_room tier size (length pages) before.place entry.count (items_of pages) total some rest in
     let few = few_enough tier size (length pages) before.place entry.count (items_of pages) total some rest (none_left pages) in
     let time = time_enough entry.first entry.step entry.count step_low (omega (arith, last, ends)) in
-    let front : entry.first ≤ last_of entry = omega arith in
+    let prefix : entry.first ≤ last_of entry = omega arith in
     let few_items : most_items tier ≤ 1024 = elim (item-cases tier) [ inl a ↦ (let e = a.2 in omega (arith, e)) | inr a ↦ (let e = a.2 in omega (arith, e)) ] in
     record {
       series = (are.1.series, omega (arith, series, series_top));
-      first = (first_enough entry.series before.free entry.first before.series are.1.free, omega (arith, front, last, ends));
+      first = (first_enough entry.series before.free entry.first before.series are.1.free, omega (arith, prefix, last, ends));
       step = (step_low, omega (arith, step, step_top));
       count = (few, omega (arith, roomy, time, most, count));
       small = omega (arith, few_items, most, count);
@@ -206,7 +206,7 @@ says_directory : (tier size : ℕ) (before : Before) (pages : List Page) (items 
     → size ≡ before.place + items_of pages * item_size tier → size ≤ 24 + 24 * (length read + length pages) + length rest
     → Says (directory_form tier size (length pages) before read) (directory_bytes (entries_of tier before.place pages) ++ rest) (read ++ entries_of tier before.place pages)
 says_directory tier size before [] items rest read small are is whole long = (omega (arith, long), append-nil read)
-says_directory tier size before (page ∷ pages) items rest read small are (front, behind, split, encoded, others) whole long =
+says_directory tier size before (page ∷ pages) items rest read small are (prefix, behind, split, encoded, others) whole long =
     let entry : Entry = entry_of before.place page in
     let place = place_is before.place page in let count = count_is before.place page in
     let bytes = bytes_is tier before.place page in
@@ -222,7 +222,7 @@ says_directory tier size before (page ∷ pages) items rest read small are (fron
     subst (λ (l : List ℕ). Says (directory_form tier size (length (page ∷ pages)) before read) l (read ++ entries_of tier before.place (page ∷ pages)))
     (sym (append_assoc (entry_bytes entry) more rest))
     (says_entry tier size (length pages) before (λ (e : Entry). directory_form tier size (length pages) (after_entry tier e) (read ++ e ∷ [])) entry (more ++ rest) (read ++ entries_of tier before.place (page ∷ pages))
-    (fits_of tier size before page pages front small are encoded whole) said_all)
+    (fits_of tier size before page pages prefix small are encoded whole) said_all)
 
 -- the whole extent of these pages, with these items
 abbrev pub whole_bytes : ℕ → List Page → List ℕ → List ℕ
@@ -250,22 +250,22 @@ length-head_bytes tier pages size =
     let d = length-bytes_low_first 0 8 size in
     grind (arith, length-append)
 
-hold_of : (tier : ℕ) (before : Before) (pages : List Page) (items front rest : List ℕ) → ArePages tier before pages → AreItems pages items → length front ≡ before.place
-    → Hold tier before.place pages (front ++ (items ++ rest))
-hold_of tier before [] items front rest are is long = tt
-hold_of tier before (page ∷ pages) items front rest are (here, behind, split, encoded, others) long =
+hold_of : (tier : ℕ) (before : Before) (pages : List Page) (items prefix rest : List ℕ) → ArePages tier before pages → AreItems pages items → length prefix ≡ before.place
+    → Hold tier before.place pages (prefix ++ (items ++ rest))
+hold_of tier before [] items prefix rest are is long = tt
+hold_of tier before (page ∷ pages) items prefix rest are (here, behind, split, encoded, others) long =
     let n : ℕ = bytes_of tier (entry_of before.place page) in
     let size : length here ≡ n = page_long tier page here are.0 encoded.items ∙ sym (bytes_is tier before.place page) in
     let tail : items ++ rest ≡ here ++ (behind ++ rest) = ap (λ (l : List ℕ). l ++ rest) split ∙ append_assoc here behind rest in
-    let cut : drop before.place (front ++ (items ++ rest)) ≡ here ++ (behind ++ rest) = drop_at front (items ++ rest) before.place long ∙ tail in
-    let mine : take n (drop before.place (front ++ (items ++ rest))) ≡ here = ap (take n) cut ∙ take_at here (behind ++ rest) n size in
+    let cut : drop before.place (prefix ++ (items ++ rest)) ≡ here ++ (behind ++ rest) = drop_at prefix (items ++ rest) before.place long ∙ tail in
+    let mine : take n (drop before.place (prefix ++ (items ++ rest))) ≡ here = ap (take n) cut ∙ take_at here (behind ++ rest) n size in
     let place = place_is before.place page in
     let there : (after_entry tier (entry_of before.place page)).place ≡ before.place + n = ap (λ (k : ℕ). k + n) place in
-    let longer : length (front ++ here) ≡ (after_entry tier (entry_of before.place page)).place = omega (arith, length-append front here, size, long, there) in
-    let more = hold_of tier (after_entry tier (entry_of before.place page)) pages behind (front ++ here) rest are.2 others longer in
-    let same : (front ++ here) ++ (behind ++ rest) ≡ front ++ (items ++ rest) = append_assoc front here (behind ++ rest) ∙ ap (λ (l : List ℕ). front ++ l) (sym tail) in (
+    let longer : length (prefix ++ here) ≡ (after_entry tier (entry_of before.place page)).place = omega (arith, length-append prefix here, size, long, there) in
+    let more = hold_of tier (after_entry tier (entry_of before.place page)) pages behind (prefix ++ here) rest are.2 others longer in
+    let same : (prefix ++ here) ++ (behind ++ rest) ≡ prefix ++ (items ++ rest) = append_assoc prefix here (behind ++ rest) ∙ ap (λ (l : List ℕ). prefix ++ l) (sym tail) in (
       subst (IsItemsOf page) (sym mine) encoded.items,
-      subst (λ (k : ℕ). Hold tier k pages (front ++ (items ++ rest))) there (subst (Hold tier (after_entry tier (entry_of before.place page)).place pages) same more),
+      subst (λ (k : ℕ). Hold tier k pages (prefix ++ (items ++ rest))) there (subst (Hold tier (after_entry tier (entry_of before.place page)).place pages) same more),
     )
 
 pages_fit : (tier slot size pages more : ℕ) → size ≡ 24 + 24 * pages + more * item_size tier → pages ≤ more → (pages ≡ 0 → more ≡ 0) → size ≤ slot → IsAllowed (pages_field tier slot size) pages
@@ -301,10 +301,10 @@ extent_of tier slot pages items more tier_small are is fits small =
     ∙ ap (λ (l : List ℕ). m ++ l) (append_assoc t (p ++ s) (directory ++ rest) ∙ ap (λ (l : List ℕ). t ++ l) (append_assoc p s (directory ++ rest))) in
     let said = says_directory tier size (at_first n) pages items rest [] (omega (arith, fits, small)) are is (omega arith) (omega (arith, length-append items more, long)) in
     let head_long = length-head_bytes tier n size in let directory_long = length-directory_bytes tier first pages in
-    let front : List ℕ = head_bytes tier n size ++ directory in
-    let front_long : length front ≡ first = omega (arith, length-append (head_bytes tier n size) directory, head_long, directory_long) in
-    let held = hold_of tier (at_first n) pages items front more are is front_long in
-    let same : front ++ rest ≡ whole_bytes tier pages items ++ more =
+    let prefix : List ℕ = head_bytes tier n size ++ directory in
+    let prefix_long : length prefix ≡ first = omega (arith, length-append (head_bytes tier n size) directory, head_long, directory_long) in
+    let held = hold_of tier (at_first n) pages items prefix more are is prefix_long in
+    let same : prefix ++ rest ≡ whole_bytes tier pages items ++ more =
     append_assoc (head_bytes tier n size) directory rest
     ∙ ap (λ (l : List ℕ). head_bytes tier n size ++ l) (sym (append_assoc directory items more))
     ∙ sym (append_assoc (head_bytes tier n size) (directory ++ items) more) in

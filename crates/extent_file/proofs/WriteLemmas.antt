@@ -22,18 +22,18 @@ all_moments file old new moments =
     let was = contents (of file old) in
     weakened (λ past run bytes image.
     let kept = RunsFrom-images file (length was) old past (omega arith) run bytes image in
-    record { enough = kept.enough; front = kept.front ∙ take_all (length was) was (omega arith) }) moments
+    record { enough = kept.enough; prefix = kept.prefix ∙ take_all (length was) was (omega arith) }) moments
 
 pub beside_moments : (file : File) (from to : ℕ) (old new : List Event) → from ≤ length (contents (of file old)) → Throughout (RunsWithin file from to old) old new
     → Throughout (EveryImage file (KeepsBeside from to (contents (of file old)))) old new
 beside_moments file from to old new within moments =
     weakened (λ past run bytes image.
     let kept = RunsWithin-images file from to old past within run bytes image in
-    record { front = kept.front; rest = kept.rest }) moments
+    record { prefix = kept.prefix; rest = kept.rest }) moments
 
 -- what lies in a prefix lies in all
-lies_in_front : (place : ℕ) (lies : List ℕ) (size : ℕ) (bytes : List ℕ) → place + length lies ≤ size → take (length lies) (drop place (take size bytes)) ≡ take (length lies) (drop place bytes)
-lies_in_front place lies size bytes within =
+lies_in_prefix : (place : ℕ) (lies : List ℕ) (size : ℕ) (bytes : List ℕ) → place + length lies ≤ size → take (length lies) (drop place (take size bytes)) ≡ take (length lies) (drop place bytes)
+lies_in_prefix place lies size bytes within =
     ap (λ (n : ℕ). take (length lies) (drop place (take n bytes))) (let e : size ≡ place + (size - place) = omega (arith, within) in e)
     ∙ ap (take (length lies)) (drop-take place (size - place) bytes)
     ∙ take-take (length lies) (size - place) (drop place bytes) (omega (arith, within))
@@ -52,16 +52,16 @@ pub lies_still : (place : ℕ) (lies old bytes : List ℕ) → LiesAt place lies
 lies_still place lies old bytes lie kept =
     elim (cases_lt 0 (length lies)) [
       | inl some ↦
-          sym (lies_in_front place lies (length old) bytes (lies_within place lies old lie some))
-          ∙ ap (λ (l : List ℕ). take (length lies) (drop place l)) kept.front ∙ lie
+          sym (lies_in_prefix place lies (length old) bytes (lies_within place lies old lie some))
+          ∙ ap (λ (l : List ℕ). take (length lies) (drop place l)) kept.prefix ∙ lie
       | inr none ↦ lies_none place lies bytes (omega (arith, none))
     ]
 
 pub lies_beside : (place from to : ℕ) (lies old bytes : List ℕ) → LiesAt place lies old → ((place + length lies ≤ from) ⊎ (to ≤ place)) → KeepsBeside from to old bytes → LiesAt place lies bytes
 lies_beside place from to lies old bytes lie (inl before) kept =
-    sym (lies_in_front place lies from bytes before)
-    ∙ ap (λ (l : List ℕ). take (length lies) (drop place l)) kept.front
-    ∙ lies_in_front place lies from old before ∙ lie
+    sym (lies_in_prefix place lies from bytes before)
+    ∙ ap (λ (l : List ℕ). take (length lies) (drop place l)) kept.prefix
+    ∙ lies_in_prefix place lies from old before ∙ lie
 lies_beside place from to lies old bytes lie (inr behind) kept =
     let there : to + (place - to) ≡ place = omega (arith, behind) in
     ap (λ (n : ℕ). take (length lies) (drop n bytes)) (sym there)

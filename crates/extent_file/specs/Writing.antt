@@ -16,11 +16,11 @@ filled_to end bytes = bytes ++ replicate (end - length bytes) 0
 -- all that the file had is still there
 pub record KeepsAll (old bytes : List ℕ) : Type 0 where
   pub enough : length old ≤ length bytes
-  pub front : take (length old) bytes ≡ old
+  pub prefix : take (length old) bytes ≡ old
 
 -- all but the places from one to another is as it was
 pub record KeepsBeside (from to : ℕ) (old bytes : List ℕ) : Type 0 where
-  pub front : take from bytes ≡ take from old
+  pub prefix : take from bytes ≡ take from old
   pub rest : drop to bytes ≡ drop to old
 
 -- an entry in its 24 bytes
@@ -46,4 +46,4 @@ pub record IsEncoded (page : Page) (bytes : List ℕ) : Type 0 where
 -- the items of the pages, one after the other
 abbrev pub AreItems : List Page → List ℕ → Type 0
 AreItems [] bytes = bytes ≡ []
-AreItems (page ∷ pages) bytes = (front : List ℕ) × (rest : List ℕ) × (bytes ≡ front ++ rest) × IsEncoded page front × AreItems pages rest
+AreItems (page ∷ pages) bytes = (prefix : List ℕ) × (rest : List ℕ) × (bytes ≡ prefix ++ rest) × IsEncoded page prefix × AreItems pages rest

@@ -17,14 +17,14 @@ use host_model::{Failed, File, Host};
 use std::alloc::Global;
 
 /// Fills `into` from a place on, as far as the file goes, and says how far.
-pub(crate) fn read_front<H: Host>(
+pub(crate) fn read_prefix<H: Host>(
     host: &mut H,
     file: File,
     at: u64,
     into: &mut [u8],
 ) -> Result<usize, Failed>
     ensures size { IfOk result (λ n. n ≤ length into.old) }
-    ensures front { IfOk result (λ n. H.honest → take n into.new
+    ensures prefix { IfOk result (λ n. H.honest → take n into.new
         ≡ take (length into.old) (drop at (contents (of file (H.seen host.old).past)))) }
     ensures past { H.honest → (H.seen host.new).past ≡ (H.seen host.old).past }
     ensures cause { HasCause (H.seen host.old).disk_faults (H.seen host.new).disk_faults
@@ -42,7 +42,7 @@ fn read_bytes<H: Host>(
     at: u64,
     size: usize,
 ) -> Result<ByteList, ExtentFault>
-    ensures front { IfOk result (λ read. H.honest
+    ensures prefix { IfOk result (λ read. H.honest
         → read ≡ take size (drop at (contents (of file (H.seen host.old).past)))) }
     ensures not_bad { (place : ℕ) → IsErrOf result (ExtentFault.BadExtent place) → ⊥ }
     ensures past { H.honest → (H.seen host.new).past ≡ (H.seen host.old).past }
@@ -86,7 +86,7 @@ fn open_head<H: Host>(
     ensures output { (H.seen host.new).tell_faults ≡ (H.seen host.old).tell_faults }
 {
     let mut seen = [0_u8; HEAD_SIZE];
-    let Ok(read) = read_front(host, file, start, &mut seen) else {
+    let Ok(read) = read_prefix(host, file, start, &mut seen) else {
         return Err(ExtentFault::DiskFault);
     };
     match read_head(&seen[..read], tier, slot, size) {

@@ -4,7 +4,7 @@ ghost use Rattle.host_model.specs.Past.{of};
 ghost use Rattle.host_model.specs.Cause.{HasCause};
 
 use crate::fault::ExtentFault;
-use crate::opening::read_front;
+use crate::opening::read_prefix;
 use host_model::{File, Host};
 use page_pool::{PAGE_SIZE, RawPage};
 
@@ -49,7 +49,7 @@ pub(crate) fn read_into<H: Host>(
         return Err(ExtentFault::BadExtent(len));
     }
     let mut bytes = [0_u8; PAGE_SIZE];
-    let Ok(read) = read_front(host, file, at, &mut bytes[..size]) else {
+    let Ok(read) = read_prefix(host, file, at, &mut bytes[..size]) else {
         return Err(ExtentFault::DiskFault);
     };
     fill(&mut page, &bytes[..read]);

@@ -52,10 +52,10 @@ number_field size =
     let long : size ≤ length bytes = ltb-false _ _ read.0 in
     let n_is : little_number size bytes ≡ n = ap (λ (p : ℕ × List ℕ). p.0) read.1 in
     let rest_is : drop size bytes ≡ rest = ap (λ (p : ℕ × List ℕ). p.1) read.1 in
-    let front : little_bytes size n ≡ take size bytes =
+    let prefix : little_bytes size n ≡ take size bytes =
     ap (little_bytes size) (sym n_is) ∙ little_bytes-little_number size bytes fits long in (
       subst (λ (m : ℕ). m < 256 ^ size) n_is (little_from-lt 0 size bytes fits),
-      rw (front, ← rest_is) (sym (take-append-drop size bytes)),
+      rw (prefix, ← rest_is) (sym (take-append-drop size bytes)),
     ))
 
 -- the same values, said otherwise
@@ -136,7 +136,7 @@ counted_field limit spelling read field =
     rw (append_assoc (spelling (length content)) content rest, field.reads_back (length content) (content ++ rest) small, long, take_at content rest (length content) refl, drop_at content rest (length content) refl) refl)
     (λ bytes content rest fits e.
     let found = read_counted-ok (read bytes) content rest e in
-    let front = field.is_spelt bytes (length content) found.0 fits found.1 in (
+    let prefix = field.is_spelt bytes (length content) found.0 fits found.1 in (
       field.has_spelling bytes (length content) found.0 fits found.1,
-      front ∙ ap (λ (after : List ℕ). spelling (length content) ++ after) found.2 ∙ sym (append_assoc (spelling (length content)) content rest),
+      prefix ∙ ap (λ (after : List ℕ). spelling (length content) ++ after) found.2 ∙ sym (append_assoc (spelling (length content)) content rest),
     ))

@@ -13,10 +13,10 @@ use Rattle.field_codec.specs.Lists.{◌>>◌, read_items, read_by, read_counted_
 
 -- ---- one field after the other
 
-IsBytes-rest : (front rest bytes : List ℕ) → bytes ≡ front ++ rest → IsBytes bytes → IsBytes rest
-IsBytes-rest front rest bytes e fits =
-    let at : drop (length front) bytes ≡ rest = ap (drop (length front)) e ∙ drop_at front rest (length front) refl in
-    subst IsBytes at (λ place. rw get_or-drop (fits (length front + place)))
+IsBytes-rest : (prefix rest bytes : List ℕ) → bytes ≡ prefix ++ rest → IsBytes bytes → IsBytes rest
+IsBytes-rest prefix rest bytes e fits =
+    let at : drop (length prefix) bytes ≡ rest = ap (drop (length prefix)) e ∙ drop_at prefix rest (length prefix) refl in
+    subst IsBytes at (λ place. rw get_or-drop (fits (length prefix + place)))
 
 -- what was read first, and what was read then
 then-ok : {X Y : Type 0} (first : ReadOf X) (second : List ℕ → ReadOf Y) (both : X × Y) (rest : List ℕ) → first >> second ≡ Ok (both, rest)
@@ -35,10 +35,10 @@ pub ◌⊗◌ : {X Y : Type 0} {V : X → Type 0} {W : Y → Type 0} {s : X → 
     (λ p rest fits. rw (append_assoc (s p.0) (t p.1) rest, first.reads_back p.0 (t p.1 ++ rest) fits.0, second.reads_back p.1 rest fits.1) refl)
     (λ bytes p rest fits e.
     let found = then-ok (r bytes) q p rest e in
-    let front = first.is_spelt bytes p.0 found.0 fits found.1 in
-    let after_fits = IsBytes-rest (s p.0) found.0 bytes front fits in (
+    let prefix = first.is_spelt bytes p.0 found.0 fits found.1 in
+    let after_fits = IsBytes-rest (s p.0) found.0 bytes prefix fits in (
       (first.has_spelling bytes p.0 found.0 fits found.1, second.has_spelling found.0 p.1 rest after_fits found.2),
-      front ∙ ap (λ (after : List ℕ). s p.0 ++ after) (second.is_spelt found.0 p.1 rest after_fits found.2) ∙ sym (append_assoc (s p.0) (t p.1) rest),
+      prefix ∙ ap (λ (after : List ℕ). s p.0 ++ after) (second.is_spelt found.0 p.1 rest after_fits found.2) ∙ sym (append_assoc (s p.0) (t p.1) rest),
     ))
 
 -- what was read first, and what was read by it
@@ -61,10 +61,10 @@ by_field {X} {Y} V W s t r q first second =
     (λ p rest fits. rw (append_assoc (s p.0) (t p.1) rest, first.reads_back p.0 (t p.1 ++ rest) fits.0, (second p.0).reads_back p.1 rest fits.1) refl)
     (λ bytes p rest fits e.
     let found = by-ok (r bytes) q p rest e in
-    let front = first.is_spelt bytes p.0 found.0 fits found.1 in
-    let after_fits = IsBytes-rest (s p.0) found.0 bytes front fits in (
+    let prefix = first.is_spelt bytes p.0 found.0 fits found.1 in
+    let after_fits = IsBytes-rest (s p.0) found.0 bytes prefix fits in (
       (first.has_spelling bytes p.0 found.0 fits found.1, (second p.0).has_spelling found.0 p.1 rest after_fits found.2),
-      front ∙ ap (λ (after : List ℕ). s p.0 ++ after) ((second p.0).is_spelt found.0 p.1 rest after_fits found.2) ∙ sym (append_assoc (s p.0) (t p.1) rest),
+      prefix ∙ ap (λ (after : List ℕ). s p.0 ++ after) ((second p.0).is_spelt found.0 p.1 rest after_fits found.2) ∙ sym (append_assoc (s p.0) (t p.1) rest),
     ))
 
 -- what is made of fields
@@ -99,10 +99,10 @@ items_taken {X} {V} {s} {r} field (suc count) bytes items rest fits e =
     let found = then-ok (r bytes) (read_items r count) made.0 rest made.1 in
     let x : X = made.0.0 in
     let others : List X = made.0.1 in
-    let front : bytes ≡ s x ++ found.0 = field.is_spelt bytes x found.0 fits found.1 in
-    let more = items_taken field count found.0 others rest (IsBytes-rest (s x) found.0 bytes front fits) found.2 in
+    let prefix : bytes ≡ s x ++ found.0 = field.is_spelt bytes x found.0 fits found.1 in
+    let more = items_taken field count found.0 others rest (IsBytes-rest (s x) found.0 bytes prefix fits) found.2 in
     let spelt : bytes ≡ flat_map s (x ∷ others) ++ rest =
-    front ∙ ap (λ (after : List ℕ). s x ++ after) more.spelt ∙ sym (append_assoc (s x) (flat_map s others) rest)
+    prefix ∙ ap (λ (after : List ℕ). s x ++ after) more.spelt ∙ sym (append_assoc (s x) (flat_map s others) rest)
     ∙ ap (λ (all : List ℕ). all ++ rest) (sym (flat_map-cons s x others)) in
     subst (λ (read : List X). AreItems V s (suc count) bytes read rest) made.2
     (record { counted = ap suc more.counted; each = (field.has_spelling bytes x found.0 fits found.1, more.each); spelt = spelt })
@@ -131,11 +131,11 @@ list_field {X} {V} {s} {r} field =
     rw (append_assoc (u32_bytes (length items)) (flat_map s items) rest, u32_field.reads_back (length items) (flat_map s items ++ rest) fits.count) (items_again field items rest fits.each))
     (λ bytes items rest fits e.
     let found = counted_items-ok r (read_u32 bytes) items rest e in
-    let front : bytes ≡ u32_bytes found.0 ++ found.1 = u32_field.is_spelt bytes found.0 found.1 fits found.2 in
-    let taken = items_taken field found.0 found.1 items rest (IsBytes-rest (u32_bytes found.0) found.1 bytes front fits) found.3 in
+    let prefix : bytes ≡ u32_bytes found.0 ++ found.1 = u32_field.is_spelt bytes found.0 found.1 fits found.2 in
+    let taken = items_taken field found.0 found.1 items rest (IsBytes-rest (u32_bytes found.0) found.1 bytes prefix fits) found.3 in
     let small : found.0 < 2 ^ 32 = u32_field.has_spelling bytes found.0 found.1 fits found.2 in (
       record { count = subst (λ (n : ℕ). n < 2 ^ 32) (sym taken.counted) small; each = taken.each },
-      front ∙ ap (λ (after : List ℕ). u32_bytes found.0 ++ after) taken.spelt
+      prefix ∙ ap (λ (after : List ℕ). u32_bytes found.0 ++ after) taken.spelt
           ∙ ap (λ (n : ℕ). u32_bytes n ++ (flat_map s items ++ rest)) (sym taken.counted)
           ∙ sym (append_assoc (u32_bytes (length items)) (flat_map s items) rest),
     ))

@@ -1,4 +1,4 @@
--- What the front of a list of bytes reads as: a value and the bytes after it, or the first fault.
+-- What the prefix of a list of bytes reads as: a value and the bytes after it, or the first fault.
 use Rattle.std.specs.Prelude.{ℕ, zero, suc, ℤ, Bool, true, false, List, [], ◌∷◌, length, take, drop, Result, Ok, Err, nat_lt, nat_le, if◌then◌else◌}
 use Rattle.std.specs.Int.{w32, w64, w128, cast_signed}
 use Rattle.std.specs.Str.{is_utf8}

@@ -16,9 +16,9 @@
 #![tactic(auto)]
 
 mod fault;
-mod front;
 mod law;
 pub mod list;
+mod prefix;
 mod reader;
 pub mod text;
 mod writer;

@@ -3,11 +3,11 @@ ghost use Rattle.field_codec.specs.Field.{with_rest, seen};
 ghost use Rattle.field_codec.specs.Reading.{read_u8, read_u16, read_u32, read_u64, read_i32, read_i64, read_i128, read_flag, read_count, read_text, read_bytes};
 
 use crate::fault::FieldFault;
-use crate::front;
+use crate::prefix;
 use byteorder::{ByteOrder, LittleEndian};
 use std::marker::Model;
 
-/// Takes fields from the front of some bytes. Contracts see it as the bytes that are left.
+/// Takes fields from the start of some bytes. Contracts see it as the bytes that are left.
 #[derive(Debug, Drop)]
 pub struct Reader<'a> {
     bytes: &'a [u8],
@@ -47,7 +47,7 @@ impl<'a> Reader<'a> {
         ensures taken { with_rest result self.new ≡ read_u8 self.old }
         ensures refused { OnErr result (self.new ≡ self.old) }
     {
-        let (value, rest) = front::u8_at(self.bytes)?;
+        let (value, rest) = prefix::u8_at(self.bytes)?;
         self.bytes = rest;
         Ok(value)
     }
@@ -56,7 +56,7 @@ impl<'a> Reader<'a> {
         ensures taken { with_rest result self.new ≡ read_u16 self.old }
         ensures refused { OnErr result (self.new ≡ self.old) }
     {
-        let (value, rest) = front::u16_at(self.bytes)?;
+        let (value, rest) = prefix::u16_at(self.bytes)?;
         self.bytes = rest;
         Ok(value)
     }
@@ -65,7 +65,7 @@ impl<'a> Reader<'a> {
         ensures taken { with_rest result self.new ≡ read_u32 self.old }
         ensures refused { OnErr result (self.new ≡ self.old) }
     {
-        let (value, rest) = front::u32_at(self.bytes)?;
+        let (value, rest) = prefix::u32_at(self.bytes)?;
         self.bytes = rest;
         Ok(value)
     }
@@ -74,7 +74,7 @@ impl<'a> Reader<'a> {
         ensures taken { with_rest result self.new ≡ read_u64 self.old }
         ensures refused { OnErr result (self.new ≡ self.old) }
     {
-        let (value, rest) = front::u64_at(self.bytes)?;
+        let (value, rest) = prefix::u64_at(self.bytes)?;
         self.bytes = rest;
         Ok(value)
     }
@@ -83,7 +83,7 @@ impl<'a> Reader<'a> {
         ensures taken { with_rest result self.new ≡ read_i32 self.old }
         ensures refused { OnErr result (self.new ≡ self.old) }
     {
-        let (value, rest) = front::i32_at(self.bytes)?;
+        let (value, rest) = prefix::i32_at(self.bytes)?;
         self.bytes = rest;
         Ok(value)
     }
@@ -92,7 +92,7 @@ impl<'a> Reader<'a> {
         ensures taken { with_rest result self.new ≡ read_i64 self.old }
         ensures refused { OnErr result (self.new ≡ self.old) }
     {
-        let (value, rest) = front::i64_at(self.bytes)?;
+        let (value, rest) = prefix::i64_at(self.bytes)?;
         self.bytes = rest;
         Ok(value)
     }
@@ -101,7 +101,7 @@ impl<'a> Reader<'a> {
         ensures taken { with_rest result self.new ≡ read_i128 self.old }
         ensures refused { OnErr result (self.new ≡ self.old) }
     {
-        let (value, rest) = front::i128_at(self.bytes)?;
+        let (value, rest) = prefix::i128_at(self.bytes)?;
         self.bytes = rest;
         Ok(value)
     }
@@ -110,7 +110,7 @@ impl<'a> Reader<'a> {
         ensures taken { with_rest result self.new ≡ read_flag self.old }
         ensures refused { OnErr result (self.new ≡ self.old) }
     {
-        let (value, rest) = front::flag_at(self.bytes)?;
+        let (value, rest) = prefix::flag_at(self.bytes)?;
         self.bytes = rest;
         Ok(value)
     }
@@ -120,7 +120,7 @@ impl<'a> Reader<'a> {
         ensures taken { with_rest result self.new ≡ read_count max self.old }
         ensures refused { OnErr result (self.new ≡ self.old) }
     {
-        let (value, rest) = front::count_at(self.bytes, max)?;
+        let (value, rest) = prefix::count_at(self.bytes, max)?;
         self.bytes = rest;
         Ok(value)
     }
@@ -129,7 +129,7 @@ impl<'a> Reader<'a> {
         ensures taken { seen (λ text. (text.now, self.new)) result ≡ read_text self.old }
         ensures refused { OnErr result (self.new ≡ self.old) }
     {
-        let (text, rest) = front::text_at(self.bytes)?;
+        let (text, rest) = prefix::text_at(self.bytes)?;
         self.bytes = rest;
         Ok(text)
     }
@@ -138,7 +138,7 @@ impl<'a> Reader<'a> {
         ensures taken { seen (λ bytes. (bytes.now, self.new)) result ≡ read_bytes self.old }
         ensures refused { OnErr result (self.new ≡ self.old) }
     {
-        let (bytes, rest) = front::bytes_at(self.bytes)?;
+        let (bytes, rest) = prefix::bytes_at(self.bytes)?;
         self.bytes = rest;
         Ok(bytes)
     }

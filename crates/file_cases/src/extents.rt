@@ -163,7 +163,7 @@ fn survive(rt: &impl Abort, alloc: Global, call: u64, keep: Keep) -> Result<(), 
 }
 
 #[test]
-fn a_stop_leaves_the_other_slot(rt: HostRuntime) -> Result<(), Fail> {
+fn a_crash_leaves_the_other_slot(rt: HostRuntime) -> Result<(), Fail> {
     for call in [0, 2, 4, 6, 7, 300, 455, 456, 457, 458] {
         for keep in [Keep::All, Keep::None, Keep::Fill(255)] {
             survive(&rt, rt.alloc(), call, keep)?;

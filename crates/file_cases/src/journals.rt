@@ -33,10 +33,10 @@ fn add(alloc: Global, host: &mut MemoryHost, bodies: &[&[u8]]) -> usize {
 }
 
 /// Writes these bytes into an empty file, unless the host fails.
-fn put(host: &mut MemoryHost, front: &[u8], rest: &[u8]) {
-    let _ = host.write_at(FILE, 0, front);
-    if host.len(FILE).is_ok_and(|len| len == front.len() as u64) {
-        let _ = host.write_at(FILE, front.len() as u64, rest);
+fn put(host: &mut MemoryHost, prefix: &[u8], rest: &[u8]) {
+    let _ = host.write_at(FILE, 0, prefix);
+    if host.len(FILE).is_ok_and(|len| len == prefix.len() as u64) {
+        let _ = host.write_at(FILE, prefix.len() as u64, rest);
     }
 }
 
@@ -51,11 +51,11 @@ fn host_of(alloc: Global, fails: &[u64]) -> Result<MemoryHost, Fail> {
 }
 
 /// How many records the journal of these bytes has.
-fn count_of(alloc: Global, front: &[u8], rest: &[u8]) -> Result<usize, JournalFault> {
+fn count_of(alloc: Global, prefix: &[u8], rest: &[u8]) -> Result<usize, JournalFault> {
     let Ok(mut host) = MemoryHost::new(alloc, CallList::new(alloc)) else {
         return Err(JournalFault::Memory);
     };
-    put(&mut host, front, rest);
+    put(&mut host, prefix, rest);
     Ok(open_file(alloc, &mut host)?.len())
 }
 
@@ -113,7 +113,7 @@ fn survive(
 }
 
 #[test]
-fn a_stop_leaves_what_was_told_or_one_record_more(rt: HostRuntime) -> Result<(), Fail> {
+fn a_crash_leaves_what_was_told_or_one_record_more(rt: HostRuntime) -> Result<(), Fail> {
     for call in 0..26u64 {
         for keep in [Keep::All, Keep::None, Keep::Fill(255), Keep::Fill(1)] {
             survive(&rt, rt.alloc(), host_of(rt.alloc(), &[call])?, keep, call)?;
@@ -237,9 +237,9 @@ fn opens_what_was_worked_out_by_hand(rt: HostRuntime) -> Result<(), Fail> {
 #[test]
 fn names_the_first_byte_that_is_not_the_headers(rt: HostRuntime) -> Result<(), Fail> {
     for place in 0..16usize {
-        let mut front = HEADER;
-        front[place] ^= 1;
-        let opened = count_of(rt.alloc(), &front, b"\0");
+        let mut prefix = HEADER;
+        prefix[place] ^= 1;
+        let opened = count_of(rt.alloc(), &prefix, b"\0");
         assert_eq!(rt; opened, Err(JournalFault::NotAJournal(place as u64)));
         let opened = count_of(rt.alloc(), &HEADER[..place], b"");
         assert_eq!(rt; opened, Err(JournalFault::NotAJournal(place as u64)));

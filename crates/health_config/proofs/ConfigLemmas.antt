@@ -6,13 +6,13 @@ use Rattle.health_config.specs.declared.fault.ConfigFault.{ConfigFault}
 use Rattle.health_config.specs.declared.fault.ConfigFault.TheVariants.{BadLine, NoName, NoOn, BadDuration, TooManyAlarms, TextTooLong, Memory}
 use Rattle.health_config.specs.declared.tally.Tally.{Tally}
 use Rattle.health_config.specs.declared.lines.Line.{Line}
-use Rattle.health_config.specs.Config.{Configuration, both, entity, entities, front_skipped, none_but, then_entities, of_sections, of_draft, ended, ended_by, tally_of, Adds, IsFound}
+use Rattle.health_config.specs.Config.{Configuration, both, entity, entities, prefix_skipped, none_but, then_entities, of_sections, of_draft, ended, ended_by, tally_of, Adds, IsFound}
 use Rattle.health_config.specs.Draft.{Draft, draft_read}
 use Rattle.health_config.specs.Entity.{Alarm, alarm, alarm_of}
 use Rattle.health_config.specs.Fault.{◌>>=◌, IsRefusalFor}
 use Rattle.health_config.specs.Key.{begins}
 use Rattle.health_config.specs.Sections.{Group, Sections, section, sections}
-use Rattle.health_config.proofs.SectionsLemmas.{front_len, front_is, groups_are}
+use Rattle.health_config.proofs.SectionsLemmas.{leading_len, prefix_is, groups_are}
 
 both-assoc : (a b c : Configuration) → both a (both b c) ≡ both (both a b) c
 both-assoc a b c =
@@ -25,44 +25,44 @@ next_by done first (Err fault) = refl
 
 -- the entity that lines begin with, and the lines behind it
 abbrev pub group_of : Bool → Line → List Line → Group
-group_of template head behind = record { template = template; head = head; body = take (front_len behind) behind }
+group_of template head behind = record { template = template; head = head; body = take (leading_len behind) behind }
 
 -- the entities of lines that begin with one
 pub groups_found : (lines : List Line) (template : Bool) (head : Line) (behind : List Line) → IsFound lines template head behind
-    → (sections lines).groups ≡ group_of template head behind ∷ (sections (drop (front_len behind) behind)).groups
+    → (sections lines).groups ≡ group_of template head behind ∷ (sections (drop (leading_len behind) behind)).groups
 groups_found lines template head behind found =
     ap (λ (all : List Line). (sections all).groups) found.whole
     ∙ ap (λ (o : Option Bool). (section o head (sections behind)).groups) found.begins
-    ∙ ap (λ (body : List Line). record { template = template; head = head; body = body } ∷ (sections behind).groups) (front_is behind)
+    ∙ ap (λ (body : List Line). record { template = template; head = head; body = body } ∷ (sections behind).groups) (prefix_is behind)
     ∙ ap (λ (groups : List Group). group_of template head behind ∷ groups) (groups_are behind)
 
 module _ (before : ℕ) (done : Configuration) (lines : List Line) (template : Bool) (head : Line) (behind : List Line) (found : IsFound lines template head behind) where
   found_first : then_entities done (entities before (sections lines).groups)
-      ≡ then_entities done (entity before (group_of template head behind) >>= λ first. entities (before + 1) (sections (drop (front_len behind) behind)).groups >>= λ more. Ok (both first more))
+      ≡ then_entities done (entity before (group_of template head behind) >>= λ first. entities (before + 1) (sections (drop (leading_len behind) behind)).groups >>= λ more. Ok (both first more))
   found_first = ap (λ (groups : List Group). then_entities done (entities before groups)) (groups_found lines template head behind found)
 
   -- an entity more
   pub next_entity : (first : Configuration) → entity before (group_of template head behind) ≡ Ok first
-      → then_entities done (entities before (sections lines).groups) ≡ then_entities (both done first) (entities (before + 1) (sections (drop (front_len behind) behind)).groups)
+      → then_entities done (entities before (sections lines).groups) ≡ then_entities (both done first) (entities (before + 1) (sections (drop (leading_len behind) behind)).groups)
   next_entity first read =
       found_first
-      ∙ ap (λ (r : Result Configuration ConfigFault). then_entities done (r >>= λ first. entities (before + 1) (sections (drop (front_len behind) behind)).groups >>= λ more. Ok (both first more))) read
-      ∙ next_by done first (entities (before + 1) (sections (drop (front_len behind) behind)).groups)
+      ∙ ap (λ (r : Result Configuration ConfigFault). then_entities done (r >>= λ first. entities (before + 1) (sections (drop (leading_len behind) behind)).groups >>= λ more. Ok (both first more))) read
+      ∙ next_by done first (entities (before + 1) (sections (drop (leading_len behind) behind)).groups)
 
   -- its refusal is the first
   pub entity_refused : (fault : ConfigFault) → entity before (group_of template head behind) ≡ Err fault → then_entities done (entities before (sections lines).groups) ≡ Err fault
   entity_refused fault read =
       found_first
-      ∙ ap (λ (r : Result Configuration ConfigFault). then_entities done (r >>= λ first. entities (before + 1) (sections (drop (front_len behind) behind)).groups >>= λ more. Ok (both first more))) read
+      ∙ ap (λ (r : Result Configuration ConfigFault). then_entities done (r >>= λ first. entities (before + 1) (sections (drop (leading_len behind) behind)).groups >>= λ more. Ok (both first more))) read
 
 -- lines that begin with no entity's have others before the first entity's
-some_by : (head : Line) (all : Sections) → (section None head all).front ≡ [] → ⊥
+some_by : (head : Line) (all : Sections) → (section None head all).prefix ≡ [] → ⊥
 some_by head all none = cc
 
-pub some_before : (lines : List Line) (head : Line) (behind : List Line) → lines ≡ head ∷ behind → None ≡ begins head.text → (sections lines).front ≡ [] → ⊥
+pub some_before : (lines : List Line) (head : Line) (behind : List Line) → lines ≡ head ∷ behind → None ≡ begins head.text → (sections lines).prefix ≡ [] → ⊥
 some_before lines head behind whole other none =
     some_by head (sections behind)
-    (ap (λ (o : Option Bool). (section o head (sections behind)).front) other ∙ ap (λ (all : List Line). (sections all).front) (sym whole) ∙ none)
+    (ap (λ (o : Option Bool). (section o head (sections behind)).prefix) other ∙ ap (λ (all : List Line). (sections all).prefix) (sym whole) ∙ none)
 
 ended_some : (on : Option (List ℕ)) (line : ℕ) (config : Configuration) → is_some on ≡ true → ended_by on line config ≡ Ok config
 ended_some None line config some = cc
@@ -94,22 +94,22 @@ refused_alike a b Memory alike is = tt
 
 -- ---- the lines before the first entity
 
-module _ (lines front : List Line) (cut : front ≡ take (front_len lines) lines) where
-  front_read : front_skipped (sections lines).front ≡ front_skipped front
-  front_read = ap front_skipped (front_is lines ∙ sym cut)
+module _ (lines prefix : List Line) (cut : prefix ≡ take (leading_len lines) lines) where
+  prefix_read : prefix_skipped (sections lines).prefix ≡ prefix_skipped prefix
+  prefix_read = ap prefix_skipped (prefix_is lines ∙ sym cut)
 
-  pub front_refused : (fault : ConfigFault) → front_skipped front ≡ Err fault → of_sections (sections lines) ≡ Err fault
-  front_refused fault read =
-      ap (λ (r : Result ℕ ConfigFault). r >>= λ skipped. then_entities (none_but skipped) (entities 0 (sections lines).groups)) (front_read ∙ read)
+  pub prefix_refused : (fault : ConfigFault) → prefix_skipped prefix ≡ Err fault → of_sections (sections lines) ≡ Err fault
+  prefix_refused fault read =
+      ap (λ (r : Result ℕ ConfigFault). r >>= λ skipped. then_entities (none_but skipped) (entities 0 (sections lines).groups)) (prefix_read ∙ read)
 
-  pub front_taken : (skipped : ℕ) (rest : List Line) → front_skipped front ≡ Ok skipped → rest ≡ drop (front_len lines) lines
+  pub prefix_taken : (skipped : ℕ) (rest : List Line) → prefix_skipped prefix ≡ Ok skipped → rest ≡ drop (leading_len lines) lines
       → of_sections (sections lines) ≡ then_entities (none_but skipped) (entities 0 (sections rest).groups)
-  front_taken skipped rest read is =
-      ap (λ (r : Result ℕ ConfigFault). r >>= λ skipped. then_entities (none_but skipped) (entities 0 (sections lines).groups)) (front_read ∙ read)
+  prefix_taken skipped rest read is =
+      ap (λ (r : Result ℕ ConfigFault). r >>= λ skipped. then_entities (none_but skipped) (entities 0 (sections lines).groups)) (prefix_read ∙ read)
       ∙ ap (λ (groups : List Group). then_entities (none_but skipped) (entities 0 groups)) (groups_are lines ∙ ap (λ (all : List Line). (sections all).groups) (sym is))
 
-pub front_alike : (front : List Line) (fault : ConfigFault) → draft_read false front ≡ Err fault → front_skipped front ≡ Err fault
-front_alike front fault read = ap (λ (r : Result Draft ConfigFault). r >>= λ draft. Ok draft.skipped) read
+pub prefix_alike : (prefix : List Line) (fault : ConfigFault) → draft_read false prefix ≡ Err fault → prefix_skipped prefix ≡ Err fault
+prefix_alike prefix fault read = ap (λ (r : Result Draft ConfigFault). r >>= λ draft. Ok draft.skipped) read
 
 -- nothing was read but what was skipped
 pub none_read : (alarms : List Entity) (skipped : ℕ) → alarms ≡ [] → none_but skipped ≡ tally_of (record { alarms = alarms; skipped = skipped })
@@ -118,15 +118,15 @@ none_read alarms skipped none = ap (λ (alarms : List Entity). record { alarms =
 -- ---- one turn of the loop over entities
 
 module _ (before : ℕ) (old : Configuration) (lines : List Line) (template : Bool) (head : Line) (behind body next : List Line)
-    (found : IsFound lines template head behind) (cut : body ≡ take (front_len behind) behind) where
+    (found : IsFound lines template head behind) (cut : body ≡ take (leading_len behind) behind) where
   body_read : entity before (record { template = template; head = head; body = body }) ≡ entity before (group_of template head behind)
   body_read = ap (λ (body : List Line). entity before (record { template = template; head = head; body = body })) cut
 
-  pub turned : (new : Configuration) → next ≡ drop (front_len behind) behind → Adds (entity before (record { template = template; head = head; body = body })) old new
+  pub turned : (new : Configuration) → next ≡ drop (leading_len behind) behind → Adds (entity before (record { template = template; head = head; body = body })) old new
       → then_entities old (entities before (sections lines).groups) ≡ then_entities new (entities (before + 1) (sections next).groups)
   turned new is adds =
       next_entity before old lines template head behind found adds.0 (sym body_read ∙ adds.1)
-      ∙ ap (λ (done : Configuration). then_entities done (entities (before + 1) (sections (drop (front_len behind) behind)).groups)) (sym adds.2)
+      ∙ ap (λ (done : Configuration). then_entities done (entities (before + 1) (sections (drop (leading_len behind) behind)).groups)) (sym adds.2)
       ∙ ap (λ (left : List Line). then_entities new (entities (before + 1) (sections left).groups)) (sym is)
 
   pub stopped : (fault : ConfigFault) → entity before (record { template = template; head = head; body = body }) ≡ Err fault

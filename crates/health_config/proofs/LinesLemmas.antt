@@ -16,9 +16,9 @@ first_as number lines = joined number [] lines
 abbrev pub behind : Line → List Line → List Line
 behind line lines = joined line.number line.text lines
 
-joined_twice : (n m : ℕ) (front more : List ℕ) (lines : List Line) → joined n front (joined m more lines) ≡ joined n (front ++ more) lines
-joined_twice n m front more [] = refl
-joined_twice n m front more (line ∷ lines) = ap (λ (text : List ℕ). record { number = n; text = text } ∷ lines) (sym (append_assoc front more line.text))
+joined_twice : (n m : ℕ) (prefix more : List ℕ) (lines : List Line) → joined n prefix (joined m more lines) ≡ joined n (prefix ++ more) lines
+joined_twice n m prefix more [] = refl
+joined_twice n m prefix more (line ∷ lines) = ap (λ (text : List ℕ). record { number = n; text = text } ∷ lines) (sym (append_assoc prefix more line.text))
 
 from_step : (n : ℕ) (part : List ℕ) (lines : List Line) (b : Bool)
     → joined n [] (cond b (joined n (said part) lines) (record { number = n; text = said part } ∷ lines)) ≡ cond b (joined n (said part) lines) (record { number = n; text = said part } ∷ lines)
@@ -69,7 +69,7 @@ pub begun : (done : List Line) (line : Line) (text : List ℕ) → done ≡ [] �
 begun done line text none first empty =
     ap (λ (lines : List Line). lines ++ behind line (lines_from 1 (parts text))) none
     ∙ ap (λ (n : ℕ). joined n line.text (lines_from 1 (parts text))) first
-    ∙ ap (λ (front : List ℕ). joined 1 front (lines_from 1 (parts text))) empty
+    ∙ ap (λ (prefix : List ℕ). joined 1 prefix (lines_from 1 (parts text))) empty
     ∙ fresh_parts 1 text
 
 -- the line at hand is the last, with the last part
@@ -78,7 +78,7 @@ pub finished : (done all : List Line) (line : Line) (number : ℕ) (ahead text n
 unfolding lines
 finished done all line number ahead text new last added pushed kept =
     pushed
-    ∙ ap (λ (front : List ℕ). done ++ record { number = line.number; text = front } ∷ []) added
+    ∙ ap (λ (prefix : List ℕ). done ++ record { number = line.number; text = prefix } ∷ []) added
     ∙ ap (λ (lines : List Line). done ++ lines) (sym (last_taken line number ahead))
     ∙ ap (λ (left : List (List ℕ)). done ++ behind line (lines_from number left)) (sym last)
     ∙ kept

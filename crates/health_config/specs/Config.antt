@@ -57,8 +57,8 @@ entities before (group ∷ groups) = do
   Ok (both first more)
 
 -- the lines before the first entity have no alarm, and may be refused and skipped
-abbrev pub front_skipped : List Line → Result ℕ ConfigFault
-front_skipped front = draft_read false front >>= λ draft. Ok draft.skipped
+abbrev pub prefix_skipped : List Line → Result ℕ ConfigFault
+prefix_skipped prefix = draft_read false prefix >>= λ draft. Ok draft.skipped
 
 abbrev pub none_but : ℕ → Configuration
 none_but skipped = record { alarms = []; skipped = skipped }
@@ -68,7 +68,7 @@ abbrev pub then_entities : Configuration → Result Configuration ConfigFault �
 then_entities done left = left >>= λ more. Ok (both done more)
 
 abbrev pub of_sections : Sections → Result Configuration ConfigFault
-of_sections all = front_skipped all.front >>= λ skipped. then_entities (none_but skipped) (entities 0 all.groups)
+of_sections all = prefix_skipped all.prefix >>= λ skipped. then_entities (none_but skipped) (entities 0 all.groups)
 
 unfoldable pub config_read : List ℕ → Result Configuration ConfigFault
 config_read text = if nat_lt TEXT_LIMIT (length text) then Err TextTooLong else of_sections (sections (lines text))

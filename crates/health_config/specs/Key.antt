@@ -5,8 +5,8 @@ use Rattle.std.specs.Str.{bytes_eq}
 use Rattle.words.specs.Words.{is_blank}
 
 -- a text without the blanks in front
-abbrev pub without_front : List ℕ → List ℕ
-without_front text = drop (prefix_len is_blank text) text
+abbrev pub without_prefix : List ℕ → List ℕ
+without_prefix text = drop (prefix_len is_blank text) text
 
 -- a text without the blanks at its end
 abbrev pub without_back : List ℕ → List ℕ
@@ -14,11 +14,11 @@ without_back text = take (length text - prefix_len is_blank (reverse text)) text
 
 -- a text without blanks on either side
 abbrev pub trimmed : List ℕ → List ℕ
-trimmed text = without_front (without_back text)
+trimmed text = without_prefix (without_back text)
 
 -- a line with nothing but blanks, or with a `#` behind them, says nothing
 abbrev pub is_ignored : List ℕ → Bool
-is_ignored line = length (without_front line) == 0 || slice_index (without_front line) 0 == 35
+is_ignored line = length (without_prefix line) == 0 || slice_index (without_prefix line) 0 == 35
 
 abbrev pub is_colon : ℕ → Bool
 is_colon byte = byte == 58

@@ -20,8 +20,8 @@ said part = if goes_on part then take (length part - 1) part ++ 32 ∷ [] else p
 
 -- the first of these lines goes on what stands before it, under that number; at the text's end there is none
 abbrev pub joined : ℕ → List ℕ → List Line → List Line
-joined number front [] = record { number = number; text = front } ∷ []
-joined number front (line ∷ lines) = record { number = number; text = front ++ line.text } ∷ lines
+joined number prefix [] = record { number = number; text = prefix } ∷ []
+joined number prefix (line ∷ lines) = record { number = number; text = prefix ++ line.text } ∷ lines
 
 -- the lines of these parts, of which the first has this number
 abbrev pub lines_from : ℕ → List (List ℕ) → List Line

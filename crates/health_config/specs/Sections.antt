@@ -11,14 +11,14 @@ pub record Group : Type 0 where
 
 -- the lines before the first entity, and the entities
 pub record Sections : Type 0 where
-  pub front : List Line
+  pub prefix : List Line
   pub groups : List Group
 
 abbrev pub section : Option Bool → Line → Sections → Sections
-section None line behind = record { front = line ∷ behind.front; groups = behind.groups }
+section None line behind = record { prefix = line ∷ behind.prefix; groups = behind.groups }
 section (Some template) line behind =
-    record { front = []; groups = record { template = template; head = line; body = behind.front } ∷ behind.groups }
+    record { prefix = []; groups = record { template = template; head = line; body = behind.prefix } ∷ behind.groups }
 
 abbrev pub sections : List Line → Sections
-sections [] = record { front = []; groups = [] }
+sections [] = record { prefix = []; groups = [] }
 sections (line ∷ lines) = section (begins line.text) line (sections lines)

@@ -10,7 +10,7 @@ use std::str;
 use words::is_blank;
 
 /// How many blanks a text begins with.
-fn front_len(text: &[u8]) -> usize
+fn leading_len(text: &[u8]) -> usize
     ensures len { result ≡ prefix_len is_blank text.now }
     ensures within { result ≤ length text.now }
 {
@@ -33,7 +33,7 @@ fn trimmed(text: &[u8]) -> &[u8]
     ensures { result.now ≡ spec.trimmed text.now }
 {
     let text = &text[..text.len() - back_len(text)];
-    &text[front_len(text)..]
+    &text[leading_len(text)..]
 }
 
 /// The same of a text that is UTF-8.
@@ -41,14 +41,14 @@ fn trimmed_text(text: &str) -> &str
     ensures { result.now ≡ spec.trimmed text.now }
 {
     let text = &text[..text.len() - back_len(text.as_bytes())];
-    &text[front_len(text.as_bytes())..]
+    &text[leading_len(text.as_bytes())..]
 }
 
 /// Whether a line has nothing but blanks, or a `#` behind them.
 pub fn is_ignored(line: &[u8]) -> bool
     ensures { result ≡ spec.is_ignored line.now }
 {
-    let line = &line[front_len(line)..];
+    let line = &line[leading_len(line)..];
     line.is_empty() || line[0] == b'#'
 }
 

@@ -58,8 +58,8 @@ fn split_unit(body: &[u8]) -> (&[u8], u64)
 pub fn duration(text: &[u8], low: u32, high: u32) -> Result<u32, ValueFault>
     ensures { result ≡ spec.duration low high text.now }
 {
-    let (front, unit) = split_unit(without_sign(text));
-    let Some(count) = read_digits(front) else {
+    let (prefix, unit) = split_unit(without_sign(text));
+    let Some(count) = read_digits(prefix) else {
         return Err(ValueFault::Duration);
     };
     let seconds = count.saturating_mul(u128::from(unit));

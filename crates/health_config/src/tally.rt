@@ -29,7 +29,7 @@ pub struct Tally {
 }
 
 /// How many lines stand before the first that begins an entity.
-fn front_len(lines: &[Line]) -> usize
+fn leading_len(lines: &[Line]) -> usize
     ensures len { result ≡ prefix_len (λ line. is_none (begins line.text)) lines.now }
     ensures within { result ≤ length lines.now }
 {
@@ -42,7 +42,7 @@ fn front_len(lines: &[Line]) -> usize
 /// Of lines that begin with an entity's, whether that is a template, its first line, and all lines behind
 /// that.
 fn first_entity(lines: &[Line]) -> Option<(bool, &Line, &[Line])>
-    requires { (sections lines.now).front ≡ [] }
+    requires { (sections lines.now).prefix ≡ [] }
     ensures { MatchOption result (lines.now ≡ [])
         (λ found. spec.IsFound lines.now found.0 found.1.now found.2.now) }
 {
@@ -121,11 +121,11 @@ fn add_entity(
 }
 
 /// How many lines before the first entity have a key, which is skipped there.
-fn read_front(alloc: Global, lines: &[Line]) -> Result<u64, ConfigFault>
+fn read_prefix(alloc: Global, lines: &[Line]) -> Result<u64, ConfigFault>
     requires { length lines.now < 2 ^ 63 }
-    ensures ok { IfOk result (λ skipped. spec.front_skipped lines.now ≡ Ok skipped) }
+    ensures ok { IfOk result (λ skipped. spec.prefix_skipped lines.now ≡ Ok skipped) }
     ensures few { IfOk result (λ skipped. skipped ≤ length lines.now) }
-    ensures fault { IfErr result (IsRefusalFor (spec.front_skipped lines.now)) }
+    ensures fault { IfErr result (IsRefusalFor (spec.prefix_skipped lines.now)) }
 {
     let draft = read_draft(alloc, false, lines)?;
     Ok(draft.skipped)
@@ -133,7 +133,7 @@ fn read_front(alloc: Global, lines: &[Line]) -> Result<u64, ConfigFault>
 
 /// The alarms of lines that begin with an entity's, behind so many that were skipped.
 fn read_entities(alloc: Global, skipped: u64, lines: &[Line]) -> Result<Tally, ConfigFault>
-    requires here { (sections lines.now).front ≡ [] }
+    requires here { (sections lines.now).prefix ≡ [] }
     requires few { skipped + length lines.now < 2 ^ 63 }
     ensures ok { IfOk result (λ tally. spec.then_entities (spec.none_but skipped)
         (spec.entities 0 (sections lines.now).groups) ≡ Ok (tally_of tally)) }
@@ -147,7 +147,7 @@ fn read_entities(alloc: Global, skipped: u64, lines: &[Line]) -> Result<Tally, C
     let mut before = 0usize;
     let mut ahead = lines;
     while let Some((template, head, behind)) = first_entity(ahead) {
-        let (body, next) = behind.split_at(front_len(behind));
+        let (body, next) = behind.split_at(leading_len(behind));
         add_entity(alloc, before, template, head, body, &mut tally)?;
         before += 1;
         ahead = next;
@@ -162,7 +162,7 @@ pub fn read_tally(alloc: Global, lines: &[Line]) -> Result<Tally, ConfigFault>
         ≡ Ok (tally_of tally)) }
     ensures fault { IfErr result (IsRefusalFor (spec.of_sections (sections lines.now))) }
 {
-    let (front, rest) = lines.split_at(front_len(lines));
-    let skipped = read_front(alloc, front)?;
+    let (prefix, rest) = lines.split_at(leading_len(lines));
+    let skipped = read_prefix(alloc, prefix)?;
     read_entities(alloc, skipped, rest)
 }

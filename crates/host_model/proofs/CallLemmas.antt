@@ -7,7 +7,7 @@ use Rattle.std.proofs.lemmas.List.{take_all, take-take, length-take}
 use Rattle.host_model.specs.declared.file.File.{File}
 use Rattle.host_model.specs.Images.{Change, Synced, contents}
 use Rattle.host_model.specs.Past.{Event, On, Told, of, told, IsDisk, MayAdd}
-use Rattle.host_model.specs.Moments.{Throughout, begins, goes_on, EveryStop, OnlyOn}
+use Rattle.host_model.specs.Moments.{Throughout, begins, goes_on, EveryCrash, OnlyOn}
 use Rattle.host_model.proofs.MomentLemmas.{at_end, joined, of-on_same, OnlyOn-change}
 
 -- what a call that did not fail ensures
@@ -54,10 +54,10 @@ take-take_min m n xs =
 -- a tell: the disk stays, and the output gains a prefix of what is told
 pub said : {T E : Type 0} (P : (File → List ℕ) → List ℕ → Type 0) (honest : Type 0) (result : Result T E) (bytes : List ℕ) (old new : List Event) → honest
     → OnOk result (honest → new ≡ Told bytes ∷ old) → OnErr result (honest → MayAdd (λ n. Told (take n bytes)) old new)
-    → EveryStop P old → ((disk : File → List ℕ) (n : ℕ) → IsDisk old disk → P disk (told old ++ take n bytes))
-    → Throughout (EveryStop P) old new
+    → EveryCrash P old → ((disk : File → List ℕ) (n : ℕ) → IsDisk old disk → P disk (told old ++ take n bytes))
+    → Throughout (EveryCrash P) old new
 said P honest result bytes old new h ok err here there =
-    changed (EveryStop P) honest result (Told bytes) (λ n. Told (take n bytes)) old new h ok err here
+    changed (EveryCrash P) honest result (Told bytes) (λ n. Told (take n bytes)) old new h ok err here
     (λ disk text images cut. subst (λ t. P disk t) (sym cut.1) (there disk cut.0 images))
     (λ n disk text images cut. subst (λ t. P disk t) (sym (cut.1 ∙ ap (λ l. told old ++ l) (take-take_min cut.0 n bytes))) (there disk (min cut.0 n) images))
 

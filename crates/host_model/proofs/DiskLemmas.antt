@@ -5,7 +5,7 @@ use Rattle.std.proofs.lemmas.List.{nil_from_length}
 use Rattle.host_model.specs.declared.file.File.{File}
 use Rattle.host_model.specs.Images.{Synced, contents, IsImage}
 use Rattle.host_model.specs.Past.{Event, On, Told, file_number, is_same, of, told, IsOther, IsDisk, IsText}
-use Rattle.host_model.specs.Moments.{Throughout, EveryImage, EveryStop, OnlyOn}
+use Rattle.host_model.specs.Moments.{Throughout, EveryImage, EveryCrash, OnlyOn}
 use Rattle.host_model.specs.Disks.{EveryDisk, disk_with}
 use Rattle.host_model.proofs.FileLemmas.{image_when_synced}
 use Rattle.host_model.proofs.MomentLemmas.{Grows, strengthened, weakened, of-on_other, only_on_each, told-append, text_at_start}
@@ -55,7 +55,7 @@ pub untold : {A : (File → List ℕ) → Type 0} {P : (File → List ℕ) → L
     → told new ≡ told old
     → ((disk : File → List ℕ) (text : List ℕ) → A disk → IsText old text → P disk text)
     → Throughout (EveryDisk A) old new
-    → Throughout (EveryStop P) old new
+    → Throughout (EveryCrash P) old new
 untold {A} {P} {old} {new} same shows moments =
     strengthened (λ past from_old to_new held disk text images told_by.
     shows disk text (held disk images)

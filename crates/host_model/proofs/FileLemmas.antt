@@ -69,9 +69,9 @@ least_from from (Cut len now ∷ past) all within = let before : from ≤ least 
 least_from from (Synced ∷ past) all within = within
 
 -- then each image keeps what was synced before that place
-pub front_kept : (from : ℕ) (past : List Change) (bytes : List ℕ) → IsFrom from past → from ≤ length (synced past) → IsImage past bytes
+pub prefix_kept : (from : ℕ) (past : List Change) (bytes : List ℕ) → IsFrom from past → from ≤ length (synced past) → IsImage past bytes
     → (from ≤ length bytes) × (take from bytes ≡ take from (synced past))
-front_kept from past bytes all within image =
+prefix_kept from past bytes all within image =
     let enough : from ≤ length bytes = omega (arith, least_from from past all within, image.no_shorter) in (
       enough,
       ext_get_or 0 (take from bytes) (take from (synced past)) (omega (arith, length-take from bytes, length-take from (synced past)))
@@ -123,7 +123,7 @@ greatest_within from to (Synced ∷ past) all = omega arith
 pub record KeepsAround (from to : ℕ) (old bytes : List ℕ) : Type 0 where
   pub no_shorter : length old ≤ length bytes
   pub no_longer : length bytes ≤ max (length old) to
-  pub front : take from bytes ≡ take from old
+  pub prefix : take from bytes ≡ take from old
   pub rest : drop to bytes ≡ drop to old
 
 pub around_kept : (from to : ℕ) (past : List Change) (bytes : List ℕ) → IsWithin from to past → from ≤ length (synced past) → IsImage past bytes
@@ -135,7 +135,7 @@ around_kept from to past bytes all within image =
     record {
       no_shorter = enough;
       no_longer = bounded;
-      front = (front_kept from past bytes (IsFrom-within from to past all) within image).1;
+      prefix = (prefix_kept from past bytes (IsFrom-within from to past all) within image).1;
       rest = ext_get_or 0 (drop to bytes) (drop to old) (omega (arith, length-drop to bytes, length-drop to old))
           (λ place below.
           let there : to + place < length old = omega (arith, length-drop to bytes) in
@@ -187,10 +187,10 @@ read-written old at bytes within =
     ap (λ (l : List ℕ). take (length bytes) l) rest ∙ take_at bytes (drop (at + length bytes) old) (length bytes) refl
 
 -- bytes written behind the prefix of a list
-pub written-behind : (front rest : List ℕ) (at : ℕ) (bytes : List ℕ) → length front ≡ at
-    → written (front ++ rest) at bytes ≡ (front ++ bytes) ++ drop (length bytes) rest
-written-behind front rest at bytes size =
-    let before : take at (front ++ rest) ≡ front = take_at front rest at size in
-    let after : drop (at + length bytes) (front ++ rest) ≡ drop (length bytes) rest =
-    sym (drop-drop (length bytes) at (front ++ rest)) ∙ ap (λ (l : List ℕ). drop (length bytes) l) (drop_at front rest at size) in
+pub written-behind : (prefix rest : List ℕ) (at : ℕ) (bytes : List ℕ) → length prefix ≡ at
+    → written (prefix ++ rest) at bytes ≡ (prefix ++ bytes) ++ drop (length bytes) rest
+written-behind prefix rest at bytes size =
+    let before : take at (prefix ++ rest) ≡ prefix = take_at prefix rest at size in
+    let after : drop (at + length bytes) (prefix ++ rest) ≡ drop (length bytes) rest =
+    sym (drop-drop (length bytes) at (prefix ++ rest)) ∙ ap (λ (l : List ℕ). drop (length bytes) l) (drop_at prefix rest at size) in
     rw (before, after) refl

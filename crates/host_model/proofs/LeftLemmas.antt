@@ -12,7 +12,7 @@ use Rattle.host_model.specs.DiskLaw.{same_file, untouched_below_least}
 use Rattle.host_model.specs.Keep.{IsFilled, IsLeftBy}
 use Rattle.host_model.specs.Replay.{FillsIn, Touches, IsLeft, Replays}
 
-least-greatest : (past : List Change) → least past ≤ greatest past
+pub least-greatest : (past : List Change) → least past ≤ greatest past
 least-greatest [] = omega arith
 least-greatest (Wrote at size now ∷ past) = omega (arith, least-greatest past)
 least-greatest (Cut len now ∷ past) = omega (arith, least-greatest past)

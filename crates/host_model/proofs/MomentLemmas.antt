@@ -4,7 +4,7 @@ use Rattle.std.proofs.lemmas.List.{take_all, nil_from_length}
 use Rattle.host_model.specs.declared.file.File.{File}
 use Rattle.host_model.specs.Images.{Change, IsImage}
 use Rattle.host_model.specs.Past.{Event, On, Told, file_number, is_same, IsOther, of, told, IsText}
-use Rattle.host_model.specs.Moments.{Throughout, begins, goes_on, EveryImage, EveryStop, OnlyOn}
+use Rattle.host_model.specs.Moments.{Throughout, begins, goes_on, EveryImage, EveryCrash, OnlyOn}
 
 -- the new past has grown from the old one
 pub record Grows (old new : List Event) : Type 0 where
@@ -132,7 +132,7 @@ pub whole_disk : {A : List ℕ → Type 0} {P : (File → List ℕ) → List ℕ
     → OnlyOn file old new
     → ((disk : File → List ℕ) (text : List ℕ) → A (disk file) → ((other : File) → IsOther other file → IsImage (of other old) (disk other)) → IsText old text → P disk text)
     → Throughout (EveryImage file A) old new
-    → Throughout (EveryStop P) old new
+    → Throughout (EveryCrash P) old new
 whole_disk {A} {P} {old} {new} file only shows moments =
     strengthened (λ past from_old to_new held disk text images told_by.
     let here = only_on_each file old past new only from_old to_new in
@@ -144,7 +144,7 @@ whole_disk {A} {P} {old} {new} file only shows moments =
 pub other_files : {P : (File → List ℕ) → List ℕ → Type 0} {old new : List Event} (file : File)
     → ((disk : File → List ℕ) (text : List ℕ) → ((other : File) → IsOther other file → IsImage (of other old) (disk other)) → IsText old text → P disk text)
     → Throughout (OnlyOn file old) old new
-    → Throughout (EveryStop P) old new
+    → Throughout (EveryCrash P) old new
 other_files {P} {old} {new} file shows moments =
     strengthened (λ past from_old to_new here disk text images told_by.
     shows disk text

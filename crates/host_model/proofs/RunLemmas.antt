@@ -5,7 +5,7 @@ use Rattle.host_model.specs.declared.file.File.{File}
 use Rattle.host_model.specs.Images.{Wrote, Cut, Synced, contents, synced, IsImage, IsSynced}
 use Rattle.host_model.specs.Past.{Event, On, of, MayAdd}
 use Rattle.host_model.specs.Moments.{Throughout, EveryImage}
-use Rattle.host_model.proofs.FileLemmas.{image_when_synced, contents-synced, IsFrom, IsFrom-synced, front_kept, IsWithin, IsWithin-synced, KeepsAround, around_kept}
+use Rattle.host_model.proofs.FileLemmas.{image_when_synced, contents-synced, IsFrom, IsFrom-synced, prefix_kept, IsWithin, IsWithin-synced, KeepsAround, around_kept}
 use Rattle.host_model.proofs.MomentLemmas.{at_end, joined, of-on_same}
 use Rattle.host_model.proofs.CallLemmas.{changed, settled}
 
@@ -54,16 +54,16 @@ RunsFrom-cut file from len now old past behind run = record {
 }
 
 -- an image still begins with these bytes
-pub record KeepsFront (from : ℕ) (old bytes : List ℕ) : Type 0 where
+pub record KeepsPrefix (from : ℕ) (old bytes : List ℕ) : Type 0 where
   pub enough : from ≤ length bytes
-  pub front : take from bytes ≡ take from old
+  pub prefix : take from bytes ≡ take from old
 
 pub RunsFrom-images : (file : File) (from : ℕ) (old past : List Event) → from ≤ length (contents (of file old)) → RunsFrom file from old past
-    → EveryImage file (KeepsFront from (contents (of file old))) past
+    → EveryImage file (KeepsPrefix from (contents (of file old))) past
 RunsFrom-images file from old past within run bytes image =
     let inside : from ≤ length (synced (of file past)) = rw run.base within in
-    let kept = front_kept from (of file past) bytes run.changes inside image in
-    record { enough = kept.0; front = kept.1 ∙ ap (λ (l : List ℕ). take from l) run.base }
+    let kept = prefix_kept from (of file past) bytes run.changes inside image in
+    record { enough = kept.0; prefix = kept.1 ∙ ap (λ (l : List ℕ). take from l) run.base }
 
 pub write_from : {T E : Type 0} (honest : Type 0) (result : Result T E) (file : File) (from at : ℕ) (bytes after : List ℕ) (old past new : List Event) → honest → from ≤ at
     → OnOk result (honest → new ≡ On file (Wrote at (length bytes) after) ∷ past)

@@ -3,5 +3,5 @@ use Rattle.std.proofs.Common.{◌≡◌, ℕ, sym, ◌+◌, List, ◌++◌, take
 use Rattle.std.proofs.lemmas.List.{take-append-drop, drop-drop}
 
 -- what was left is its prefix and then the rest
-pub front_and_rest : (bytes into : List ℕ) (taken n : ℕ) → take n into ≡ take n (drop taken bytes) → drop taken bytes ≡ take n into ++ drop (taken + n) bytes
-front_and_rest bytes into taken n front = rw (front, ← drop-drop n taken bytes) (sym (take-append-drop n (drop taken bytes)))
+pub prefix_and_rest : (bytes into : List ℕ) (taken n : ℕ) → take n into ≡ take n (drop taken bytes) → drop taken bytes ≡ take n into ++ drop (taken + n) bytes
+prefix_and_rest bytes into taken n prefix = rw (prefix, ← drop-drop n taken bytes) (sym (take-append-drop n (drop taken bytes)))

@@ -33,10 +33,10 @@ length-written old at bytes =
 written-kept : (old : List ℕ) (at : ℕ) (bytes : List ℕ) (place : ℕ) → place < length old → ((place < at) ⊎ (at + length bytes ≤ place))
     → get_or (written old at bytes) place 0 ≡ get_or old place 0
 written-kept old at bytes place within (inl before) =
-    let front : place < length (take at old) = omega (arith, length-take at old) in
+    let prefix : place < length (take at old) = omega (arith, length-take at old) in
     let more : place < length (take at old ++ bytes) = omega (arith, length-append (take at old) bytes) in
     get_or_append_left (take at old ++ bytes) (drop (at + length bytes) old) 0 place more
-    ∙ get_or_append_left (take at old) bytes 0 place front
+    ∙ get_or_append_left (take at old) bytes 0 place prefix
     ∙ get_or-take at old place 0 before
 written-kept old at bytes place within (inr after) =
     let size : length (take at old ++ bytes) ≡ at + length bytes = omega (arith, length-append (take at old) bytes, length-take at old) in

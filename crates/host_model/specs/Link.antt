@@ -5,5 +5,5 @@ abbrev pub Sends : Option (List ℕ) → List ℕ → Option (List ℕ) → Type
 Sends before bytes after = after ≡ option_map (λ sent. sent ++ bytes) before
 
 -- a prefix of these bytes was put behind what was sent: none, some or all of them
-abbrev pub SendsFront : Option (List ℕ) → List ℕ → Option (List ℕ) → Type 0
-SendsFront before bytes after = (n : ℕ) × Sends before (take n bytes) after
+abbrev pub SendsPrefix : Option (List ℕ) → List ℕ → Option (List ℕ) → Type 0
+SendsPrefix before bytes after = (n : ℕ) × Sends before (take n bytes) after

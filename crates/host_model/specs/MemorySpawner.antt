@@ -40,11 +40,11 @@ abbrev pub HasNoChild : SpawnerState → Type 0
 HasNoChild spawner = IsListed spawner ⊎ (spawner.children.running ≡ None)
 
 -- a child that has taken the next bytes away
-abbrev pub without_front : ℕ → Child → Child
-without_front n child = record child { left = drop n child.left }
+abbrev pub without_prefix : ℕ → Child → Child
+without_prefix n child = record child { left = drop n child.left }
 
 abbrev pub after_pull : ℕ → Children → Children
-after_pull n children = record children { running = option_map (without_front n) children.running }
+after_pull n children = record children { running = option_map (without_prefix n) children.running }
 
 -- a child to come behind the others
 abbrev pub with_child : SpawnerState → Child → SpawnerState

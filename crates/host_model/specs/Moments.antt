@@ -16,8 +16,8 @@ abbrev pub EveryImage : File → (List ℕ → Type 0) → List Event → Type 0
 EveryImage file P past = (bytes : List ℕ) → IsImage (of file past) bytes → P bytes
 
 -- this holds of every disk that a crash may leave, with all that may have been told by then
-abbrev pub EveryStop : ((File → List ℕ) → List ℕ → Type 0) → List Event → Type 0
-EveryStop P past = (disk : File → List ℕ) (text : List ℕ) → IsDisk past disk → IsText past text → P disk text
+abbrev pub EveryCrash : ((File → List ℕ) → List ℕ → Type 0) → List Event → Type 0
+EveryCrash P past = (disk : File → List ℕ) (text : List ℕ) → IsDisk past disk → IsText past text → P disk text
 
 -- nothing happened to any other file, and nothing was told
 pub record OnlyOn (file : File) (old new : List Event) : Type 0 where

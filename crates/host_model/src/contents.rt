@@ -20,10 +20,10 @@ impl Model for Contents {
 }
 
 /// Copies as many bytes as fit from the start of `from` to the start of `into`, and says how many.
-pub(crate) fn copy_front(from: &[u8], into: &mut [u8]) -> usize
+pub(crate) fn copy_prefix(from: &[u8], into: &mut [u8]) -> usize
     ensures size { result ≡ min (length from.now) (length into.old) }
     ensures bytes { into.new ≡ take result from.now ++ drop result into.old }
-    ensures front { take result into.new ≡ take result from.now }
+    ensures prefix { take result into.new ≡ take result from.now }
 {
     let size = from.len().min(into.len());
     into[..size].copy_from_slice(&from[..size]);

@@ -1,6 +1,6 @@
 ghost use Rattle.std.specs.Prelude.{◌≡◌, ℕ, ◌<◌, ◌≤◌, List, [], length, take, Option, IsErr, IfOk, IfSome, OnOk, OnErr};
 ghost use Rattle.host_model.specs.Source.{Takes};
-ghost use Rattle.host_model.specs.Link.{Sends, SendsFront};
+ghost use Rattle.host_model.specs.Link.{Sends, SendsPrefix};
 ghost use Rattle.host_model.specs.Cause.{HasCause};
 
 use crate::host::Failed;
@@ -19,7 +19,7 @@ pub trait Link {
     /// Sends `bytes`, all of them. After `Failed` a prefix of them may have been sent.
     fn send(&mut self, bytes: &[u8]) -> Result<(), Failed>
         ensures done { OnOk result (Sends (sent self.old) bytes.now (sent self.new)) }
-        ensures torn { OnErr result (SendsFront (sent self.old) bytes.now (sent self.new)) }
+        ensures torn { OnErr result (SendsPrefix (sent self.old) bytes.now (sent self.new)) }
         ensures left { left self.new ≡ left self.old }
         ensures cause { HasCause (faults self.old) (faults self.new) (IsErr result) };
 

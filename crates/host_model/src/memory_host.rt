@@ -7,7 +7,7 @@ ghost use Rattle.host_model.specs.HostState.{new_host, FailsNext, after_call, af
 ghost use Rattle.host_model.specs.Entry.{event_of, past_of, IsQuiet, file_in, KeepsDisk};
 
 use crate::calls::{CallList, ModelFault, fails_at};
-use crate::contents::{Contents, copy_front, rest_from};
+use crate::contents::{Contents, copy_prefix, rest_from};
 use crate::entry::Entry;
 use crate::file::File;
 use crate::host::{Failed, Host};
@@ -382,7 +382,7 @@ impl Host for MemoryHost {
         if self.begin() {
             return Err(self.fail_disk(false));
         }
-        Ok(copy_front(rest_from(self.contents(file), at as usize), into))
+        Ok(copy_prefix(rest_from(self.contents(file), at as usize), into))
     }
 
     fn write_at(&mut self, file: File, at: u64, bytes: &[u8]) -> Result<(), Failed>

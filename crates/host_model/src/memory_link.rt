@@ -1,12 +1,12 @@
 ghost use Rattle.std.specs.Prelude.{◌≡◌, ◌⊎◌, ◌↔◌, [], ◌++◌, length, min, take, drop, Contains, Some, IsErr, IsTrue, IfOk, OnOk, OnErr};
 ghost use Rattle.host_model.specs.Source.{Takes};
-ghost use Rattle.host_model.specs.Link.{Sends, SendsFront};
+ghost use Rattle.host_model.specs.Link.{Sends, SendsPrefix};
 ghost use Rattle.host_model.specs.Cause.{HasCause, Rose};
 ghost use Rattle.host_model.specs.Calls.{raised};
 ghost use Rattle.host_model.specs.MemoryLink.{after_send, after_link_fault, after_link_refusal};
 
 use crate::calls::{CallList, ModelFault, is_listed};
-use crate::contents::{copy_front, rest_from};
+use crate::contents::{copy_prefix, rest_from};
 use crate::host::Failed;
 use crate::link::Link;
 use fixed_num::ByteList;
@@ -145,7 +145,7 @@ impl Link for MemoryLink {
         if self.begin() {
             return Err(self.fail());
         }
-        let size = copy_front(rest_from(self.bytes.as_slice(), self.taken), into);
+        let size = copy_prefix(rest_from(self.bytes.as_slice(), self.taken), into);
         self.taken += size;
         Ok(size)
     }

@@ -4,7 +4,7 @@ ghost use Rattle.host_model.specs.Cause.{HasCause};
 ghost use Rattle.host_model.specs.Calls.{raised};
 
 use crate::calls::{CallList, ModelFault, is_listed};
-use crate::contents::{copy_front, rest_from};
+use crate::contents::{copy_prefix, rest_from};
 use crate::host::Failed;
 use crate::source::Source;
 use fixed_num::ByteList;
@@ -83,7 +83,7 @@ impl Source for MemorySource {
             self.faults = self.faults.saturating_add(1);
             return Err(Failed);
         }
-        let size = copy_front(rest_from(self.bytes.as_slice(), self.taken), into);
+        let size = copy_prefix(rest_from(self.bytes.as_slice(), self.taken), into);
         self.taken += size;
         Ok(size)
     }

@@ -5,7 +5,7 @@ ghost use Rattle.host_model.specs.Spawner.{before_bytes, after_start, after_end}
 ghost use Rattle.host_model.specs.MemorySpawner.{CannotStart, HasNoChild, IsListed, after_pull, after_spawner_call, after_spawner_fault, after_spawner_refusal, with_child};
 
 use crate::calls::{CallList, ModelFault, is_listed};
-use crate::contents::{copy_front, rest_from};
+use crate::contents::{copy_prefix, rest_from};
 use crate::host::Failed;
 use crate::spawner::Spawner;
 use fixed_num::{ByteList, ListOf, WordsList};
@@ -42,7 +42,7 @@ impl MemoryChild {
         ensures filled { into.new ≡ take result self.old.left ++ drop result into.old }
         ensures bytes { self.old.left ≡ take result into.new ++ self.new.left }
     {
-        let size = copy_front(rest_from(self.bytes.as_slice(), self.taken), into);
+        let size = copy_prefix(rest_from(self.bytes.as_slice(), self.taken), into);
         self.taken += size;
         size
     }

@@ -17,13 +17,13 @@ tail_of generation bytes records stands = record {
 }
 
 -- two records at the start of the same bytes are one, and the same bytes follow it
-pub record SameFront (body other rest others : List ℕ) : Type 0 where
+pub record SamePrefix (body other rest others : List ℕ) : Type 0 where
   pub body_same : body ≡ other
   pub rest_same : rest ≡ others
 
-pub same_front : (body other rest others : List ℕ) → IsShort body → IsShort other
-    → length_field (length body) ++ (body ++ rest) ≡ length_field (length other) ++ (other ++ others) → SameFront body other rest others
-same_front body other rest others short short_other same =
+pub same_prefix : (body other rest others : List ℕ) → IsShort body → IsShort other
+    → length_field (length body) ++ (body ++ rest) ≡ length_field (length other) ++ (other ++ others) → SamePrefix body other rest others
+same_prefix body other rest others short short_other same =
     let field = length_field (length body) in
     let field_other = length_field (length other) in
     let fields : field ≡ field_other =
@@ -66,11 +66,11 @@ behind (body ∷ before) [] bytes fits tail = absurd (tail.closed cc)
 behind (body ∷ before) (other ∷ records) bytes fits tail =
     let same : length_field (length body) ++ (body ++ (opened before ++ bytes)) ≡ length_field (length other) ++ (other ++ (opened records ++ tail.gate ∷ tail.rest)) =
     ap (λ (l : List ℕ). drop 1 l) (sym (one_open body bytes before) ∙ tail.form ∙ one_open other (tail.gate ∷ tail.rest) records) in
-    let front = same_front body other (opened before ++ bytes) (opened records ++ tail.gate ∷ tail.rest) fits.0 tail.fits.0 same in
-    let there = behind before records bytes fits.1 (record { gate = tail.gate; rest = tail.rest; form = front.rest_same; closed = tail.closed; fits = tail.fits.1 }) in
+    let prefix = same_prefix body other (opened before ++ bytes) (opened records ++ tail.gate ∷ tail.rest) fits.0 tail.fits.0 same in
+    let there = behind before records bytes fits.1 (record { gate = tail.gate; rest = tail.rest; form = prefix.rest_same; closed = tail.closed; fits = tail.fits.1 }) in
     record {
       others = there.others;
-      all = ap (λ (r : List ℕ). r ∷ records) (sym front.body_same) ∙ ap (λ (l : List (List ℕ)). body ∷ l) there.all;
+      all = ap (λ (r : List ℕ). r ∷ records) (sym prefix.body_same) ∙ ap (λ (l : List (List ℕ)). body ∷ l) there.all;
       tail = there.tail;
     }
 
@@ -87,15 +87,15 @@ records_once generation bytes records others stands again =
     sym (there.all ∙ ap (λ (l : List (List ℕ)). records ++ l) none ∙ append-nil records)
 
 -- where a journal goes on from some bytes, one goes on from their prefix
-pub goes_on_front : (generation : ℕ) (front rest : List ℕ) → GoesOn generation (front ++ rest) → GoesOn generation front
-goes_on_front generation front rest on =
-    (rest ++ on.0, (on.1.0, subst (λ (b : List ℕ). StandsFor generation b on.1.0) (append_assoc front rest on.0) on.1.1))
+pub goes_on_prefix : (generation : ℕ) (prefix rest : List ℕ) → GoesOn generation (prefix ++ rest) → GoesOn generation prefix
+goes_on_prefix generation prefix rest on =
+    (rest ++ on.0, (on.1.0, subst (λ (b : List ℕ). StandsFor generation b on.1.0) (append_assoc prefix rest on.0) on.1.1))
 
 pub goes_on_take : (generation less more : ℕ) (bytes : List ℕ) → less ≤ more → GoesOn generation (take more bytes) → GoesOn generation (take less bytes)
 goes_on_take generation less more bytes before on =
-    let front : take less (take more bytes) ≡ take less bytes = take-take less more bytes before in
-    subst (GoesOn generation) front
-    (goes_on_front generation (take less (take more bytes)) (drop less (take more bytes))
+    let prefix : take less (take more bytes) ≡ take less bytes = take-take less more bytes before in
+    subst (GoesOn generation) prefix
+    (goes_on_prefix generation (take less (take more bytes)) (drop less (take more bytes))
     (subst (GoesOn generation) (sym (take-append-drop less (take more bytes))) on))
 
 not_before : (generation : ℕ) (bytes : List ℕ) (place other : ℕ) → FailsAt generation bytes place → FailsAt generation bytes other → place < other → ⊥

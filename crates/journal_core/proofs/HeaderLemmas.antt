@@ -40,11 +40,11 @@ header_fails generation bytes place below within same differs =
         ),
       );
       here = λ inside on.
-          let front = take (place + 1) bytes in
-          let there : place < length front = omega (arith, length-take (place + 1) bytes) in
+          let prefix = take (place + 1) bytes in
+          let there : place < length prefix = omega (arith, length-take (place + 1) bytes) in
           differs inside
-          (sym (get_or_append_left front on.0 0 place there ∙ get_or-take (place + 1) bytes place 0 (omega arith))
-          ∙ byte_of_header generation (front ++ on.0) place below on.1);
+          (sym (get_or_append_left prefix on.0 0 place there ∙ get_or-take (place + 1) bytes place 0 (omega arith))
+          ∙ byte_of_header generation (prefix ++ on.0) place below on.1);
       broken = λ is_journal.
           differs (omega (arith, journal_size generation bytes is_journal)) (byte_of_header generation bytes place below is_journal);
     }
@@ -69,8 +69,8 @@ pub header_seen : (generation : ℕ) (bytes seen : List ℕ) (count same : ℕ) 
 header_seen generation bytes seen count same size is_seen within agrees all =
     let exact : same ≡ 16 = omega (arith, ap length is_seen, length-take count bytes) in
     let whole : count ≡ 16 = omega (arith, ap length is_seen, length-take count bytes) in
-    let front : take 16 bytes ≡ header generation =
+    let prefix : take 16 bytes ≡ header generation =
     sym (ap (λ (l : List ℕ). take 16 l) is_seen ∙ take-take 16 count bytes (omega arith))
     ∙ ap (λ (n : ℕ). take n seen) (sym exact) ∙ agrees ∙ ap (λ (n : ℕ). take n (header generation)) exact
     ∙ take_all 16 (header generation) (omega (arith, length-header generation)) in
-    sym (take-append-drop 16 bytes) ∙ ap (λ (l : List ℕ). l ++ drop 16 bytes) front
+    sym (take-append-drop 16 bytes) ∙ ap (λ (l : List ℕ). l ++ drop 16 bytes) prefix

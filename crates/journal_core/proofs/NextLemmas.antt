@@ -135,8 +135,8 @@ fails_at_length field rest size small fits long =
           subst TailGoesOn (ap (λ (l : List ℕ). 1 ∷ l) (sym (take-append-le 3 field rest (omega arith))))
           (less_goes_on (take 3 field) part_size (bytes-take 3 field small));
       here = λ inside on.
-          let front : take 5 (1 ∷ (field ++ rest)) ≡ 1 ∷ length_field count = ap (λ (l : List ℕ). 1 ∷ l) (take_at field rest 4 size ∙ sym is_field) in
-          let tail : Tail (1 ∷ (length_field count ++ on.0)) on.1 = subst (λ (l : List ℕ). Tail (l ++ on.0) on.1) front on.2 in
+          let prefix : take 5 (1 ∷ (field ++ rest)) ≡ 1 ∷ length_field count = ap (λ (l : List ℕ). 1 ∷ l) (take_at field rest 4 size ∙ sym is_field) in
+          let tail : Tail (1 ∷ (length_field count ++ on.0)) on.1 = subst (λ (l : List ℕ). Tail (l ++ on.0) on.1) prefix on.2 in
           let said = opens count on.0 on.1 fits tail in
           omega (arith, said.0);
       broken = λ records tail.

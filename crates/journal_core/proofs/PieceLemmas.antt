@@ -7,9 +7,9 @@ use Rattle.journal_core.specs.Piece.{ReadsAhead}
 
 inside : (bytes old : List ℕ) (count skip n : ℕ) → take count old ≡ take count bytes → skip + n ≤ count → take n (drop skip old) ≡ take n (drop skip bytes)
 inside bytes old count skip n same within =
-    let front : take (skip + n) old ≡ take (skip + n) bytes =
+    let prefix : take (skip + n) old ≡ take (skip + n) bytes =
     sym (take-take (skip + n) count old within) ∙ ap (λ (l : List ℕ). take (skip + n) l) same ∙ take-take (skip + n) count bytes within in
-    sym (drop-take skip n old) ∙ ap (λ (l : List ℕ). drop skip l) front ∙ drop-take skip n bytes
+    sym (drop-take skip n old) ∙ ap (λ (l : List ℕ). drop skip l) prefix ∙ drop-take skip n bytes
 
 pub copied : (bytes into : List ℕ) (piece : Piece) (place n : ℕ) → ReadsAhead bytes piece → piece.place ≤ place → n ≤ piece.count - (place - piece.place)
     → take n into ≡ take n (drop (place - piece.place) piece.bytes) → take n into ≡ take n (drop place bytes)

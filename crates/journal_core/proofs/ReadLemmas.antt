@@ -53,14 +53,14 @@ goes_on_ahead records bytes fits on =
 fails_behind : (records : List (List ℕ)) (bytes : List ℕ) (place : ℕ) → AllByRecursion IsShort records → TailFails bytes place
     → TailFails (opened records ++ bytes) (length (opened records) + place)
 fails_behind records bytes place fits fails =
-    let front = opened records in
+    let prefix = opened records in
     record {
-      within = omega (arith, fails.within, length-append front bytes);
-      before = subst TailGoesOn (sym (take-append-add front bytes place)) (goes_on_behind records (take place bytes) fits fails.before);
+      within = omega (arith, fails.within, length-append prefix bytes);
+      before = subst TailGoesOn (sym (take-append-add prefix bytes place)) (goes_on_behind records (take place bytes) fits fails.before);
       here = λ inside on.
-          let there : take (length front + place + 1) (front ++ bytes) ≡ front ++ take (place + 1) bytes =
-          ap (λ (n : ℕ). take n (front ++ bytes)) (omega arith) ∙ take-append-add front bytes (place + 1) in
-          fails.here (omega (arith, length-append front bytes)) (goes_on_ahead records (take (place + 1) bytes) fits (subst TailGoesOn there on));
+          let there : take (length prefix + place + 1) (prefix ++ bytes) ≡ prefix ++ take (place + 1) bytes =
+          ap (λ (n : ℕ). take n (prefix ++ bytes)) (omega arith) ∙ take-append-add prefix bytes (place + 1) in
+          fails.here (omega (arith, length-append prefix bytes)) (goes_on_ahead records (take (place + 1) bytes) fits (subst TailGoesOn there on));
       broken = λ others tail. fails.broken (behind records others bytes fits tail).others (behind records others bytes fits tail).tail;
     }
 

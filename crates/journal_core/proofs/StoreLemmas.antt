@@ -24,7 +24,7 @@ pub through_moments : (file : File) (gate : ℕ) (old new : List Event) → gate
 through_moments file gate old new inside moments =
     weakened (λ past run bytes image.
     let kept = RunsFrom-images file (gate + 1) old past (omega arith) run bytes image in
-    record { reaches = omega (arith, kept.enough); front = kept.front }) moments
+    record { reaches = omega (arith, kept.enough); prefix = kept.prefix }) moments
 
 -- a write of a gate leaves what stands beside it
 pub beside_moments : (file : File) (gate : ℕ) (old new : List Event) → gate < length (contents (of file old))
@@ -32,7 +32,7 @@ pub beside_moments : (file : File) (gate : ℕ) (old new : List Event) → gate 
 beside_moments file gate old new inside moments =
     weakened (λ past run bytes image.
     let kept = RunsWithin-images file gate (gate + 1) old past (omega arith) run bytes image in
-    record { reaches = omega (arith, kept.no_shorter); front = kept.front; behind = kept.rest }) moments
+    record { reaches = omega (arith, kept.no_shorter); prefix = kept.prefix; behind = kept.rest }) moments
 
 -- lists of bytes
 
@@ -44,58 +44,58 @@ pub staged : (gate : ℕ) (field body old first second third : List ℕ) → fie
     → Stages gate body old third
 staged gate field body old first second third is_field inside one two three =
     let size : length field ≡ 4 = ap length is_field ∙ length-length_field (length body) in
-    let front = take (gate + 1) old in
-    let front_size : length front ≡ gate + 1 = omega (arith, length-take (gate + 1) old) in
-    let one' : first ≡ (front ++ field) ++ drop (gate + 1 + length field) old = one in
-    let two' : second ≡ ((front ++ field) ++ body) ++ drop (length body) (drop (gate + 1 + length field) old) =
+    let prefix = take (gate + 1) old in
+    let prefix_size : length prefix ≡ gate + 1 = omega (arith, length-take (gate + 1) old) in
+    let one' : first ≡ (prefix ++ field) ++ drop (gate + 1 + length field) old = one in
+    let two' : second ≡ ((prefix ++ field) ++ body) ++ drop (length body) (drop (gate + 1 + length field) old) =
     two ∙ ap (λ (l : List ℕ). written l (gate + 5) body) one'
-    ∙ written-behind (front ++ field) (drop (gate + 1 + length field) old) (gate + 5) body (omega (arith, length-append front field)) in
+    ∙ written-behind (prefix ++ field) (drop (gate + 1 + length field) old) (gate + 5) body (omega (arith, length-append prefix field)) in
     let behind = drop (length body) (drop (gate + 1 + length field) old) in
-    let three' : third ≡ (((front ++ field) ++ body) ++ 0 ∷ []) ++ drop 1 behind =
+    let three' : third ≡ (((prefix ++ field) ++ body) ++ 0 ∷ []) ++ drop 1 behind =
     three ∙ ap (λ (l : List ℕ). written l (gate + 5 + length body) (0 ∷ [])) two'
-    ∙ written-behind ((front ++ field) ++ body) behind (gate + 5 + length body) (0 ∷ [])
-    (omega (arith, length-append (front ++ field) body, length-append front field)) in
+    ∙ written-behind ((prefix ++ field) ++ body) behind (gate + 5 + length body) (0 ∷ [])
+    (omega (arith, length-append (prefix ++ field) body, length-append prefix field)) in
     record {
       rest = drop 1 behind;
       form =
           three'
-          ∙ append_assoc ((front ++ field) ++ body) (0 ∷ []) (drop 1 behind)
-          ∙ append_assoc (front ++ field) body (0 ∷ drop 1 behind)
-          ∙ append_assoc front field (body ++ 0 ∷ drop 1 behind)
-          ∙ ap (λ (f : List ℕ). front ++ (f ++ (body ++ 0 ∷ drop 1 behind))) is_field;
+          ∙ append_assoc ((prefix ++ field) ++ body) (0 ∷ []) (drop 1 behind)
+          ∙ append_assoc (prefix ++ field) body (0 ∷ drop 1 behind)
+          ∙ append_assoc prefix field (body ++ 0 ∷ drop 1 behind)
+          ∙ ap (λ (f : List ℕ). prefix ++ (f ++ (body ++ 0 ∷ drop 1 behind))) is_field;
     }
 
 -- a list that keeps the prefix of another
-front_kept : (front rest bytes : List ℕ) (mark at : ℕ) → length front ≡ at → take (at + 1) bytes ≡ take (at + 1) (front ++ mark ∷ rest)
-    → bytes ≡ front ++ mark ∷ drop (at + 1) bytes
-front_kept front rest bytes mark at size same =
-    let through : take (at + 1) (front ++ mark ∷ rest) ≡ front ++ mark ∷ [] =
-    ap (λ (l : List ℕ). take (at + 1) l) (sym (append_assoc front (mark ∷ []) rest))
-    ∙ take_at (front ++ mark ∷ []) rest (at + 1) (omega (arith, length-append front (mark ∷ []))) in
+prefix_kept : (prefix rest bytes : List ℕ) (mark at : ℕ) → length prefix ≡ at → take (at + 1) bytes ≡ take (at + 1) (prefix ++ mark ∷ rest)
+    → bytes ≡ prefix ++ mark ∷ drop (at + 1) bytes
+prefix_kept prefix rest bytes mark at size same =
+    let through : take (at + 1) (prefix ++ mark ∷ rest) ≡ prefix ++ mark ∷ [] =
+    ap (λ (l : List ℕ). take (at + 1) l) (sym (append_assoc prefix (mark ∷ []) rest))
+    ∙ take_at (prefix ++ mark ∷ []) rest (at + 1) (omega (arith, length-append prefix (mark ∷ []))) in
     sym (take-append-drop (at + 1) bytes)
     ∙ ap (λ (l : List ℕ). l ++ drop (at + 1) bytes) (same ∙ through)
-    ∙ append_assoc front (mark ∷ []) (drop (at + 1) bytes)
+    ∙ append_assoc prefix (mark ∷ []) (drop (at + 1) bytes)
 
 -- a list that keeps another but for one byte
-all_but_one : (front rest bytes : List ℕ) (mark at : ℕ) → length front ≡ at → at < length bytes
-    → take at bytes ≡ take at (front ++ mark ∷ rest) → drop (at + 1) bytes ≡ drop (at + 1) (front ++ mark ∷ rest)
-    → bytes ≡ front ++ get_or bytes at 0 ∷ rest
-all_but_one front rest bytes mark at size reaches before after =
-    let first : take at bytes ≡ front = before ∙ take_at front (mark ∷ rest) at size in
+all_but_one : (prefix rest bytes : List ℕ) (mark at : ℕ) → length prefix ≡ at → at < length bytes
+    → take at bytes ≡ take at (prefix ++ mark ∷ rest) → drop (at + 1) bytes ≡ drop (at + 1) (prefix ++ mark ∷ rest)
+    → bytes ≡ prefix ++ get_or bytes at 0 ∷ rest
+all_but_one prefix rest bytes mark at size reaches before after =
+    let first : take at bytes ≡ prefix = before ∙ take_at prefix (mark ∷ rest) at size in
     let last : drop (at + 1) bytes ≡ rest =
     after
-    ∙ ap (λ (l : List ℕ). drop (at + 1) l) (sym (append_assoc front (mark ∷ []) rest))
-    ∙ drop_at (front ++ mark ∷ []) rest (at + 1) (omega (arith, length-append front (mark ∷ []))) in
+    ∙ ap (λ (l : List ℕ). drop (at + 1) l) (sym (append_assoc prefix (mark ∷ []) rest))
+    ∙ drop_at (prefix ++ mark ∷ []) rest (at + 1) (omega (arith, length-append prefix (mark ∷ []))) in
     sym (take-append-drop at bytes)
     ∙ ap (λ (l : List ℕ). take at bytes ++ l) (drop_more bytes at 0 reaches)
     ∙ ap (λ (l : List ℕ). l ++ get_or bytes at 0 ∷ drop (at + 1) bytes) first
-    ∙ ap (λ (l : List ℕ). front ++ get_or bytes at 0 ∷ l) last
+    ∙ ap (λ (l : List ℕ). prefix ++ get_or bytes at 0 ∷ l) last
 
 -- journals
 
 -- the bytes before the last gate
-front_size : (generation : ℕ) (records : List (List ℕ)) (at : ℕ) → at ≡ 16 + length (opened records) → length (header generation ++ opened records) ≡ at
-front_size generation records at here = omega (arith, length-append (header generation) (opened records), length-header generation)
+prefix_size : (generation : ℕ) (records : List (List ℕ)) (at : ℕ) → at ≡ 16 + length (opened records) → length (header generation ++ opened records) ≡ at
+prefix_size generation records at here = omega (arith, length-append (header generation) (opened records), length-header generation)
 
 -- the place of the last gate is in the file
 pub gate_inside : (generation : ℕ) (bytes : List ℕ) (records : List (List ℕ)) (at : ℕ) → StandsFor generation bytes records → at ≡ 16 + length (opened records) → at < length bytes
@@ -116,8 +116,8 @@ through_stands generation gate records old bytes stands here kept = record {
   rest = drop (gate + 1) bytes;
   form =
       let grouped = stands.form ∙ sym (append_assoc (header generation) (opened records) (stands.gate ∷ stands.rest)) in
-      front_kept (header generation ++ opened records) stands.rest bytes stands.gate gate (front_size generation records gate here)
-      (kept.front ∙ ap (λ (l : List ℕ). take (gate + 1) l) grouped)
+      prefix_kept (header generation ++ opened records) stands.rest bytes stands.gate gate (prefix_size generation records gate here)
+      (kept.prefix ∙ ap (λ (l : List ℕ). take (gate + 1) l) grouped)
       ∙ append_assoc (header generation) (opened records) (stands.gate ∷ drop (gate + 1) bytes);
   closed = stands.closed;
   fits = stands.fits;
@@ -130,13 +130,13 @@ behind_gate generation records mark body rest = (header generation ++ opened rec
 pub staged_bytes : (generation gate : ℕ) (records : List (List ℕ)) (body old new : List ℕ) (stands : StandsFor generation old records) → gate ≡ 16 + length (opened records)
     → (stages : Stages gate body old new) → new ≡ behind_gate generation records stands.gate body stages.rest
 staged_bytes generation gate records body old new stands here stages =
-    let front = header generation ++ opened records in
+    let prefix = header generation ++ opened records in
     let tail = length_field (length body) ++ (body ++ 0 ∷ stages.rest) in
     let grouped = stands.form ∙ sym (append_assoc (header generation) (opened records) (stands.gate ∷ stands.rest)) in
-    let through : take (gate + 1) old ≡ front ++ stands.gate ∷ [] =
-    ap (λ (l : List ℕ). take (gate + 1) l) (grouped ∙ sym (append_assoc front (stands.gate ∷ []) stands.rest))
-    ∙ take_at (front ++ stands.gate ∷ []) stands.rest (gate + 1) (omega (arith, front_size generation records gate here, length-append front (stands.gate ∷ []))) in
-    stages.form ∙ ap (λ (l : List ℕ). l ++ tail) through ∙ append_assoc front (stands.gate ∷ []) tail
+    let through : take (gate + 1) old ≡ prefix ++ stands.gate ∷ [] =
+    ap (λ (l : List ℕ). take (gate + 1) l) (grouped ∙ sym (append_assoc prefix (stands.gate ∷ []) stands.rest))
+    ∙ take_at (prefix ++ stands.gate ∷ []) stands.rest (gate + 1) (omega (arith, prefix_size generation records gate here, length-append prefix (stands.gate ∷ []))) in
+    stages.form ∙ ap (λ (l : List ℕ). l ++ tail) through ∙ append_assoc prefix (stands.gate ∷ []) tail
 
 -- behind an open gate the record is there
 pub opened_stands : (generation : ℕ) (records : List (List ℕ)) (body rest bytes : List ℕ) → IsShort body → AllByRecursion IsShort records
@@ -171,26 +171,26 @@ either_stands generation mark records body rest bytes short fits form =
 pub beside_stands : (generation gate : ℕ) (records : List (List ℕ)) (body old middle bytes : List ℕ) (stands : StandsFor generation old records) → gate ≡ 16 + length (opened records)
     → IsShort body → Stages gate body old middle → KeepsBeside gate middle bytes → StandsForEither generation records body bytes
 beside_stands generation gate records body old middle bytes stands here short stages kept =
-    let front = header generation ++ opened records in
+    let prefix = header generation ++ opened records in
     let tail = length_field (length body) ++ (body ++ 0 ∷ stages.rest) in
     let form = staged_bytes generation gate records body old middle stands here stages in
     either_stands generation (get_or bytes gate 0) records body stages.rest bytes short stands.fits
-    (all_but_one front tail bytes stands.gate gate (front_size generation records gate here) kept.reaches
-    (kept.front ∙ ap (λ (l : List ℕ). take gate l) form)
+    (all_but_one prefix tail bytes stands.gate gate (prefix_size generation records gate here) kept.reaches
+    (kept.prefix ∙ ap (λ (l : List ℕ). take gate l) form)
     (kept.behind ∙ ap (λ (l : List ℕ). drop (gate + 1) l) form))
 
 -- the gate of a staged record, opened
 pub written_stands : (generation gate : ℕ) (records : List (List ℕ)) (body old middle new : List ℕ) (stands : StandsFor generation old records) → gate ≡ 16 + length (opened records)
     → IsShort body → Stages gate body old middle → new ≡ written middle gate (1 ∷ []) → StandsFor generation new (records ++ body ∷ [])
 written_stands generation gate records body old middle new stands here short stages set_open =
-    let front = header generation ++ opened records in
+    let prefix = header generation ++ opened records in
     let tail = length_field (length body) ++ (body ++ 0 ∷ stages.rest) in
     let form = staged_bytes generation gate records body old middle stands here stages in
     opened_stands generation records body stages.rest new short stands.fits
     (set_open
     ∙ ap (λ (l : List ℕ). written l gate (1 ∷ [])) form
-    ∙ written-behind front (stands.gate ∷ tail) gate (1 ∷ []) (front_size generation records gate here)
-    ∙ append_assoc front (1 ∷ []) tail)
+    ∙ written-behind prefix (stands.gate ∷ tail) gate (1 ∷ []) (prefix_size generation records gate here)
+    ∙ append_assoc prefix (1 ∷ []) tail)
 
 -- whatever a crash leaves of an open journal holds its records
 pub open_stands : (journal : JournalState) (past : List Event) (records : List (List ℕ)) → IsOpen (of journal.file past) journal records

@@ -71,7 +71,7 @@ fn fill<H: Host>(
 }
 
 /// The length of the longest common prefix of two texts.
-fn same_front(bytes: &[u8], other: &[u8]) -> usize
+fn same_prefix(bytes: &[u8], other: &[u8]) -> usize
     ensures within { (result ≤ length bytes.now) × (result ≤ length other.now) }
     ensures same { take result bytes.now ≡ take result other.now }
     ensures differs { result < length bytes.now → result < length other.now
@@ -111,7 +111,7 @@ fn check_header<H: Host>(
 {
     let mut seen = [0u8; 16];
     let count = fill(host, piece, file, 0, size, &mut seen)?;
-    let same = same_front(&seen[..count], &header_of(generation));
+    let same = same_prefix(&seen[..count], &header_of(generation));
     if same < 16 {
         return Err(JournalFault::NotAJournal(same as u64));
     }

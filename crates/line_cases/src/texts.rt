@@ -384,13 +384,13 @@ fn take_numbered(
     alloc: Global,
     feed: &mut Feed,
     registry: &Registry,
-    front: &str,
+    prefix: &str,
     back: &str,
     count: u32,
 ) -> Result<bool, Fail> {
     let mut taken = true;
     for n in 0..count {
-        let line = format!(in alloc; "{front}{n}{back}")?;
+        let line = format!(in alloc; "{prefix}{n}{back}")?;
         taken = refusal(alloc, feed, registry, line.as_str())?.is_none() && taken;
     }
     Ok(taken)

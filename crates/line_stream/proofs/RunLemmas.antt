@@ -9,7 +9,7 @@ use Rattle.host_model.specs.Source.{Takes}
 use Rattle.host_model.specs.declared.status.Status.{Status}
 use Rattle.host_model.specs.declared.status.Status.TheVariants.{ReadFault, InputLimit, Memory}
 use Rattle.plugin_text.specs.Lines.{parts, lines, rest, fits, but_last, last_part, HasNoLongLine, IsLongAfter, IsRest}
-use Rattle.plugin_text.proofs.LongLemmas.{AllPass-front, AllPass-lines, HasNoLongLine-append, IsLongAfter-later}
+use Rattle.plugin_text.proofs.LongLemmas.{AllPass-prefix, AllPass-lines, HasNoLongLine-append, IsLongAfter-later}
 use Rattle.plugin_text.proofs.OneLineLemmas.{parts-one_line}
 use Rattle.plugin_text.proofs.PartsLemmas.{parts_first, parts_whole, lines-append, rest-append}
 use Rattle.line_stream.specs.declared.stream.Stream.{Stream}
@@ -32,9 +32,9 @@ size_of-parts : (text : List ℕ) → size_of (parts text) ≤ length text
 unfolding size_of
 size_of-parts [] = omega arith
 size_of-parts (byte ∷ bytes) =
-    let front = parts_first bytes in
-    let before = rw front.2 at (size_of-parts bytes) in
-    rw front.2 (omega (arith, size_of-step (is_line_feed byte) byte front.0 front.1, before))
+    let prefix = parts_first bytes in
+    let before = rw prefix.2 at (size_of-parts bytes) in
+    rw prefix.2 (omega (arith, size_of-step (is_line_feed byte) byte prefix.0 prefix.1, before))
 
 -- a text has no more lines and bytes after them than it has bytes
 pub lines_and_rest : (text : List ℕ) → length (lines text) + length (rest text) ≤ length text
@@ -53,31 +53,31 @@ lines_before text before long =
     omega (arith, fewer, lines_and_rest text)
 
 -- the first parts of a text have no line feed
-pub front-one_line : (text : List ℕ) (front others : List (List ℕ)) → parts text ≡ front ++ others → AllPass is_one_line front
-front-one_line text front others whole = AllPass-front is_one_line front others (subst (AllPass is_one_line) whole (parts-one_line text))
+pub prefix-one_line : (text : List ℕ) (prefix others : List (List ℕ)) → parts text ≡ prefix ++ others → AllPass is_one_line prefix
+prefix-one_line text prefix others whole = AllPass-prefix is_one_line prefix others (subst (AllPass is_one_line) whole (parts-one_line text))
 
 -- ---- one piece more
 
 -- a list with something in its midst, and behind it
-in_midst : (front before more others : List (List ℕ)) (line last : List ℕ) → (next : List ℕ) × (rest_of : List (List ℕ)) × ((front ++ (before ++ line ∷ more)) ++ last ∷ others ≡ (front ++ before) ++ line ∷ next ∷ rest_of)
-in_midst front before [] others line last =
-    (last, others, append_assoc front (before ++ line ∷ []) (last ∷ others) ∙ ap (λ (l : List (List ℕ)). front ++ l) (append_assoc before (line ∷ []) (last ∷ others)) ∙ sym (append_assoc front before (line ∷ last ∷ others)))
-in_midst front before (x ∷ more) others line last = (
+in_midst : (prefix before more others : List (List ℕ)) (line last : List ℕ) → (next : List ℕ) × (rest_of : List (List ℕ)) × ((prefix ++ (before ++ line ∷ more)) ++ last ∷ others ≡ (prefix ++ before) ++ line ∷ next ∷ rest_of)
+in_midst prefix before [] others line last =
+    (last, others, append_assoc prefix (before ++ line ∷ []) (last ∷ others) ∙ ap (λ (l : List (List ℕ)). prefix ++ l) (append_assoc before (line ∷ []) (last ∷ others)) ∙ sym (append_assoc prefix before (line ∷ last ∷ others)))
+in_midst prefix before (x ∷ more) others line last = (
   x,
   more ++ last ∷ others,
-  append_assoc front (before ++ line ∷ x ∷ more) (last ∷ others) ∙ ap (λ (l : List (List ℕ)). front ++ l) (append_assoc before (line ∷ x ∷ more) (last ∷ others)) ∙ sym (append_assoc front before (line ∷ x ∷ (more ++ last ∷ others))),
+  append_assoc prefix (before ++ line ∷ x ∷ more) (last ∷ others) ∙ ap (λ (l : List (List ℕ)). prefix ++ l) (append_assoc before (line ∷ x ∷ more) (last ∷ others)) ∙ sym (append_assoc prefix before (line ∷ x ∷ (more ++ last ∷ others))),
 )
 
--- of lines that are short each front is, and each line
-short-front : (front before more : List (List ℕ)) (line : List ℕ) → AllPass fits (front ++ (before ++ line ∷ more)) → AllPass fits (front ++ before)
-short-front front before more line short = AllPass-front fits (front ++ before) (line ∷ more) (subst (AllPass fits) (sym (append_assoc front before (line ∷ more))) short)
+-- of lines that are short each prefix is, and each line
+short-prefix : (prefix before more : List (List ℕ)) (line : List ℕ) → AllPass fits (prefix ++ (before ++ line ∷ more)) → AllPass fits (prefix ++ before)
+short-prefix prefix before more line short = AllPass-prefix fits (prefix ++ before) (line ∷ more) (subst (AllPass fits) (sym (append_assoc prefix before (line ∷ more))) short)
 
-short-at : (front more : List (List ℕ)) (line : List ℕ) → AllPass fits (front ++ line ∷ more) → fits line ≡ true
+short-at : (prefix more : List (List ℕ)) (line : List ℕ) → AllPass fits (prefix ++ line ∷ more) → fits line ≡ true
 short-at [] more line short = All-head (λ (l : List ℕ). fits l ≡ true) line more short
-short-at (x ∷ front) more line short = short-at front more line (All-tail (λ (l : List ℕ). fits l ≡ true) x (front ++ line ∷ more) short)
+short-at (x ∷ prefix) more line short = short-at prefix more line (All-tail (λ (l : List ℕ). fits l ≡ true) x (prefix ++ line ∷ more) short)
 
-short-line : (front before more : List (List ℕ)) (line : List ℕ) → AllPass fits (front ++ (before ++ line ∷ more)) → fits line ≡ true
-short-line front before more line short = short-at (front ++ before) more line (subst (AllPass fits) (sym (append_assoc front before (line ∷ more))) short)
+short-line : (prefix before more : List (List ℕ)) (line : List ℕ) → AllPass fits (prefix ++ (before ++ line ∷ more)) → fits line ≡ true
+short-line prefix before more line short = short-at (prefix ++ before) more line (subst (AllPass fits) (sym (append_assoc prefix before (line ∷ more))) short)
 
 -- ---- how many lines there are with a piece
 
@@ -94,14 +94,14 @@ few-before count text piece held handed counted is short long within =
 
 module _ {T H : Type 0} (acts : Acts T H) (start : T) (begin : H) where
   -- a line of the piece ended the run
-  broke_in : (status : Status) (all : List ℕ) (front handed : List (List ℕ)) (last : List ℕ) (others : List (List ℕ)) (taker : T) (host : H) (left : Option (List ℕ)) → parts all ≡ (front ++ handed) ++ last ∷ others
-      → AllPass fits (front ++ handed) → BrokeAt acts status start begin front handed taker host → Ended acts status start begin all taker host left ⊥
-  broke_in status all front handed last others taker host left whole short broke =
-      let at = in_midst front broke.before broke.more others broke.line last in
-      let handed_is = ap (λ (l : List (List ℕ)). front ++ l) broke.whole in
+  broke_in : (status : Status) (all : List ℕ) (prefix handed : List (List ℕ)) (last : List ℕ) (others : List (List ℕ)) (taker : T) (host : H) (left : Option (List ℕ)) → parts all ≡ (prefix ++ handed) ++ last ∷ others
+      → AllPass fits (prefix ++ handed) → BrokeAt acts status start begin prefix handed taker host → Ended acts status start begin all taker host left ⊥
+  broke_in status all prefix handed last others taker host left whole short broke =
+      let at = in_midst prefix broke.before broke.more others broke.line last in
+      let handed_is = ap (λ (l : List (List ℕ)). prefix ++ l) broke.whole in
       let short' = subst (AllPass fits) handed_is short in
-      at_line (front ++ broke.before) broke.line at.0 at.1 broke.taker' broke.host' (whole ∙ ap (λ (l : List (List ℕ)). l ++ last ∷ others) handed_is ∙ at.2)
-      (short-front front broke.before broke.more broke.line short') (short-line front broke.before broke.more broke.line short') broke.chain broke.broke
+      at_line (prefix ++ broke.before) broke.line at.0 at.1 broke.taker' broke.host' (whole ∙ ap (λ (l : List (List ℕ)). l ++ last ∷ others) handed_is ∙ at.2)
+      (short-prefix prefix broke.before broke.more broke.line short') (short-line prefix broke.before broke.more broke.line short') broke.chain broke.broke
 
   module _ (stream : Stream) (text piece : List ℕ) (taker : T) (host : H) (has : HasTaken acts stream start begin text taker host) where
     pub piece-few : length text + length piece ≤ input_limit → stream.count + length (lines (stream.splitter.rest ++ piece)) ≤ input_limit
@@ -118,7 +118,7 @@ module _ {T H : Type 0} (acts : Acts T H) (start : T) (begin : H) where
 
     -- what the lines of the piece come to
     pub handed : {R : Type 0} (result : Result R Status) (new : T) (host' : H) (lines' : List (List ℕ))
-        → ((start' : T) (begin' : H) (front : List (List ℕ)) → length front ≡ stream.count → Chain acts start' begin' front taker host → HandsOver acts start' begin' front lines' result new host')
+        → ((start' : T) (begin' : H) (prefix : List (List ℕ)) → length prefix ≡ stream.count → Chain acts start' begin' prefix taker host → HandsOver acts start' begin' prefix lines' result new host')
         → HandsOver acts start begin (lines text) lines' result new host'
     handed result new host' lines' hands = hands start begin (lines text) (sym has.count) has.took.chain
 
@@ -131,19 +131,19 @@ module _ {T H : Type 0} (acts : Acts T H) (start : T) (begin : H) where
         (subst (AllPass fits) lines-all (AllPass-lines (text ++ piece) (short-all more))) broke
 
     -- a line before a long one did
-    pub long-broke : (status : Status) (front : List (List ℕ)) (new : T) (host' : H) (left : Option (List ℕ)) → IsLongAfter (stream.splitter.rest ++ piece) front → BrokeAt acts status start begin (lines text) front new host'
+    pub long-broke : (status : Status) (prefix : List (List ℕ)) (new : T) (host' : H) (left : Option (List ℕ)) → IsLongAfter (stream.splitter.rest ++ piece) prefix → BrokeAt acts status start begin (lines text) prefix new host'
         → Ended acts status start begin (text ++ piece) new host' left ⊥
-    long-broke status front new host' left long broke =
-        let all = IsLongAfter-later text piece front has.took.short (subst (λ (r : List ℕ). IsLongAfter (r ++ piece) front) has.rest_is long) in
-        broke_in status (text ++ piece) (lines text) front all.long all.more new host' left all.whole all.short broke
+    long-broke status prefix new host' left long broke =
+        let all = IsLongAfter-later text piece prefix has.took.short (subst (λ (r : List ℕ). IsLongAfter (r ++ piece) prefix) has.rest_is long) in
+        broke_in status (text ++ piece) (lines text) prefix all.long all.more new host' left all.whole all.short broke
 
     -- the long one did
-    pub long-ended : (status : Status) (number : ℕ) (front : List (List ℕ)) (mid new : T) (host' host'' : H) (left : Option (List ℕ)) → IsLongAfter (stream.splitter.rest ++ piece) front → Chain acts start begin (lines text ++ front) mid host'
-        → number ≡ stream.count + length front + 1 → acts.overflows mid host' number status new host'' → Ended acts status start begin (text ++ piece) new host'' left ⊥
-    long-ended status number front mid new host' host'' left long chain number_is overflows =
-        let all = IsLongAfter-later text piece front has.took.short (subst (λ (r : List ℕ). IsLongAfter (r ++ piece) front) has.rest_is long) in
-        let counts : number ≡ length (lines text ++ front) + 1 = omega (arith, number_is, has.count, length-append (lines text) front) in
-        at_long_line (lines text ++ front) all.long all.more mid host' all.whole all.short all.too_long chain
+    pub long-ended : (status : Status) (number : ℕ) (prefix : List (List ℕ)) (mid new : T) (host' host'' : H) (left : Option (List ℕ)) → IsLongAfter (stream.splitter.rest ++ piece) prefix → Chain acts start begin (lines text ++ prefix) mid host'
+        → number ≡ stream.count + length prefix + 1 → acts.overflows mid host' number status new host'' → Ended acts status start begin (text ++ piece) new host'' left ⊥
+    long-ended status number prefix mid new host' host'' left long chain number_is overflows =
+        let all = IsLongAfter-later text piece prefix has.took.short (subst (λ (r : List ℕ). IsLongAfter (r ++ piece) prefix) has.rest_is long) in
+        let counts : number ≡ length (lines text ++ prefix) + 1 = omega (arith, number_is, has.count, length-append (lines text) prefix) in
+        at_long_line (lines text ++ prefix) all.long all.more mid host' all.whole all.short all.too_long chain
         (subst (λ (n : ℕ). acts.overflows mid host' n status new host'') counts overflows)
 
     all-taken : (mid : T) (host' : H) → HasNoLongLine (stream.splitter.rest ++ piece) → Chain acts start begin (lines text ++ lines (stream.splitter.rest ++ piece)) mid host' → TookAll acts start begin (text ++ piece) mid host'
@@ -195,13 +195,13 @@ rose-later old mid new earlier later (inr stands) = elim (cases_lt old new) [ in
 module _ {T H : Type 0} (acts : Acts T H) where
   -- it does not hang on when the source failed
   pub ended-later : (status : Status) (taker : T) (host : H) (text : List ℕ) (taker' : T) (host' : H) (left : Option (List ℕ)) (rose rose' : Type 0) → (rose → rose') → Ended acts status taker host text taker' host' left rose → Ended acts status taker host text taker' host' left rose'
-  ended-later status taker host text taker' host' left rose rose' by (at_line front line next more mid mid_host whole short fit chain takes) = at_line front line next more mid mid_host whole short fit chain takes
+  ended-later status taker host text taker' host' left rose rose' by (at_line prefix line next more mid mid_host whole short fit chain takes) = at_line prefix line next more mid mid_host whole short fit chain takes
   ended-later status taker host text taker' host' left rose rose' by (at_pause mid mid_host took paused) = at_pause mid mid_host took paused
-  ended-later status taker host text taker' host' left rose rose' by (at_long_line front long more mid mid_host whole short fit chain overflows) = at_long_line front long more mid mid_host whole short fit chain overflows
+  ended-later status taker host text taker' host' left rose rose' by (at_long_line prefix long more mid mid_host whole short fit chain overflows) = at_long_line prefix long more mid mid_host whole short fit chain overflows
   ended-later status taker host text taker' host' left rose rose' by (at_end mid mid_host room nothing took ends) = at_end mid mid_host room nothing took ends
   ended-later status taker host text taker' host' left rose rose' by (at_fault is failed below took last) = at_fault is (by failed) below took last
   ended-later status taker host text taker' host' left rose rose' by (at_limit is size took) = at_limit is size took
-  ended-later status taker host text taker' host' left rose rose' by (at_want front is took) = at_want front is took
+  ended-later status taker host text taker' host' left rose rose' by (at_want prefix is took) = at_want prefix is took
 
 -- ---- bytes of the source
 

@@ -12,9 +12,9 @@ abbrev pub input_limit : ℕ
 input_limit = 1099511627776
 
 -- these lines of the text were taken, and none of them is too long
-pub record TookFront {T H : Type 0} (acts : Acts T H) (taker : T) (host : H) (text : List ℕ) (front : List (List ℕ)) (taker' : T) (host' : H) : Type 0 where
-  pub begins : BeginsWithLines text front
-  pub chain : Chain acts taker host front taker' host'
+pub record TookPrefix {T H : Type 0} (acts : Acts T H) (taker : T) (host : H) (text : List ℕ) (prefix : List (List ℕ)) (taker' : T) (host' : H) : Type 0 where
+  pub begins : BeginsWithLines text prefix
+  pub chain : Chain acts taker host prefix taker' host'
 
 -- all lines of the text were taken, and neither they nor the bytes behind the last line feed are too long
 pub record TookAll {T H : Type 0} (acts : Acts T H) (taker : T) (host : H) (text : List ℕ) (taker' : T) (host' : H) : Type 0 where
@@ -24,15 +24,15 @@ pub record TookAll {T H : Type 0} (acts : Acts T H) (taker : T) (host : H) (text
 -- Why a run over this text ended with this status. `left` is what the source has left, where it tells.
 pub data Ended {T H : Type 0} (acts : Acts T H) (status : Status) (taker : T) (host : H) (text : List ℕ) (taker'' : T) (host'' : H) (left : Option (List ℕ)) (source_rose : Type 0) : Type 0 where
   -- a line of the text ended it
-  at_line : (front : List (List ℕ)) (line next : List ℕ) (more : List (List ℕ)) (taker' : T) (host' : H) → parts text ≡ front ++ line ∷ next ∷ more
-      → AllPass fits front → fits line ≡ true → Chain acts taker host front taker' host' → acts.takes taker' host' (length front + 1) line (Err status) taker'' host''
+  at_line : (prefix : List (List ℕ)) (line next : List ℕ) (more : List (List ℕ)) (taker' : T) (host' : H) → parts text ≡ prefix ++ line ∷ next ∷ more
+      → AllPass fits prefix → fits line ≡ true → Chain acts taker host prefix taker' host' → acts.takes taker' host' (length prefix + 1) line (Err status) taker'' host''
       → Ended acts status taker host text taker'' host'' left source_rose
   -- it ended between two pieces
   at_pause : (taker' : T) (host' : H) → TookAll acts taker host text taker' host' → acts.pauses taker' host' (Err status) taker'' host''
       → Ended acts status taker host text taker'' host'' left source_rose
   -- the line after these, or what has come of it, is too long
-  at_long_line : (front : List (List ℕ)) (long : List ℕ) (more : List (List ℕ)) (taker' : T) (host' : H) → parts text ≡ front ++ long ∷ more
-      → AllPass fits front → fits long ≡ false → Chain acts taker host front taker' host' → acts.overflows taker' host' (length front + 1) status taker'' host''
+  at_long_line : (prefix : List (List ℕ)) (long : List ℕ) (more : List (List ℕ)) (taker' : T) (host' : H) → parts text ≡ prefix ++ long ∷ more
+      → AllPass fits prefix → fits long ≡ false → Chain acts taker host prefix taker' host' → acts.overflows taker' host' (length prefix + 1) status taker'' host''
       → Ended acts status taker host text taker'' host'' left source_rose
   -- the input ended
   at_end : (taker' : T) (host' : H) → length text < input_limit → IfSome left (λ bytes. bytes ≡ []) → TookAll acts taker host text taker' host'
@@ -43,7 +43,7 @@ pub data Ended {T H : Type 0} (acts : Acts T H) (status : Status) (taker : T) (h
   -- as many bytes were taken as may be, and no end had come
   at_limit : status ≡ InputLimit → length text ≡ input_limit → TookAll acts taker host text taker'' host'' → Ended acts status taker host text taker'' host'' left source_rose
   -- there was no memory
-  at_want : (front : List (List ℕ)) → status ≡ Memory → TookFront acts taker host text front taker'' host'' → Ended acts status taker host text taker'' host'' left source_rose
+  at_want : (prefix : List (List ℕ)) → status ≡ Memory → TookPrefix acts taker host text prefix taker'' host'' → Ended acts status taker host text taker'' host'' left source_rose
 
 -- a run took these bytes of the source, and ended
 pub record Ran {T H : Type 0} (acts : Acts T H) (status : Status) (taker : T) (host : H) (taker' : T) (host' : H) (left left' : Option (List ℕ)) (source_rose : Type 0) : Type 0 where

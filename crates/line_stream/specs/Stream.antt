@@ -7,20 +7,20 @@ use Rattle.line_stream.specs.Chain.{Acts, Chain, HasPaused}
 use Rattle.line_stream.specs.Run.{TookAll}
 
 -- one of these lines, behind those of the prefix, ended the run
-pub record BrokeAt {T H : Type 0} (acts : Acts T H) (status : Status) (taker : T) (host : H) (front handed : List (List ℕ)) (taker'' : T) (host'' : H) : Type 0 where
+pub record BrokeAt {T H : Type 0} (acts : Acts T H) (status : Status) (taker : T) (host : H) (prefix handed : List (List ℕ)) (taker'' : T) (host'' : H) : Type 0 where
   pub before : List (List ℕ)
   pub line : List ℕ
   pub more : List (List ℕ)
   pub taker' : T
   pub host' : H
   pub whole : handed ≡ before ++ line ∷ more
-  pub chain : Chain acts taker host (front ++ before) taker' host'
-  pub broke : acts.takes taker' host' (length (front ++ before) + 1) line (Err status) taker'' host''
+  pub chain : Chain acts taker host (prefix ++ before) taker' host'
+  pub broke : acts.takes taker' host' (length (prefix ++ before) + 1) line (Err status) taker'' host''
 
 -- these lines were taken behind those of the prefix, or one of them ended the run
 abbrev pub HandsOver : {T H R : Type 0} → Acts T H → T → H → List (List ℕ) → List (List ℕ) → Result R Status → T → H → Type 0
-HandsOver acts taker host front handed result taker' host' =
-    MatchResult result (λ _. Chain acts taker host (front ++ handed) taker' host') (λ status. BrokeAt acts status taker host front handed taker' host')
+HandsOver acts taker host prefix handed result taker' host' =
+    MatchResult result (λ _. Chain acts taker host (prefix ++ handed) taker' host') (λ status. BrokeAt acts status taker host prefix handed taker' host')
 
 -- the stream holds what follows the last line feed of this text, all of whose lines were taken
 pub record HasTaken {T H : Type 0} (acts : Acts T H) (stream : Stream) (taker : T) (host : H) (text : List ℕ) (taker' : T) (host' : H) : Type 0 where

@@ -61,9 +61,9 @@ fn hand_over<H: Host, T: Taker<H>>(
     requires few { count.old + length lines.now ≤ 2 ^ 40 }
     requires short { AllPass fits lines.now }
     requires whole { AllPass is_one_line lines.now }
-    ensures handed { (start : T) (begin : H) (front : List (List ℕ)) → length front ≡ count.old
-        → Chain T.acts start begin front taker.old host.old
-        → HandsOver T.acts start begin front lines.now result taker.new host.new }
+    ensures handed { (start : T) (begin : H) (prefix : List (List ℕ)) → length prefix ≡ count.old
+        → Chain T.acts start begin prefix taker.old host.old
+        → HandsOver T.acts start begin prefix lines.now result taker.new host.new }
     ensures count { OnOk result (count.new ≡ count.old + length lines.now) }
     ensures ready { OnOk result (T.ready taker.new host.new (count.new + 1)) }
 {

@@ -16,13 +16,13 @@ use Rattle.replication.specs.declared.message.Data.{Data}
 use Rattle.replication.specs.declared.names.ChartName.{ChartName}
 use Rattle.replication.specs.declared.names.DimName.{DimName}
 use Rattle.replication.specs.declared.names.Names.{Names}
-use Rattle.replication.specs.Answer.{from_of, data_with, longest, with_front, data_of, IsWhole}
+use Rattle.replication.specs.Answer.{from_of, data_with, longest, with_prefix, data_of, IsWhole}
 use Rattle.replication.specs.Bytes.{data_bytes}
 use Rattle.replication.specs.Copies.{RisesFrom, above, latest}
 use Rattle.replication.specs.Names.{beat_moment, words_of, uses, is_of_chart, uses_chart, used_names, placed_dimension, placed_word, placed_beat}
 use Rattle.replication.specs.Places.{select, place}
 use Rattle.replication.proofs.Copies.{all-map, rises-take, RisesFrom-above}
-use Rattle.replication.proofs.FrontLaws.{fits, longest-le}
+use Rattle.replication.proofs.PrefixLaws.{fits, longest-le}
 use Rattle.replication.proofs.NamesLaws.{RisesFrom-map, latest-map, IsUsed, all-used, all-split}
 use Rattle.replication.proofs.Places.{select-place}
 use Rattle.replication.proofs.Wholes.{all-of-map, all-select, chart-used, answer-whole}
@@ -151,7 +151,7 @@ record IsMade (child floor prev : ℕ) (names : Names) (later : List Beat) (mess
   rest : List Beat
   count : ℕ
   few : count ≤ 64
-  front : take count later ≡ first ∷ rest
+  prefix : take count later ≡ first ∷ rest
   made : data_with child floor prev names (first ∷ rest) ≡ message
   size : (length (data_bytes (data_with child floor prev names (first ∷ rest))) ≤ 1048576) ⊎ (rest ≡ [])
 
@@ -176,7 +176,7 @@ made-of child floor names beats ask message is =
     none : None ≡ Some message → ⊥
     none e = cc
 
-    by : (later : List Beat) → with_front (data_with child floor ask.last names) later ≡ Some message → IsMade child floor ask.last names later message
+    by : (later : List Beat) → with_prefix (data_with child floor ask.last names) later ≡ Some message → IsMade child floor ask.last names later message
     by [] e = absurd (none e)
     by (x ∷ xs) e =
         let make = data_with child floor ask.last names in
@@ -184,24 +184,24 @@ made-of child floor names beats ask message is =
         let n = max 1 most in
         let made : make (take n (x ∷ xs)) ≡ message = cc in
         let next : n ≡ suc (n - 1) = omega arith in
-        let front : take n (x ∷ xs) ≡ x ∷ take (n - 1) xs = ap (λ (m : ℕ). take m (x ∷ xs)) next in
+        let prefix : take n (x ∷ xs) ≡ x ∷ take (n - 1) xs = ap (λ (m : ℕ). take m (x ∷ xs)) next in
         record {
           first = x;
           rest = take (n - 1) xs;
           count = n;
           few = omega (arith, longest-le make (x ∷ xs) 64);
-          front = front;
-          made = sym (ap make front) ∙ made;
+          prefix = prefix;
+          made = sym (ap make prefix) ∙ made;
           size = elim (longest-fits make (x ∷ xs) 64) [
             | inl nothing ↦ inr (let one : n - 1 ≡ 0 = omega (arith, nothing) in ap (λ (m : ℕ). take m xs) one)
             | inr some ↦ inl (let same : most ≡ n = omega (arith, some.0) in
-                subst (λ (bs : List Beat). length (data_bytes (make bs)) ≤ 1048576) (ap (λ (m : ℕ). take m (x ∷ xs)) same ∙ front) (leb-true (length (data_bytes (make (take most (x ∷ xs))))) 1048576 some.1))
+                subst (λ (bs : List Beat). length (data_bytes (make bs)) ≤ 1048576) (ap (λ (m : ℕ). take m (x ∷ xs)) same ∙ prefix) (leb-true (length (data_bytes (make (take most (x ∷ xs))))) 1048576 some.1))
           ];
         }
 
 -- ---- the answer
 -- the rules of the beats that an answer has
-record IsFront (names : Names) (from : ℕ) (beats : List Beat) : Type 0 where
+record IsPrefix (names : Names) (from : ℕ) (beats : List Beat) : Type 0 where
   some : 0 < length beats
   few : length beats ≤ 64
   fits : AllByRecursion FitsBeat beats
@@ -209,8 +209,8 @@ record IsFront (names : Names) (from : ℕ) (beats : List Beat) : Type 0 where
   places : AllByRecursion (λ (beat : Beat). has_rising_places beat ≡ true) beats
   words : AllByRecursion (λ (beat : Beat). has_storage_numbers beat ≡ true) beats
 
-front-is : (names : Names) (beats : List Beat) (from n : ℕ) (x : Beat) (xs : List Beat) → KeepsRules names beats → n ≤ 64 → take n (above beat_moment from beats) ≡ x ∷ xs → IsFront names from (x ∷ xs)
-front-is names beats from n x xs rules few is = record {
+prefix-is : (names : Names) (beats : List Beat) (from n : ℕ) (x : Beat) (xs : List Beat) → KeepsRules names beats → n ≤ 64 → take n (above beat_moment from beats) ≡ x ∷ xs → IsPrefix names from (x ∷ xs)
+prefix-is names beats from n x xs rules few is = record {
   some = omega arith;
   few = omega (arith, few, ap length is, length-take n (above beat_moment from beats));
   fits = subst (AllByRecursion FitsBeat) is (all-take FitsBeat n (above beat_moment from beats) (all-filter FitsBeat (λ (beat : Beat). ltb from beat.moment) beats rules.fits));
@@ -225,8 +225,8 @@ front-is names beats from n x xs rules few is = record {
     Numbers : Beat → Type 0
     Numbers beat = has_storage_numbers beat ≡ true
 
-in-form : (child floor prev : ℕ) (names : Names) (beats some : List Beat) → KeepsRules names beats → IsFront names (from_of floor prev) some → IsWhole (data_with child floor prev names some) → IsData (data_with child floor prev names some)
-in-form child floor prev names beats some rules front whole =
+in-form : (child floor prev : ℕ) (names : Names) (beats some : List Beat) → KeepsRules names beats → IsPrefix names (from_of floor prev) some → IsWhole (data_with child floor prev names some) → IsData (data_with child floor prev names some)
+in-form child floor prev names beats some rules prefix whole =
     let words = words_of some in
     let stays = select (uses words) 0 names.dimensions in
     record {
@@ -236,30 +236,30 @@ in-form child floor prev names beats some rules front whole =
       whole = whole;
       charts_used = charts-used names words;
       dimensions_used = dimensions-used child floor prev names some;
-      places = of-all has_rising_places (map (placed_beat (uses words)) some) (rising-beats names words some (all-used names words [] words refl) front.places);
-      words = of-all has_storage_numbers (map (placed_beat (uses words)) some) (number-beats (uses words) some front.words);
+      places = of-all has_rising_places (map (placed_beat (uses words)) some) (rising-beats names words some (all-used names words [] words refl) prefix.places);
+      words = of-all has_storage_numbers (map (placed_beat (uses words)) some) (number-beats (uses words) some prefix.words);
       from = omega arith;
       moments = record {
-        some = omega (arith, front.some, length-map some (placed_beat (uses words)));
-        rises = RisesFrom-map beat_moment beat_moment (placed_beat (uses words)) (λ beat. refl) (from_of floor prev) some front.rises;
+        some = omega (arith, prefix.some, length-map some (placed_beat (uses words)));
+        rises = RisesFrom-map beat_moment beat_moment (placed_beat (uses words)) (λ beat. refl) (from_of floor prev) some prefix.rises;
         upto = sym (latest-map beat_moment beat_moment (placed_beat (uses words)) (λ beat. refl) (from_of floor prev) some);
       };
     }
 
-fits-fields : (child floor prev : ℕ) (names : Names) (beats some : List Beat) → child < 2 ^ 64 → floor < 2 ^ 32 → prev < 2 ^ 32 → KeepsRules names beats → IsFront names (from_of floor prev) some
+fits-fields : (child floor prev : ℕ) (names : Names) (beats some : List Beat) → child < 2 ^ 64 → floor < 2 ^ 32 → prev < 2 ^ 32 → KeepsRules names beats → IsPrefix names (from_of floor prev) some
     → FitsMessage (data_with child floor prev names some)
-fits-fields child floor prev names beats some small_child small_floor small_prev rules front =
+fits-fields child floor prev names beats some small_child small_floor small_prev rules prefix =
     let from : from_of floor prev < 2 ^ 32 = omega (arith, small_floor, small_prev) in
     record {
       child = small_child;
       prev = small_prev;
       from = from;
-      upto = latest-fits (from_of floor prev) some from front.fits;
+      upto = latest-fits (from_of floor prev) some from prefix.fits;
       floor = small_floor;
       names = names-fit names (words_of some) rules.fields;
       beats = record {
-        count = omega (arith, front.few, length-map some (placed_beat (uses (words_of some))));
-        each = beats-fit (uses (words_of some)) some front.fits;
+        count = omega (arith, prefix.few, length-map some (placed_beat (uses (words_of some))));
+        each = beats-fit (uses (words_of some)) some prefix.fits;
       };
     }
 
@@ -278,11 +278,11 @@ pub answer-spells : (child floor : ℕ) (names : Names) (beats : List Beat) (ask
 answer-spells child floor names beats ask message small_child small_floor small_last rules is =
     let made = made-of child floor names beats ask message is in
     let some : List Beat = made.first ∷ made.rest in
-    let front = front-is names beats (from_of floor ask.last) made.count made.first made.rest rules made.few made.front in
+    let prefix = prefix-is names beats (from_of floor ask.last) made.count made.first made.rest rules made.few made.prefix in
     let whole = subst IsWhole (sym made.made) (answer-whole child floor names beats ask message rules.whole rules.series rules.some is) in
-    let form = in-form child floor ask.last names beats some rules front whole in
+    let form = in-form child floor ask.last names beats some rules prefix whole in
     subst (λ (m : Data). HasSpelling (frame.Data m)) made.made (record {
-      fields = fits-fields child floor ask.last names beats some small_child small_floor small_last rules front;
+      fields = fits-fields child floor ask.last names beats some small_child small_floor small_last rules prefix;
       form = form;
       within = within child floor ask.last names beats made.first made.rest rules form made.size;
     })

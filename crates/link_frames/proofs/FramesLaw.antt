@@ -40,11 +40,11 @@ kind_taken : {X : Type 0} {V : X → Type 0} {s : X → List ℕ} {r : List ℕ 
     → read_as make (r bytes) ≡ Ok (f, rest) → HasFields f × (kind ∷ bytes ≡ body_bytes f ++ rest)
 kind_taken {s = s} {r = r} field make kind bytes f rest small spelt fits is =
     let found = read_as-ok make (r bytes) f rest is in
-    let front : kind ∷ bytes ≡ body_bytes (make found.0) ++ rest =
+    let prefix : kind ∷ bytes ≡ body_bytes (make found.0) ++ rest =
     ap (λ (after : List ℕ). kind ∷ after) (field.is_spelt bytes found.0 rest fits found.1)
     ∙ ap (λ (all : List ℕ). all ++ rest) (spelt found.0) in
     subst (λ (made : Frame). HasFields made × (kind ∷ bytes ≡ body_bytes made ++ rest)) found.2
-    (small found.0 (field.has_spelling bytes found.0 rest fits found.1), front)
+    (small found.0 (field.has_spelling bytes found.0 rest fits found.1), prefix)
 
 data_spelt : (message : Data) → 3 ∷ data_fields message ≡ data_bytes message
 unfolding data_bytes u8_bytes

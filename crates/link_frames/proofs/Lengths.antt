@@ -24,8 +24,8 @@ chart-size chart fits =
     let every = nat_le chart.update_every 86400 in
     let some = nat_le 1 chart.update_every in
     let short = nat_le (length chart.context) 200 in
-    let front = and_parts (is_chart_id chart.id && short && some) every fits in
-    let texts = and_parts (is_chart_id chart.id && short) some front.0 in
+    let prefix = and_parts (is_chart_id chart.id && short && some) every fits in
+    let texts = and_parts (is_chart_id chart.id && short) some prefix.0 in
     let text = and_parts (is_chart_id chart.id) short texts.0 in
     let id = id-length chart.id (and_parts (is_id chart.id) (has_two_parts chart.id) text.0).0 in
     omega (arith, id, leb-true (length chart.context) 200 text.1)

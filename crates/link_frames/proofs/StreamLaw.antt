@@ -28,7 +28,7 @@ body-append bytes more there whole =
     ∙ ap (take (said bytes)) (drop-append-le 4 bytes more there)
     ∙ take-append-le (said bytes) (drop 4 bytes) more (omega (arith, length-drop 4 bytes))
 
--- what the front of bytes is that begin with a frame
+-- what the prefix of bytes is that begin with a frame
 record Begins (f : Frame) (bytes : List ℕ) : Type 0 where
   there : 4 ≤ length bytes
   says : said bytes ≡ length (body_bytes f)
@@ -39,17 +39,17 @@ begins : (f : Frame) (more : List ℕ) → HasSpelling f → Begins f (frame_byt
 unfolding frame_bytes sized_bytes u32_bytes
 begins f more spells =
     let b : List ℕ = body_bytes f in
-    let front : List ℕ = u32_bytes (length b) in
-    let grouped : (front ++ b) ++ more ≡ front ++ (b ++ more) = append_assoc front b more in
-    let long = length-append front (b ++ more) in
+    let prefix : List ℕ = u32_bytes (length b) in
+    let grouped : (prefix ++ b) ++ more ≡ prefix ++ (b ++ more) = append_assoc prefix b more in
+    let long = length-append prefix (b ++ more) in
     let rest = length-append b more in
     let four = length-u32_bytes (length b) in
-    let says : said (front ++ (b ++ more)) ≡ length b = little_number-reads_back 4 (length b) (b ++ more) (omega (arith, spells.within)) in
+    let says : said (prefix ++ (b ++ more)) ≡ length b = little_number-reads_back 4 (length b) (b ++ more) (omega (arith, spells.within)) in
     subst (Begins f) (sym grouped) (record {
       there = omega (arith, long, four);
       says = says;
       whole = omega (arith, long, rest, four);
-      is = ap (λ (n : ℕ). take n (drop 4 (front ++ (b ++ more)))) says ∙ ap (take (length b)) (drop_at front (b ++ more) 4 four) ∙ take_at b more (length b) refl;
+      is = ap (λ (n : ℕ). take n (drop 4 (prefix ++ (b ++ more)))) says ∙ ap (take (length b)) (drop_at prefix (b ++ more) 4 four) ∙ take_at b more (length b) refl;
     })
 
 -- ---- where no frame stands
@@ -179,23 +179,23 @@ pieces_change_no_frames pieces others before first second rest end one two same 
 
 -- ---- one piece
 -- what is left of a piece is left behind what is held
-pub carried : (held front left ahead start end : List ℕ) (before now : List Frame) → front ++ left ≡ ahead → start ≡ held ++ front
+pub carried : (held prefix left ahead start end : List ℕ) (before now : List Frame) → prefix ++ left ≡ ahead → start ≡ held ++ prefix
     → HandsOut start before now end → HandsOut (held ++ ahead) before now (end ++ left)
-carried held front left ahead start end before now split begins one =
-    subst (λ (bs : List ℕ). HandsOut bs before now (end ++ left)) (ap (λ (bs : List ℕ). bs ++ left) begins ∙ append_assoc held front left ∙ ap (λ (bs : List ℕ). held ++ bs) split)
+carried held prefix left ahead start end before now split begins one =
+    subst (λ (bs : List ℕ). HandsOut bs before now (end ++ left)) (ap (λ (bs : List ℕ). bs ++ left) begins ∙ append_assoc held prefix left ∙ ap (λ (bs : List ℕ). held ++ bs) split)
     (with_more start left end before now one)
 
-pub bad-carried : (held front left ahead start : List ℕ) → front ++ left ≡ ahead → start ≡ held ++ front → IsBad start → IsBad (held ++ ahead)
-bad-carried held front left ahead start split begins bad =
-    subst IsBad (ap (λ (bs : List ℕ). bs ++ left) begins ∙ append_assoc held front left ∙ ap (λ (bs : List ℕ). held ++ bs) split) (bad-stays start left bad)
+pub bad-carried : (held prefix left ahead start : List ℕ) → prefix ++ left ≡ ahead → start ≡ held ++ prefix → IsBad start → IsBad (held ++ ahead)
+bad-carried held prefix left ahead start split begins bad =
+    subst IsBad (ap (λ (bs : List ℕ). bs ++ left) begins ∙ append_assoc held prefix left ∙ ap (λ (bs : List ℕ). held ++ bs) split) (bad-stays start left bad)
 
 -- a body behind a length of its own is a frame
 pub frame_is : (held : List ℕ) (f : Frame) → IsBytes held → 4 ≤ length held → length held ≡ 4 + said held → drop 4 held ≡ body_bytes f → held ≡ frame_bytes f
 unfolding frame_bytes sized_bytes u32_bytes
 frame_is held f fits there whole is =
     let size : said held ≡ length (body_bytes f) = omega (arith, length-drop 4 held, ap length is, whole) in
-    let front : u32_bytes (said held) ≡ take 4 held = little_bytes-little_number 4 held fits there in
-    sym (take-append-drop 4 held) ∙ ap (λ (bs : List ℕ). bs ++ drop 4 held) (sym front) ∙ ap (λ (bs : List ℕ). u32_bytes (said held) ++ bs) is
+    let prefix : u32_bytes (said held) ≡ take 4 held = little_bytes-little_number 4 held fits there in
+    sym (take-append-drop 4 held) ∙ ap (λ (bs : List ℕ). bs ++ drop 4 held) (sym prefix) ∙ ap (λ (bs : List ℕ). u32_bytes (said held) ++ bs) is
     ∙ ap (λ (n : ℕ). u32_bytes n ++ body_bytes f) size
 
 -- a body that no frame has

@@ -13,7 +13,7 @@ pub record HandsOut (bytes : List ℕ) (before now : List Frame) (rest : List �
   pub frames : AllByRecursion HasSpelling found
   pub spelt : bytes ≡ flat_map frame_bytes found ++ rest
 
--- no frame stands at the front of the bytes
+-- no frame stands at the start of the bytes
 abbrev pub HasNoFrame : List ℕ → Type 0
 HasNoFrame bytes = (f : Frame) (more : List ℕ) → HasSpelling f → bytes ≢ frame_bytes f ++ more
 

@@ -88,8 +88,8 @@ fn take_part<'a>(
     ensures err { OnErr result (out.new ≡ out.old) }
 {
     let count = lacking(held.as_slice()).min(ahead.len());
-    let (front, left) = ahead.split_at(count);
-    held.extend(front)?;
+    let (prefix, left) = ahead.split_at(count);
+    held.extend(prefix)?;
     hand_out(alloc, held, out)?;
     Ok(left)
 }

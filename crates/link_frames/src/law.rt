@@ -16,7 +16,7 @@ ghost use Rattle.link_frames.specs.Stream.{Feeds, HandsOut, HasNoFrame, IsBad, I
 pub fn every_frame()
     ensures one_frame { (a b : Frame) → HasSpelling a → HasSpelling b
         → frame_bytes a ≡ frame_bytes b → a ≡ b }
-    ensures no_front { (a b : Frame) (more : List ℕ) → HasSpelling a → HasSpelling b
+    ensures no_prefix { (a b : Frame) (more : List ℕ) → HasSpelling a → HasSpelling b
         → frame_bytes a ++ more ≡ frame_bytes b → more ≡ [] }
 {}
 

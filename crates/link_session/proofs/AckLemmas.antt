@@ -38,8 +38,8 @@ acked-more n made text closed first second =
     let all : lines (made ++ text) ≡ lines made ++ lines text = lines-append made text ∙ ap (λ (r : List ℕ). lines made ++ lines (r ++ text)) closed in
     subst (All (IsKnown n)) (sym all) (All-append (IsKnown n) (lines made) (lines text) first second)
 
-acked-front : (n : ℕ) (text more : List ℕ) → IsAckedUpTo n (text ++ more) → IsAckedUpTo n text
-acked-front n text more all =
+acked-prefix : (n : ℕ) (text more : List ℕ) → IsAckedUpTo n (text ++ more) → IsAckedUpTo n text
+acked-prefix n text more all =
     let these = subst (All (IsKnown n)) (lines-append text more) all in
     let later = lines (rest text ++ more) in
     subst (All (IsKnown n)) (take_at (lines text) later (length (lines text)) refl) (All-take (IsKnown n) (length (lines text)) (lines text ++ later) these)
@@ -57,18 +57,18 @@ acked-since n before made text more whole acked =
     (λ short. subst (IsAckedUpTo n) (sym (drop_of_length-le text (omega arith))) (acked-nothing n))
     (λ long.
     let since : made ≡ drop (length before) text ++ more = sym (drop-append_seam before made) ∙ ap (drop (length before)) (sym whole) ∙ drop-append-le (length before) text more long in
-    acked-front n (drop (length before) text) more (subst (IsAckedUpTo n) since acked))
+    acked-prefix n (drop (length before) text) more (subst (IsAckedUpTo n) since acked))
     (cases_lt (length text) (length before))
 
 -- what may have been told by then is a prefix of all that was told
-pub record IsFront (text all : List ℕ) : Type 0 where
+pub record IsPrefix (text all : List ℕ) : Type 0 where
   pub more : List ℕ
   pub whole : text ++ more ≡ all
 
-pub text-front : (past : List Event) (text : List ℕ) → IsText past text → IsFront text (told past)
-text-front [] text is = record { more = []; whole = append-nil text ∙ is }
-text-front (On file change ∷ past) text is = record { more = []; whole = append-nil text ∙ is }
-text-front (Told sent ∷ past) text is = record {
+pub text-prefix : (past : List Event) (text : List ℕ) → IsText past text → IsPrefix text (told past)
+text-prefix [] text is = record { more = []; whole = append-nil text ∙ is }
+text-prefix (On file change ∷ past) text is = record { more = []; whole = append-nil text ∙ is }
+text-prefix (Told sent ∷ past) text is = record {
   more = drop is.0 sent;
   whole = ap (λ (t : List ℕ). t ++ drop is.0 sent) is.1 ∙ append_assoc (told past) (take is.0 sent) (drop is.0 sent) ∙ ap (λ (t : List ℕ). told past ++ t) (take-append-drop is.0 sent);
 }

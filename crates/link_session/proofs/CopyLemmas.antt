@@ -1,9 +1,9 @@
--- A parent that copies a child still does after a session, at whatever moment it stops.
+-- A parent that copies a child still does after a session, at whatever moment it crashes.
 use Rattle.std.proofs.Common.{◌≡◌, ◌⊎◌, inl, inr, ⊎_elim, ℕ, suc, Bool, List, [], ◌∷◌, ◌++◌, length, take, Option, Some, None, Ok, Err, refl, sym, ap, subst, ◌∙◌, ◌==◌, true, false, length-append, arith, if◌then◌else◌}
 use Rattle.std.specs.List.{fold, AllByRecursion}
 use Rattle.std.specs.Option.{option_map_or}
 use Rattle.host_model.specs.Disks.{EveryDisk}
-use Rattle.host_model.specs.Moments.{EveryStop, Throughout}
+use Rattle.host_model.specs.Moments.{EveryCrash, Throughout}
 use Rattle.host_model.specs.Past.{told, Event}
 use Rattle.host_model.proofs.MomentLemmas.{full_text, weakened}
 use Rattle.history.specs.declared.fault.BlockFault.{BlockFault}
@@ -72,20 +72,20 @@ at-most-one h g beat before after = by (behind g (beat ∷ h) after).more (behin
     by (x ∷ more) whole = let tail : h ≡ more ++ g = cc in inl (same-history g h (subst (Extends g) (sym tail) (goes-from more g)) before)
 
 -- one between a history and that with more beats has the first of them
-pub record HasFront (h more g : List Beat) : Type 0 where
+pub record HasPrefix (h more g : List Beat) : Type 0 where
   pub count : ℕ
   pub is : g ≡ onto h (take count more)
 
-pub front-between : (more h g : List Beat) → Extends h g → Extends g (onto h more) → HasFront h more g
-front-between [] h g before after = record { count = 0; is = same-history g h after before }
-front-between (beat ∷ more) h g before after =
+pub prefix-between : (more h g : List Beat) → Extends h g → Extends g (onto h more) → HasPrefix h more g
+prefix-between [] h g before after = record { count = 0; is = same-history g h after before }
+prefix-between (beat ∷ more) h g before after =
     ⊎_elim
     (λ under. ⊎_elim (λ same. record { count = 0; is = same }) (λ one. record { count = 1; is = one }) (at-most-one h g beat before under))
-    (λ over. let front = front-between more (beat ∷ h) g over after in record { count = suc front.count; is = front.is })
+    (λ over. let prefix = prefix-between more (beat ∷ h) g over after in record { count = suc prefix.count; is = prefix.is })
     (in-line g (beat ∷ h) (onto (beat ∷ h) more) after (extends-onto (beat ∷ h) more))
 
 -- ---- what a history that is behind another has
-behind-beats : (h more : List Beat) (beats : List StoreBeat) → AreBeatsOf (more ++ h) beats → (front : List StoreBeat) × AreBeatsOf h front
+behind-beats : (h more : List Beat) (beats : List StoreBeat) → AreBeatsOf (more ++ h) beats → (prefix : List StoreBeat) × AreBeatsOf h prefix
 behind-beats h [] beats are = (beats, are)
 behind-beats h (beat ∷ more) [] are = absurd are
 behind-beats h (beat ∷ more) (kept ∷ beats) are = behind-beats h more beats are.1
@@ -162,10 +162,10 @@ module _ (set : Settings) (floors : List ℕ) (child : List SeenBeat) (rises : R
   -- a history between that of a copy and that with a message that is true of the child
   message-copies : (h g : List Beat) (message : Data) (beats : List StoreBeat) → AreBeatsOf g beats → IsData message → IsTrueOfChild floors child message → IsCopyOfChild floors child h → Extends h g → Extends g (onto h (added_to h message)) → IsCopyOfChild floors child g
   message-copies h g message beats are form truth copy before after =
-      let front = front-between (added_to h message) h g before after in
+      let prefix = prefix-between (added_to h message) h g before after in
       let b = behind h g before in
       let own = behind-beats h b.more beats (subst (λ (l : List Beat). AreBeatsOf l beats) b.whole are) in
-      subst (IsCopyOfChild floors child) (sym front.is) (added-copy h message form floors child rises (gaps-end h own.0 own.1) copy truth front.count)
+      subst (IsCopyOfChild floors child) (sym prefix.is) (added-copy h message form floors child rises (gaps-end h own.0 own.1) copy truth prefix.count)
 
   pub frames-copy : (frames : List Frame) (course : Course Parent) (g : List Beat) (beats : List StoreBeat) → AreBeatsOf g beats → AllByRecursion HasSpelling frames → AreTrueOf floors child frames → IsCopyOfChild floors child course.now.history
       → Extends course.now.history g → Extends g (fold steps course frames).now.history → IsCopyOfChild floors child g
@@ -195,11 +195,11 @@ module _ (set : Settings) (floors : List ℕ) (child : List SeenBeat) (rises : R
       data-truth f message is truth = subst (IsTrueFrame floors child) is truth
 
   -- so does what a crash leaves of a session that keeps its history
-  pub stops-copy : (h0 : List Beat) (frames : List Frame) (old new : List Event) → AllByRecursion HasSpelling frames → AreTrueOf floors child frames → IsCopyOfChild floors child h0
-      → Throughout (EveryStop (Keeps set h0 (exchange (parent_does set) (parent_begins h0) frames).now.history (told old))) old new
+  pub crashes-copy : (h0 : List Beat) (frames : List Frame) (old new : List Event) → AllByRecursion HasSpelling frames → AreTrueOf floors child frames → IsCopyOfChild floors child h0
+      → Throughout (EveryCrash (Keeps set h0 (exchange (parent_does set) (parent_begins h0) frames).now.history (told old))) old new
       → Throughout (EveryDisk (λ disk. (h : List Beat) × StandsForHistory set h disk × IsCopyOfChild floors child h)) old new
-  stops-copy h0 frames old new spelt truth copy stops =
+  crashes-copy h0 frames old new spelt truth copy crashes =
       weakened (λ past held disk images.
       let kept = held disk (told past) images (full_text past (told past) refl) in
       let all = were_kept set kept.stored kept.stands.stored kept.stands.are in
-      (kept.stored, kept.stands, frames-copy frames (parent_begins h0) kept.stored all.beats all.are spelt truth copy kept.since kept.within)) stops
+      (kept.stored, kept.stands, frames-copy frames (parent_begins h0) kept.stored all.beats all.are spelt truth copy kept.since kept.within)) crashes

@@ -4,7 +4,7 @@ use Rattle.std.proofs.Math.Seq.{take-length}
 use Rattle.host_model.specs.declared.file.File.{File}
 use Rattle.host_model.specs.Cause.{HasCause}
 use Rattle.host_model.specs.Disks.{EveryDisk}
-use Rattle.host_model.specs.Moments.{EveryStop, Throughout}
+use Rattle.host_model.specs.Moments.{EveryCrash, Throughout}
 use Rattle.host_model.specs.Past.{of, told, Event, MayAdd, Told}
 use Rattle.host_model.specs.Seen.{Seen}
 use Rattle.host_model.proofs.MomentLemmas.{at_end}
@@ -31,7 +31,7 @@ use Rattle.agent_core.specs.Calls.{agent_adds, agent_verdict, TakesData}
 use Rattle.agent_core.specs.Copying.{added_by, added_to, events_onto, refusal_by, verdict_of}
 use Rattle.agent_core.specs.Faults.{cause_of, fault_after, LeavesAll, RefusedBy, ReopensWith}
 use Rattle.agent_core.specs.Kept.{onto}
-use Rattle.agent_core.specs.Stands.{StandsForFront}
+use Rattle.agent_core.specs.Stands.{StandsForPrefix}
 use Rattle.agent_core.specs.Replies.{event_lines, reply_text, stored_line}
 use Rattle.agent_core.specs.Roles.{role_of}
 use Rattle.agent_core.proofs.KeptLemmas.{agent-kept, child-is}
@@ -44,7 +44,7 @@ use Rattle.link_session.specs.declared.flow.Flow.TheVariants.{GoesOn}
 use Rattle.link_session.specs.Exchange.{ends, Course}
 use Rattle.link_session.specs.Keeps.{no_more, IsAckedUpTo, Keeps}
 use Rattle.link_session.specs.Parent.{copies, stores, stores_unless, takes_by, Parent}
-use Rattle.link_session.specs.Receiving.{keeps_all, CopiesSo, HasGoneOn, HasStored, IsAgentsReceiving, IsCutShort, IsReceiving, ParentTakes, SaysHave, StoresAt, StoresOnly, TellsFront}
+use Rattle.link_session.specs.Receiving.{keeps_all, CopiesSo, HasGoneOn, HasStored, IsAgentsReceiving, IsCutShort, IsReceiving, ParentTakes, SaysHave, StoresAt, StoresOnly, TellsPrefix}
 use Rattle.link_session.specs.Sending.{IsAgents}
 use Rattle.link_session.specs.Session.{is_refusal, result_of, says_all, ClosesSo, IsAgentEnd, IsRefusing, SaysThen}
 use Rattle.link_session.proofs.ChildLemmas.{id-is}
@@ -54,7 +54,7 @@ use Rattle.link_session.proofs.ParentLemmas.{no-cause, still-copies, takes-still
 use Rattle.link_session.proofs.SendingLemmas.{spent-none}
 use Rattle.link_session.proofs.ReadyLemmas.{ready-after}
 use Rattle.link_session.proofs.StepLemmas.{failed-does, said-does, said-unsaid, silent-does}
-use Rattle.link_session.proofs.StoreLemmas.{all-stored, beats-stored, front-stops, gone-on, silent-front, still-stored, stored-since, tells-all, text-told, torn-front, torn-stops, torn-stored}
+use Rattle.link_session.proofs.StoreLemmas.{all-stored, beats-stored, prefix-crashes, gone-on, silent-prefix, still-stored, stored-since, tells-all, text-told, torn-prefix, torn-crashes, torn-stored}
 
 -- ---- what the agent says of it is what its history does
 module _ (past : List Event) (agent : AgentState) (set : Settings) (h : List Beat) (is_of : IsAgentOf past agent set h) (message : Data) where
@@ -95,9 +95,6 @@ module _ (set : Settings) (id : ℕ) (h : List Beat) (message : Data) where
   stored-by verdict.Ahead is free = cc
   stored-by (verdict.WrongChild kept came) is free = cc
 
-abbrev failing : AgentFault → Result (Verdict × Reply) AgentFault
-failing fault = Err fault
-
 abbrev failed : AgentFault → Result Flow SessionFault
 failed fault = Err (Agent fault)
 
@@ -129,7 +126,7 @@ module _ (honest : Type 0) (host : Seen) (agent : AgentState) (message : Data) (
       only_here = λ h. (takes.only_here h).others;
       disk = record {
         later = takes.cause.later;
-        failed = λ is. takes.cause.failed (ap failing (inside agent_fault.DiskFault is));
+        failed = λ is. takes.cause.failed (ap untaken (inside agent_fault.DiskFault is));
         stays = λ other. takes.cause.stays (λ is. other (within is));
       };
       tells = subst (λ (n : ℕ). HasCause host.tell_faults n (IsErrOf (failed fault) TellFault)) (sym takes.tells) (no-cause host.tell_faults _ (λ e. cc));
@@ -139,7 +136,7 @@ module _ (honest : Type 0) (host : Seen) (agent : AgentState) (message : Data) (
       ready = takes.ready;
     }
       where
-        within : failing fault ≡ failing agent_fault.DiskFault → failed fault ≡ failed agent_fault.DiskFault
+        within : untaken fault ≡ untaken agent_fault.DiskFault → failed fault ≡ failed agent_fault.DiskFault
         within is = cc
 
     module _ (hon : honest) (set : Settings) (h0 h : List Beat) (start : List Event) (made : List ℕ) (at : StoresAt host.past agent set h0 h start made) (a : Option (List ℕ)) where
@@ -159,7 +156,7 @@ module _ (honest : Type 0) (host : Seen) (agent : AgentState) (message : Data) (
           (still-copies honest host agent set h0 h start made at over (Some id) (failed (agent_fault.Refused why)) a a refl refl (silent-does over (copies id h) (failed (agent_fault.Refused why)) a refl refl tt) (λ e. cc))))
 
       -- the agent has spent itself on these beats
-      spent-so : (cause : Why) → agent'.fault ≡ Some cause → EveryDisk (StandsForFront set h (agent_adds agent message)) middle.past → IsSpentAfter middle.past agent' set h (agent_adds agent message)
+      spent-so : (cause : Why) → agent'.fault ≡ Some cause → EveryDisk (StandsForPrefix set h (agent_adds agent message)) middle.past → IsSpentAfter middle.past agent' set h (agent_adds agent message)
       spent-so cause spent images = record {
         cause = cause;
         spent = spent;
@@ -177,8 +174,8 @@ module _ (honest : Type 0) (host : Seen) (agent : AgentState) (message : Data) (
           let adds = agent_adds agent message in
           record {
             does = failed-does (taking set h) (record { history = (taking set h).now.history; peer = Some id }) (Agent fault) a short closes;
-            stops = subst (λ (g : List Beat). Throughout (EveryStop (Keeps set h0 g (told start))) start middle.past) (sym history) (front-stops host.past agent set h0 h start made at adds middle.past moments silent);
-            output = subst (λ (all : Bool). TellsFront all (made ++ (taking set h).told) start middle.past) (sym short) (silent-front host.past agent set h0 h start made at adds middle.past moments silent (taking set h).told);
+            crashes = subst (λ (g : List Beat). Throughout (EveryCrash (Keeps set h0 g (told start))) start middle.past) (sym history) (prefix-crashes host.past agent set h0 h start made at adds middle.past moments silent);
+            output = subst (λ (all : Bool). TellsPrefix all (made ++ (taking set h).told) start middle.past) (sym short) (silent-prefix host.past agent set h0 h start made at adds middle.past moments silent (taking set h).told);
             stored = λ all. absurd (true≢false (sym all ∙ short));
             unsaid = λ _. (refl, still-stored host.past agent set h0 h start made at adds middle.past moments silent);
             goes_on = subst (λ (g : List Beat). HasGoneOn (keeps_all (Err (Agent fault))) middle.past agent' set h0 g) (sym history) (record {
@@ -298,7 +295,7 @@ module _ (honest : Type 0) (host : Seen) (agent : AgentState) (message : Data) (
       at-middle =
           let same = adds-is host.past agent set h at.agent_of message in
           beats-stored host.past agent set h0 h start made at more middle.past
-          (subst (λ (bs : List Beat). Throughout (EveryDisk (StandsForFront set h bs)) host.past middle.past) same (takes.any_moment hon set h at.agent_of)) (takes.only_here hon).output agent'
+          (subst (λ (bs : List Beat). Throughout (EveryDisk (StandsForPrefix set h bs)) host.past middle.past) same (takes.any_moment hon set h at.agent_of)) (takes.only_here hon).output agent'
           (subst (λ (bs : List Beat). IsAgentOf middle.past agent' set (onto h bs)) same (takes.done hon set h at.agent_of))
 
       text-is : reply_text reply ≡ course.told
@@ -327,12 +324,12 @@ module _ (honest : Type 0) (host : Seen) (agent : AgentState) (message : Data) (
       torn-agent (inl same) = subst (λ (p : List Event). IsAgentOf p agent' set (onto h more)) (sym same) at-middle.agent_of
       torn-agent (inr (n, added)) = subst (λ (p : List Event). IsAgentOf p agent' set (onto h more)) (sym added) (agent-told (take n course.told) middle.past agent' set (onto h more) at-middle.agent_of)
 
-      cut-copies : (fault : SessionFault) → says_all (Err fault) ≡ false → keeps_all (Err fault) ≡ false → ClosesSo (Err fault) None → Throughout (EveryStop (Keeps set h0 (onto h more) (told start))) start new.past
-          → TellsFront false (made ++ course.told) start new.past → HasStored set (onto h more) start made new.past → IsAgentOf new.past agent' set (onto h more) → Has (Err fault) new.past a
-      cut-copies fault short shorter closes stops output has is_of = record {
+      cut-copies : (fault : SessionFault) → says_all (Err fault) ≡ false → keeps_all (Err fault) ≡ false → ClosesSo (Err fault) None → Throughout (EveryCrash (Keeps set h0 (onto h more) (told start))) start new.past
+          → TellsPrefix false (made ++ course.told) start new.past → HasStored set (onto h more) start made new.past → IsAgentOf new.past agent' set (onto h more) → Has (Err fault) new.past a
+      cut-copies fault short shorter closes crashes output has is_of = record {
         does = failed-does course (copies id (onto h more)) fault a short closes;
-        stops = stops;
-        output = subst (λ (all : Bool). TellsFront all (made ++ course.told) start new.past) (sym shorter) output;
+        crashes = crashes;
+        output = subst (λ (all : Bool). TellsPrefix all (made ++ course.told) start new.past) (sym shorter) output;
         stored = λ all. absurd (true≢false (sym all ∙ shorter));
         unsaid = λ _. (refl, stored-since set h (onto h more) start new.past made (extends-onto h more) has);
         goes_on = goes-on-with is_of (Err fault);
@@ -341,12 +338,12 @@ module _ (honest : Type 0) (host : Seen) (agent : AgentState) (message : Data) (
       cut-short : (fault : SessionFault) → IsCutShort fault honest course.told middle.past new.past → Has (Err fault) new.past a
       cut-short fault (inl (is, torn)) =
           subst (λ (f : SessionFault). Has (Err f) new.past a) (sym is)
-          (cut-copies TellFault refl refl tt (torn-stops middle.past agent' set h0 (onto h more) start made at-middle course.told acked new.past (torn hon))
-          (torn-front middle.past agent' set h0 (onto h more) start made at-middle course.told acked new.past (torn hon))
+          (cut-copies TellFault refl refl tt (torn-crashes middle.past agent' set h0 (onto h more) start made at-middle course.told acked new.past (torn hon))
+          (torn-prefix middle.past agent' set h0 (onto h more) start made at-middle course.told acked new.past (torn hon))
           (torn-stored middle.past agent' set h0 (onto h more) start made at-middle course.told acked new.past (torn hon)) (torn-agent (torn hon)))
       cut-short fault (inr (is, same)) =
           subst (λ (f : SessionFault). Has (Err f) new.past a) (sym is)
-          (cut-copies Memory refl refl tt (subst (λ (p : List Event). Throughout (EveryStop (Keeps set h0 (onto h more) (told start))) start p) (sym (same hon)) at-middle.stops)
+          (cut-copies Memory refl refl tt (subst (λ (p : List Event). Throughout (EveryCrash (Keeps set h0 (onto h more) (told start))) start p) (sym (same hon)) at-middle.crashes)
           (record { said = made; unsaid = course.told; whole = refl; tells = ap told (same hon) ∙ at-middle.tells; complete = λ e. cc })
           (subst (HasStored set (onto h more) start made) (sym (same hon)) (all-stored middle.past agent' set h0 (onto h more) start made at-middle)) (torn-agent (inl (same hon))))
 
@@ -355,7 +352,7 @@ module _ (honest : Type 0) (host : Seen) (agent : AgentState) (message : Data) (
           let after = text-told middle.past agent' set h0 (onto h more) start made at-middle course.told acked new.past (told hon) whole in
           record {
             does = said-does course (copies id (onto h more)) (frame.Have (last (onto h more))) GoesOn result a b refl refl refl said;
-            stops = after.stops;
+            crashes = after.crashes;
             output = tells-all new.past agent' set h0 (onto h more) start (made ++ course.told) after (keeps_all (result_of result));
             stored = λ _. after;
             unsaid = λ short. (

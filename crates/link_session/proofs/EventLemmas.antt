@@ -12,7 +12,7 @@ use Rattle.health_expr.specs.declared.value.Value.TheVariants as value
 use Rattle.health_config.specs.declared.fault.ConfigFault.{ConfigFault}
 use Rattle.health_config.specs.declared.fault.ValueFault.{ValueFault}
 use Rattle.health_config.specs.declared.lines.Line.{Line}
-use Rattle.health_config.specs.Config.{Configuration, config_read, ended, ended_by, entities, entity, front_skipped, of_draft, of_sections, room}
+use Rattle.health_config.specs.Config.{Configuration, config_read, ended, ended_by, entities, entity, prefix_skipped, of_draft, of_sections, room}
 use Rattle.health_config.specs.Draft.{Draft, draft_read}
 use Rattle.health_config.specs.Entity.{Alarm, alarm, alarm_with, every, name, name_by, name_read}
 use Rattle.health_config.specs.Fault.{◌>>=◌, at_line}
@@ -92,9 +92,9 @@ free-said part free = by (goes_on part)
     by true = free-append (take (length part - 1) part) (32 ∷ []) (free-take (length part - 1) part free) (refl, tt)
     by false = free
 
-free-joined : (number : ℕ) (front : List ℕ) (others : List Line) → IsFree front → AllByRecursion IsFreeLine others → AllByRecursion IsFreeLine (joined number front others)
-free-joined number front [] first all = (first, tt)
-free-joined number front (line ∷ others) first all = (free-append front line.text first all.0, all.1)
+free-joined : (number : ℕ) (prefix : List ℕ) (others : List Line) → IsFree prefix → AllByRecursion IsFreeLine others → AllByRecursion IsFreeLine (joined number prefix others)
+free-joined number prefix [] first all = (first, tt)
+free-joined number prefix (line ∷ others) first all = (free-append prefix line.text first all.0, all.1)
 
 free-lines : (number : ℕ) (ps : List (List ℕ)) → AllByRecursion IsFree ps → AllByRecursion IsFreeLine (lines_from number ps)
 free-lines number [] all = tt
@@ -204,7 +204,7 @@ free-config text = by _
 
     read : IfRead AreFree (of_sections all)
     read =
-        read-then Any AreFree (front_skipped all.front) _ (read-any (front_skipped all.front))
+        read-then Any AreFree (prefix_skipped all.prefix) _ (read-any (prefix_skipped all.prefix))
         (λ skipped any. read-then AreFree AreFree (entities 0 all.groups) _ entities-free (λ more are. are))
 
     by : (b : Bool) → IfRead AreFree (cond b (Err ConfigFault.TextTooLong) (of_sections all))
@@ -424,21 +424,21 @@ outcome-free set (missing gap ∷ h) [] are = absurd are
 outcome-free set (missing gap ∷ h) (kept ∷ beats) are = record { names = (outcome-free set h beats are.1).names; events = tt }
 
 -- the beats of a history that more follow
-front-of : (h more : List Beat) (beats : List StoreBeat) → AreBeatsOf (onto h more) beats → (front : List StoreBeat) × AreBeatsOf h front
-front-of h [] beats are = (beats, are)
-front-of h (beat ∷ more) beats are = by (front-of (beat ∷ h) more beats are)
+prefix-of : (h more : List Beat) (beats : List StoreBeat) → AreBeatsOf (onto h more) beats → (prefix : List StoreBeat) × AreBeatsOf h prefix
+prefix-of h [] beats are = (beats, are)
+prefix-of h (beat ∷ more) beats are = by (prefix-of (beat ∷ h) more beats are)
   where
-    by : (front : List StoreBeat) × AreBeatsOf (beat ∷ h) front → (front : List StoreBeat) × AreBeatsOf h front
+    by : (prefix : List StoreBeat) × AreBeatsOf (beat ∷ h) prefix → (prefix : List StoreBeat) × AreBeatsOf h prefix
     by ([], are) = absurd are
-    by (kept ∷ front, are) = (front, are.1)
+    by (kept ∷ prefix, are) = (prefix, are.1)
 
 -- the events of beats that follow a history
 onto-free : (set : Settings) (h more : List Beat) (beats : List StoreBeat) → AreBeatsOf (onto h more) beats → AllByRecursion IsFreeEvent (events_onto set h more)
 unfolding events_onto
 onto-free set h [] beats are = tt
 onto-free set h (beat ∷ more) beats are =
-    let front = front-of (beat ∷ h) more beats are in
-    all-append IsFreeEvent (events_at set (beat ∷ h)) (events_onto set (beat ∷ h) more) (outcome-free set (beat ∷ h) front.0 front.1).events (onto-free set (beat ∷ h) more beats are)
+    let prefix = prefix-of (beat ∷ h) more beats are in
+    all-append IsFreeEvent (events_at set (beat ∷ h)) (events_onto set (beat ∷ h) more) (outcome-free set (beat ∷ h) prefix.0 prefix.1).events (onto-free set (beat ∷ h) more beats are)
 
 -- what is told of beats acknowledges them, and is whole lines
 module _ (n count : ℕ) (set : Settings) (h more : List Beat) (beats : List StoreBeat) (are : AreBeatsOf (onto h more) beats) where

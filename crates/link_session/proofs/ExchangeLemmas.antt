@@ -16,19 +16,19 @@ use Rattle.link_session.specs.declared.flow.Flow.TheVariants.{GoesOn, Done}
 use Rattle.link_session.specs.declared.incoming.Incoming.{Incoming}
 use Rattle.link_session.specs.Exchange.{both, broken_by, exchange, refuses, then_does, Course, SessionResult}
 use Rattle.link_session.specs.Incoming.{waiting, HasGiven}
-use Rattle.link_session.specs.Session.{bye_for, result_of, says_all, ClosesSo, DoesSo, Exchanges, HearsNoMore, IsEndFor, IsSilentFor, LinkSeen, SaysFront, Talks}
-use Rattle.link_session.proofs.LinkLemmas.{all-said, joined-front, sends-both}
+use Rattle.link_session.specs.Session.{bye_for, result_of, says_all, ClosesSo, DoesSo, Exchanges, HearsNoMore, IsEndFor, IsSilentFor, LinkSeen, SaysPrefix, Talks}
+use Rattle.link_session.proofs.LinkLemmas.{all-said, joined-prefix, sends-both}
 
 -- ---- the frames that were given
-pub all-front : (fs gs : List Frame) → AllByRecursion HasSpelling (fs ++ gs) → AllByRecursion HasSpelling fs
-all-front [] gs all = tt
-all-front (f ∷ fs) gs all = (all.0, all-front fs gs all.1)
+pub all-prefix : (fs gs : List Frame) → AllByRecursion HasSpelling (fs ++ gs) → AllByRecursion HasSpelling fs
+all-prefix [] gs all = tt
+all-prefix (f ∷ fs) gs all = (all.0, all-prefix fs gs all.1)
 
-pub front-handed : (bytes rest : List ℕ) (fs gs : List Frame) → HandsOut bytes [] (fs ++ gs) rest → HandsOut bytes [] fs (flat_map frame_bytes gs ++ rest)
-front-handed bytes rest fs gs cut = record {
+pub prefix-handed : (bytes rest : List ℕ) (fs gs : List Frame) → HandsOut bytes [] (fs ++ gs) rest → HandsOut bytes [] fs (flat_map frame_bytes gs ++ rest)
+prefix-handed bytes rest fs gs cut = record {
   found = fs;
   handed = refl;
-  frames = all-front fs gs (subst (AllByRecursion HasSpelling) (sym cut.handed) cut.frames);
+  frames = all-prefix fs gs (subst (AllByRecursion HasSpelling) (sym cut.handed) cut.frames);
   spelt = cut.spelt ∙ ap (λ (found : List Frame). flat_map frame_bytes found ++ rest) (sym cut.handed)
       ∙ ap (λ (bytes : List ℕ). bytes ++ rest) (flat_map-append frame_bytes fs gs) ∙ append_assoc (flat_map frame_bytes fs) (flat_map frame_bytes gs) rest;
 }
@@ -85,11 +85,11 @@ module _ {S : Type 0} where
               within = omega (arith, given.spent);
               frames = all;
               rest = rest;
-              cut = front-handed given.taken given.rest all (waiting incoming) given.cut;
+              cut = prefix-handed given.taken given.rest all (waiting incoming) given.cut;
               broken = None;
               breaks = tt;
-              says = subst (λ (fs : List Frame). SaysFront (says_all (result_of result)) fs link.sent link'.sent) (sym (ap (λ (course : Course S). course.sent) (done-next f)))
-                  (joined-front (says_all (result_of result)) (done_by frames).sent (does now f).sent link.sent b link'.sent talks.sends so.says);
+              says = subst (λ (fs : List Frame). SaysPrefix (says_all (result_of result)) fs link.sent link'.sent) (sym (ap (λ (course : Course S). course.sent) (done-next f)))
+                  (joined-prefix (says_all (result_of result)) (done_by frames).sent (does now f).sent link.sent b link'.sent talks.sends so.says);
               why = subst (λ (ended : Option SessionResult). IsEndFor (result_of result) ended given.taken rest link'.left) (sym (ap (λ (course : Course S). course.ended) (done-next f)))
                   (ends-for result (does now f).ended given.taken rest link'.left over so.closes);
             }
@@ -122,8 +122,8 @@ module _ {S : Type 0} where
         cut = hears.cut;
         broken = hears.broken;
         breaks = hears.breaks;
-        says = subst (λ (fs : List Frame). SaysFront (says_all (Err fault)) fs link.sent link'.sent) (sym (said-of hears.broken))
-            (joined-front (says_all (Err fault)) (done_by frames).sent (bye_for hears.broken) link.sent b link'.sent talks.sends
-            (subst (λ (sent : Option (List ℕ)). SaysFront (says_all (Err fault)) (bye_for hears.broken) sent link'.sent) from hears.says));
+        says = subst (λ (fs : List Frame). SaysPrefix (says_all (Err fault)) fs link.sent link'.sent) (sym (said-of hears.broken))
+            (joined-prefix (says_all (Err fault)) (done_by frames).sent (bye_for hears.broken) link.sent b link'.sent talks.sends
+            (subst (λ (sent : Option (List ℕ)). SaysPrefix (says_all (Err fault)) (bye_for hears.broken) sent link'.sent) from hears.says));
         why = silence-for fault hears.broken hears.taken hears.rest link'.left hears.why;
       }

@@ -18,7 +18,7 @@ extends-onto h [] = no_more
 extends-onto h (beat ∷ more) = extends-further h (beat ∷ h) (onto (beat ∷ h) more) (one_more beat h no_more) (extends-onto (beat ∷ h) more)
 
 -- with the first of them
-pub extends-front : (n : ℕ) (h more : List Beat) → Extends (onto h (take n more)) (onto h more)
-extends-front zero h more = extends-onto h more
-extends-front (suc n) h [] = no_more
-extends-front (suc n) h (beat ∷ more) = extends-front n (beat ∷ h) more
+pub extends-prefix : (n : ℕ) (h more : List Beat) → Extends (onto h (take n more)) (onto h more)
+extends-prefix zero h more = extends-onto h more
+extends-prefix (suc n) h [] = no_more
+extends-prefix (suc n) h (beat ∷ more) = extends-prefix n (beat ∷ h) more

@@ -3,7 +3,7 @@ use Rattle.std.proofs.Common.{◌≡◌, ℕ, Bool, true, false, List, [], ◌�
 use Rattle.std.specs.List.{flat_map}
 use Rattle.std.proofs.lemmas.List.{take-append-drop}
 use Rattle.std.proofs.lemmas.List.Concat.{flat_map-cons}
-use Rattle.host_model.specs.Link.{Sends, SendsFront}
+use Rattle.host_model.specs.Link.{Sends, SendsPrefix}
 use Rattle.host_model.specs.Source.{Takes}
 use Rattle.link_frames.specs.declared.frame.Frame.{Frame}
 use Rattle.link_frames.specs.declared.frame.Frame.TheVariants as frame
@@ -14,17 +14,17 @@ use Rattle.link_session.specs.declared.fault.SessionFault.{SessionFault}
 use Rattle.link_session.specs.declared.fault.SessionFault.TheVariants.{LinkFault, Agent, PeerRefused, Ended, InputLimit, TellFault, Memory}
 use Rattle.link_session.specs.Incoming.{HasNoMore, IsEndOf}
 use Rattle.link_session.specs.Exchange.{SessionResult}
-use Rattle.link_session.specs.Session.{says_all, HearsNoMore, IsBrokenBy, IsSilentFor, Leaves, LinkSeen, Says, SaysFront}
-use Rattle.link_session.proofs.LinkLemmas.{sends-nothing, silent-front}
+use Rattle.link_session.specs.Session.{says_all, HearsNoMore, IsBrokenBy, IsSilentFor, Leaves, LinkSeen, Says, SaysPrefix}
+use Rattle.link_session.proofs.LinkLemmas.{sends-nothing, silent-prefix}
 
 -- ---- one frame is said
 pub one-bytes : (f : Frame) → flat_map frame_bytes (f ∷ []) ≡ frame_bytes f
 one-bytes f = flat_map-cons frame_bytes f [] ∙ append-nil (frame_bytes f)
 
-pub said-one : (all : Bool) (f : Frame) (sent sent' : Option (List ℕ)) → Sends sent (frame_bytes f) sent' → SaysFront all (f ∷ []) sent sent'
+pub said-one : (all : Bool) (f : Frame) (sent sent' : Option (List ℕ)) → Sends sent (frame_bytes f) sent' → SaysPrefix all (f ∷ []) sent sent'
 said-one all f sent sent' sends = record { said = frame_bytes f; unsaid = []; whole = one-bytes f ∙ sym (append-nil (frame_bytes f)); sends = sends; complete = λ _. refl }
 
-pub torn-one : (f : Frame) (sent sent' : Option (List ℕ)) → SendsFront sent (frame_bytes f) sent' → SaysFront false (f ∷ []) sent sent'
+pub torn-one : (f : Frame) (sent sent' : Option (List ℕ)) → SendsPrefix sent (frame_bytes f) sent' → SaysPrefix false (f ∷ []) sent sent'
 torn-one f sent sent' (n, sends) = record {
   said = take n (frame_bytes f);
   unsaid = drop n (frame_bytes f);
@@ -33,7 +33,7 @@ torn-one f sent sent' (n, sends) = record {
   complete = λ e. cc;
 }
 
-pub untold-one : (f : Frame) (sent sent' : Option (List ℕ)) → sent' ≡ sent → SaysFront false (f ∷ []) sent sent'
+pub untold-one : (f : Frame) (sent sent' : Option (List ℕ)) → sent' ≡ sent → SaysPrefix false (f ∷ []) sent sent'
 untold-one f sent sent' same = record {
   said = [];
   unsaid = frame_bytes f;
@@ -43,24 +43,24 @@ untold-one f sent sent' same = record {
 }
 
 -- what was said of a frame
-pub says-front : (f : Frame) (result : SessionResult) (sent sent' : Option (List ℕ)) → Says f result sent sent' → SaysFront (says_all result) (f ∷ []) sent sent'
-says-front f (Ok done) sent sent' said = said-one true f sent sent' said
-says-front f (Err LinkFault) sent sent' said = torn-one f sent sent' said
-says-front f (Err Memory) sent sent' said = untold-one f sent sent' said
-says-front f (Err TellFault) sent sent' said = absurd said
-says-front f (Err Ended) sent sent' said = absurd said
-says-front f (Err InputLimit) sent sent' said = absurd said
-says-front f (Err (PeerRefused fault)) sent sent' said = absurd said
-says-front f (Err (Agent fault)) sent sent' said = absurd said
+pub says-prefix : (f : Frame) (result : SessionResult) (sent sent' : Option (List ℕ)) → Says f result sent sent' → SaysPrefix (says_all result) (f ∷ []) sent sent'
+says-prefix f (Ok done) sent sent' said = said-one true f sent sent' said
+says-prefix f (Err LinkFault) sent sent' said = torn-one f sent sent' said
+says-prefix f (Err Memory) sent sent' said = untold-one f sent sent' said
+says-prefix f (Err TellFault) sent sent' said = absurd said
+says-prefix f (Err Ended) sent sent' said = absurd said
+says-prefix f (Err InputLimit) sent sent' said = absurd said
+says-prefix f (Err (PeerRefused fault)) sent sent' said = absurd said
+says-prefix f (Err (Agent fault)) sent sent' said = absurd said
 
-pub leaves-front : (reason : ℕ) (fault : PeerFault) (ended : SessionFault) (sent sent' : Option (List ℕ)) → Leaves reason fault ended sent sent' → SaysFront (says_all (Err ended)) (frame.Bye reason ∷ []) sent sent'
-leaves-front reason fault (PeerRefused other) sent sent' left = said-one true (frame.Bye reason) sent sent' left.1
-leaves-front reason fault LinkFault sent sent' left = torn-one (frame.Bye reason) sent sent' left
-leaves-front reason fault Memory sent sent' left = untold-one (frame.Bye reason) sent sent' left
-leaves-front reason fault TellFault sent sent' left = absurd left
-leaves-front reason fault Ended sent sent' left = absurd left
-leaves-front reason fault InputLimit sent sent' left = absurd left
-leaves-front reason fault (Agent other) sent sent' left = absurd left
+pub leaves-prefix : (reason : ℕ) (fault : PeerFault) (ended : SessionFault) (sent sent' : Option (List ℕ)) → Leaves reason fault ended sent sent' → SaysPrefix (says_all (Err ended)) (frame.Bye reason ∷ []) sent sent'
+leaves-prefix reason fault (PeerRefused other) sent sent' left = said-one true (frame.Bye reason) sent sent' left.1
+leaves-prefix reason fault LinkFault sent sent' left = torn-one (frame.Bye reason) sent sent' left
+leaves-prefix reason fault Memory sent sent' left = untold-one (frame.Bye reason) sent sent' left
+leaves-prefix reason fault TellFault sent sent' left = absurd left
+leaves-prefix reason fault Ended sent sent' left = absurd left
+leaves-prefix reason fault InputLimit sent sent' left = absurd left
+leaves-prefix reason fault (Agent other) sent sent' left = absurd left
 
 -- ---- no frame is heard
 silent-for : (fault : SessionFault) (left : Option (List ℕ)) (frames : List Frame) (link link' : LinkSeen) → ((why : PeerFault) → fault ≡ PeerRefused why → ⊥) → (more : HasNoMore fault left link'.left frames) → IsSilentFor fault None more.taken more.rest link'.left
@@ -81,7 +81,7 @@ ended-silently fault left frames link link' other more same = record {
   cut = more.cut;
   broken = None;
   breaks = tt;
-  says = subst (λ (s : Option (List ℕ)). SaysFront (says_all (Err fault)) [] link.sent s) (sym same) (silent-front (says_all (Err fault)) link.sent);
+  says = subst (λ (s : Option (List ℕ)). SaysPrefix (says_all (Err fault)) [] link.sent s) (sym same) (silent-prefix (says_all (Err fault)) link.sent);
   why = silent-for fault left frames link link' other more;
 }
 
@@ -110,6 +110,6 @@ ended-broken why ended left left' frames link link' more same leaves = record {
   cut = more.cut;
   broken = Some why;
   breaks = breaks-so why more.taken more.rest left' more.why;
-  says = leaves-front bad_frame why ended link.sent link'.sent leaves;
+  says = leaves-prefix bad_frame why ended link.sent link'.sent leaves;
   why = silent-left why ended more.taken more.rest link'.left link.sent link'.sent leaves;
 }

@@ -3,10 +3,10 @@ use Rattle.std.proofs.Common.{◌≡◌, ℕ, Bool, true, List, [], ◌++◌, le
 use Rattle.std.specs.List.{flat_map}
 use Rattle.std.proofs.Math.Seq.{take-append_seam, take-length}
 use Rattle.std.proofs.lemmas.Grind.{flat_map-append}
-use Rattle.host_model.specs.Link.{Sends, SendsFront}
+use Rattle.host_model.specs.Link.{Sends, SendsPrefix}
 use Rattle.link_frames.specs.declared.frame.Frame.{Frame}
 use Rattle.link_frames.specs.Frames.{frame_bytes}
-use Rattle.link_session.specs.Session.{SaysFront}
+use Rattle.link_session.specs.Session.{SaysPrefix}
 
 pub sends-nothing : (sent : Option (List ℕ)) → Sends sent [] sent
 sends-nothing None = refl
@@ -17,28 +17,28 @@ sends-both None b c x y first second = second ∙ ap (option_map (λ (sent : Lis
 sends-both (Some sent) b c x y first second = second ∙ ap (option_map (λ (sent : List ℕ). sent ++ y)) first ∙ ap Some (append_assoc sent x y)
 
 -- nothing was to be said
-pub silent-front : (all : Bool) (sent : Option (List ℕ)) → SaysFront all [] sent sent
-silent-front all sent = record { said = []; unsaid = []; whole = refl; sends = sends-nothing sent; complete = λ _. refl }
+pub silent-prefix : (all : Bool) (sent : Option (List ℕ)) → SaysPrefix all [] sent sent
+silent-prefix all sent = record { said = []; unsaid = []; whole = refl; sends = sends-nothing sent; complete = λ _. refl }
 
 -- behind frames that were said, a prefix of others was
-pub joined-front : (all : Bool) (first more : List Frame) (a b c : Option (List ℕ)) → Sends a (flat_map frame_bytes first) b → SaysFront all more b c → SaysFront all (first ++ more) a c
-joined-front all first more a b c said front = record {
-  said = flat_map frame_bytes first ++ front.said;
-  unsaid = front.unsaid;
-  whole = flat_map-append frame_bytes first more ∙ ap (λ (bytes : List ℕ). flat_map frame_bytes first ++ bytes) front.whole ∙ sym (append_assoc (flat_map frame_bytes first) front.said front.unsaid);
-  sends = sends-both a b c (flat_map frame_bytes first) front.said said front.sends;
-  complete = front.complete;
+pub joined-prefix : (all : Bool) (first more : List Frame) (a b c : Option (List ℕ)) → Sends a (flat_map frame_bytes first) b → SaysPrefix all more b c → SaysPrefix all (first ++ more) a c
+joined-prefix all first more a b c said prefix = record {
+  said = flat_map frame_bytes first ++ prefix.said;
+  unsaid = prefix.unsaid;
+  whole = flat_map-append frame_bytes first more ∙ ap (λ (bytes : List ℕ). flat_map frame_bytes first ++ bytes) prefix.whole ∙ sym (append_assoc (flat_map frame_bytes first) prefix.said prefix.unsaid);
+  sends = sends-both a b c (flat_map frame_bytes first) prefix.said said prefix.sends;
+  complete = prefix.complete;
 }
 
 -- all of them were
-pub all-said : (all : Bool) (frames : List Frame) (a b : Option (List ℕ)) → SaysFront all frames a b → all ≡ true → Sends a (flat_map frame_bytes frames) b
-all-said all frames a b front is =
-    subst (λ (bytes : List ℕ). Sends a bytes b) (sym (front.whole ∙ ap (λ (bytes : List ℕ). front.said ++ bytes) (front.complete is) ∙ append-nil front.said)) front.sends
+pub all-said : (all : Bool) (frames : List Frame) (a b : Option (List ℕ)) → SaysPrefix all frames a b → all ≡ true → Sends a (flat_map frame_bytes frames) b
+all-said all frames a b prefix is =
+    subst (λ (bytes : List ℕ). Sends a bytes b) (sym (prefix.whole ∙ ap (λ (bytes : List ℕ). prefix.said ++ bytes) (prefix.complete is) ∙ append-nil prefix.said)) prefix.sends
 
 -- a prefix of their bytes was sent
-pub front-sends : (all : Bool) (frames : List Frame) (a b : Option (List ℕ)) → SaysFront all frames a b → SendsFront a (flat_map frame_bytes frames) b
-front-sends all frames a b front =
-    (length front.said, subst (λ (bytes : List ℕ). Sends a bytes b) (sym (ap (take (length front.said)) front.whole ∙ take-append_seam front.said front.unsaid)) front.sends)
+pub prefix-sends : (all : Bool) (frames : List Frame) (a b : Option (List ℕ)) → SaysPrefix all frames a b → SendsPrefix a (flat_map frame_bytes frames) b
+prefix-sends all frames a b prefix =
+    (length prefix.said, subst (λ (bytes : List ℕ). Sends a bytes b) (sym (ap (take (length prefix.said)) prefix.whole ∙ take-append_seam prefix.said prefix.unsaid)) prefix.sends)
 
-pub all-sends : (bytes : List ℕ) (a b : Option (List ℕ)) → Sends a bytes b → SendsFront a bytes b
+pub all-sends : (bytes : List ℕ) (a b : Option (List ℕ)) → Sends a bytes b → SendsPrefix a bytes b
 all-sends bytes a b sends = (length bytes, subst (λ (sent : List ℕ). Sends a sent b) (sym (take-length bytes)) sends)

@@ -2,7 +2,7 @@
 use Rattle.std.proofs.Common.{◌≡◌, ℕ, Bool, true, false, List, [], ◌++◌, Option, Some, Result, Ok, Err, IfErr, IsErrOf, refl, sym, ap, subst, ◌∙◌, append-nil, arith, if◌then◌else◌}
 use Rattle.std.proofs.lemmas.Bool.{eq-eqb, ne_eqb}
 use Rattle.host_model.specs.Cause.{HasCause}
-use Rattle.host_model.specs.Moments.{EveryStop, Throughout}
+use Rattle.host_model.specs.Moments.{EveryCrash, Throughout}
 use Rattle.host_model.specs.Past.{told, Event}
 use Rattle.host_model.specs.Seen.{Seen}
 use Rattle.history.specs.History.{Beat, last}
@@ -21,7 +21,7 @@ use Rattle.link_session.specs.declared.flow.Flow.TheVariants.{GoesOn, Done}
 use Rattle.link_session.specs.Exchange.{ends, leaves, refuses, Course}
 use Rattle.link_session.specs.Keeps.{Keeps}
 use Rattle.link_session.specs.Parent.{asks, copies, copies_other, hears_first, hears_next, waits, Parent}
-use Rattle.link_session.specs.Receiving.{keeps_all, CopiesSo, GoesSo, HasGoneOn, IsReceiving, ParentTakes, StoresAt, StoresOnly, TellsFront}
+use Rattle.link_session.specs.Receiving.{keeps_all, CopiesSo, GoesSo, HasGoneOn, IsReceiving, ParentTakes, StoresAt, StoresOnly, TellsPrefix}
 use Rattle.link_session.specs.Sending.{IsAgents}
 use Rattle.link_session.specs.Session.{result_of, DoesSo, IsRefusing, Leaves, SaysThen}
 use Rattle.link_session.proofs.SendingLemmas.{spent-none}
@@ -85,8 +85,8 @@ module _ (honest : Type 0) (host : Seen) (agent : AgentState) where
       let all-is : all ≡ made = ap (λ (t : List ℕ). made ++ t) silent ∙ append-nil made in
       record {
         does = does;
-        stops = subst (λ (g : List Beat). Throughout (EveryStop (Keeps set h0 g (told start))) start host.past) (sym same) at.stops;
-        output = subst (λ (t : List ℕ). TellsFront (keeps_all (result_of result)) t start host.past) (sym all-is) (tells-all host.past agent set h0 h start made at (keeps_all (result_of result)));
+        crashes = subst (λ (g : List Beat). Throughout (EveryCrash (Keeps set h0 g (told start))) start host.past) (sym same) at.crashes;
+        output = subst (λ (t : List ℕ). TellsPrefix (keeps_all (result_of result)) t start host.past) (sym all-is) (tells-all host.past agent set h0 h start made at (keeps_all (result_of result)));
         stored = λ _. subst (λ (t : List ℕ). StoresAt host.past agent set h0 course.now.history start t) (sym all-is) (subst (λ (g : List Beat). StoresAt host.past agent set h0 g start made) (sym same) at);
         unsaid = λ short. (unsaid short, all-stored host.past agent set h0 h start made at);
         goes_on = subst (λ (g : List Beat). HasGoneOn (keeps_all (result_of result)) host.past agent set h0 g) (sym same) (gone-on host.past agent set h0 h at.since at.agent_of (keeps_all (result_of result)));

@@ -4,8 +4,8 @@ use Rattle.link_frames.proofs.StreamLaw.{all-spelt}
 use Rattle.host_model.specs.Cause.{HasCause}
 use Rattle.std.specs.List.{flat_map, AllByRecursion}
 use Rattle.std.proofs.Math.Seq.{take-append_seam, take-length}
-use Rattle.host_model.specs.Link.{Sends, SendsFront}
-use Rattle.host_model.specs.Moments.{begins, EveryStop, Throughout}
+use Rattle.host_model.specs.Link.{Sends, SendsPrefix}
+use Rattle.host_model.specs.Moments.{begins, EveryCrash, Throughout}
 use Rattle.host_model.specs.Past.{told, Event, IsText}
 use Rattle.host_model.specs.Seen.{Seen}
 use Rattle.history.specs.History.{Beat}
@@ -25,14 +25,14 @@ use Rattle.link_session.specs.Exchange.{both, broken_by, exchange, Course, Sessi
 use Rattle.link_session.specs.Incoming.{waiting, HasGiven}
 use Rattle.link_session.specs.Keeps.{no_more, IsAckedUpTo, Keeps}
 use Rattle.link_session.specs.Parent.{parent_begins, parent_does, Parent}
-use Rattle.link_session.specs.Receiving.{keeps_all, AnswersStored, Copies, CopiesSo, HasGoneOn, HasStored, IsReceiving, ParentTakes, ReceivesHistory, StoresAt, StoresOnly, TellsFront}
+use Rattle.link_session.specs.Receiving.{keeps_all, AnswersStored, Copies, CopiesSo, HasGoneOn, HasStored, IsReceiving, ParentTakes, ReceivesHistory, StoresAt, StoresOnly, TellsPrefix}
 use Rattle.link_session.specs.Sending.{spent_by, IsAgents}
-use Rattle.link_session.specs.Session.{result_of, says_all, HearsNoMore, IsSilentFor, LinkSeen, SaysFront, Talks}
+use Rattle.link_session.specs.Session.{result_of, says_all, HearsNoMore, IsSilentFor, LinkSeen, SaysPrefix, Talks}
 use Rattle.link_session.specs.Taking.{EndsOnlyAt, ParentEndsAt, ParentEndsBy}
-use Rattle.link_session.proofs.AckLemmas.{acked-nothing, acked-since, text-front}
-use Rattle.link_session.proofs.CopyLemmas.{stops-copy}
-use Rattle.link_session.proofs.ExchangeLemmas.{all-front, done-next, frame-ends, silence-ends, talks-first, talks-next}
-use Rattle.link_session.proofs.LinkLemmas.{all-sends, front-sends, sends-nothing}
+use Rattle.link_session.proofs.AckLemmas.{acked-nothing, acked-since, text-prefix}
+use Rattle.link_session.proofs.CopyLemmas.{crashes-copy}
+use Rattle.link_session.proofs.ExchangeLemmas.{all-prefix, done-next, frame-ends, silence-ends, talks-first, talks-next}
+use Rattle.link_session.proofs.LinkLemmas.{all-sends, prefix-sends, sends-nothing}
 use Rattle.link_session.proofs.ParentLemmas.{no-cause}
 use Rattle.link_session.proofs.SendingLemmas.{spent-none}
 use Rattle.link_session.proofs.SendLemmas.{all_well, cause-alike, silent-outside}
@@ -172,7 +172,7 @@ module _ (honest : Type 0) (host : Seen) (agent : AgentState) (link : LinkSeen) 
         tells = sym (append-nil (told host.past));
         closed = refl;
         acked = acked-nothing (length h);
-        stops = begins (λ disk text images by_then. record {
+        crashes = begins (λ disk text images by_then. record {
           stored = h;
           since = no_more;
           within = no_more;
@@ -188,8 +188,8 @@ module _ (honest : Type 0) (host : Seen) (agent : AgentState) (link : LinkSeen) 
     where
       acked-first : (n : ℕ) (past : List Event) (text : List ℕ) → IsText past text → IsAckedUpTo n (drop (length (told past)) text)
       acked-first n past text by_then =
-          let front = text-front past text by_then in
-          acked-since n (told past) [] text front.more (front.whole ∙ sym (append-nil (told past))) (acked-nothing n)
+          let prefix = text-prefix past text by_then in
+          acked-since n (told past) [] text prefix.more (prefix.whole ∙ sym (append-nil (told past))) (acked-nothing n)
 
   module _ (incoming : Incoming) (peer : Option ℕ) (host' : Seen) (agent' : AgentState) (between : LinkSeen) (on : IsUnderWay honest host agent link incoming peer host' agent' between) where
     -- ---- no frame is heard
@@ -204,17 +204,17 @@ module _ (honest : Type 0) (host : Seen) (agent : AgentState) (link : LinkSeen) 
                 heard = record {
                   n = length on.frames;
                   all = some-all hears.broken (length on.frames);
-                  says = subst (λ (fs : List Frame). SendsFront link.sent (flat_map frame_bytes (broken_by hears.broken (done_by set h fs)).sent) link'.sent) (sym (take-length on.frames))
-                      (front-sends (says_all (failing_with fault)) (broken_by hears.broken (done_by set h on.frames)).sent link.sent link'.sent
+                  says = subst (λ (fs : List Frame). SendsPrefix link.sent (flat_map frame_bytes (broken_by hears.broken (done_by set h fs)).sent) link'.sent) (sym (take-length on.frames))
+                      (prefix-sends (says_all (failing_with fault)) (broken_by hears.broken (done_by set h on.frames)).sent link.sent link'.sent
                       (silence-ends (parent_does set) (parent_begins h) link on.frames (parent_at set h on.frames peer) between.sent goes.talks fault between link' refl hears).says);
                   stored = subst (λ (fs : List Frame). HasStored set (done_by set h fs).now.history host.past (done_by set h fs).told host'.past) (sym (take-length on.frames))
                       (all-stored host'.past agent' set h (done_by set h on.frames).now.history host.past (done_by set h on.frames).told goes.at);
                 };
-                stops = goes.at.stops;
+                crashes = goes.at.crashes;
                 ends = λ _. stands-all host'.past agent' set (done_by set h on.frames).now.history goes.at.agent_of;
                 output = tells-all host'.past agent' set h (done_by set h on.frames).now.history host.past (done_by set h on.frames).told goes.at (keeps_all (failing_with fault));
                 closed = λ _. goes.at.closed;
-                copy = λ floors child rises copy truth. stops-copy set floors child rises h on.frames host.past host'.past (all-spelt hears.taken hears.rest on.frames hears.cut) truth copy goes.at.stops;
+                copy = λ floors child rises copy truth. crashes-copy set floors child rises h on.frames host.past host'.past (all-spelt hears.taken hears.rest on.frames hears.cut) truth copy goes.at.crashes;
               };
           agent_is = λ hon set h is_of. gone-on host'.past agent' set h (done_by set h on.frames).now.history (on.goes hon set h is_of).at.since (on.goes hon set h is_of).at.agent_of (keeps_all (failing_with fault));
           stores = stores-silent honest host agent host' agent' on.stores fault (silent-outside fault hears.broken hears.taken hears.rest link'.left hears.why) keeps.1;
@@ -271,20 +271,20 @@ module _ (honest : Type 0) (host : Seen) (agent : AgentState) (link : LinkSeen) 
         }
 
         -- all frames are answered, or the last is not
-        answers : (all : Bool) → keeps_all (result_of result) ≡ all → SaysFront (says_all (result_of result)) (done_by set h (on.frames ++ f ∷ [])).sent link.sent link'.sent
+        answers : (all : Bool) → keeps_all (result_of result) ≡ all → SaysPrefix (says_all (result_of result)) (done_by set h (on.frames ++ f ∷ [])).sent link.sent link'.sent
             → AnswersStored set h (on.frames ++ f ∷ []) None host.past host''.past link.sent link'.sent
         answers true all says = record {
           n = length (on.frames ++ f ∷ []);
           all = tt;
-          says = subst (λ (fs : List Frame). SendsFront link.sent (flat_map frame_bytes (done_by set h fs).sent) link'.sent) (sym (take-length (on.frames ++ f ∷ [])))
-              (front-sends (says_all (result_of result)) (done_by set h (on.frames ++ f ∷ [])).sent link.sent link'.sent says);
+          says = subst (λ (fs : List Frame). SendsPrefix link.sent (flat_map frame_bytes (done_by set h fs).sent) link'.sent) (sym (take-length (on.frames ++ f ∷ [])))
+              (prefix-sends (says_all (result_of result)) (done_by set h (on.frames ++ f ∷ [])).sent link.sent link'.sent says);
           stored = subst (λ (fs : List Frame). HasStored set (done_by set h fs).now.history host.past (done_by set h fs).told host''.past) (sym (take-length (on.frames ++ f ∷ [])))
               (all-stored host''.past agent'' set h (done_by set h (on.frames ++ f ∷ [])).now.history host.past (done_by set h (on.frames ++ f ∷ [])).told (at-then all));
         }
         answers false short says = record {
           n = length on.frames;
           all = tt;
-          says = subst (λ (fs : List Frame). SendsFront link.sent (flat_map frame_bytes (done_by set h fs).sent) link'.sent) (sym (take-append_seam on.frames (f ∷ [])))
+          says = subst (λ (fs : List Frame). SendsPrefix link.sent (flat_map frame_bytes (done_by set h fs).sent) link'.sent) (sym (take-append_seam on.frames (f ∷ [])))
               (all-sends (flat_map frame_bytes (done_by set h on.frames).sent) link.sent link'.sent
               (subst (Sends link.sent (flat_map frame_bytes (done_by set h on.frames).sent)) (sym (so.unsaid short).0) goes.talks.sends));
           stored = subst (λ (fs : List Frame). HasStored set (done_by set h fs).now.history host.past (done_by set h fs).told host''.past) (sym (take-append_seam on.frames (f ∷ []))) (so.unsaid short).1;
@@ -295,13 +295,13 @@ module _ (honest : Type 0) (host : Seen) (agent : AgentState) (link : LinkSeen) 
           exchanges = frame-ends (parent_does set) (parent_begins h) link on.frames now between.sent goes.talks f (record { history = course.now.history; peer = peer' }) result incoming' link' so.does given-then over;
           heard = answers (keeps_all (result_of result)) refl
               (frame-ends (parent_does set) (parent_begins h) link on.frames now between.sent goes.talks f (record { history = course.now.history; peer = peer' }) result incoming' link' so.does given-then over).says;
-          stops = subst (λ (g : List Beat). Throughout (EveryStop (Keeps set h g (told host.past))) host.past host''.past) (sym history-is) so.stops;
+          crashes = subst (λ (g : List Beat). Throughout (EveryCrash (Keeps set h g (told host.past))) host.past host''.past) (sym history-is) so.crashes;
           ends = λ all. stands-all host''.past agent'' set (done_by set h (on.frames ++ f ∷ [])).now.history (at-then all).agent_of;
-          output = subst (λ (t : List ℕ). TellsFront (keeps_all (result_of result)) t host.past host''.past) (sym told-is) so.output;
+          output = subst (λ (t : List ℕ). TellsPrefix (keeps_all (result_of result)) t host.past host''.past) (sym told-is) so.output;
           closed = λ all. (at-then all).closed;
           copy = λ floors child rises copy truth.
-              stops-copy set floors child rises h (on.frames ++ f ∷ []) host.past host''.past (all-front (on.frames ++ f ∷ []) (waiting incoming') (subst (AllByRecursion HasSpelling) (sym given-then.cut.handed) given-then.cut.frames)) truth copy
-              (subst (λ (g : List Beat). Throughout (EveryStop (Keeps set h g (told host.past))) host.past host''.past) (sym history-is) so.stops);
+              crashes-copy set floors child rises h (on.frames ++ f ∷ []) host.past host''.past (all-prefix (on.frames ++ f ∷ []) (waiting incoming') (subst (AllByRecursion HasSpelling) (sym given-then.cut.handed) given-then.cut.frames)) truth copy
+              (subst (λ (g : List Beat). Throughout (EveryCrash (Keeps set h g (told host.past))) host.past host''.past) (sym history-is) so.crashes);
         }
 
       pub goes-on : result ≡ Ok GoesOn → IsUnderWay honest host agent link incoming' peer' host'' agent'' link'

@@ -24,11 +24,11 @@ use Rattle.link_session.specs.Child.{child_begins, child_does}
 use Rattle.link_session.specs.Exchange.{SessionResult}
 use Rattle.link_session.specs.Incoming.{HasGiven}
 use Rattle.link_session.specs.Sending.{spent_by, ChildTakes, IsAgents, IsSending, OnlyReads, SendsHistory}
-use Rattle.link_session.specs.Session.{result_of, says_all, DoesSo, HearsNoMore, IsEndFor, IsSilentFor, LinkSeen, Says, SaysFront, Talks}
+use Rattle.link_session.specs.Session.{result_of, says_all, DoesSo, HearsNoMore, IsEndFor, IsSilentFor, LinkSeen, Says, SaysPrefix, Talks}
 use Rattle.link_session.specs.Taking.{ChildEndsAt, EndsOnlyAt, IsEndOver}
 use Rattle.link_session.proofs.ChildLemmas.{id-is}
 use Rattle.link_session.proofs.ExchangeLemmas.{frame-ends, silence-ends, talks-first, talks-next}
-use Rattle.link_session.proofs.HearLemmas.{one-bytes, says-front}
+use Rattle.link_session.proofs.HearLemmas.{one-bytes, says-prefix}
 use Rattle.link_session.proofs.SendingLemmas.{only-as, only-joined, only-nothing}
 use Rattle.link_session.proofs.TakingLemmas.{frame-taken, nothing-taken, silence-taken}
 
@@ -143,7 +143,7 @@ module _ (honest : Type 0) (host : Seen) (agent : AgentState) (link : LinkSeen) 
       cut = HandsOut_none [] [];
       broken = None;
       breaks = tt;
-      says = subst (λ (n : ℕ). SaysFront (says_all (Err fault)) (frame.Hello n ∷ []) link.sent link'.sent) (sym (id-is host.past agent set h is_of)) (says-front (frame.Hello (id_of agent)) (Err fault) link.sent link'.sent said);
+      says = subst (λ (n : ℕ). SaysPrefix (says_all (Err fault)) (frame.Hello n ∷ []) link.sent link'.sent) (sym (id-is host.past agent set h is_of)) (says-prefix (frame.Hello (id_of agent)) (Err fault) link.sent link'.sent said);
       why = unsaid-why fault link.sent link'.sent said;
     };
     reads = only-nothing honest host agent (Err fault) (unsaid-outside fault link.sent link'.sent said) ready;

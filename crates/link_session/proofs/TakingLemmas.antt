@@ -21,7 +21,7 @@ use Rattle.link_session.specs.Incoming.{waiting, HasGiven}
 use Rattle.link_session.specs.Receiving.{GoesSo, IsCutShort, SaysHave}
 use Rattle.link_session.specs.Session.{result_of, HearsNoMore, IsBrokenBy, IsSilentFor, Leaves, LinkSeen, SaysThen}
 use Rattle.link_session.specs.Taking.{ChildEndsAt, EndsOnlyAt, IsBadToChild, IsEndOver, ParentEndsAt, ParentEndsAtLater, ParentEndsBy, TakesLink}
-use Rattle.link_session.proofs.ExchangeLemmas.{front-handed}
+use Rattle.link_session.proofs.ExchangeLemmas.{prefix-handed}
 use Rattle.line_stream.proofs.RunLemmas.{Takes-none as takes-nothing}
 
 -- ---- at a frame
@@ -172,7 +172,7 @@ module _ (EndsAt : SessionResult → List Frame → Frame → Type 0) (link : Li
         within = omega (arith, given.spent);
         frames = before ++ f ∷ [];
         rest = rest;
-        cut = front-handed given.taken given.rest (before ++ f ∷ []) (waiting incoming) given.cut;
+        cut = prefix-handed given.taken given.rest (before ++ f ∷ []) (waiting incoming) given.cut;
         why = by result over only rest;
       }
     where

@@ -4,8 +4,8 @@ use Rattle.std.specs.List.{flat_map, AllByRecursion}
 use Rattle.host_model.specs.declared.file.File.{File}
 use Rattle.host_model.specs.Cause.{HasCause}
 use Rattle.host_model.specs.Disks.{EveryDisk}
-use Rattle.host_model.specs.Link.{SendsFront}
-use Rattle.host_model.specs.Moments.{EveryStop, Throughout}
+use Rattle.host_model.specs.Link.{SendsPrefix}
+use Rattle.host_model.specs.Moments.{EveryCrash, Throughout}
 use Rattle.host_model.specs.Past.{of, told, Event, MayAdd, Told}
 use Rattle.host_model.specs.Seen.{Seen}
 use Rattle.history.specs.History.{Beat}
@@ -46,7 +46,7 @@ keeps_all (Err Memory) = false
 keeps_all result = true
 
 -- a prefix of this was told since, and all of it where `all` says so
-pub record TellsFront (all : Bool) (text : List ℕ) (old new : List Event) : Type 0 where
+pub record TellsPrefix (all : Bool) (text : List ℕ) (old new : List Event) : Type 0 where
   pub said : List ℕ
   pub unsaid : List ℕ
   pub whole : text ≡ said ++ unsaid
@@ -64,7 +64,7 @@ pub record HasStored (set : Settings) (h : List Beat) (start : List Event) (made
 pub record AnswersStored (set : Settings) (h0 : List Beat) (frames : List Frame) (broken : Option PeerFault) (old new : List Event) (sent sent' : Option (List ℕ)) : Type 0 where
   pub n : ℕ
   pub all : IfSome broken (λ _. length frames ≤ n)
-  pub says : SendsFront sent (flat_map frame_bytes (broken_by broken (exchange (parent_does set) (parent_begins h0) (take n frames))).sent) sent'
+  pub says : SendsPrefix sent (flat_map frame_bytes (broken_by broken (exchange (parent_does set) (parent_begins h0) (take n frames))).sent) sent'
   pub stored : HasStored set (exchange (parent_does set) (parent_begins h0) (take n frames)).now.history old (exchange (parent_does set) (parent_begins h0) (take n frames)).told new
 
 -- ---- an agent that stores, and a host that is told
@@ -105,7 +105,7 @@ pub record StoresAt (past : List Event) (agent : AgentState) (set : Settings) (h
   pub tells : told past ≡ told start ++ made
   pub closed : rest made ≡ []
   pub acked : IsAckedUpTo (length h) made
-  pub stops : Throughout (EveryStop (Keeps set h0 h (told start))) start past
+  pub crashes : Throughout (EveryCrash (Keeps set h0 h (told start))) start past
 
 -- The agent is of a history with a prefix of the new beats, or it was before a call with more of them failed. It is of the
 -- whole where `all` says so.
@@ -120,8 +120,8 @@ pub record HasGoneOn (all : Bool) (past : List Event) (agent : AgentState) (set 
 -- a parent with history `h` did this at a frame, or something failed while it did
 pub record CopiesSo (set : Settings) (h0 h : List Beat) (start : List Event) (made : List ℕ) (course : Course Parent) (peer' : Option ℕ) (result : Result Flow SessionFault) (agent' : AgentState) (new : List Event) (sent sent' : Option (List ℕ)) : Type 0 where
   pub does : DoesSo course (record { history = course.now.history; peer = peer' }) result sent sent'
-  pub stops : Throughout (EveryStop (Keeps set h0 course.now.history (told start))) start new
-  pub output : TellsFront (keeps_all (result_of result)) (made ++ course.told) start new
+  pub crashes : Throughout (EveryCrash (Keeps set h0 course.now.history (told start))) start new
+  pub output : TellsPrefix (keeps_all (result_of result)) (made ++ course.told) start new
   pub stored : keeps_all (result_of result) ≡ true → StoresAt new agent' set h0 course.now.history start (made ++ course.told)
   -- where not all of it was stored and told, nothing was said, and what had been stored and told still is
   pub unsaid : keeps_all (result_of result) ≡ false → (sent' ≡ sent) × HasStored set h start made new
@@ -148,9 +148,9 @@ pub record Copies (set : Settings) (h0 : List Beat) (result : SessionResult) (ol
   pub exchanges : Exchanges (parent_does set) (parent_begins h0) result link link'
   -- what was said answers frames of which all was stored and told
   pub heard : AnswersStored set h0 exchanges.frames exchanges.broken old new link.sent link'.sent
-  pub stops : Throughout (EveryStop (Keeps set h0 (exchange (parent_does set) (parent_begins h0) exchanges.frames).now.history (told old))) old new
+  pub crashes : Throughout (EveryCrash (Keeps set h0 (exchange (parent_does set) (parent_begins h0) exchanges.frames).now.history (told old))) old new
   pub ends : keeps_all result ≡ true → EveryDisk (StandsForHistory set (exchange (parent_does set) (parent_begins h0) exchanges.frames).now.history) new
-  pub output : TellsFront (keeps_all result) (exchange (parent_does set) (parent_begins h0) exchanges.frames).told old new
+  pub output : TellsPrefix (keeps_all result) (exchange (parent_does set) (parent_begins h0) exchanges.frames).told old new
   -- what is told is whole lines
   pub closed : keeps_all result ≡ true → rest (exchange (parent_does set) (parent_begins h0) exchanges.frames).told ≡ []
   -- a history that was a copy of a child is one at every moment, where each Data that came is true of the child

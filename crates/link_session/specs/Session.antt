@@ -1,7 +1,7 @@
 -- What a session over a link comes to, whichever end it is of.
 use Rattle.std.specs.Prelude.{◌≡◌, ℕ, ◌<◌, ◌≤◌, Bool, true, false, List, [], ◌∷◌, ◌++◌, length, Option, Some, None, IfSome, OnOk, Result, Ok, Err}
 use Rattle.std.specs.List.{flat_map}
-use Rattle.host_model.specs.Link.{Sends, SendsFront}
+use Rattle.host_model.specs.Link.{Sends, SendsPrefix}
 use Rattle.host_model.specs.Source.{Takes}
 use Rattle.line_stream.specs.Run.{input_limit}
 use Rattle.link_frames.specs.declared.frame.Frame.{Frame}
@@ -43,7 +43,7 @@ says_all (Err (Agent fault)) = is_refusal fault
 says_all result = true
 
 -- a prefix of the bytes of these frames was sent, and all of them where `all` says so
-pub record SaysFront (all : Bool) (frames : List Frame) (sent sent' : Option (List ℕ)) : Type 0 where
+pub record SaysPrefix (all : Bool) (frames : List Frame) (sent sent' : Option (List ℕ)) : Type 0 where
   pub said : List ℕ
   pub unsaid : List ℕ
   pub whole : flat_map frame_bytes frames ≡ said ++ unsaid
@@ -87,7 +87,7 @@ pub record Exchanges {S : Type 0} (does : S → Frame → Course S) (begin : Cou
   pub cut : HandsOut taken [] frames rest
   pub broken : Option PeerFault
   pub breaks : IsBrokenBy broken rest
-  pub says : SaysFront (says_all result) (broken_by broken (exchange does begin frames)).sent link.sent link'.sent
+  pub says : SaysPrefix (says_all result) (broken_by broken (exchange does begin frames)).sent link.sent link'.sent
   pub why : IsEndFor result (broken_by broken (exchange does begin frames)).ended taken rest link'.left
 
 -- ---- a session under way
@@ -117,14 +117,14 @@ result_of (Err fault) = Err fault
 
 -- an end did this at a frame and knows `now`, or something failed while it did
 pub record DoesSo {S : Type 0} (course : Course S) (now : S) (result : Result Flow SessionFault) (sent sent' : Option (List ℕ)) : Type 0 where
-  pub says : SaysFront (says_all (result_of result)) course.sent sent sent'
+  pub says : SaysPrefix (says_all (result_of result)) course.sent sent sent'
   pub closes : ClosesSo result course.ended
   pub now_is : OnOk result (course.now ≡ now)
 
 -- the frame was said, or a prefix of it
 abbrev pub Says : Frame → SessionResult → (sent sent' : Option (List ℕ)) → Type 0
 Says f (Ok done) sent sent' = Sends sent (frame_bytes f) sent'
-Says f (Err LinkFault) sent sent' = SendsFront sent (frame_bytes f) sent'
+Says f (Err LinkFault) sent sent' = SendsPrefix sent (frame_bytes f) sent'
 Says f (Err Memory) sent sent' = sent' ≡ sent
 Says f (Err fault) sent sent' = ⊥
 
@@ -168,5 +168,5 @@ pub record HearsNoMore (fault : SessionFault) (frames : List Frame) (left : Opti
   pub cut : HandsOut taken [] frames rest
   pub broken : Option PeerFault
   pub breaks : IsBrokenBy broken rest
-  pub says : SaysFront (says_all (Err fault)) (bye_for broken) link.sent link'.sent
+  pub says : SaysPrefix (says_all (Err fault)) (bye_for broken) link.sent link'.sent
   pub why : IsSilentFor fault broken taken rest link'.left

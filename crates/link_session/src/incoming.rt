@@ -26,7 +26,7 @@ pub(crate) struct Incoming {
     budget: usize,
 }
 
-/// Takes bytes of the link into the front of `into`, and says how many.
+/// Takes bytes of the link into the start of `into`, and says how many.
 fn pull<L: Link>(link: &mut L, into: &mut [u8]) -> Result<usize, SessionFault>
     requires { 0 < length into.old }
     ensures within { IfOk result (λ n. (0 < n) × (n ≤ length into.old)) }

@@ -37,11 +37,11 @@ module _ {X : Type 0} (item_from : List ℕ → X) (size : ℕ) where
         let none : bytes ≡ [] = nil_from_length bytes (sym long ∙ mul-zero size) in
         ap (λ (b : List ℕ). item_from (b ++ more) ∷ []) none
     items_in-push (suc n) bytes more long =
-        let all = mul-suc size n in let front : size ≤ length bytes = omega (arith, all, long) in
+        let all = mul-suc size n in let prefix : size ≤ length bytes = omega (arith, all, long) in
         let cut = length-drop size bytes in
         let rest = items_in-push n (drop size bytes) more (omega (arith, all, long, cut)) in
-        let first : item_from (bytes ++ more) ≡ item_from bytes = local bytes more front in
-        let behind : drop size (bytes ++ more) ≡ drop size bytes ++ more = drop-append-le size bytes more front in
+        let first : item_from (bytes ++ more) ≡ item_from bytes = local bytes more prefix in
+        let behind : drop size (bytes ++ more) ≡ drop size bytes ++ more = drop-append-le size bytes more prefix in
         ap (λ (x : X). x ∷ items_in item_from size (suc n) (drop size (bytes ++ more))) first
         ∙ ap (λ (b : List ℕ). item_from bytes ∷ items_in item_from size (suc n) b) behind
         ∙ ap (λ (xs : List X). item_from bytes ∷ xs) rest

@@ -17,9 +17,9 @@ same_key_equiv = record {
   refl = λ x. rw (nat_eq_equiv.refl x.tier, nat_eq_equiv.refl x.extent, nat_eq_equiv.refl x.index) refl;
   symm = λ x y. rw (nat_eq_equiv.symm x.tier y.tier, nat_eq_equiv.symm x.extent y.extent, nat_eq_equiv.symm x.index y.index) refl;
   congr = λ x y z same.
-      let front = and_parts (nat_eq x.tier y.tier) _ same in
-      let back = and_parts (nat_eq x.extent y.extent) (nat_eq x.index y.index) front.1 in
-      rw (nat_eq_equiv.congr x.tier y.tier z.tier front.0, nat_eq_equiv.congr x.extent y.extent z.extent back.0, nat_eq_equiv.congr x.index y.index z.index back.1) refl;
+      let prefix = and_parts (nat_eq x.tier y.tier) _ same in
+      let back = and_parts (nat_eq x.extent y.extent) (nat_eq x.index y.index) prefix.1 in
+      rw (nat_eq_equiv.congr x.tier y.tier z.tier prefix.0, nat_eq_equiv.congr x.extent y.extent z.extent back.0, nat_eq_equiv.congr x.index y.index z.index back.1) refl;
 }
 
 -- a full cache without its last page has room, and so has one that is not full

@@ -23,10 +23,10 @@ use Rattle.plugin_runner.specs.Reads.{Reads}
 use Rattle.plugin_runner.specs.Runner.{if_lasting, lasting_answer}
 use Rattle.plugin_runner.proofs.StepLemmas.{Reads-append}
 
--- ---- the front of a text that may be taken
+-- ---- the prefix of a text that may be taken
 
-pub front_is : (text out : List ℕ) (budget size : ℕ) → length text + budget ≡ input_limit → size ≡ min budget (length out) → text ++ take size out ≡ take input_limit (text ++ out)
-front_is text out budget size spent is =
+pub prefix_is : (text out : List ℕ) (budget size : ℕ) → length text + budget ≡ input_limit → size ≡ min budget (length out) → text ++ take size out ≡ take input_limit (text ++ out)
+prefix_is text out budget size spent is =
     ap (λ (l : List ℕ). text ++ l) (elim (cases_lt budget (length out)) [
       | inl less ↦ ap (λ (n : ℕ). take n out) (omega (arith, is, less))
       | inr not_less ↦ take_all size out (omega (arith, is, not_less)) ∙ sym (take_all budget out (omega (arith, not_less)))
@@ -99,7 +99,7 @@ module _ (begin : Course) (text : List ℕ) (old new : Runner) (answer : Result 
     answer = answer;
     turned = has_turned lasting;
     text = text ++ take size out;
-    takes = front_is text out budget size spent is ∙ ap (take input_limit) (sym told_next);
+    takes = prefix_is text out budget size spent is ∙ ap (take input_limit) (sym told_next);
     halted = halted;
   }
 

@@ -17,17 +17,17 @@ use Rattle.plugin_runner.specs.declared.runner.Ending.{Ending}
 use Rattle.plugin_runner.specs.declared.runner.Ending.TheVariants as ending
 use Rattle.plugin_runner.specs.declared.runner.Phase.TheVariants.{Ready, Runs, Over}
 use Rattle.plugin_runner.specs.declared.runner.Runner.{Runner}
-use Rattle.plugin_runner.specs.Bytes.{bytes, bytes_of, IsFront}
+use Rattle.plugin_runner.specs.Bytes.{bytes, bytes_of, IsPrefix}
 use Rattle.plugin_runner.specs.Course.{Course, Start, Bytes, End, children_after, course_after, text_of, IsRunning, HasEnded, IsTold, MayStart, Waits, Listens, Keeps, IsRunnerOf, answer_after, answer_at_end}
 use Rattle.plugin_runner.specs.Follower.{Follows}
 use Rattle.plugin_runner.specs.Goes.{Advances, Goes, IsAt, Lands, ending_of}
 use Rattle.plugin_runner.specs.Looking.{beats_begun}
 use Rattle.plugin_runner.specs.Runner.{IsFault, answer_of, answer_in}
-use Rattle.plugin_runner.specs.Steps.{Puts, PutsFront, PutsAll, PutsUpTo, PutsSome}
+use Rattle.plugin_runner.specs.Steps.{Puts, PutsPrefix, PutsAll, PutsUpTo, PutsSome}
 use Rattle.plugin_runner.specs.Text.{Open, Closed, Heard, hear, at_end, said, text, after, close}
 use Rattle.plugin_runner.proofs.ChildLemmas.{quiet, bytes-more, bytes-none, running-bytes, length-bytes, length-end, text-start, text-end, answer-running, answer-end}
-use Rattle.plugin_runner.proofs.HearLemmas.{hear-lines, hear-disabled, hear-front, hear-grows, hear-rest, hear-long, alone}
-use Rattle.plugin_runner.proofs.StepLemmas.{front-trans, le-trans}
+use Rattle.plugin_runner.proofs.HearLemmas.{hear-lines, hear-disabled, hear-prefix, hear-grows, hear-rest, hear-long, alone}
+use Rattle.plugin_runner.proofs.StepLemmas.{prefix-trans, le-trans}
 
 -- ---- a runner and its phase
 pub listens-open : (runner : Runner) (course : Course) (l : Listens runner course) (later : List ℕ) → text_of course later ≡ Open l.past
@@ -177,7 +177,7 @@ module _ (old : Runner) (course : Course) (piece : List ℕ) (l : Listens old co
       let is : text_of next later ≡ Closed r.lines [] =
       text-now puts.taken puts.added later
       ∙ ap (hear course.origin rs l.past) (whole ls is_lines short ∙ ap (λ (xs : List (List ℕ)). xs ++ tail ∷ []) p.whole)
-      ∙ hear-disabled course.origin rs p.front p.last p.more l.past tail [] p.plain (subst (AllPass fits) p.whole (fit ls is_lines short)) p.says
+      ∙ hear-disabled course.origin rs p.prefix p.last p.more l.past tail [] p.plain (subst (AllPass fits) p.whole (fit ls is_lines short)) p.says
       ∙ ap (λ (past : List (List ℕ)). Closed past []) (r.leads later) in
       let told : next.told ≡ bytes r.lines ++ [] = ap (λ (t : List ℕ). t ++ puts.added) l.told ∙ sym r.whole ∙ sym (append-nil (bytes r.lines)) in
       subst (λ t. IsTold (Some (Err (fault.Disabled None))) next t) (sym is) (told, refl, r.follows.count)
@@ -197,19 +197,19 @@ module _ (old : Runner) (course : Course) (piece : List ℕ) (l : Listens old co
       ends [] size = absurd (omega (arith, size))
       ends (byte ∷ tail) size = refl
 
-  -- a front of what it asks for was put
-  pub tells-front : (added : List ℕ) (handed : List (List ℕ)) → IsLongAfter (old.splitter.rest ++ piece) handed → length (old.splitter.rest ++ piece) ≤ 8193
-      → IsFront added (old.splitter.rest ++ piece) → (later : List ℕ)
+  -- a prefix of what it asks for was put
+  pub tells-prefix : (added : List ℕ) (handed : List (List ℕ)) → IsLongAfter (old.splitter.rest ++ piece) handed → length (old.splitter.rest ++ piece) ≤ 8193
+      → IsPrefix added (old.splitter.rest ++ piece) → (later : List ℕ)
       → IsTold (Some (Err fault.Memory)) (course_after (Some (Bytes piece)) [] added course) (text_of (course_after (Some (Bytes piece)) [] added course) later)
-  tells-front added handed h size front later =
+  tells-prefix added handed h size prefix later =
       let tail = old.splitter.rest ++ piece in
       let rs = (course.readings ++ []) ++ later in
       let next : Course = course_after (Some (Bytes piece)) [] added course in
       let is : text_of next later ≡ Closed l.past tail = text-now [] added later ∙ hear-long course.origin rs l.past tail handed h size in
       let told : next.told ≡ bytes l.past ++ added = ap (λ (t : List ℕ). t ++ added) l.told in
-      let behind : IsFront (bytes l.past ++ added) (bytes l.past ++ tail) = (front.0, ap (λ (t : List ℕ). bytes l.past ++ t) front.1 ∙ sym (append_assoc (bytes l.past) added front.0)) in
+      let behind : IsPrefix (bytes l.past ++ added) (bytes l.past ++ tail) = (prefix.0, ap (λ (t : List ℕ). bytes l.past ++ t) prefix.1 ∙ sym (append_assoc (bytes l.past) added prefix.0)) in
       let count : length next.readings ≤ beats_begun (said l.past) = omega (arith, ap length (append-nil course.readings), l.follows.count) in
-      subst (λ t. IsTold (Some (Err fault.Memory)) next t) (sym is) (subst (λ (t : List ℕ). IsFront t (bytes l.past ++ tail)) (sym told) behind, count)
+      subst (λ t. IsTold (Some (Err fault.Memory)) next t) (sym is) (subst (λ (t : List ℕ). IsPrefix t (bytes l.past ++ tail)) (sym told) behind, count)
 
   pub tells-nothing : (later : List ℕ) → IsTold (Some (Err fault.Memory)) (course_after (Some (Bytes piece)) [] [] course) (text_of (course_after (Some (Bytes piece)) [] [] course) later)
   tells-nothing later =
@@ -219,7 +219,7 @@ module _ (old : Runner) (course : Course) (piece : List ℕ) (l : Listens old co
       let grows = hear-grows course.origin rs (parts (old.splitter.rest ++ piece)) l.past in
       let count : length next.readings ≤ beats_begun (said l.past) = omega (arith, ap length (append-nil course.readings), l.follows.count) in
       subst (λ t. IsTold (Some (Err fault.Memory)) next t) (sym (text-now [] [] later))
-      (subst (λ (t : List ℕ). IsFront t (bytes_of (hear course.origin rs l.past (parts (old.splitter.rest ++ piece))))) (sym told) grows.0, le-trans _ _ _ count grows.1)
+      (subst (λ (t : List ℕ). IsPrefix t (bytes_of (hear course.origin rs l.past (parts (old.splitter.rest ++ piece))))) (sym told) grows.0, le-trans _ _ _ count grows.1)
 
   pub tells-some : (ls : List (List ℕ)) → ls ≡ lines (old.splitter.rest ++ piece) → HasNoLongLine (old.splitter.rest ++ piece) → (ahead ahead' : Option (List ℕ)) (out out' : List ℕ)
       → (p : PutsSome ls old.follower ahead ahead' out out') → (later : List ℕ)
@@ -229,13 +229,13 @@ module _ (old : Runner) (course : Course) (piece : List ℕ) (l : Listens old co
       let tail = rest (old.splitter.rest ++ piece) in
       let rs = (course.readings ++ puts.taken) ++ later in
       let next : Course = course_after (Some (Bytes piece)) puts.taken puts.added course in
-      let is : text_of next later ≡ hear course.origin rs l.past ((p.front ++ p.last ∷ p.more) ++ tail ∷ []) =
+      let is : text_of next later ≡ hear course.origin rs l.past ((p.prefix ++ p.last ∷ p.more) ++ tail ∷ []) =
       text-now puts.taken puts.added later ∙ ap (hear course.origin rs l.past) (whole ls is_lines short ∙ ap (λ (xs : List (List ℕ)). xs ++ tail ∷ []) p.whole) in
       let told : next.told ≡ bytes l.past ++ puts.added = ap (λ (t : List ℕ). t ++ puts.added) l.told in
-      let near = puts.front course.origin course.readings l.past l.follows later in
-      let far = hear-front course.origin rs p.front p.last p.more l.past tail [] p.plain (subst (AllPass fits) p.whole (fit ls is_lines short)) in
+      let near = puts.prefix course.origin course.readings l.past l.follows later in
+      let far = hear-prefix course.origin rs p.prefix p.last p.more l.past tail [] p.plain (subst (AllPass fits) p.whole (fit ls is_lines short)) in
       subst (λ t. IsTold (Some (Err fault.Memory)) next t) (sym is)
-      (subst (λ (t : List ℕ). IsFront t (bytes_of (hear course.origin rs l.past ((p.front ++ p.last ∷ p.more) ++ tail ∷ [])))) (sym told) (front-trans _ _ _ near.0 far.0), le-trans _ _ _ near.1 far.1)
+      (subst (λ (t : List ℕ). IsPrefix t (bytes_of (hear course.origin rs l.past ((p.prefix ++ p.last ∷ p.more) ++ tail ∷ [])))) (sym told) (prefix-trans _ _ _ near.0 far.0), le-trans _ _ _ near.1 far.1)
 
 -- ---- the result of a piece
 pub lands-memory : {E : Type 0} (result : Result (Option Ending) E) → IsErr result → (piece : List ℕ) (course : Course) (new : Runner) (ahead ahead' : Option (List ℕ)) (out out' : List ℕ)
@@ -311,15 +311,15 @@ module _ (old : Runner) (course : Course) (status : ℤ) (l : Listens old course
       text-end course.origin rs status course.children l.running
       ∙ ap (at_end (Some status) course.origin rs) (ap (λ (r : List ℕ). text course.origin r course.children) all ∙ listens-open old course l (taken ++ later))
 
-  pub tells-some_close : (ahead ahead' : Option (List ℕ)) (out out' : List ℕ) (p : PutsFront close old.follower ahead ahead' out out') (later : List ℕ)
+  pub tells-some_close : (ahead ahead' : Option (List ℕ)) (out out' : List ℕ) (p : PutsPrefix close old.follower ahead ahead' out out') (later : List ℕ)
       → IsTold (Some (Err fault.Memory)) (course_after (Some (End status)) p.taken p.added course) (text_of (course_after (Some (End status)) p.taken p.added course) later)
   tells-some_close ahead ahead' out out' p later =
       let rs = (course.readings ++ p.taken) ++ later in
       let next : Course = course_after (Some (End status)) p.taken p.added course in
       let told : next.told ≡ bytes l.past ++ p.added = ap (λ (t : List ℕ). t ++ p.added) l.told in
-      let near = p.front course.origin course.readings l.past l.follows later in
+      let near = p.prefix course.origin course.readings l.past l.follows later in
       subst (λ t. IsTold (Some (Err fault.Memory)) next t) (sym (text-close p.taken p.added later))
-      (subst (λ (t : List ℕ). IsFront t (bytes (close course.origin rs l.past))) (sym told) near.0, near.1)
+      (subst (λ (t : List ℕ). IsPrefix t (bytes (close course.origin rs l.past))) (sym told) near.0, near.1)
 
   module _ (follower : Follower) (ahead ahead' : Option (List ℕ)) (out out' : List ℕ) (p : Puts close old.follower follower ahead ahead' out out') where
     abbrev next : Course

@@ -7,14 +7,14 @@ use Rattle.std.proofs.lemmas.List.Elements.{All-head, All-tail}
 use Rattle.std.proofs.lemmas.List.Splits.{join_with_byte-slice_split}
 use Rattle.history.specs.Limits.{is_line_feed}
 use Rattle.plugin_text.specs.Lines.{parts, fits, IsLongAfter, IsRest}
-use Rattle.plugin_text.proofs.LongLemmas.{AllPass-front}
+use Rattle.plugin_text.proofs.LongLemmas.{AllPass-prefix}
 use Rattle.plugin_text.proofs.PartsLemmas.{parts_first}
-use Rattle.plugin_runner.specs.Bytes.{bytes, bytes_of, IsFront}
+use Rattle.plugin_runner.specs.Bytes.{bytes, bytes_of, IsPrefix}
 use Rattle.plugin_runner.specs.Course.{said_in}
 use Rattle.plugin_runner.specs.Looking.{beats_begun}
 use Rattle.plugin_runner.specs.Steps.{IsPlain}
 use Rattle.plugin_runner.specs.Text.{Origin, Text, said, Open, Closed, put, after, disables, hear}
-use Rattle.plugin_runner.proofs.StepLemmas.{IsBehind, behind-self, front-trans, le-self, le-trans, grows-put}
+use Rattle.plugin_runner.proofs.StepLemmas.{IsBehind, behind-self, prefix-trans, le-self, le-trans, grows-put}
 use Rattle.plugin_runner.proofs.LinesLemmas.{after-append}
 
 fits-head : (x : List ℕ) (xs : List (List ℕ)) → AllPass fits (x ∷ xs) → fits x ≡ true
@@ -29,7 +29,7 @@ fits-last (y ∷ xs) x ys short = fits-last xs x ys (fits-tail y (xs ++ x ∷ ys
 
 -- a text has these lines, and maybe more
 abbrev pub IsIn : List (List ℕ) → Text → Type 0
-IsIn past whole = IsFront (bytes past) (bytes_of whole) × (beats_begun (said past) ≤ beats_begun (said_in whole))
+IsIn past whole = IsPrefix (bytes past) (bytes_of whole) × (beats_begun (said past) ≤ beats_begun (said_in whole))
 
 in-open : (past : List (List ℕ)) → IsIn past (Open past)
 in-open past = behind-self past
@@ -38,7 +38,7 @@ in-closed : (past : List (List ℕ)) (tail : List ℕ) → IsIn past (Closed pas
 in-closed past tail = ((tail, refl), le-self (beats_begun (said past)))
 
 in-trans : (past here : List (List ℕ)) (whole : Text) → IsBehind past here → IsIn here whole → IsIn past whole
-in-trans past here whole near far = (front-trans _ _ _ near.0 far.0, le-trans _ _ _ near.1 far.1)
+in-trans past here whole near far = (prefix-trans _ _ _ near.0 far.0, le-trans _ _ _ near.1 far.1)
 
 module _ (o : Origin) (rs : List ℕ) where
   -- a line that is not too long, and is not the last part
@@ -59,21 +59,21 @@ module _ (o : Origin) (rs : List ℕ) where
       step ∙ goes ∙ hear-lines xs (put x o rs past) first others plain (fits-tail x xs short)
 
   -- lines, and then one that may say DISABLE
-  hear-up_to : (front : List (List ℕ)) (last : List ℕ) (more : List (List ℕ)) (past : List (List ℕ)) (first : List ℕ) (others : List (List ℕ)) → IsPlain front → AllPass fits (front ++ last ∷ more)
-      → hear o rs past ((front ++ last ∷ more) ++ first ∷ others)
-      ≡ (if disables last then Closed (put last o rs (after front o rs past)) [] else hear o rs (put last o rs (after front o rs past)) (more ++ first ∷ others))
-  hear-up_to front last more past first others plain short =
-      ap (hear o rs past) (append_assoc front (last ∷ more) (first ∷ others))
-      ∙ hear-lines front past last (more ++ first ∷ others) plain (AllPass-front fits front (last ∷ more) short)
-      ∙ hear-line (after front o rs past) last more first others (fits-last front last more short)
+  hear-up_to : (prefix : List (List ℕ)) (last : List ℕ) (more : List (List ℕ)) (past : List (List ℕ)) (first : List ℕ) (others : List (List ℕ)) → IsPlain prefix → AllPass fits (prefix ++ last ∷ more)
+      → hear o rs past ((prefix ++ last ∷ more) ++ first ∷ others)
+      ≡ (if disables last then Closed (put last o rs (after prefix o rs past)) [] else hear o rs (put last o rs (after prefix o rs past)) (more ++ first ∷ others))
+  hear-up_to prefix last more past first others plain short =
+      ap (hear o rs past) (append_assoc prefix (last ∷ more) (first ∷ others))
+      ∙ hear-lines prefix past last (more ++ first ∷ others) plain (AllPass-prefix fits prefix (last ∷ more) short)
+      ∙ hear-line (after prefix o rs past) last more first others (fits-last prefix last more short)
 
-  pub hear-disabled : (front : List (List ℕ)) (last : List ℕ) (more : List (List ℕ)) (past : List (List ℕ)) (first : List ℕ) (others : List (List ℕ)) → IsPlain front
-      → AllPass fits (front ++ last ∷ more) → disables last ≡ true → hear o rs past ((front ++ last ∷ more) ++ first ∷ others) ≡ Closed (after (front ++ last ∷ []) o rs past) []
-  hear-disabled front last more past first others plain short says =
-      let here = put last o rs (after front o rs past) in
-      hear-up_to front last more past first others plain short
+  pub hear-disabled : (prefix : List (List ℕ)) (last : List ℕ) (more : List (List ℕ)) (past : List (List ℕ)) (first : List ℕ) (others : List (List ℕ)) → IsPlain prefix
+      → AllPass fits (prefix ++ last ∷ more) → disables last ≡ true → hear o rs past ((prefix ++ last ∷ more) ++ first ∷ others) ≡ Closed (after (prefix ++ last ∷ []) o rs past) []
+  hear-disabled prefix last more past first others plain short says =
+      let here = put last o rs (after prefix o rs past) in
+      hear-up_to prefix last more past first others plain short
       ∙ ap (λ (b : Bool). if b then Closed here [] else hear o rs here (more ++ first ∷ others)) says
-      ∙ ap (λ (l : List (List ℕ)). Closed l []) (sym (after-append front (last ∷ []) o rs past))
+      ∙ ap (λ (l : List (List ℕ)). Closed l []) (sym (after-append prefix (last ∷ []) o rs past))
 
   -- what is heard takes nothing away
   at_rest : (past : List (List ℕ)) (rest : List ℕ) (b : Bool) → IsIn past (if b then Open past else Closed past (take 8193 rest))
@@ -95,12 +95,12 @@ module _ (o : Origin) (rs : List ℕ) where
   at_last here ps true = in-closed here []
   at_last here ps false = hear-grows ps here
 
-  pub hear-front : (front : List (List ℕ)) (last : List ℕ) (more : List (List ℕ)) (past : List (List ℕ)) (first : List ℕ) (others : List (List ℕ)) → IsPlain front
-      → AllPass fits (front ++ last ∷ more) → IsIn (after (front ++ last ∷ []) o rs past) (hear o rs past ((front ++ last ∷ more) ++ first ∷ others))
-  hear-front front last more past first others plain short =
-      let here = put last o rs (after front o rs past) in
-      subst (λ (l : List (List ℕ)). IsIn l (hear o rs past ((front ++ last ∷ more) ++ first ∷ others))) (sym (after-append front (last ∷ []) o rs past))
-      (subst (λ whole. IsIn here whole) (sym (hear-up_to front last more past first others plain short)) (at_last here (more ++ first ∷ others) (disables last)))
+  pub hear-prefix : (prefix : List (List ℕ)) (last : List ℕ) (more : List (List ℕ)) (past : List (List ℕ)) (first : List ℕ) (others : List (List ℕ)) → IsPlain prefix
+      → AllPass fits (prefix ++ last ∷ more) → IsIn (after (prefix ++ last ∷ []) o rs past) (hear o rs past ((prefix ++ last ∷ more) ++ first ∷ others))
+  hear-prefix prefix last more past first others plain short =
+      let here = put last o rs (after prefix o rs past) in
+      subst (λ (l : List (List ℕ)). IsIn l (hear o rs past ((prefix ++ last ∷ more) ++ first ∷ others))) (sym (after-append prefix (last ∷ []) o rs past))
+      (subst (λ whole. IsIn here whole) (sym (hear-up_to prefix last more past first others plain short)) (at_last here (more ++ first ∷ others) (disables last)))
 
   -- the rest of a child that is not too long
   pub hear-rest : (past : List (List ℕ)) (rest : List ℕ) → IsRest rest → hear o rs past (parts rest) ≡ Open past
@@ -137,23 +137,23 @@ one_part text long e = sym (ap (join_with_byte 10) e) ∙ join_with_byte-slice_s
 
 -- so many bytes with a part that is too long are this part
 pub alone : (text : List ℕ) (handed : List (List ℕ)) → IsLongAfter text handed → length text ≤ 8193 → (parts text ≡ text ∷ []) × (length text ≡ 8193) × (fits text ≡ false)
-alone text handed h size = at_front handed h.more h.whole
+alone text handed h size = at_prefix handed h.more h.whole
   where
     long_size : 8192 < length h.long
     long_size = grind (arith, nat_tests, h.too_long)
 
-    at_front : (front more : List (List ℕ)) → parts text ≡ front ++ h.long ∷ more → (parts text ≡ text ∷ []) × (length text ≡ 8193) × (fits text ≡ false)
-    at_front [] [] e =
+    at_prefix : (prefix more : List (List ℕ)) → parts text ≡ prefix ++ h.long ∷ more → (parts text ≡ text ∷ []) × (length text ≡ 8193) × (fits text ≡ false)
+    at_prefix [] [] e =
         let same = one_part text h.long e in
         let size_is : length text ≡ 8193 = omega (arith, size, long_size, ap length same) in
         (e ∙ ap (λ (l : List ℕ). l ∷ []) same, size_is, subst (λ l. fits l ≡ false) same h.too_long)
-    at_front [] (next ∷ more) e =
+    at_prefix [] (next ∷ more) e =
         let count : total (h.long ∷ next ∷ more) ≡ length text + 1 = sym (ap total e) ∙ total-parts text in
         let never : ⊥ = omega (arith, count, long_size, size) in
         absurd never
-    at_front (x ∷ front) more e =
-        let count : total (x ∷ (front ++ h.long ∷ more)) ≡ length text + 1 = sym (ap total e) ∙ total-parts text in
-        let split = total-append front (h.long ∷ more) in
+    at_prefix (x ∷ prefix) more e =
+        let count : total (x ∷ (prefix ++ h.long ∷ more)) ≡ length text + 1 = sym (ap total e) ∙ total-parts text in
+        let split = total-append prefix (h.long ∷ more) in
         let never : ⊥ = omega (arith, count, split, long_size, size) in
         absurd never
 

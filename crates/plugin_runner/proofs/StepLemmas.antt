@@ -7,11 +7,11 @@ use Rattle.history.specs.declared.line.Line.{Line}
 use Rattle.history.specs.declared.line.Line.TheVariants as says
 use Rattle.history.specs.Looking.{open_block}
 use Rattle.plugin_runner.specs.declared.follower.Follower.{Follower}
-use Rattle.plugin_runner.specs.Bytes.{bytes, IsFront}
+use Rattle.plugin_runner.specs.Bytes.{bytes, IsPrefix}
 use Rattle.plugin_runner.specs.Follower.{Follows, Notes}
 use Rattle.plugin_runner.specs.Looking.{beats_begun, has_begun, reading_at, charts}
 use Rattle.plugin_runner.specs.Reads.{Reads}
-use Rattle.plugin_runner.specs.Steps.{Puts, PutsFront, IsWithin}
+use Rattle.plugin_runner.specs.Steps.{Puts, PutsPrefix, IsWithin}
 use Rattle.plugin_runner.specs.Text.{Origin, Step, meaning, moment, said, with_line, with_line_put, with_moment, moment_line, flush_line, is_due, put, with_due_moment, with_flush, with_last_moment, close}
 
 -- ---- readings
@@ -24,15 +24,15 @@ reading_at-append readings later count size =
     let within : count < length (0 ∷ readings) = omega (arith, size) in
     get_or_append_left (0 ∷ readings) later 0 count within
 
--- ---- fronts
-pub front-all : (front whole : List ℕ) → whole ≡ front → IsFront front whole
-front-all front whole e = ([], e ∙ sym (append-nil front))
+-- ---- prefixes
+pub prefix-all : (prefix whole : List ℕ) → whole ≡ prefix → IsPrefix prefix whole
+prefix-all prefix whole e = ([], e ∙ sym (append-nil prefix))
 
-pub front-trans : (xs ys zs : List ℕ) → IsFront xs ys → IsFront ys zs → IsFront xs zs
-front-trans xs ys zs (a, e) (b, d) = (a ++ b, d ∙ ap (λ l. l ++ b) e ∙ append_assoc xs a b)
+pub prefix-trans : (xs ys zs : List ℕ) → IsPrefix xs ys → IsPrefix ys zs → IsPrefix xs zs
+prefix-trans xs ys zs (a, e) (b, d) = (a ++ b, d ∙ ap (λ l. l ++ b) e ∙ append_assoc xs a b)
 
-pub front-append : (xs ys zs : List ℕ) → IsFront ys zs → IsFront (xs ++ ys) (xs ++ zs)
-front-append xs ys zs (a, e) = (a, ap (λ l. xs ++ l) e ∙ sym (append_assoc xs ys a))
+pub prefix-append : (xs ys zs : List ℕ) → IsPrefix ys zs → IsPrefix (xs ++ ys) (xs ++ zs)
+prefix-append xs ys zs (a, e) = (a, ap (λ l. xs ++ l) e ∙ sym (append_assoc xs ys a))
 
 -- ---- lines behind others
 pub le-self : (n : ℕ) → n ≤ n
@@ -64,16 +64,16 @@ beats-with (Some line) past = beats-next line past
 
 -- the former lines begin the latter
 abbrev pub IsBehind : List (List ℕ) → List (List ℕ) → Type 0
-IsBehind past now = IsFront (bytes past) (bytes now) × (beats_begun (said past) ≤ beats_begun (said now))
+IsBehind past now = IsPrefix (bytes past) (bytes now) × (beats_begun (said past) ≤ beats_begun (said now))
 
 pub behind-self : (past : List (List ℕ)) → IsBehind past past
-behind-self past = (front-all (bytes past) (bytes past) refl, le-self (beats_begun (said past)))
+behind-self past = (prefix-all (bytes past) (bytes past) refl, le-self (beats_begun (said past)))
 
 pub behind-line : (line : List ℕ) (past : List (List ℕ)) → IsBehind past (line ∷ past)
 behind-line line past = ((line ++ 10 ∷ [], refl), beats-with (meaning line) (said past))
 
 pub behind-trans : (xs ys zs : List (List ℕ)) → IsBehind xs ys → IsBehind ys zs → IsBehind xs zs
-behind-trans xs ys zs near far = (front-trans _ _ _ near.0 far.0, le-trans _ _ _ near.1 far.1)
+behind-trans xs ys zs near far = (prefix-trans _ _ _ near.0 far.0, le-trans _ _ _ near.1 far.1)
 
 -- ---- steps that are the same where the follower knows the lines
 abbrev pub IsSame : Follower → Step → Step → Type 0
@@ -95,17 +95,17 @@ Puts-as s t old new before now out out' same p = record {
   };
 }
 
-pub PutsFront-as : (s t : Step) (old : Follower) (before now : Option (List ℕ)) (out out' : List ℕ) → IsSame old s t → PutsFront s old before now out out' → PutsFront t old before now out out'
-PutsFront-as s t old before now out out' same p = record {
+pub PutsPrefix-as : (s t : Step) (old : Follower) (before now : Option (List ℕ)) (out out' : List ℕ) → IsSame old s t → PutsPrefix s old before now out out' → PutsPrefix t old before now out out'
+PutsPrefix-as s t old before now out out' same p = record {
   taken = p.taken;
   reads = p.reads;
   added = p.added;
   wrote = p.wrote;
-  front = λ o rs past f later.
+  prefix = λ o rs past f later.
       let all : (rs ++ p.taken) ++ later ≡ rs ++ (p.taken ++ later) = append_assoc rs p.taken later in
       let step : s o ((rs ++ p.taken) ++ later) past ≡ t o ((rs ++ p.taken) ++ later) past =
       ap (λ (l : List ℕ). s o l past) all ∙ sym (same o rs past (p.taken ++ later) f) ∙ ap (λ (l : List ℕ). t o l past) (sym all) in
-      subst (λ lines. IsWithin (bytes past ++ p.added) (rs ++ p.taken) lines) step (p.front o rs past f later);
+      subst (λ lines. IsWithin (bytes past ++ p.added) (rs ++ p.taken) lines) step (p.prefix o rs past f later);
 }
 
 -- ---- nothing
@@ -127,16 +127,16 @@ Puts-nothing old before out = record {
 abbrev pub Grows : Step → Type 0
 Grows s = (o : Origin) (rs : List ℕ) (past : List (List ℕ)) → IsBehind past (s o rs past)
 
-pub PutsFront-nothing : (s : Step) (old : Follower) (before : Option (List ℕ)) (out : List ℕ) → Grows s → PutsFront s old before before out out
-PutsFront-nothing s old before out grows = record {
+pub PutsPrefix-nothing : (s : Step) (old : Follower) (before : Option (List ℕ)) (out : List ℕ) → Grows s → PutsPrefix s old before before out out
+PutsPrefix-nothing s old before out grows = record {
   taken = [];
   reads = refl;
   added = [];
   wrote = sym (append-nil out);
-  front = λ o rs past f later.
+  prefix = λ o rs past f later.
       let g = grows o ((rs ++ []) ++ later) past in
       let size : length (rs ++ []) ≤ beats_begun (said past) = omega (arith, ap length (append-nil rs), f.count) in
-      (subst (λ front. IsFront front (bytes (s o ((rs ++ []) ++ later) past))) (sym (append-nil (bytes past))) g.0, le-trans _ _ _ size g.1);
+      (subst (λ prefix. IsPrefix prefix (bytes (s o ((rs ++ []) ++ later) past))) (sym (append-nil (bytes past))) g.0, le-trans _ _ _ size g.1);
 }
 
 -- ---- one line
@@ -170,16 +170,16 @@ Puts-refused text old before out out' says wrote = record {
   };
 }
 
-pub PutsFront-line : (line : List ℕ) (old : Follower) (before now : Option (List ℕ)) (out out' added : List ℕ) → now ≡ before → out' ≡ out ++ added → IsFront added (line ++ 10 ∷ [])
-    → PutsFront (with_line_put line) old before now out out'
-PutsFront-line line old before now out out' added same wrote front = record {
+pub PutsPrefix-line : (line : List ℕ) (old : Follower) (before now : Option (List ℕ)) (out out' added : List ℕ) → now ≡ before → out' ≡ out ++ added → IsPrefix added (line ++ 10 ∷ [])
+    → PutsPrefix (with_line_put line) old before now out out'
+PutsPrefix-line line old before now out out' added same wrote prefix = record {
   taken = [];
   reads = same;
   added = added;
   wrote = wrote;
-  front = λ o rs past f later.
+  prefix = λ o rs past f later.
       let size : length (rs ++ []) ≤ beats_begun (said past) = omega (arith, ap length (append-nil rs), f.count) in
-      (front-append (bytes past) added (line ++ 10 ∷ []) front, le-trans _ _ _ size (beats-with (meaning line) (said past)));
+      (prefix-append (bytes past) added (line ++ 10 ∷ []) prefix, le-trans _ _ _ size (beats-with (meaning line) (said past)));
 }
 
 -- the line that closes the open beat
@@ -215,13 +215,13 @@ module _ (s t : Step) (old mid : Follower) (before between now : Option (List �
         };
   }
 
-  pub PutsFront-then : PutsFront t mid between now out1 out2 → PutsFront (then_ s t) old before now out out2
-  PutsFront-then q = record {
+  pub PutsPrefix-then : PutsPrefix t mid between now out1 out2 → PutsPrefix (then_ s t) old before now out out2
+  PutsPrefix-then q = record {
     taken = p.taken ++ q.taken;
     reads = Reads-append before p.taken q.taken between now p.reads q.reads;
     added = p.added ++ q.added;
     wrote = q.wrote ∙ ap (λ l. l ++ q.added) p.wrote ∙ append_assoc out p.added q.added;
-    front = λ o rs past f later.
+    prefix = λ o rs past f later.
         let r = p.goes o rs past f in
         let far : (rs ++ p.taken) ++ (q.taken ++ later) ≡ (rs ++ (p.taken ++ q.taken)) ++ later = simp append_assoc in
         let near : ((rs ++ p.taken) ++ q.taken) ++ later ≡ (rs ++ (p.taken ++ q.taken)) ++ later = simp append_assoc in
@@ -229,24 +229,24 @@ module _ (s t : Step) (old mid : Follower) (before between now : Option (List �
         let lines : r.lines ≡ s o ((rs ++ (p.taken ++ q.taken)) ++ later) past = sym (r.leads (q.taken ++ later)) ∙ ap (λ (l : List ℕ). s o l past) far in
         let end : t o (((rs ++ p.taken) ++ q.taken) ++ later) r.lines ≡ then_ s t o ((rs ++ (p.taken ++ q.taken)) ++ later) past =
         ap (λ (l : List ℕ). t o l r.lines) near ∙ ap (λ (l : List (List ℕ)). t o ((rs ++ (p.taken ++ q.taken)) ++ later) l) lines in
-        let q_front : IsWithin (bytes r.lines ++ q.added) ((rs ++ p.taken) ++ q.taken) (t o (((rs ++ p.taken) ++ q.taken) ++ later) r.lines) = q.front o (rs ++ p.taken) r.lines r.follows later in
+        let q_prefix : IsWithin (bytes r.lines ++ q.added) ((rs ++ p.taken) ++ q.taken) (t o (((rs ++ p.taken) ++ q.taken) ++ later) r.lines) = q.prefix o (rs ++ p.taken) r.lines r.follows later in
         let size : length ((rs ++ p.taken) ++ q.taken) ≡ length (rs ++ (p.taken ++ q.taken)) = ap length (append_assoc rs p.taken q.taken) in
         let here = t o (((rs ++ p.taken) ++ q.taken) ++ later) r.lines in
         subst (λ l. IsWithin (bytes past ++ (p.added ++ q.added)) (rs ++ (p.taken ++ q.taken)) l) end
-        (subst (λ l. IsFront l (bytes here)) start q_front.0, subst (λ (n : ℕ). n ≤ beats_begun (said here)) size q_front.1);
+        (subst (λ l. IsPrefix l (bytes here)) start q_prefix.0, subst (λ (n : ℕ). n ≤ beats_begun (said here)) size q_prefix.1);
   }
 
--- a front of a step is one of it and a further one
-pub PutsFront-more : (s t : Step) (old : Follower) (before now : Option (List ℕ)) (out out' : List ℕ) → Grows t → PutsFront s old before now out out' → PutsFront (then_ s t) old before now out out'
-PutsFront-more s t old before now out out' grows p = record {
+-- a prefix of a step is one of it and a further one
+pub PutsPrefix-more : (s t : Step) (old : Follower) (before now : Option (List ℕ)) (out out' : List ℕ) → Grows t → PutsPrefix s old before now out out' → PutsPrefix (then_ s t) old before now out out'
+PutsPrefix-more s t old before now out out' grows p = record {
   taken = p.taken;
   reads = p.reads;
   added = p.added;
   wrote = p.wrote;
-  front = λ o rs past f later.
-      let near = p.front o rs past f later in
+  prefix = λ o rs past f later.
+      let near = p.prefix o rs past f later in
       let far = grows o ((rs ++ p.taken) ++ later) (s o ((rs ++ p.taken) ++ later) past) in
-      (front-trans _ _ _ near.0 far.0, le-trans _ _ _ near.1 far.1);
+      (prefix-trans _ _ _ near.0 far.0, le-trans _ _ _ near.1 far.1);
 }
 
 -- ---- steps that take nothing away

@@ -4,7 +4,7 @@ use Rattle.std.specs.Option.{option_map}
 use Rattle.host_model.specs.Spawner.{Child, Children, before_bytes, after_start, after_end}
 use Rattle.plugin_runner.specs.declared.fault.RunFault.{RunFault}
 use Rattle.plugin_runner.specs.declared.fault.Turn.{Turn}
-use Rattle.plugin_runner.specs.Bytes.{bytes_of, IsFront}
+use Rattle.plugin_runner.specs.Bytes.{bytes_of, IsPrefix}
 use Rattle.plugin_runner.specs.Collected.{Turns, no_turn, one_turn, HasTurned}
 use Rattle.plugin_runner.specs.Course.{Course, Event, Start, Bytes, End, new_course, text_of, answer_after}
 use Rattle.plugin_runner.specs.Goes.{Hears, IsLeft}
@@ -13,8 +13,8 @@ use Rattle.plugin_runner.specs.Runner.{if_lasting}
 use Rattle.plugin_runner.specs.Text.{Origin, text}
 use Rattle.plugin_runner.specs.Words.{start_words}
 use Rattle.plugin_runner.proofs.RunLemmas.{ran_of, run_last, Last}
-use Rattle.plugin_runner.proofs.StepLemmas.{front-trans}
-use Rattle.plugin_runner.proofs.WholeLemmas.{last-front, last-whole, told-front}
+use Rattle.plugin_runner.proofs.StepLemmas.{prefix-trans}
+use Rattle.plugin_runner.proofs.WholeLemmas.{last-prefix, last-whole, told-prefix}
 
 -- a spawner that tells its children tells them after each turn
 left_some : (answer : Option (Result Turn RunFault)) (old : Children) (bytes : List ℕ) (between after : Option Children) (faults faults' : ℕ) → Some old ≡ option_map (before_bytes bytes) between
@@ -69,12 +69,12 @@ module _ (coming : List Child) (words : List (List ℕ)) (every starts last : �
         let same = turns_same turned.earlier turned.now turned.turns in
         (ap (λ (c : Course). c.starts) turned.is ∙ same.0, ap (λ (c : Course). c.origin) turned.is ∙ same.1)
 
-    pub turned_front : (later : List ℕ) → IsFront course.told (bytes_of (text (record { every = every; last = last }) (course.readings ++ later) (whole_children starts coming)))
-    turned_front later =
+    pub turned_prefix : (later : List ℕ) → IsPrefix course.told (bytes_of (text (record { every = every; last = last }) (course.readings ++ later) (whole_children starts coming)))
+    turned_prefix later =
         let rs = course.readings ++ later in
-        subst (λ (o : Origin). IsFront course.told (bytes_of (text o rs (whole_children starts coming)))) turned_same.1
-        (subst (λ (n : ℕ). IsFront course.told (bytes_of (text course.origin rs (whole_children n coming)))) turned_same.0
-        (front-trans _ _ _ (told-front (if_lasting answer) course (text_of course later) (turned.tells later)) (last-front course.origin rs coming course.starts course.children turned_last)))
+        subst (λ (o : Origin). IsPrefix course.told (bytes_of (text o rs (whole_children starts coming)))) turned_same.1
+        (subst (λ (n : ℕ). IsPrefix course.told (bytes_of (text course.origin rs (whole_children n coming)))) turned_same.0
+        (prefix-trans _ _ _ (told-prefix (if_lasting answer) course (text_of course later) (turned.tells later)) (last-prefix course.origin rs coming course.starts course.children turned_last)))
 
     pub turned_whole : (ending : Result Turn RunFault) (later : List ℕ) → answer_after course.starts (text_of course later) course.children ≡ Some ending
         → (text_of course later ≡ text (record { every = every; last = last }) (course.readings ++ later) (whole_children starts coming))

@@ -10,22 +10,22 @@ use Rattle.plugin_runner.specs.declared.fault.RunFault.{RunFault}
 use Rattle.plugin_runner.specs.declared.fault.RunFault.TheVariants as fault
 use Rattle.plugin_runner.specs.declared.fault.Turn.{Turn}
 use Rattle.plugin_runner.specs.declared.fault.Turn.TheVariants.{Ended}
-use Rattle.plugin_runner.specs.Bytes.{bytes_of, IsFront}
+use Rattle.plugin_runner.specs.Bytes.{bytes_of, IsPrefix}
 use Rattle.plugin_runner.specs.Course.{Course, IsTold, answer_after, answer_at_end}
 use Rattle.plugin_runner.specs.Run.{heard_whole, started, whole_children}
 use Rattle.plugin_runner.specs.Text.{Origin, Text, Open, Closed, Heard, hear, at_end, with_child, text, put, disables}
 use Rattle.plugin_runner.proofs.HearLemmas.{hear-grows}
 use Rattle.plugin_runner.proofs.RunLemmas.{so, hear-closed, closed-rest, reverse-next, EndedAtZero, MayRun, Last, over, within}
-use Rattle.plugin_runner.proofs.StepLemmas.{front-all, front-trans, grows-close}
+use Rattle.plugin_runner.proofs.StepLemmas.{prefix-all, prefix-trans, grows-close}
 
 -- ---- what was put
-pub told-front : (answer : Option (Result Turn RunFault)) (course : Course) (whole : Text) → IsTold answer course whole → IsFront course.told (bytes_of whole)
-told-front None course whole told = front-all course.told (bytes_of whole) (sym told.0)
-told-front (Some (Ok turn)) course whole told = front-all course.told (bytes_of whole) (sym told.0)
-told-front (Some (Err fault.SpawnFault)) course whole told = front-all course.told (bytes_of whole) (sym told.0)
-told-front (Some (Err fault.PipeFault)) course whole told = front-all course.told (bytes_of whole) (sym told.0)
-told-front (Some (Err (fault.Disabled status))) course whole told = front-all course.told (bytes_of whole) (sym told.0)
-told-front (Some (Err fault.Memory)) course whole told = told.0
+pub told-prefix : (answer : Option (Result Turn RunFault)) (course : Course) (whole : Text) → IsTold answer course whole → IsPrefix course.told (bytes_of whole)
+told-prefix None course whole told = prefix-all course.told (bytes_of whole) (sym told.0)
+told-prefix (Some (Ok turn)) course whole told = prefix-all course.told (bytes_of whole) (sym told.0)
+told-prefix (Some (Err fault.SpawnFault)) course whole told = prefix-all course.told (bytes_of whole) (sym told.0)
+told-prefix (Some (Err fault.PipeFault)) course whole told = prefix-all course.told (bytes_of whole) (sym told.0)
+told-prefix (Some (Err (fault.Disabled status))) course whole told = prefix-all course.told (bytes_of whole) (sym told.0)
+told-prefix (Some (Err fault.Memory)) course whole told = told.0
 
 -- ---- which children are started
 
@@ -70,25 +70,25 @@ whole-is starts coming ran more is =
 
 -- ---- a text grows with what is heard
 
-abbrev IsFrontText : Text → Text → Type 0
-IsFrontText one other = IsFront (bytes_of one) (bytes_of other)
+abbrev IsPrefixText : Text → Text → Type 0
+IsPrefixText one other = IsPrefix (bytes_of one) (bytes_of other)
 
-front-same : (one other : Text) → one ≡ other → IsFrontText one other
-front-same one other same = front-all (bytes_of one) (bytes_of other) (ap bytes_of (sym same))
+prefix-same : (one other : Text) → one ≡ other → IsPrefixText one other
+prefix-same one other same = prefix-all (bytes_of one) (bytes_of other) (ap bytes_of (sym same))
 
 module _ (o : Origin) (rs : List ℕ) where
-  end-grows : (status : Option ℤ) (whole : Text) → IsFrontText whole (at_end status o rs whole)
-  end-grows None whole = front-same whole whole refl
+  end-grows : (status : Option ℤ) (whole : Text) → IsPrefixText whole (at_end status o rs whole)
+  end-grows None whole = prefix-same whole whole refl
   end-grows (Some status) (Open past) = (grows-close o rs past).0
-  end-grows (Some status) (Closed past tail) = front-same (Closed past tail) (Closed past tail) refl
+  end-grows (Some status) (Closed past tail) = prefix-same (Closed past tail) (Closed past tail) refl
 
-  child-grows : (child : Heard) (before : Text) → IsFrontText before (with_child child o rs before)
-  child-grows child (Closed past tail) = front-same (Closed past tail) (Closed past tail) refl
-  child-grows child (Open past) = front-trans _ _ _ (hear-grows o rs (parts child.bytes) past).0 (end-grows child.status (hear o rs past (parts child.bytes)))
+  child-grows : (child : Heard) (before : Text) → IsPrefixText before (with_child child o rs before)
+  child-grows child (Closed past tail) = prefix-same (Closed past tail) (Closed past tail) refl
+  child-grows child (Open past) = prefix-trans _ _ _ (hear-grows o rs (parts child.bytes) past).0 (end-grows child.status (hear o rs past (parts child.bytes)))
 
-  text-grows : (more earlier : List Heard) → IsFrontText (text o rs earlier) (text o rs (more ++ earlier))
-  text-grows [] earlier = front-same (text o rs earlier) (text o rs earlier) refl
-  text-grows (child ∷ more) earlier = front-trans _ _ _ (text-grows more earlier) (child-grows child (text o rs (more ++ earlier)))
+  text-grows : (more earlier : List Heard) → IsPrefixText (text o rs earlier) (text o rs (more ++ earlier))
+  text-grows [] earlier = prefix-same (text o rs earlier) (text o rs earlier) refl
+  text-grows (child ∷ more) earlier = prefix-trans _ _ _ (text-grows more earlier) (child-grows child (text o rs (more ++ earlier)))
 
   text-closed : (p : List (List ℕ)) (t : List ℕ) (more earlier : List Heard) → text o rs earlier ≡ Closed p t → text o rs (more ++ earlier) ≡ Closed p t
   text-closed p t [] earlier is = is
@@ -96,32 +96,32 @@ module _ (o : Origin) (rs : List ℕ) where
 
   -- ---- a child that writes more
   rest-grows : (past : List (List ℕ)) (r first : List ℕ) (following : List (List ℕ)) (b : Bool) → fits r ≡ b
-      → IsFrontText (if b then Open past else Closed past (take 8193 r)) (hear o rs past ((r ++ first) ∷ following))
+      → IsPrefixText (if b then Open past else Closed past (take 8193 r)) (hear o rs past ((r ++ first) ∷ following))
   rest-grows past r first following true fit = (hear-grows o rs ((r ++ first) ∷ following) past).0
   rest-grows past r first following false fit =
-      front-same (Closed past (take 8193 r)) (hear o rs past ((r ++ first) ∷ following)) (sym (closed-rest o rs past (take 8193 r) past r first following false fit refl))
+      prefix-same (Closed past (take 8193 r)) (hear o rs past ((r ++ first) ∷ following)) (sym (closed-rest o rs past (take 8193 r) past r first following false fit refl))
 
-  line-grows : (past : List (List ℕ)) (line : List ℕ) (b d : Bool) (one other : Text) → IsFrontText one other
-      → IsFrontText (if b then (if d then Closed (put line o rs past) [] else one) else Closed past (take 8193 line)) (if b then (if d then Closed (put line o rs past) [] else other) else Closed past (take 8193 line))
-  line-grows past line true true one other grows = front-same (Closed (put line o rs past) []) (Closed (put line o rs past) []) refl
+  line-grows : (past : List (List ℕ)) (line : List ℕ) (b d : Bool) (one other : Text) → IsPrefixText one other
+      → IsPrefixText (if b then (if d then Closed (put line o rs past) [] else one) else Closed past (take 8193 line)) (if b then (if d then Closed (put line o rs past) [] else other) else Closed past (take 8193 line))
+  line-grows past line true true one other grows = prefix-same (Closed (put line o rs past) []) (Closed (put line o rs past) []) refl
   line-grows past line true false one other grows = grows
-  line-grows past line false d one other grows = front-same (Closed past (take 8193 line)) (Closed past (take 8193 line)) refl
+  line-grows past line false d one other grows = prefix-same (Closed past (take 8193 line)) (Closed past (take 8193 line)) refl
 
-  lines-grow : (xs : List (List ℕ)) (past : List (List ℕ)) (r first : List ℕ) (following : List (List ℕ)) → IsFrontText (hear o rs past (xs ++ r ∷ [])) (hear o rs past (xs ++ (r ++ first) ∷ following))
+  lines-grow : (xs : List (List ℕ)) (past : List (List ℕ)) (r first : List ℕ) (following : List (List ℕ)) → IsPrefixText (hear o rs past (xs ++ r ∷ [])) (hear o rs past (xs ++ (r ++ first) ∷ following))
   lines-grow [] past r first following = rest-grows past r first following (fits r) refl
   lines-grow (x ∷ []) past r first following = line-grows past x (fits x) (disables x) _ _ (rest-grows (put x o rs past) r first following (fits r) refl)
   lines-grow (x ∷ y ∷ xs) past r first following = line-grows past x (fits x) (disables x) _ _ (lines-grow (y ∷ xs) (put x o rs past) r first following)
 
-  hear-more : (past : List (List ℕ)) (heard more : List ℕ) → IsFrontText (hear o rs past (parts heard)) (hear o rs past (parts (heard ++ more)))
+  hear-more : (past : List (List ℕ)) (heard more : List ℕ) → IsPrefixText (hear o rs past (parts heard)) (hear o rs past (parts (heard ++ more)))
   hear-more past heard more =
       let some = parts_first more in
-      subst (λ (ps : List (List ℕ)). IsFrontText (hear o rs past ps) (hear o rs past (parts (heard ++ more)))) (sym (parts_whole heard))
-      (subst (λ (ps : List (List ℕ)). IsFrontText (hear o rs past (lines heard ++ rest heard ∷ [])) (hear o rs past ps)) (sym (parts-append_parts heard more some.0 some.1 some.2))
+      subst (λ (ps : List (List ℕ)). IsPrefixText (hear o rs past ps) (hear o rs past (parts (heard ++ more)))) (sym (parts_whole heard))
+      (subst (λ (ps : List (List ℕ)). IsPrefixText (hear o rs past (lines heard ++ rest heard ∷ [])) (hear o rs past ps)) (sym (parts-append_parts heard more some.0 some.1 some.2))
       (lines-grow (lines heard) past (rest heard) some.0 some.1))
 
-  rest-of-child : (bytes : List ℕ) (child : Child) (before : Text) → IsFrontText (with_child (so bytes None) o rs before) (with_child (heard_whole (with_bytes bytes child)) o rs before)
-  rest-of-child bytes child (Closed past tail) = front-same (Closed past tail) (Closed past tail) refl
-  rest-of-child bytes child (Open past) = front-trans _ _ _ (hear-more past bytes child.left) (end-grows (Some child.status) (hear o rs past (parts (bytes ++ child.left))))
+  rest-of-child : (bytes : List ℕ) (child : Child) (before : Text) → IsPrefixText (with_child (so bytes None) o rs before) (with_child (heard_whole (with_bytes bytes child)) o rs before)
+  rest-of-child bytes child (Closed past tail) = prefix-same (Closed past tail) (Closed past tail) refl
+  rest-of-child bytes child (Open past) = prefix-trans _ _ _ (hear-more past bytes child.left) (end-grows (Some child.status) (hear o rs past (parts (bytes ++ child.left))))
 
   closed-child : (p : List (List ℕ)) (t bytes : List ℕ) (child : Child) (before : Text) → with_child (so bytes None) o rs before ≡ Closed p t → with_child (heard_whole (with_bytes bytes child)) o rs before ≡ Closed p t
   closed-child p t bytes child (Closed past tail) is = is
@@ -132,21 +132,21 @@ module _ (o : Origin) (rs : List ℕ) where
     abbrev all_of : List Heard
     all_of = whole_children starts coming
 
-    abbrev IsFrontOfAll : List Heard → Type 0
-    IsFrontOfAll heard = IsFrontText (text o rs heard) (text o rs all_of)
+    abbrev IsPrefixOfAll : List Heard → Type 0
+    IsPrefixOfAll heard = IsPrefixText (text o rs heard) (text o rs all_of)
 
-    ran-front : (ran others : List Child) → coming ≡ reverse ran ++ others → MayRun starts ran → IsFrontOfAll (map heard_whole ran)
-    ran-front ran others whole may =
+    ran-prefix : (ran others : List Child) → coming ≡ reverse ran ++ others → MayRun starts ran → IsPrefixOfAll (map heard_whole ran)
+    ran-prefix ran others whole may =
         let more = behind starts coming ran others in
-        subst (λ (l : List Heard). IsFrontText (text o rs (map heard_whole ran)) (text o rs l)) (sym (whole-is starts coming ran more (started-is starts coming ran others whole may)))
+        subst (λ (l : List Heard). IsPrefixText (text o rs (map heard_whole ran)) (text o rs l)) (sym (whole-is starts coming ran more (started-is starts coming ran others whole may)))
         (text-grows (map heard_whole (reverse more)) (map heard_whole ran))
 
-    pub last-front : (heard : List Heard) → Last coming starts heard → IsFrontOfAll heard
-    last-front heard (over ran others is whole may) = subst IsFrontOfAll (sym is) (ran-front ran others whole may)
-    last-front heard (within ran others child bytes is whole may) =
+    pub last-prefix : (heard : List Heard) → Last coming starts heard → IsPrefixOfAll heard
+    last-prefix heard (over ran others is whole may) = subst IsPrefixOfAll (sym is) (ran-prefix ran others whole may)
+    last-prefix heard (within ran others child bytes is whole may) =
         let here = with_bytes bytes child in
-        subst IsFrontOfAll (sym is)
-        (front-trans _ _ _ (rest-of-child bytes child (text o rs (map heard_whole ran))) (ran-front (here ∷ ran) others (whole ∙ reverse-next ran here others) may))
+        subst IsPrefixOfAll (sym is)
+        (prefix-trans _ _ _ (rest-of-child bytes child (text o rs (map heard_whole ran))) (ran-prefix (here ∷ ran) others (whole ∙ reverse-next ran here others) may))
 
     -- ---- at an end of the text
     abbrev AreAll : Result Turn RunFault → List Heard → Type 0

@@ -11,5 +11,5 @@ bytes_of (Open past) = bytes past
 bytes_of (Closed past tail) = bytes past ++ tail
 
 -- a text begins with these bytes
-abbrev pub IsFront : List ℕ → List ℕ → Type 0
-IsFront front whole = (more : List ℕ) × (whole ≡ front ++ more)
+abbrev pub IsPrefix : List ℕ → List ℕ → Type 0
+IsPrefix prefix whole = (more : List ℕ) × (whole ≡ prefix ++ more)

@@ -10,7 +10,7 @@ use Rattle.plugin_runner.specs.declared.fault.Turn.TheVariants.{Ended}
 use Rattle.plugin_runner.specs.declared.runner.Phase.{Phase}
 use Rattle.plugin_runner.specs.declared.runner.Phase.TheVariants.{Ready, Runs, Over}
 use Rattle.plugin_runner.specs.declared.runner.Runner.{Runner}
-use Rattle.plugin_runner.specs.Bytes.{bytes, bytes_of, IsFront}
+use Rattle.plugin_runner.specs.Bytes.{bytes, bytes_of, IsPrefix}
 use Rattle.plugin_runner.specs.Follower.{Follows}
 use Rattle.plugin_runner.specs.Looking.{beats_begun}
 use Rattle.plugin_runner.specs.Runner.{lasting_answer}
@@ -105,7 +105,7 @@ said_in (Closed past tail) = said past
 -- was read once for each beat with a BEGIN line. Once there was no memory, the bytes are a prefix of the text's, and
 -- the clock was read at most so often.
 abbrev pub IsTold : Option (Result Turn RunFault) → Course → Text → Type 0
-IsTold (Some (Err fault.Memory)) course whole = IsFront course.told (bytes_of whole) × (length course.readings ≤ beats_begun (said_in whole))
+IsTold (Some (Err fault.Memory)) course whole = IsPrefix course.told (bytes_of whole) × (length course.readings ≤ beats_begun (said_in whole))
 IsTold answer course whole = (course.told ≡ bytes_of whole) × (answer ≡ answer_after course.starts whole course.children) × (length course.readings ≡ beats_begun (said_in whole))
 
 -- ---- what a runner keeps

@@ -1,7 +1,7 @@
 use Rattle.std.specs.Prelude.{◌≡◌, ℕ, ◌≤◌, true, false, ◌++◌, List, [], ◌∷◌, length, Option}
 use Rattle.std.specs.List.{AllByRecursion}
 use Rattle.plugin_runner.specs.declared.follower.Follower.{Follower}
-use Rattle.plugin_runner.specs.Bytes.{bytes, IsFront}
+use Rattle.plugin_runner.specs.Bytes.{bytes, IsPrefix}
 use Rattle.plugin_runner.specs.Follower.{Follows}
 use Rattle.plugin_runner.specs.Looking.{beats_begun}
 use Rattle.plugin_runner.specs.Reads.{Reads}
@@ -25,15 +25,15 @@ pub record Puts (step : Step) (old new : Follower) (before now : Option (List �
 
 -- these bytes are a prefix of those of the lines, and there are no more readings than beats that the lines begin
 abbrev pub IsWithin : List ℕ → List ℕ → List (List ℕ) → Type 0
-IsWithin told readings lines = IsFront told (bytes lines) × (length readings ≤ beats_begun (said lines))
+IsWithin told readings lines = IsPrefix told (bytes lines) × (length readings ≤ beats_begun (said lines))
 
 -- a prefix of these bytes was put behind `out`, and the clock was read at most once for each beat that they begin
-pub record PutsFront (step : Step) (old : Follower) (before now : Option (List ℕ)) (out out' : List ℕ) : Type 0 where
+pub record PutsPrefix (step : Step) (old : Follower) (before now : Option (List ℕ)) (out out' : List ℕ) : Type 0 where
   pub taken : List ℕ
   pub reads : Reads before taken now
   pub added : List ℕ
   pub wrote : out' ≡ out ++ added
-  pub front : (origin : Origin) (readings : List ℕ) (past : List (List ℕ)) → Follows old origin readings (said past) → (later : List ℕ)
+  pub prefix : (origin : Origin) (readings : List ℕ) (past : List (List ℕ)) → Follows old origin readings (said past) → (later : List ℕ)
       → IsWithin (bytes past ++ added) (readings ++ taken) (step origin ((readings ++ taken) ++ later) past)
 
 -- none of these lines says DISABLE
@@ -42,13 +42,13 @@ IsPlain lines = AllByRecursion (λ line. disables line ≡ false) lines
 
 -- of these lines those up to the first that says DISABLE were put
 pub record PutsUpTo (lines : List (List ℕ)) (old new : Follower) (before now : Option (List ℕ)) (out out' : List ℕ) : Type 0 where
-  pub front : List (List ℕ)
+  pub prefix : List (List ℕ)
   pub last : List ℕ
   pub more : List (List ℕ)
-  pub whole : lines ≡ front ++ last ∷ more
-  pub plain : IsPlain front
+  pub whole : lines ≡ prefix ++ last ∷ more
+  pub plain : IsPlain prefix
   pub says : disables last ≡ true
-  pub puts : Puts (after (front ++ last ∷ [])) old new before now out out'
+  pub puts : Puts (after (prefix ++ last ∷ [])) old new before now out out'
 
 -- all of these lines were put, and none says DISABLE
 pub record PutsAll (lines : List (List ℕ)) (old new : Follower) (before now : Option (List ℕ)) (out out' : List ℕ) : Type 0 where
@@ -57,9 +57,9 @@ pub record PutsAll (lines : List (List ℕ)) (old new : Follower) (before now : 
 
 -- of these lines a prefix was put, up to one within which it ends, and none before that one says DISABLE
 pub record PutsSome (lines : List (List ℕ)) (old : Follower) (before now : Option (List ℕ)) (out out' : List ℕ) : Type 0 where
-  pub front : List (List ℕ)
+  pub prefix : List (List ℕ)
   pub last : List ℕ
   pub more : List (List ℕ)
-  pub whole : lines ≡ front ++ last ∷ more
-  pub plain : IsPlain front
-  pub puts : PutsFront (after (front ++ last ∷ [])) old before now out out'
+  pub whole : lines ≡ prefix ++ last ∷ more
+  pub plain : IsPlain prefix
+  pub puts : PutsPrefix (after (prefix ++ last ∷ [])) old before now out out'

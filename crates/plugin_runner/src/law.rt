@@ -4,7 +4,7 @@ ghost use Rattle.plugin_runner.specs.declared.fault.RunFault.{RunFault};
 ghost use Rattle.plugin_runner.specs.declared.fault.RunFault.TheVariants as fault;
 ghost use Rattle.plugin_runner.specs.declared.fault.Turn.{Turn};
 ghost use Rattle.plugin_runner.specs.declared.runner.Runner.{Runner};
-ghost use Rattle.plugin_runner.specs.Bytes.{bytes_of, IsFront};
+ghost use Rattle.plugin_runner.specs.Bytes.{bytes_of, IsPrefix};
 ghost use Rattle.plugin_runner.specs.Collected.{HasTurned};
 ghost use Rattle.plugin_runner.specs.Course.{Course, Event, IsRunnerOf, answer_after, course_after, new_course, text_of};
 ghost use Rattle.plugin_runner.specs.Goes.{Hears};
@@ -15,8 +15,8 @@ ghost use Rattle.plugin_runner.specs.Text.{text};
 /// The laws of a runner of a course, whatever the clock gives later. It does nothing.
 pub fn runner_puts_what_it_heard()
     // What was put is a prefix of the text of what was heard, and all of it unless memory ran out.
-    ensures front { (runner : Runner) (course : Course) (later : List ℕ) → IsRunnerOf runner course
-        → IsFront course.told (bytes_of (text_of course later)) }
+    ensures prefix { (runner : Runner) (course : Course) (later : List ℕ) → IsRunnerOf runner course
+        → IsPrefix course.told (bytes_of (text_of course later)) }
     ensures whole { (runner : Runner) (course : Course) (later : List ℕ) → IsRunnerOf runner course
         → lasting_answer runner ≢ Some (Err fault.Memory)
         → course.told ≡ bytes_of (text_of course later) }
@@ -58,12 +58,12 @@ pub fn collected_text_is_whole()
 /// of those that are started has each with all its bytes and its end. It does nothing.
 pub fn collected_text_is_a_prefix()
     // Wherever the turns ended, what was put is a prefix of that text.
-    ensures front { (coming : List Child) (words : List (List ℕ)) (every starts last : ℕ)
+    ensures prefix { (coming : List Child) (words : List (List ℕ)) (every starts last : ℕ)
         (begun : List (List (List ℕ))) (course : Course) (answer : Result Turn RunFault)
         (after : Option Children) (ahead ahead' : Option (List ℕ)) (later : List ℕ)
         → HasTurned answer (new_course words every starts last) course
         (Some (record { starts = begun; running = None; coming = coming })) after ahead ahead'
-        → IsFront course.told (bytes_of (text (record { every = every; last = last })
+        → IsPrefix course.told (bytes_of (text (record { every = every; last = last })
         (course.readings ++ later) (whole_children starts coming))) }
 
     // Where the last turn came to an end of the text, it is that one, with its answer.

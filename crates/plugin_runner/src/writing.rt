@@ -4,9 +4,9 @@ ghost use Rattle.std.specs.Option.{option_map_or};
 ghost use Rattle.history.specs.Read.{is_disable};
 ghost use Rattle.history.specs.declared.line.Line.{Line as ALine};
 ghost use Rattle.plugin_runner.specs.Text.{Origin, begins_again, close, disables, is_due, meaning, put, with_due_moment, with_flush, with_last_moment, with_line_put, with_moment};
-ghost use Rattle.plugin_runner.specs.Bytes.{IsFront};
+ghost use Rattle.plugin_runner.specs.Bytes.{IsPrefix};
 ghost use Rattle.plugin_runner.specs.Follower.{Follows};
-ghost use Rattle.plugin_runner.specs.Steps.{Puts, PutsFront};
+ghost use Rattle.plugin_runner.specs.Steps.{Puts, PutsPrefix};
 
 use crate::follower::Follower;
 use crate::moment::{moment, moment_line};
@@ -38,7 +38,7 @@ pub(crate) fn meaning_of(alloc: Global, bytes: &[u8]) -> Result<Option<Line>, Al
 pub(crate) fn append_both(out: &mut ByteList, first: &[u8], second: &[u8]) -> Result<(), AllocError>
     ensures ok { OnOk result (out.new ≡ out.old ++ (first.now ++ second.now)) }
     ensures err { OnErr result ((added : List ℕ) × (out.new ≡ out.old ++ added)
-        × IsFront added (first.now ++ second.now)) }
+        × IsPrefix added (first.now ++ second.now)) }
 {
     out.extend(first)?;
     out.extend(second)?;
@@ -49,7 +49,7 @@ pub(crate) fn append_both(out: &mut ByteList, first: &[u8], second: &[u8]) -> Re
 fn append_line(out: &mut ByteList, line: &[u8]) -> Result<(), AllocError>
     ensures ok { OnOk result (out.new ≡ out.old ++ (line.now ++ 10 ∷ [])) }
     ensures err { OnErr result ((added : List ℕ) × (out.new ≡ out.old ++ added)
-        × IsFront added (line.now ++ 10 ∷ [])) }
+        × IsPrefix added (line.now ++ 10 ∷ [])) }
 {
     out.extend(line)?;
     out.push(b'\n')?;
@@ -70,7 +70,7 @@ impl Follower {
         requires { said ≡ meaning bytes.now }
         ensures ok { OnOk result (Puts (with_line_put bytes.now) self.old self.new
             (C.readings clock.old) (C.readings clock.new) out.old out.new) }
-        ensures err { OnErr result (PutsFront (with_line_put bytes.now) self.old
+        ensures err { OnErr result (PutsPrefix (with_line_put bytes.now) self.old
             (C.readings clock.old) (C.readings clock.new) out.old out.new) }
         ensures grows { OnOk result (length out.old < length out.new) }
     {
@@ -85,7 +85,7 @@ impl Follower {
     fn put_moment<C: Clock>(&mut self, clock: &mut C, out: &mut ByteList) -> Result<(), AllocError>
         ensures ok { OnOk result (Puts with_moment self.old self.new
             (C.readings clock.old) (C.readings clock.new) out.old out.new) }
-        ensures err { OnErr result (PutsFront with_moment self.old
+        ensures err { OnErr result (PutsPrefix with_moment self.old
             (C.readings clock.old) (C.readings clock.new) out.old out.new) }
     {
         let line = moment_line(self.alloc, moment(self.every, self.last, self.reading))?;
@@ -124,7 +124,7 @@ impl Follower {
     ) -> Result<(), AllocError>
         ensures ok { OnOk result (Puts (with_due_moment next.now) self.old self.new
             (C.readings clock.old) (C.readings clock.new) out.old out.new) }
-        ensures err { OnErr result (PutsFront (with_due_moment next.now) self.old
+        ensures err { OnErr result (PutsPrefix (with_due_moment next.now) self.old
             (C.readings clock.old) (C.readings clock.new) out.old out.new) }
     {
         if self.is_due(next) {
@@ -144,7 +144,7 @@ impl Follower {
         ensures disables { IfOk result (λ last. last ≡ disables bytes.now) }
         ensures ok { OnOk result (Puts (put bytes.now) self.old self.new
             (C.readings clock.old) (C.readings clock.new) out.old out.new) }
-        ensures err { OnErr result (PutsFront (put bytes.now) self.old
+        ensures err { OnErr result (PutsPrefix (put bytes.now) self.old
             (C.readings clock.old) (C.readings clock.new) out.old out.new) }
         ensures grows { OnOk result (length out.old < length out.new) }
     {
@@ -158,7 +158,7 @@ impl Follower {
     fn put_flush<C: Clock>(&mut self, clock: &mut C, out: &mut ByteList) -> Result<(), AllocError>
         ensures ok { OnOk result (Puts with_flush self.old self.new
             (C.readings clock.old) (C.readings clock.new) out.old out.new) }
-        ensures err { OnErr result (PutsFront with_flush self.old
+        ensures err { OnErr result (PutsPrefix with_flush self.old
             (C.readings clock.old) (C.readings clock.new) out.old out.new) }
     {
         if self.block.is_none() {
@@ -175,7 +175,7 @@ impl Follower {
     ) -> Result<(), AllocError>
         ensures ok { OnOk result (Puts with_last_moment self.old self.new
             (C.readings clock.old) (C.readings clock.new) out.old out.new) }
-        ensures err { OnErr result (PutsFront with_last_moment self.old
+        ensures err { OnErr result (PutsPrefix with_last_moment self.old
             (C.readings clock.old) (C.readings clock.new) out.old out.new) }
     {
         if self.rows.as_slice().is_empty() {
@@ -193,7 +193,7 @@ impl Follower {
     ) -> Result<(), AllocError>
         ensures ok { OnOk result (Puts close self.old self.new
             (C.readings clock.old) (C.readings clock.new) out.old out.new) }
-        ensures err { OnErr result (PutsFront close self.old
+        ensures err { OnErr result (PutsPrefix close self.old
             (C.readings clock.old) (C.readings clock.new) out.old out.new) }
     {
         self.put_flush(clock, out)?;

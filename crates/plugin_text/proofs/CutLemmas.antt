@@ -106,7 +106,7 @@ module _ (text held ahead : List ℕ) (before now : List (List ℕ)) (h : HasCut
   IsShort part = fits part ≡ true
 
   ahead-whole : parts text ≡ h.cut ++ parts ahead
-  ahead-whole = h.whole ∙ ap (λ (front : List ℕ). h.cut ++ parts (front ++ ahead)) none
+  ahead-whole = h.whole ∙ ap (λ (prefix : List ℕ). h.cut ++ parts (prefix ++ ahead)) none
 
   handed-more : (more now' : List (List ℕ)) → now' ≡ now ++ more → now' ≡ before ++ (h.cut ++ more)
   handed-more more now' same = same ∙ ap (λ ls. ls ++ more) h.handed ∙ append_assoc before h.cut more
@@ -138,15 +138,15 @@ module _ (text held ahead : List ℕ) (before now : List (List ℕ)) (h : HasCut
   -- those before one for which there is no memory
   pub BeginsWithLines-lines : (more now' : List (List ℕ)) → now' ≡ now ++ more → BeginsWithLines ahead more
       → (handed : List (List ℕ)) × (now' ≡ before ++ handed) × BeginsWithLines text handed
-  BeginsWithLines-lines more now' same front =
+  BeginsWithLines-lines more now' same prefix =
       let some = parts_first ahead in
       let behind : lines text ≡ h.cut ++ lines ahead = ap but_last ahead-whole ∙ rw some.2 (but_last-append h.cut some.0 some.1) in (
         h.cut ++ more,
         handed-more more now' same,
         record {
-          left = front.left;
-          whole = behind ∙ ap (λ ls. h.cut ++ ls) front.whole ∙ sym (append_assoc h.cut more front.left);
-          short = All-append IsShort h.cut more h.short front.short;
+          left = prefix.left;
+          whole = behind ∙ ap (λ ls. h.cut ++ ls) prefix.whole ∙ sym (append_assoc h.cut more prefix.left);
+          short = All-append IsShort h.cut more h.short prefix.short;
         },
       )
 

@@ -72,8 +72,8 @@ dimension_id-is word one =
 shortened-short : (text : List ℕ) → is_short (shortened text) ≡ true
 unfolding shortened
 shortened-short text =
-    let front = take TEXT_LIMIT text in
-    le-leb (length (take (utf8_valid_len front) front)) TEXT_LIMIT (omega (arith, length-take {A = ℕ} (utf8_valid_len front) front, length-take {A = ℕ} TEXT_LIMIT text))
+    let prefix = take TEXT_LIMIT text in
+    le-leb (length (take (utf8_valid_len prefix) prefix)) TEXT_LIMIT (omega (arith, length-take {A = ℕ} (utf8_valid_len prefix) prefix, length-take {A = ℕ} TEXT_LIMIT text))
 
 -- ---- numbers
 

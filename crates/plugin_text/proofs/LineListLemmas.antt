@@ -75,6 +75,6 @@ module _ (bytes text bytes' : List ℕ) (places places' : List Place) (start : �
   pub lines_behind : lines_at bytes' places' ≡ lines_at bytes' places ++ lines (drop start bytes') → lines_at bytes' places' ≡ list ++ lines text
   lines_behind added = added ∙ ap (λ ls. ls ++ lines (drop start bytes')) list_stays ∙ ap (λ (t : List ℕ). list ++ lines t) text_behind
 
-  pub handed_behind : (IsFront : List ℕ → List (List ℕ) → Type 0) → (handed : List (List ℕ)) × (lines_at bytes' places' ≡ lines_at bytes' places ++ handed) × IsFront (drop start bytes') handed
-      → (handed : List (List ℕ)) × (lines_at bytes' places' ≡ list ++ handed) × IsFront text handed
-  handed_behind IsFront h = (h.0, h.1 ∙ ap (λ ls. ls ++ h.0) list_stays, subst (λ t. IsFront t h.0) text_behind h.2)
+  pub handed_behind : (IsPrefix : List ℕ → List (List ℕ) → Type 0) → (handed : List (List ℕ)) × (lines_at bytes' places' ≡ lines_at bytes' places ++ handed) × IsPrefix (drop start bytes') handed
+      → (handed : List (List ℕ)) × (lines_at bytes' places' ≡ list ++ handed) × IsPrefix text handed
+  handed_behind IsPrefix h = (h.0, h.1 ∙ ap (λ ls. ls ++ h.0) list_stays, subst (λ t. IsPrefix t h.0) text_behind h.2)

@@ -12,8 +12,8 @@ pub fits-append : (text more : List ℕ) → fits text ≡ false → fits (text 
 fits-append text more too_long = grind (arith, nat_tests, length-append text more)
 
 -- what passes as a whole passes as far as one likes
-pub AllPass-front : (test : List ℕ → Bool) (xs ys : List (List ℕ)) → AllPass test (xs ++ ys) → AllPass test xs
-AllPass-front test xs ys all =
+pub AllPass-prefix : (test : List ℕ → Bool) (xs ys : List (List ℕ)) → AllPass test (xs ++ ys) → AllPass test xs
+AllPass-prefix test xs ys all =
     subst (AllPass test) (take_at xs ys (length xs) refl) (All-take (λ part. test part ≡ true) (length xs) (xs ++ ys) all)
 
 -- the long part is the text's rest, or one of its lines
@@ -43,7 +43,7 @@ IsLongAfter-append text more before h = at_rest h.more h.whole
 
 -- the lines of a text with no long line
 pub AllPass-lines : (text : List ℕ) → HasNoLongLine text → AllPass fits (lines text)
-AllPass-lines text short = AllPass-front fits (lines text) (rest text ∷ []) (subst (AllPass fits) (parts_whole text) short)
+AllPass-lines text short = AllPass-prefix fits (lines text) (rest text ∷ []) (subst (AllPass fits) (parts_whole text) short)
 
 pub HasNoLongLine-append : (text more : List ℕ) → HasNoLongLine text → HasNoLongLine (rest text ++ more) → HasNoLongLine (text ++ more)
 HasNoLongLine-append text more short later =

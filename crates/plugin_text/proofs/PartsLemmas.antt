@@ -18,15 +18,15 @@ parts_first (byte ∷ text) =
     first_of_step byte true first others e = ([], parts text, refl)
     first_of_step byte false first others e = (byte ∷ first, others, ap (onto_first byte) e)
 
-pub but_last-append : (front : List (List ℕ)) (part : List ℕ) (others : List (List ℕ)) → but_last (front ++ part ∷ others) ≡ front ++ but_last (part ∷ others)
+pub but_last-append : (prefix : List (List ℕ)) (part : List ℕ) (others : List (List ℕ)) → but_last (prefix ++ part ∷ others) ≡ prefix ++ but_last (part ∷ others)
 but_last-append [] part others = refl
 but_last-append (first ∷ []) part others = refl
-but_last-append (first ∷ next ∷ front) part others = ap (λ ps. first ∷ ps) (but_last-append (next ∷ front) part others)
+but_last-append (first ∷ next ∷ prefix) part others = ap (λ ps. first ∷ ps) (but_last-append (next ∷ prefix) part others)
 
-pub last_part-append : (front : List (List ℕ)) (part : List ℕ) (others : List (List ℕ)) → last_part (front ++ part ∷ others) ≡ last_part (part ∷ others)
+pub last_part-append : (prefix : List (List ℕ)) (part : List ℕ) (others : List (List ℕ)) → last_part (prefix ++ part ∷ others) ≡ last_part (part ∷ others)
 last_part-append [] part others = refl
 last_part-append (first ∷ []) part others = refl
-last_part-append (first ∷ next ∷ front) part others = last_part-append (next ∷ front) part others
+last_part-append (first ∷ next ∷ prefix) part others = last_part-append (next ∷ prefix) part others
 
 -- all but the last, and then the last
 whole : (part : List ℕ) (others : List (List ℕ)) → part ∷ others ≡ but_last (part ∷ others) ++ last_part (part ∷ others) ∷ []

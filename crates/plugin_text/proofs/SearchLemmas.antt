@@ -17,11 +17,11 @@ parts_none text nowhere =
 pub parts_at : (text : List ℕ) (at : ℕ) → at < length text → Nowhere (Passes (is_byte 10) text) 0 at → Passes (is_byte 10) text at
     → parts text ≡ take at text ∷ parts (drop (at + 1) text)
 parts_at text at inside nowhere here =
-    let front = take at text in
-    let no_line_feed : All (λ byte. is_line_feed byte ≡ false) front = All-from_get_or (λ byte. is_line_feed byte ≡ false) front 0
+    let prefix = take at text in
+    let no_line_feed : All (λ byte. is_line_feed byte ≡ false) prefix = All-from_get_or (λ byte. is_line_feed byte ≡ false) prefix 0
     (λ k before.
     let below : k < at = omega (arith, length-take-le at text (omega arith)) in
     rw get_or-take (false_from_ne_true _ (nowhere k (omega arith) below))) in
-    let halves : front ++ get_or text at 0 ∷ drop (at + 1) text ≡ text =
-    ap (λ back. front ++ back) (sym (drop_more text at 0 inside)) ∙ take-append-drop at text in
-    ap parts (sym halves) ∙ slice_split_at is_line_feed front (get_or text at 0) (drop (at + 1) text) no_line_feed here
+    let halves : prefix ++ get_or text at 0 ∷ drop (at + 1) text ≡ text =
+    ap (λ back. prefix ++ back) (sym (drop_more text at 0 inside)) ∙ take-append-drop at text in
+    ap parts (sym halves) ∙ slice_split_at is_line_feed prefix (get_or text at 0) (drop (at + 1) text) no_line_feed here

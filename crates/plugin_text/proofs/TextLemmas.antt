@@ -1,4 +1,4 @@
--- The longest front of a text that ends at a character.
+-- The longest prefix of a text that ends at a character.
 use Rattle.std.proofs.Common.{◌≡◌, ℕ, ◌<◌, ◌≤◌, inl, inr, List, length, take, sym, ◌∙◌, arith, subst}
 use Rattle.std.proofs.lemmas.Bool.{cases_lt}
 use Rattle.std.proofs.lemmas.List.{take_all, take-take, length-take-le}
@@ -13,8 +13,8 @@ pub record IsLastCut (limit : ℕ) (text : List ℕ) (n : ℕ) : Type 0 where
   pub boundary : IsCharBoundary text n
   pub nearest : (i : ℕ) → n < i → i ≤ limit → IsCharBoundary text i → ⊥
 
-abbrev front_of : ℕ → List ℕ → List ℕ
-front_of limit text = take limit text
+abbrev prefix_of : ℕ → List ℕ → List ℕ
+prefix_of limit text = take limit text
 
 -- a text within the limit is not cut
 short : (limit n : ℕ) (text : List ℕ) → IsLastCut limit text n → length text ≤ limit → utf8_valid_len (take limit text) ≡ n
@@ -41,7 +41,7 @@ longer limit n m text cut long below more utf8 = elim (cases_lt limit m) [
 valid : (limit n : ℕ) (text : List ℕ) → IsLastCut limit text n → limit ≤ length text → n < limit → IsValidUpTo (take limit text) n
 valid limit n text cut long below = record {
   short = rw (length-take-le limit text long) below;
-  front = subst IsUtf8 (sym (take-take n limit text cut.bound)) (IsUtf8-take text n cut.utf8 cut.boundary);
+  prefix = subst IsUtf8 (sym (take-take n limit text cut.bound)) (IsUtf8-take text n cut.utf8 cut.boundary);
   longest = λ m more utf8. longer limit n m text cut long below more utf8;
 }
 
@@ -51,8 +51,8 @@ long_cut limit n text cut long = elim (cases_lt n limit) [
   | inr past ↦
       let bound : n ≤ limit = cut.bound in
       let same : n ≡ limit = omega arith in
-      let front : IsUtf8 (take limit text) = subst (λ k. IsUtf8 (take k text)) same (IsUtf8-take text n cut.utf8 cut.boundary) in
-      utf8_valid_len-IsUtf8 (take limit text) front ∙ length-take-le limit text long ∙ sym same
+      let prefix : IsUtf8 (take limit text) = subst (λ k. IsUtf8 (take k text)) same (IsUtf8-take text n cut.utf8 cut.boundary) in
+      utf8_valid_len-IsUtf8 (take limit text) prefix ∙ length-take-le limit text long ∙ sym same
 ]
 
 valid_len : (limit n : ℕ) (text : List ℕ) → IsLastCut limit text n → utf8_valid_len (take limit text) ≡ n
@@ -61,6 +61,6 @@ valid_len limit n text cut = elim (cases_lt limit (length text)) [
   | inr within ↦ short limit n text cut within
 ]
 
--- what stands before the last cut is the longest front that is text
-pub cut_front : (limit n : ℕ) (text : List ℕ) → IsLastCut limit text n → take (utf8_valid_len (take limit text)) (take limit text) ≡ take n text
-cut_front limit n text cut = rw (valid_len limit n text cut) (take-take n limit text cut.bound)
+-- what stands before the last cut is the longest prefix that is text
+pub cut_prefix : (limit n : ℕ) (text : List ℕ) → IsLastCut limit text n → take (utf8_valid_len (take limit text)) (take limit text) ≡ take n text
+cut_prefix limit n text cut = rw (valid_len limit n text cut) (take-take n limit text cut.bound)

@@ -42,10 +42,10 @@ pub record IsLongAfter (text : List ℕ) (before : List (List ℕ)) : Type 0 whe
   pub too_long : fits long ≡ false
 
 -- the lines of the text begin with these, and none of these is too long
-pub record BeginsWithLines (text : List ℕ) (front : List (List ℕ)) : Type 0 where
+pub record BeginsWithLines (text : List ℕ) (prefix : List (List ℕ)) : Type 0 where
   pub left : List (List ℕ)
-  pub whole : lines text ≡ front ++ left
-  pub short : AllPass fits front
+  pub whole : lines text ≡ prefix ++ left
+  pub short : AllPass fits prefix
 
 -- the text has no line feed, and is not too long
 pub record IsRest (text : List ℕ) : Type 0 where

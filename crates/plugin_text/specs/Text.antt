@@ -8,7 +8,7 @@ use Rattle.words.specs.Words.{is_blank}
 -- a text that is cut to its longest prefix of at most so many bytes that ends at a character, which is
 -- the longest prefix of those bytes that is UTF-8
 unfoldable pub shortened : List ℕ → List ℕ
-shortened text = let front = take TEXT_LIMIT text in take (utf8_valid_len front) front
+shortened text = let prefix = take TEXT_LIMIT text in take (utf8_valid_len prefix) prefix
 
 -- blanks and commas stand between options
 abbrev pub is_option_separator : ℕ → Bool

@@ -49,8 +49,8 @@ no_part : (xs ys : List Added) → xs ++ ys ≡ [] → xs ≡ []
 no_part [] ys e = refl
 no_part (x ∷ xs) ys e = absurd (cc)
 
-front_none : (width floor bucket i : ℕ) (points : List Point) → record_at width floor bucket points ≡ None → record_at width floor bucket (take i points) ≡ None
-front_none width floor bucket i points none = go (ltb (bucket * width) floor) none
+prefix_none : (width floor bucket i : ℕ) (points : List Point) → record_at width floor bucket points ≡ None → record_at width floor bucket (take i points) ≡ None
+prefix_none width floor bucket i points none = go (ltb (bucket * width) floor) none
   where
     start : ℕ
     start = bucket * width
@@ -83,7 +83,7 @@ pub none_more : (width floor from before i : ℕ) (points : List Point) (d : Poi
     → (from ≤ (get_or points i d).moment / width → (get_or points i d).moment / width < before → record_at width floor ((get_or points i d).moment / width) points ≡ None)
     → HaveNoRecord width floor from before (take (i + 1) points)
 none_more width floor from before i points d positive inside none here = λ bucket low high. elim (cases_eq bucket own) [
-  | inl same ↦ front_none width floor bucket (i + 1) points (ap (λ b. record_at width floor b points) same ∙ here (omega (arith, same, low)) (omega (arith, same, high)))
+  | inl same ↦ prefix_none width floor bucket (i + 1) points (ap (λ b. record_at width floor b points) same ∙ here (omega (arith, same, low)) (omega (arith, same, high)))
   | inr apart ↦ other_bucket width floor bucket i points d positive inside apart ∙ none bucket low high
 ]
   where
@@ -113,14 +113,14 @@ first_here width floor from to i points d found rising positive inside none low 
   low = low;
   high = high;
   here = here;
-  none_before = λ bucket from_low before. front bucket before ∙ none bucket from_low (omega (arith, before, high));
+  none_before = λ bucket from_low before. prefix bucket before ∙ none bucket from_low (omega (arith, before, high));
 }
   where
     moment : ℕ
     moment = (get_or points i d).moment
 
-    front : (bucket : ℕ) → bucket < moment / width → record_at width floor bucket points ≡ record_at width floor bucket (take i points)
-    front bucket before =
+    prefix : (bucket : ℕ) → bucket < moment / width → record_at width floor bucket points ≡ record_at width floor bucket (take i points)
+    prefix bucket before =
         let start : ℕ = bucket * width in
         let end : ℕ = (bucket + 1) * width in
         let by : moment / width * width ≤ moment = starts_by width moment in

@@ -47,22 +47,22 @@ pub span_more : (from to i : ℕ) (points : List Point) (d : Point) (before afte
     → after ≡ record_between from to (take (i + 1) points)
 span_more from to i points d before after inside rising short was h =
     let point : Point = get_or points i d in
-    let front : List Point = take i points in
-    let more : take (i + 1) points ≡ front ++ point ∷ [] = take_more points i d inside in
-    let cut : members_between from to (values (front ++ point ∷ [])) ≡ members_between from to (values front) ++ one from to point = members-append from to front (point ∷ []) in
-    let all : members_between from to (values (take (i + 1) points)) ≡ members_between from to (values front) ++ one from to point =
+    let prefix : List Point = take i points in
+    let more : take (i + 1) points ≡ prefix ++ point ∷ [] = take_more points i d inside in
+    let cut : members_between from to (values (prefix ++ point ∷ [])) ≡ members_between from to (values prefix) ++ one from to point = members-append from to prefix (point ∷ []) in
+    let all : members_between from to (values (take (i + 1) points)) ≡ members_between from to (values prefix) ++ one from to point =
     ap (λ (ps : List Point). members_between from to (values ps)) more ∙ cut in
     let few = members_few from to 0 (take (i + 1) points) (rising_take 0 (i + 1) points rising) in
-    let count : length (members_between from to (values front) ++ one from to point) < 2 ^ 32 = omega (arith, few.in_span, ap length all) in
-    let within : AreWithin (members_between from to (values front) ++ one from to point) = subst AreWithin all (members_within from to (take (i + 1) points)) in
-    let roomy : HaveRoom (record_of (members_between from to (values front))) (record_of (one from to point)) = room (members_between from to (values front)) (one from to point) within count in
+    let count : length (members_between from to (values prefix) ++ one from to point) < 2 ^ 32 = omega (arith, few.in_span, ap length all) in
+    let within : AreWithin (members_between from to (values prefix) ++ one from to point) = subst AreWithin all (members_within from to (take (i + 1) points)) in
+    let roomy : HaveRoom (record_of (members_between from to (values prefix))) (record_of (one from to point)) = room (members_between from to (values prefix)) (one from to point) within count in
     let has : HaveRoom before (record_of_one from to point) =
     subst (λ (r : Option Record). HaveRoom r (record_of_one from to point)) (sym was)
-    (subst (λ (r : Option Record). HaveRoom (record_of (members_between from to (values front))) r) (one_is from to point) roomy) in
+    (subst (λ (r : Option Record). HaveRoom (record_of (members_between from to (values prefix))) r) (one_is from to point) roomy) in
     h has
     ∙ ap (λ (r : Option Record). joined r (record_of_one from to point)) was
-    ∙ ap (λ (r : Option Record). joined (record_of (members_between from to (values front))) r) (sym (one_is from to point))
-    ∙ sym (record_of-append (members_between from to (values front)) (one from to point))
+    ∙ ap (λ (r : Option Record). joined (record_of (members_between from to (values prefix))) r) (sym (one_is from to point))
+    ∙ sym (record_of-append (members_between from to (values prefix)) (one from to point))
     ∙ ap record_of (sym all)
 
 -- ---- spans in a row

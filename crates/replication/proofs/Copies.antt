@@ -11,12 +11,12 @@ use Rattle.replication.specs.declared.gap.Gap.{Gap}
 use Rattle.replication.specs.Copies.{is_in, is_outside, EndsBy, had_floor, Message, gap_of, first_gaps, first_beats, RisesFrom, latest, last_with, up_to, above, between, IsCopy, IsTrueOf}
 
 -- some prefix of the list
-abbrev pub IsFrontOf : {B : Type 0} → List B → List B → Type 0
-IsFrontOf front all = (n : ℕ) × (front ≡ take n all)
+abbrev pub IsPrefixOf : {B : Type 0} → List B → List B → Type 0
+IsPrefixOf prefix all = (n : ℕ) × (prefix ≡ take n all)
 
 -- a prefix of a prefix is a prefix
-take-of-front : {B : Type 0} (m : ℕ) (front all : List B) → IsFrontOf front all → IsFrontOf (take m front) all
-take-of-front m front all (n, is) =
+take-of-prefix : {B : Type 0} (m : ℕ) (prefix all : List B) → IsPrefixOf prefix all → IsPrefixOf (take m prefix) all
+take-of-prefix m prefix all (n, is) =
     elim (cases_lt m n) [
       | inl below ↦ (m, ap (take m) is ∙ take-take m n all (omega arith))
       | inr above ↦ (n, ap (take m) is ∙ take-above m n all above)
@@ -147,12 +147,12 @@ module _ {B : Type 0} (moment : B → ℕ) where
   latest-take-le low (suc m) (x ∷ xs) rises = latest-take-le (moment x) m xs rises.1
 
   -- the prefix of a child whose beats all pass is what lies up to its last moment
-  up_to-front : (test : ℕ → Bool) (low m : ℕ) (xs : List B) → ((n : ℕ) → low < n → test n ≡ true) → RisesFrom moment low xs → up_to moment test (latest moment low (take m xs)) xs ≡ take m xs
-  up_to-front test low zero xs passes rises = up_to-none test low low xs rises (omega arith)
-  up_to-front test low (suc m) [] passes rises = refl
-  up_to-front test low (suc m) (x ∷ xs) passes rises =
+  up_to-prefix : (test : ℕ → Bool) (low m : ℕ) (xs : List B) → ((n : ℕ) → low < n → test n ≡ true) → RisesFrom moment low xs → up_to moment test (latest moment low (take m xs)) xs ≡ take m xs
+  up_to-prefix test low zero xs passes rises = up_to-none test low low xs rises (omega arith)
+  up_to-prefix test low (suc m) [] passes rises = refl
+  up_to-prefix test low (suc m) (x ∷ xs) passes rises =
       takes-in test _ x xs (latest-take-ge (moment x) m xs rises.1) (passes (moment x) rises.0)
-      ∙ ap (λ rest. x ∷ rest) (up_to-front test (moment x) m xs (λ n lt. passes n (omega (arith, rises.0))) rises.1)
+      ∙ ap (λ rest. x ∷ rest) (up_to-prefix test (moment x) m xs (λ n lt. passes n (omega (arith, rises.0))) rises.1)
 
   -- what a copy up to `last` is, once the next beats are taken on
   pub longer : (test : ℕ → Bool) (low last m : ℕ) (child : List B) → ((n : ℕ) → last < n → test n ≡ true) → RisesFrom moment low child
@@ -164,7 +164,7 @@ module _ {B : Type 0} (moment : B → ℕ) where
             let all : above moment last (x ∷ xs) ≡ x ∷ xs = above-in last x xs lt ∙ ap (λ rest. x ∷ rest) (above-all (moment x) last xs rises.1 (omega arith)) in
             let none : up_to moment test last (x ∷ xs) ≡ [] = up_to-none test last last (x ∷ xs) (lt, rises.1) (omega arith) in
             let P : List B → List B → Type 0 = λ next before. up_to moment test (latest moment last (take m next)) (x ∷ xs) ≡ before ++ take m next in
-            subst (λ next. P next (up_to moment test last (x ∷ xs))) (sym all) (subst (λ before. P (x ∷ xs) before) (sym none) (up_to-front test last m (x ∷ xs) passes (lt, rises.1)))
+            subst (λ next. P next (up_to moment test last (x ∷ xs))) (sym all) (subst (λ before. P (x ∷ xs) before) (sym none) (up_to-prefix test last m (x ∷ xs) passes (lt, rises.1)))
         | inr le ↦
             let out : above moment last (x ∷ xs) ≡ above moment last xs = above-out last x xs le in
             let P : List B → Type 0 = λ next. up_to moment test (latest moment last (take m next)) (x ∷ xs) ≡ up_to moment test last (x ∷ xs) ++ take m next in
@@ -187,35 +187,35 @@ module _ {B : Type 0} (moment : B → ℕ) where
       ]
 
   -- the next beats are all that lie up to the last of them
-  front-between : (low from n : ℕ) (child : List B) → RisesFrom moment low child → take n (above moment from child) ≡ between moment from (latest moment from (take n (above moment from child))) child
-  front-between low from n child rises =
+  prefix-between : (low from n : ℕ) (child : List B) → RisesFrom moment low child → take n (above moment from child) ≡ between moment from (latest moment from (take n (above moment from child))) child
+  prefix-between low from n child rises =
       sym (longer (ltb from) low from n child (λ n lt. lt-ltb _ _ lt) rises ∙ ap (λ none. none ++ take n (above moment from child)) (between-same from child))
 
-  up_to-is_front : (test : ℕ → Bool) (low last : ℕ) (xs : List B) → ((n : ℕ) → low < n → test n ≡ true) → RisesFrom moment low xs → IsFrontOf (up_to moment test last xs) xs
-  up_to-is_front test low last [] passes rises = (0, refl)
-  up_to-is_front test low last (x ∷ xs) passes rises =
+  up_to-is_prefix : (test : ℕ → Bool) (low last : ℕ) (xs : List B) → ((n : ℕ) → low < n → test n ≡ true) → RisesFrom moment low xs → IsPrefixOf (up_to moment test last xs) xs
+  up_to-is_prefix test low last [] passes rises = (0, refl)
+  up_to-is_prefix test low last (x ∷ xs) passes rises =
       elim (cases_lt last (moment x)) [
         | inl lt ↦ (0, passes-by test last x xs lt ∙ up_to-none test (moment x) last xs rises.1 (omega arith))
-        | inr le ↦ let rest = up_to-is_front test (moment x) last xs (λ n lt. passes n (omega (arith, rises.0))) rises.1 in
+        | inr le ↦ let rest = up_to-is_prefix test (moment x) last xs (λ n lt. passes n (omega (arith, rises.0))) rises.1 in
             (suc rest.0, takes-in test last x xs le (passes (moment x) rises.0) ∙ ap (λ more. x ∷ more) rest.1)
       ]
 
   -- what lies between two moments is a prefix of what lies above the first
-  between-is_front : (low from upto : ℕ) (child : List B) → RisesFrom moment low child → IsFrontOf (between moment from upto child) (above moment from child)
-  between-is_front low from upto [] rises = (0, refl)
-  between-is_front low from upto (x ∷ xs) rises =
+  between-is_prefix : (low from upto : ℕ) (child : List B) → RisesFrom moment low child → IsPrefixOf (between moment from upto child) (above moment from child)
+  between-is_prefix low from upto [] rises = (0, refl)
+  between-is_prefix low from upto (x ∷ xs) rises =
       elim (cases_lt from (moment x)) [
-        | inl lt ↦ subst (λ all. IsFrontOf (between moment from upto (x ∷ xs)) all) (sym (above-in from x xs lt ∙ ap (λ rest. x ∷ rest) (above-all (moment x) from xs rises.1 (omega arith))))
-            (up_to-is_front (ltb from) from upto (x ∷ xs) (λ n lt. lt-ltb _ _ lt) (lt, rises.1))
-        | inr le ↦ let rest = between-is_front (moment x) from upto xs rises.1 in
+        | inl lt ↦ subst (λ all. IsPrefixOf (between moment from upto (x ∷ xs)) all) (sym (above-in from x xs lt ∙ ap (λ rest. x ∷ rest) (above-all (moment x) from xs rises.1 (omega arith))))
+            (up_to-is_prefix (ltb from) from upto (x ∷ xs) (λ n lt. lt-ltb _ _ lt) (lt, rises.1))
+        | inr le ↦ let rest = between-is_prefix (moment x) from upto xs rises.1 in
             (rest.0, leaves-out (ltb from) upto x xs (le-ltb _ _ le) ∙ rest.1 ∙ ap (take rest.0) (sym (above-out from x xs le)))
       ]
 
   -- a prefix of the beats of a true message is a prefix of what lies above its begin
-  message-front : (low m : ℕ) (floors : List ℕ) (child : List B) (message : Message B) → RisesFrom moment low child → IsTrueOf moment floors child message → IsFrontOf (take m message.beats) (above moment message.from child)
-  message-front low m floors child message rises truth =
-      take-of-front m message.beats (above moment message.from child)
-      (subst (λ beats. IsFrontOf beats (above moment message.from child)) (sym truth.beats) (between-is_front low message.from message.upto child rises))
+  message-prefix : (low m : ℕ) (floors : List ℕ) (child : List B) (message : Message B) → RisesFrom moment low child → IsTrueOf moment floors child message → IsPrefixOf (take m message.beats) (above moment message.from child)
+  message-prefix low m floors child message rises truth =
+      take-of-prefix m message.beats (above moment message.from child)
+      (subst (λ beats. IsPrefixOf beats (above moment message.from child)) (sym truth.beats) (between-is_prefix low message.from message.upto child rises))
 
   -- ---- a copy takes things on
   copy-gap : (floors : List ℕ) (child held : List B) (gaps : List Gap) (last to : ℕ) → last ≤ to → had_floor floors (to + 1) ≡ true → IsCopy moment floors child held gaps last
@@ -250,7 +250,7 @@ module _ {B : Type 0} (moment : B → ℕ) where
               ]
 
   copy-beats : (low : ℕ) (floors : List ℕ) (child held : List B) (gaps : List Gap) (last : ℕ) (next : List B) → RisesFrom moment low child → AllByRecursion (EndsBy last) gaps
-      → IsCopy moment floors child held gaps last → IsFrontOf next (above moment last child) → IsCopy moment floors child (held ++ next) gaps (latest moment last next)
+      → IsCopy moment floors child held gaps last → IsPrefixOf next (above moment last child) → IsCopy moment floors child (held ++ next) gaps (latest moment last next)
   copy-beats low floors child held gaps last next rises ends copies (n, is) =
       subst (λ next. IsCopy moment floors child (held ++ next) gaps (latest moment last next)) (sym is) (record {
         beats = ap (λ held. held ++ take n (above moment last child)) copies.beats ∙ sym (longer (is_outside gaps) low last n child (outside-after last gaps ends) rises);
@@ -267,15 +267,15 @@ module _ {B : Type 0} (moment : B → ℕ) where
   keeps-copy low floors child held gaps last message most rises ends copies truth prev =
       by-first (λ more next. IsCopy moment floors child (held ++ next) (gaps ++ more) (last_with moment last more next)) most last message prev (omega (arith, truth.from))
       (λ m from. subst (λ gaps. IsCopy moment floors child (held ++ take m message.beats) gaps (latest moment last (take m message.beats))) (sym (append-nil gaps))
-      (copy-beats low floors child held gaps last (take m message.beats) rises ends copies (subst (λ from. IsFrontOf (take m message.beats) (above moment from child)) from (message-front low m floors child message rises truth))))
+      (copy-beats low floors child held gaps last (take m message.beats) rises ends copies (subst (λ from. IsPrefixOf (take m message.beats) (above moment from child)) from (message-prefix low m floors child message rises truth))))
       (λ m lt. copy-beats low floors child held (gaps ++ record { from = last; to = message.from } ∷ []) message.from (take m message.beats) rises
       (all-append (EndsBy message.from) gaps (record { from = last; to = message.from } ∷ []) (all-ends last message.from gaps (omega arith) ends) (omega arith, tt))
       (copy-gap floors child held gaps last message.from (omega arith) (let floor : message.floor ≡ message.from + 1 = omega (arith, truth.from) in subst (λ floor. had_floor floors floor ≡ true) floor truth.floor) copies)
-      (message-front low m floors child message rises truth))
+      (message-prefix low m floors child message rises truth))
       (subst (λ held. IsCopy moment floors child held (gaps ++ []) last) (sym (append-nil held)) (subst (λ gaps. IsCopy moment floors child held gaps last) (sym (append-nil gaps)) copies))
 
-  latest-front-ge : (low from : ℕ) (child next : List B) → RisesFrom moment low child → IsFrontOf next (above moment from child) → from ≤ latest moment from next
-  latest-front-ge low from child next rises (n, is) =
+  latest-prefix-ge : (low from : ℕ) (child next : List B) → RisesFrom moment low child → IsPrefixOf next (above moment from child) → from ≤ latest moment from next
+  latest-prefix-ge low from child next rises (n, is) =
       subst (λ next. from ≤ latest moment from next) (sym is) (latest-take-ge from n (above moment from child) (RisesFrom-above low from child rises))
 
   -- and its gaps end where it ends
@@ -284,10 +284,10 @@ module _ {B : Type 0} (moment : B → ℕ) where
       → AllByRecursion (EndsBy (last_with moment last (first_gaps most message) (first_beats most message))) (gaps ++ first_gaps most message)
   keeps-ends low floors child gaps last message most rises ends truth prev =
       by-first (λ more next. AllByRecursion (EndsBy (last_with moment last more next)) (gaps ++ more)) most last message prev (omega (arith, truth.from))
-      (λ m from. let ge = latest-front-ge low message.from child (take m message.beats) rises (message-front low m floors child message rises truth) in
+      (λ m from. let ge = latest-prefix-ge low message.from child (take m message.beats) rises (message-prefix low m floors child message rises truth) in
       let ge' : last ≤ latest moment last (take m message.beats) = subst (λ from. from ≤ latest moment from (take m message.beats)) from ge in
       subst (λ gaps. AllByRecursion (EndsBy (latest moment last (take m message.beats))) gaps) (sym (append-nil gaps)) (all-ends last _ gaps ge' ends))
-      (λ m lt. let ge = latest-front-ge low message.from child (take m message.beats) rises (message-front low m floors child message rises truth) in
+      (λ m lt. let ge = latest-prefix-ge low message.from child (take m message.beats) rises (message-prefix low m floors child message rises truth) in
       all-append (EndsBy (latest moment message.from (take m message.beats))) gaps (record { from = last; to = message.from } ∷ []) (all-ends last _ gaps (omega arith) ends) (ge, tt))
       (subst (λ gaps. AllByRecursion (EndsBy last) gaps) (sym (append-nil gaps)) ends)
 
@@ -301,7 +301,7 @@ module _ {B : Type 0} (moment : B → ℕ) where
       (omega arith)
     where
       goes-on : (m : ℕ) → message.from ≤ latest moment message.from (take m message.beats)
-      goes-on m = latest-front-ge low message.from child (take m message.beats) rises (message-front low m floors child message rises truth)
+      goes-on m = latest-prefix-ge low message.from child (take m message.beats) rises (message-prefix low m floors child message rises truth)
 
   -- ---- a child goes on
   latest-above-le : (low from : ℕ) (child : List B) → RisesFrom moment low child → latest moment from (above moment from child) ≤ max from (latest moment low child)
@@ -315,10 +315,10 @@ module _ {B : Type 0} (moment : B → ℕ) where
   -- a true message ends within the child
   pub ends-within : (low : ℕ) (floors : List ℕ) (child : List B) (message : Message B) → RisesFrom moment low child → IsTrueOf moment floors child message → message.upto ≤ latest moment low child
   ends-within low floors child message rises truth =
-      let front = between-is_front low message.from message.upto child rises in
+      let prefix = between-is_prefix low message.from message.upto child rises in
       let all = above moment message.from child in
-      let upto : message.upto ≡ latest moment message.from (take front.0 all) = truth.upto ∙ ap (latest moment message.from) (truth.beats ∙ front.1) in
-      omega (arith, truth.some, latest-take-le message.from front.0 all (RisesFrom-above low message.from child rises), latest-above-le low message.from child rises)
+      let upto : message.upto ≡ latest moment message.from (take prefix.0 all) = truth.upto ∙ ap (latest moment message.from) (truth.beats ∙ prefix.1) in
+      omega (arith, truth.some, latest-take-le message.from prefix.0 all (RisesFrom-above low message.from child rises), latest-above-le low message.from child rises)
 
   -- and so does a copy that takes on its first things
   pub keeps-within : (low : ℕ) (floors : List ℕ) (child : List B) (last : ℕ) (message : Message B) (most : ℕ) → RisesFrom moment low child → last ≤ latest moment low child
@@ -336,8 +336,8 @@ module _ {B : Type 0} (moment : B → ℕ) where
         where
           rises-message : RisesFrom moment message.from message.beats
           rises-message =
-              let front = between-is_front low message.from message.upto child rises in
-              subst (RisesFrom moment message.from) (sym (truth.beats ∙ front.1)) (rises-take message.from front.0 (above moment message.from child) (RisesFrom-above low message.from child rises))
+              let prefix = between-is_prefix low message.from message.upto child rises in
+              subst (RisesFrom moment message.from) (sym (truth.beats ∙ prefix.1)) (rises-take message.from prefix.0 (above moment message.from child) (RisesFrom-above low message.from child rises))
 
   up_to-later : (test : ℕ → Bool) (last : ℕ) (child : List B) (later : B) → last < moment later → up_to moment test last (child ++ later ∷ []) ≡ up_to moment test last child
   up_to-later test last child later lt =
@@ -386,15 +386,15 @@ module _ {B : Type 0} (moment : B → ℕ) where
 
   -- ---- answers
   -- a prefix of the beats above a moment is a true message, if it has a beat
-  pub front-true : (low prev floor n : ℕ) (floors : List ℕ) (child : List B) (x : B) (xs : List B) → RisesFrom moment low child → had_floor floors floor ≡ true
+  pub prefix-true : (low prev floor n : ℕ) (floors : List ℕ) (child : List B) (x : B) (xs : List B) → RisesFrom moment low child → had_floor floors floor ≡ true
       → x ∷ xs ≡ take n (above moment (max prev (floor - 1)) child)
       → IsTrueOf moment floors child (record { prev = prev; from = max prev (floor - 1); upto = latest moment (max prev (floor - 1)) (x ∷ xs); floor = floor; beats = x ∷ xs })
-  front-true low prev floor n floors child x xs rises had is = record {
+  prefix-true low prev floor n floors child x xs rises had is = record {
     floor = had;
     from = refl;
     some = latest-gt (max prev (floor - 1)) x xs (subst (RisesFrom moment (max prev (floor - 1))) (sym is) (rises-take (max prev (floor - 1)) n (above moment (max prev (floor - 1)) child) (RisesFrom-above low (max prev (floor - 1)) child rises)));
     upto = refl;
-    beats = subst (λ beats. beats ≡ between moment (max prev (floor - 1)) (latest moment (max prev (floor - 1)) beats) child) (sym is) (front-between low (max prev (floor - 1)) n child rises);
+    beats = subst (λ beats. beats ≡ between moment (max prev (floor - 1)) (latest moment (max prev (floor - 1)) beats) child) (sym is) (prefix-between low (max prev (floor - 1)) n child rises);
   }
     where
       latest-gt : (from : ℕ) (x : B) (xs : List B) → RisesFrom moment from (x ∷ xs) → from < latest moment from (x ∷ xs)

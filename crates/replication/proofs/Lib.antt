@@ -1,7 +1,7 @@
 pub mod AboveLaws
 pub mod Copies
-pub mod FrontCode
-pub mod FrontLaws
+pub mod PrefixCode
+pub mod PrefixLaws
 pub mod MarksCode
 pub mod MarksLaws
 pub mod NamesLaws

@@ -13,11 +13,11 @@ use Rattle.replication.specs.declared.message.Data.{Data}
 use Rattle.replication.specs.declared.names.ChartName.{ChartName}
 use Rattle.replication.specs.declared.names.DimName.{DimName}
 use Rattle.replication.specs.declared.names.Names.{Names}
-use Rattle.replication.specs.Answer.{from_of, data_with, longest, front, with_front, data_of}
+use Rattle.replication.specs.Answer.{from_of, data_with, longest, prefix, with_prefix, data_of}
 use Rattle.replication.specs.Copies.{had_floor, RisesFrom, latest, above, IsTrueOf}
 use Rattle.replication.specs.Names.{beat_moment, named_moment, point_of, named_point, named_beat, named_beats, message_of, words_of, uses, is_of_chart, uses_chart, placed_dimension, used_names, placed_word, placed_beat}
 use Rattle.replication.specs.Places.{select, place}
-use Rattle.replication.proofs.Copies.{front-true}
+use Rattle.replication.proofs.Copies.{prefix-true}
 use Rattle.replication.proofs.Places.{select-place}
 
 -- ---- beats of one kind seen as another
@@ -105,22 +105,22 @@ pub named_beats-placed : (names : Names) (beats : List Beat) → named_beats (us
 named_beats-placed names beats = beats-placed names (words_of beats) beats (all-used names (words_of beats) [] (words_of beats) refl)
 
 -- ---- an answer is true
-front-says : (child floor prev n : ℕ) (names : Names) (beats : List Beat) (floors : List ℕ) (x : Beat) (xs : List Beat) → RisesFrom beat_moment 0 beats → had_floor floors floor ≡ true
+prefix-says : (child floor prev n : ℕ) (names : Names) (beats : List Beat) (floors : List ℕ) (x : Beat) (xs : List Beat) → RisesFrom beat_moment 0 beats → had_floor floors floor ≡ true
     → x ∷ xs ≡ take n (above beat_moment (from_of floor prev) beats) → IsTrueOf named_moment floors (named_beats names beats) (message_of (data_with child floor prev names (x ∷ xs)))
-front-says child floor prev n names beats floors x xs rises had is =
+prefix-says child floor prev n names beats floors x xs rises had is =
     let from = from_of floor prev in
     let means : named_beats (used_names names (words_of (x ∷ xs))) (map (placed_beat (uses (words_of (x ∷ xs)))) (x ∷ xs)) ≡ named_beats names (x ∷ xs) = named_beats-placed names (x ∷ xs) in
     let ends : latest named_moment from (named_beats names (x ∷ xs)) ≡ latest beat_moment from (x ∷ xs) = latest-map beat_moment named_moment (named_beat names) (λ beat. refl) from (x ∷ xs) in
-    let front : named_beats names (x ∷ xs) ≡ take n (above named_moment from (named_beats names beats)) =
+    let prefix : named_beats names (x ∷ xs) ≡ take n (above named_moment from (named_beats names beats)) =
     ap (named_beats names) is ∙ sym (take-map (named_beat names) n (above beat_moment from beats)) ∙ ap (take n) (sym (above-map beat_moment named_moment (named_beat names) (λ beat. refl) from beats)) in
-    let truth = front-true named_moment 0 prev floor n floors (named_beats names beats) (named_beat names x) (named_beats names xs) (RisesFrom-map beat_moment named_moment (named_beat names) (λ beat. refl) 0 beats rises) had front in
+    let truth = prefix-true named_moment 0 prev floor n floors (named_beats names beats) (named_beat names x) (named_beats names xs) (RisesFrom-map beat_moment named_moment (named_beat names) (λ beat. refl) 0 beats rises) had prefix in
     let same : record { prev = prev; from = from; upto = latest named_moment from (named_beats names (x ∷ xs)); floor = floor; beats = named_beats names (x ∷ xs) } ≡ message_of (data_with child floor prev names (x ∷ xs)) =
     λ i. record { prev = prev; from = from; upto = ends i; floor = floor; beats = sym means i } in
     subst (IsTrueOf named_moment floors (named_beats names beats)) same truth
 
 -- the prefix of a list that has a beat has one
-front-some : (make : List Beat → Data) (x : Beat) (xs : List Beat) → (m : ℕ) × (front make (x ∷ xs) ≡ x ∷ take m xs)
-front-some make x xs =
+prefix-some : (make : List Beat → Data) (x : Beat) (xs : List Beat) → (m : ℕ) × (prefix make (x ∷ xs) ≡ x ∷ take m xs)
+prefix-some make x xs =
     let n = longest make (x ∷ xs) 64 in
     let is : max 1 n ≡ suc (max 1 n - 1) = omega arith in
     (max 1 n - 1, ap (λ n. take n (x ∷ xs)) is)
@@ -136,13 +136,13 @@ answer-true child floor names beats ask floors message rises had is =
     none : None ≡ Some message → ⊥
     none e = cc
 
-    by : (later : List Beat) → above beat_moment (from_of floor ask.last) beats ≡ later → with_front (data_with child floor ask.last names) later ≡ Some message → IsTrueOf named_moment floors (named_beats names beats) (message_of message)
+    by : (later : List Beat) → above beat_moment (from_of floor ask.last) beats ≡ later → with_prefix (data_with child floor ask.last names) later ≡ Some message → IsTrueOf named_moment floors (named_beats names beats) (message_of message)
     by [] later_is e = absurd (none e)
     by (x ∷ xs) later_is e =
-        let some = front-some (data_with child floor ask.last names) x xs in
+        let some = prefix-some (data_with child floor ask.last names) x xs in
         let made : data_with child floor ask.last names (x ∷ take some.0 xs) ≡ message = ap (data_with child floor ask.last names) (sym some.1) ∙ cc in
         subst (λ message. IsTrueOf named_moment floors (named_beats names beats) (message_of message)) made
-        (front-says child floor ask.last (suc some.0) names beats floors x (take some.0 xs) rises had (ap (take (suc some.0)) (sym later_is)))
+        (prefix-says child floor ask.last (suc some.0) names beats floors x (take some.0 xs) rises had (ap (take (suc some.0)) (sym later_is)))
 
 -- and it is of the child that answers
 pub answer-child : (child floor : ℕ) (names : Names) (beats : List Beat) (ask : Ask) (message : Data) → data_of child floor names beats ask ≡ Some message → message.child ≡ child
@@ -155,10 +155,10 @@ answer-child child floor names beats ask message is =
     none : None ≡ Some message → ⊥
     none e = cc
 
-    by : (later : List Beat) → with_front (data_with child floor ask.last names) later ≡ Some message → message.child ≡ child
+    by : (later : List Beat) → with_prefix (data_with child floor ask.last names) later ≡ Some message → message.child ≡ child
     by [] e = absurd (none e)
     by (x ∷ xs) e =
-        let made : data_with child floor ask.last names (front (data_with child floor ask.last names) (x ∷ xs)) ≡ message = cc in
+        let made : data_with child floor ask.last names (prefix (data_with child floor ask.last names) (x ∷ xs)) ≡ message = cc in
         ap (λ (message : Data). message.child) (sym made)
 
 -- and it begins where the ask ends
@@ -172,8 +172,8 @@ answer-prev child floor names beats ask message is =
     none : None ≡ Some message → ⊥
     none e = cc
 
-    by : (later : List Beat) → with_front (data_with child floor ask.last names) later ≡ Some message → message.prev ≡ ask.last
+    by : (later : List Beat) → with_prefix (data_with child floor ask.last names) later ≡ Some message → message.prev ≡ ask.last
     by [] e = absurd (none e)
     by (x ∷ xs) e =
-        let made : data_with child floor ask.last names (front (data_with child floor ask.last names) (x ∷ xs)) ≡ message = cc in
+        let made : data_with child floor ask.last names (prefix (data_with child floor ask.last names) (x ∷ xs)) ≡ message = cc in
         ap (λ (message : Data). message.prev) (sym made)

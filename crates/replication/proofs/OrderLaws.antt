@@ -80,7 +80,7 @@ find-put_all q points [] = refl
 find-put_all q points (p ∷ ps) =
     find-put_all q (put p points) ps ∙ find-append (has_name_of q) (reverse ps) (put p points)
     ∙ ap (option_or (find (has_name_of q) (reverse ps))) (find-put q p points) ∙ sym (find-append (has_name_of q) (reverse ps) (p ∷ points))
-    ∙ ap (find (has_name_of q)) (sym (append_assoc (reverse ps) (p ∷ []) points) ∙ ap (λ front. front ++ points) (sym (reverse-append (p ∷ []) ps)))
+    ∙ ap (find (has_name_of q)) (sym (append_assoc (reverse ps) (p ∷ []) points) ∙ ap (λ prefix. prefix ++ points) (sym (reverse-append (p ∷ []) ps)))
 
 pub in_order-find : (points : List NamedPoint) (point : NamedPoint) → find (has_name_of point) (in_order points) ≡ find (has_name_of point) (reverse points)
 in_order-find points point = find-put_all point [] points ∙ ap (find (has_name_of point)) (append-nil (reverse points))

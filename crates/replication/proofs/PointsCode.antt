@@ -31,9 +31,9 @@ pub put-past : (point : NamedPoint) (points : List NamedPoint) (i : ℕ) (x : Na
     → put point points ≡ take (i + 1) points ++ put point (drop (i + 1) points)
 put-past point points i x lt at before greater =
     let rest : drop i points ≡ x ∷ drop (i + 1) points = drop-cons points i x lt ∙ (λ j. sym at j ∷ drop (sym (add-one i) j) points) in
-    let front : take (i + 1) points ≡ take i points ++ x ∷ [] = take_more points i x lt ∙ ap (λ x. take i points ++ x ∷ []) (sym at) in
+    let prefix : take (i + 1) points ≡ take i points ++ x ∷ [] = take_more points i x lt ∙ ap (λ x. take i points ++ x ∷ []) (sym at) in
     before ∙ ap (λ rest. take i points ++ put point rest) rest ∙ ap (λ rest. take i points ++ rest) (put-cons point x (drop (i + 1) points) Greater greater)
-    ∙ sym (ap (λ front. front ++ put point (drop (i + 1) points)) front ∙ append_assoc (take i points) (x ∷ []) (put point (drop (i + 1) points)))
+    ∙ sym (ap (λ prefix. prefix ++ put point (drop (i + 1) points)) prefix ∙ append_assoc (take i points) (x ∷ []) (put point (drop (i + 1) points)))
 
 -- it stands before a point that is not
 pub put-new : (point : NamedPoint) (points : List NamedPoint) (i : ℕ) (x : NamedPoint) → i < length points → x ≡ get_or points i x → put point points ≡ take i points ++ put point (drop i points) → name_cmp point x ≡ Less

@@ -12,7 +12,7 @@ use Rattle.replication.specs.declared.beats.SeriesWord.{SeriesWord}
 use Rattle.replication.specs.declared.message.Data.{Data}
 use Rattle.replication.specs.declared.names.DimName.{DimName}
 use Rattle.replication.specs.declared.names.Names.{Names}
-use Rattle.replication.specs.Answer.{AreNames, AreOfSeries, AreBeatsOf, HaveWords, IsWhole, from_of, data_with, longest, with_front, data_of}
+use Rattle.replication.specs.Answer.{AreNames, AreOfSeries, AreBeatsOf, HaveWords, IsWhole, from_of, data_with, longest, with_prefix, data_of}
 use Rattle.replication.specs.Copies.{above}
 use Rattle.replication.specs.Names.{beat_moment, words_of, uses, uses_chart, placed_dimension, used_names, placed_word, placed_beat}
 use Rattle.replication.specs.Places.{select, place}
@@ -103,7 +103,7 @@ answer-whole child floor names beats ask message are series have is =
     later-words : HaveWords (above beat_moment (from_of floor ask.last) beats)
     later-words = all-filter (λ (beat : Beat). 0 < length beat.words) (λ (beat : Beat). ltb (from_of floor ask.last) beat.moment) beats have
 
-    by : (later : List Beat) → AreBeatsOf (length names.dimensions) later → HaveWords later → with_front (data_with child floor ask.last names) later ≡ Some message → IsWhole message
+    by : (later : List Beat) → AreBeatsOf (length names.dimensions) later → HaveWords later → with_prefix (data_with child floor ask.last names) later ≡ Some message → IsWhole message
     by [] all some e = absurd (none e)
     by (x ∷ xs) all some e =
         let make = data_with child floor ask.last names in

@@ -34,19 +34,19 @@ longest make beats zero = 0
 longest make beats (suc n) = if nat_le (length (data_bytes (make (take (suc n) beats)))) DATA_LIMIT then suc n else longest make beats n
 
 -- the longest prefix with at most 64 beats and 2^20 bytes, but at least one beat
-abbrev pub front : (List Beat → Data) → List Beat → List Beat
-front make beats = take (max 1 (longest make beats BEAT_LIMIT)) beats
+abbrev pub prefix : (List Beat → Data) → List Beat → List Beat
+prefix make beats = take (max 1 (longest make beats BEAT_LIMIT)) beats
 
 -- the Data with that prefix, if there is a beat
-abbrev pub with_front : (List Beat → Data) → List Beat → Option Data
-with_front make [] = None
-with_front make (beat ∷ beats) = Some (make (front make (beat ∷ beats)))
+abbrev pub with_prefix : (List Beat → Data) → List Beat → Option Data
+with_prefix make [] = None
+with_prefix make (beat ∷ beats) = Some (make (prefix make (beat ∷ beats)))
 
 -- what a child with these names and beats answers
 abbrev pub data_of : ℕ → ℕ → Names → List Beat → Ask → Option Data
 data_of child floor names beats ask =
     if child == ask.child
-    then with_front (data_with child floor ask.last names) (above beat_moment (from_of floor ask.last) beats)
+    then with_prefix (data_with child floor ask.last names) (above beat_moment (from_of floor ask.last) beats)
     else None
 
 -- ---- what a child has

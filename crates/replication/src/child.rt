@@ -8,9 +8,9 @@ use crate::answer::{data_with, from_of};
 use crate::ask::Ask;
 use crate::beats::{Beat, BeatList};
 use crate::fault::CopyFault;
-use crate::front::front_len;
 use crate::message::Data;
 use crate::names::Names;
+use crate::prefix::fitting_len;
 use std::alloc::Global;
 
 /// The first `count` beats.
@@ -53,9 +53,9 @@ impl Child {
         if later.is_empty() {
             return Ok(None);
         }
-        let count = front_len(alloc, names, later)?;
-        let front = first_of(later, count);
-        let message = data_with(alloc, child, floor, ask.last, names, front)?;
+        let count = fitting_len(alloc, names, later)?;
+        let prefix = first_of(later, count);
+        let message = data_with(alloc, child, floor, ask.last, names, prefix)?;
         Ok(Some(message))
     }
 }

@@ -86,7 +86,7 @@ pub fn every_delivery()
 
 /// A child's first 64 beats above where an answer begins give the same answer as all of them. The call does
 /// nothing.
-pub fn every_front()
+pub fn every_prefix()
     ensures { (child floor : ℕ) (names : Names) (beats : List Beat) (ask : AnAsk)
         → RisesFrom beat_moment 0 beats
         → data_of child floor names

@@ -30,7 +30,7 @@ fn tells_why_a_text_is_refused(rt: HostRuntime) -> Result<(), Fail> {
 /// A text that has one part many times: what goes before it, the part, how often, and what follows.
 #[derive(Clone, Copy)]
 struct Long {
-    front: &'static str,
+    prefix: &'static str,
     part: &'static str,
     times: usize,
     end: &'static str,
@@ -44,7 +44,7 @@ const SET_LINE: &str = "CHART a.b n t u\nDIMENSION c\nBEGIN a.b\nSET c = 42";
 static LONGS: [Long; 15] = [
     // A line may have 8,192 bytes.
     Long {
-        front: "",
+        prefix: "",
         part: "x",
         times: 8192,
         end: "\n",
@@ -52,7 +52,7 @@ static LONGS: [Long; 15] = [
         status: Status::Ok,
     },
     Long {
-        front: "",
+        prefix: "",
         part: "x",
         times: 8193,
         end: "\n",
@@ -60,7 +60,7 @@ static LONGS: [Long; 15] = [
         status: Status::Refused(1, 11),
     },
     Long {
-        front: "",
+        prefix: "",
         part: "x",
         times: 8192,
         end: "",
@@ -68,7 +68,7 @@ static LONGS: [Long; 15] = [
         status: Status::Refused(0, 28),
     },
     Long {
-        front: "",
+        prefix: "",
         part: "x",
         times: 8193,
         end: "",
@@ -76,7 +76,7 @@ static LONGS: [Long; 15] = [
         status: Status::Refused(1, 11),
     },
     Long {
-        front: "",
+        prefix: "",
         part: "x",
         times: 200_000,
         end: "",
@@ -84,7 +84,7 @@ static LONGS: [Long; 15] = [
         status: Status::Refused(1, 11),
     },
     Long {
-        front: SET_LINE,
+        prefix: SET_LINE,
         part: " ",
         times: 8182,
         end: "\nEND\nMOMENT 60\n",
@@ -92,7 +92,7 @@ static LONGS: [Long; 15] = [
         status: Status::Ok,
     },
     Long {
-        front: SET_LINE,
+        prefix: SET_LINE,
         part: " ",
         times: 8183,
         end: "\nEND\nMOMENT 60\n",
@@ -100,7 +100,7 @@ static LONGS: [Long; 15] = [
         status: Status::Refused(4, 11),
     },
     Long {
-        front: "MOMENT 1\nEND\n",
+        prefix: "MOMENT 1\nEND\n",
         part: "x",
         times: 8193,
         end: "\n",
@@ -109,7 +109,7 @@ static LONGS: [Long; 15] = [
     },
     // Nothing behind a DISABLE is read.
     Long {
-        front: "DISABLE\n",
+        prefix: "DISABLE\n",
         part: "x",
         times: 200_000,
         end: "\n",
@@ -118,7 +118,7 @@ static LONGS: [Long; 15] = [
     },
     // An id may have 200.
     Long {
-        front: "CHART a.",
+        prefix: "CHART a.",
         part: "x",
         times: 198,
         end: " n t u\nMOMENT 1\n",
@@ -126,7 +126,7 @@ static LONGS: [Long; 15] = [
         status: Status::Ok,
     },
     Long {
-        front: "CHART a.",
+        prefix: "CHART a.",
         part: "x",
         times: 199,
         end: " n t u\nMOMENT 1\n",
@@ -134,7 +134,7 @@ static LONGS: [Long; 15] = [
         status: Status::Refused(1, 16),
     },
     Long {
-        front: "CHART a.b n t u\nDIMENSION ",
+        prefix: "CHART a.b n t u\nDIMENSION ",
         part: "x",
         times: 200,
         end: "\nMOMENT 1\n",
@@ -142,7 +142,7 @@ static LONGS: [Long; 15] = [
         status: Status::Ok,
     },
     Long {
-        front: "CHART a.b n t u\nDIMENSION ",
+        prefix: "CHART a.b n t u\nDIMENSION ",
         part: "x",
         times: 201,
         end: "\nMOMENT 1\n",
@@ -151,7 +151,7 @@ static LONGS: [Long; 15] = [
     },
     // Lines that come in several pieces, cut within lines.
     Long {
-        front: SET_LINE,
+        prefix: SET_LINE,
         part: "\nSET c = 7",
         times: 20_000,
         end: "\nEND\nMOMENT 60\n",
@@ -159,7 +159,7 @@ static LONGS: [Long; 15] = [
         status: Status::Ok,
     },
     Long {
-        front: SET_LINE,
+        prefix: SET_LINE,
         part: "\nSET c = 7",
         times: 20_000,
         end: "\nMOMENT 60\n",
@@ -171,7 +171,7 @@ static LONGS: [Long; 15] = [
 #[test]
 fn tells_the_points_of_a_long_text(rt: HostRuntime) -> Result<(), Fail> {
     for (index, row) in LONGS.iter().enumerate() {
-        let mut text = String::from_str(rt.alloc(), row.front)?;
+        let mut text = String::from_str(rt.alloc(), row.prefix)?;
         for _ in 0..row.times {
             text.push_str(row.part)?;
         }

@@ -9,7 +9,7 @@ mod asked;
 #[cfg(test)]
 mod collect;
 #[cfg(test)]
-mod collect_stops;
+mod collect_crashes;
 #[cfg(test)]
 mod configurations;
 #[cfg(test)]
@@ -27,7 +27,7 @@ mod logs;
 #[cfg(test)]
 mod random;
 #[cfg(test)]
-mod replaced_stops;
+mod replaced_crashes;
 #[cfg(test)]
 mod run;
 #[cfg(test)]

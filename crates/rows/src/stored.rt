@@ -259,7 +259,7 @@ struct Found {
 }
 
 /// Makes the database and stores the four beats. What is found after a crash is left open.
-fn before_stop(alloc: Global, host: &mut MemoryHost) -> Result<Found, Fail> {
+fn before_crash(alloc: Global, host: &mut MemoryHost) -> Result<Found, Fail> {
     let (new, _) = step(alloc, host, &MAKE_SMALL)?;
     let (run, told) = store_four(alloc, host)?;
     Ok(Found {
@@ -272,7 +272,7 @@ fn before_stop(alloc: Global, host: &mut MemoryHost) -> Result<Found, Fail> {
 }
 
 /// Adds what is found after a crash.
-fn after_stop(alloc: Global, host: &mut MemoryHost, found: Found) -> Result<Found, Fail> {
+fn after_crash(alloc: Global, host: &mut MemoryHost, found: Found) -> Result<Found, Fail> {
     let (opened, _) = step(alloc, host, &(RUN, "", "", Status::Ok))?;
     let count = store_rest(alloc, host)?;
     Ok(Found {
@@ -284,9 +284,9 @@ fn after_stop(alloc: Global, host: &mut MemoryHost, found: Found) -> Result<Foun
 
 fn found_after(alloc: Global, fails: u64, keep: Keep) -> Result<Found, Fail> {
     let mut host = host_of(alloc, &[fails])?;
-    let found = before_stop(alloc, &mut host)?;
+    let found = before_crash(alloc, &mut host)?;
     let mut host = host.stop(keep)?;
-    after_stop(alloc, &mut host, found)
+    after_crash(alloc, &mut host, found)
 }
 
 /// Whether the commands before the crash ended as they may.
@@ -324,19 +324,19 @@ fn first_unsound(alloc: Global, keep: Keep) -> Result<Option<(u64, Found)>, Fail
 }
 
 #[test]
-fn a_stop_that_keeps_all(rt: HostRuntime) -> Result<(), Fail> {
+fn a_crash_that_keeps_all(rt: HostRuntime) -> Result<(), Fail> {
     assert_eq!(rt; first_unsound(rt.alloc(), Keep::All)?, None);
     Ok(())
 }
 
 #[test]
-fn a_stop_that_keeps_none(rt: HostRuntime) -> Result<(), Fail> {
+fn a_crash_that_keeps_none(rt: HostRuntime) -> Result<(), Fail> {
     assert_eq!(rt; first_unsound(rt.alloc(), Keep::None)?, None);
     Ok(())
 }
 
 #[test]
-fn a_stop_that_fills(rt: HostRuntime) -> Result<(), Fail> {
+fn a_crash_that_fills(rt: HostRuntime) -> Result<(), Fail> {
     assert_eq!(rt; first_unsound(rt.alloc(), Keep::Fill(255))?, None);
     Ok(())
 }
@@ -344,7 +344,7 @@ fn a_stop_that_fills(rt: HostRuntime) -> Result<(), Fail> {
 /// How `new` and the run of the four beats end where this call is refused.
 fn ending_at(alloc: Global, fails: u64) -> Result<(Status, Status), Fail> {
     let mut host = host_of(alloc, &[fails])?;
-    let found = before_stop(alloc, &mut host)?;
+    let found = before_crash(alloc, &mut host)?;
     Ok((found.new, found.run))
 }
 

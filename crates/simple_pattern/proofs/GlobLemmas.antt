@@ -117,12 +117,12 @@ no_place piece glob (first ∷ name) plain lacks =
     ∙ no_place piece glob name plain (λ k within. lacks (suc k) (omega arith))
 
 -- an end matches a plain glob where the name ends with it
-pub end_found : (glob front : List ℕ) → IsPlain glob → any_end (is_match glob) (front ++ glob) ≡ true
+pub end_found : (glob prefix : List ℕ) → IsPlain glob → any_end (is_match glob) (prefix ++ glob) ≡ true
 end_found glob [] plain = any_end-whole (is_match glob) glob (is_match-itself glob plain)
-end_found glob (first ∷ front) plain = or_right (is_match glob (first ∷ (front ++ glob))) (any_end (is_match glob) (front ++ glob)) (end_found glob front plain)
+end_found glob (first ∷ prefix) plain = or_right (is_match glob (first ∷ (prefix ++ glob))) (any_end (is_match glob) (prefix ++ glob)) (end_found glob prefix plain)
 
-pub end_lacking : (glob name : List ℕ) → IsPlain glob → ((front : List ℕ) → name ≢ front ++ glob) → any_end (is_match glob) name ≡ false
+pub end_lacking : (glob name : List ℕ) → IsPlain glob → ((prefix : List ℕ) → name ≢ prefix ++ glob) → any_end (is_match glob) name ≡ false
 end_lacking glob [] plain lacks = is_match-other glob [] plain (lacks [])
 end_lacking glob (first ∷ name) plain lacks =
     ap (λ t. t || any_end (is_match glob) name) (is_match-other glob (first ∷ name) plain (lacks []))
-    ∙ end_lacking glob name plain (λ front e. lacks (first ∷ front) (ap (λ l. first ∷ l) e))
+    ∙ end_lacking glob name plain (λ prefix e. lacks (first ∷ prefix) (ap (λ l. first ∷ l) e))

@@ -26,9 +26,9 @@ module _ (piece name : List ℕ) (plain : IsPlain piece) where
   pub first_lacking : FindsText piece name None → (glob : List ℕ) → any_end (is_match (piece ++ 42 ∷ glob)) name ≡ false
   first_lacking lacks glob = no_place piece glob name plain lacks
 
-  pub first_found : (front back : List ℕ) → SplitsAroundMatch (FindsText piece) name front back
+  pub first_found : (prefix back : List ℕ) → SplitsAroundMatch (FindsText piece) name prefix back
       → (glob : List ℕ) → any_end (is_match (piece ++ 42 ∷ glob)) name ≡ any_end (is_match glob) back
-  first_found front back found glob =
+  first_found prefix back found glob =
       first_place piece glob name (drop found.1 name) found.0 plain found.2.0 found.2.1.split ∙ ap (any_end (is_match glob)) (sym found.4)
 
 pub end_answer : (glob name : List ℕ) (r : Bool) → IsPlain glob

@@ -15,13 +15,13 @@ use Rattle.store_core.specs.Stands.{records_of}
 use Rattle.store_core.specs.Store.{count_after, IsReady, IsSound, IsStoreAt, StoreState}
 use Rattle.store_core.specs.Stored.{Stored, has_sealed, is_numbered, stored_after, stored_with_all, tiers_of, HaveFollowed, MayFollow}
 use Rattle.store_core.proofs.FollowLemmas.{none_next, sealed_same, sound_more}
-use Rattle.store_core.proofs.RecordLemmas.{front-followed}
+use Rattle.store_core.proofs.RecordLemmas.{prefix-followed}
 
 -- ---- none stands behind a beat that sealed a segment
 
 -- the first of the beats that wait may follow
 first_follows : (stored : Stored) (next : Beat) (rest : List Beat) → HaveFollowed stored.base (stored_with_all stored (next ∷ rest)).after → MayFollow stored next
-first_follows stored next rest all = (front-followed stored.base (next ∷ stored.after) rest all).0
+first_follows stored next rest all = (prefix-followed stored.base (next ∷ stored.after) rest all).0
 
 pub never_sealed : (past : List Event) (store : StoreState) (stored : Stored) (rest : List Beat) → IsStoreAt past store stored rest → (store.waiting ≡ [] → ⊥)
     → is_numbered store.files.number ≡ true → has_sealed store.body.last store.tiers ≡ true → ⊥

@@ -15,16 +15,16 @@ last-after None points state = refl
 last-after (Some moment) points state = refl
 
 -- the earlier ones of beats that have followed a base
-pub front-followed : (base : Base) (beats rest : List Beat) → HaveFollowed base (with_all beats rest) → HaveFollowed base beats
-front-followed base beats [] followed = followed
-front-followed base beats (next ∷ rest) followed = (front-followed base (next ∷ beats) rest followed).1
+pub prefix-followed : (base : Base) (beats rest : List Beat) → HaveFollowed base (with_all beats rest) → HaveFollowed base beats
+prefix-followed base beats [] followed = followed
+prefix-followed base beats (next ∷ rest) followed = (prefix-followed base (next ∷ beats) rest followed).1
 
 again-behind : (base : Base) (beats rest : List Beat) → HaveFollowed base (with_all beats rest)
     → beats_from (tiers_of (record { base = base; after = beats })).last (map beat_bytes rest) ≡ Some rest
 again-behind base beats [] followed = refl
 again-behind base beats (next ∷ rest) followed =
     let state : TiersState = tiers_of (record { base = base; after = beats }) in
-    let here = (front-followed base (next ∷ beats) rest followed).0 in
+    let here = (prefix-followed base (next ∷ beats) rest followed).0 in
     let after : Beat → Option (List Beat) = λ beat. beats_from (last_after state.last beat.moment) (map beat_bytes rest) in
     let first = next-again state.last next here.form here.later in
     let others : after next ≡ Some rest =

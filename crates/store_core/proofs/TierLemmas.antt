@@ -27,7 +27,7 @@ use Rattle.store_core.specs.Counts.{counted}
 use Rattle.store_core.specs.Store.{HasApplied, IsStoreAt, StoreState}
 use Rattle.store_core.specs.Stored.{Base, HaveFollowed, IsBaseOf, Stored, new_database, next_base, tiers_of}
 use Rattle.store_core.specs.Tiers.{floor_at, seen, HasTiers}
-use Rattle.store_core.proofs.RecordLemmas.{front-followed}
+use Rattle.store_core.proofs.RecordLemmas.{prefix-followed}
 
 -- ---- settings
 wide_enough : (tier : Tier) → 1 ≤ tier.width → IsWithin tier → IsTier tier
@@ -183,7 +183,7 @@ pub has_applied : (past : List Event) (store : StoreState) (stored : Stored) (re
     → IsBaseOf set before stored.base → HasApplied set (map seen stored.after ++ before) store
 has_applied past store stored rest set before is_at base =
     subst (HasTiers set (map seen stored.after ++ before)) (sym is_at.tiers)
-    (tiers_since set before stored.base stored.after base.tiers (front-followed stored.base stored.after rest is_at.has.follow))
+    (tiers_since set before stored.base stored.after base.tiers (prefix-followed stored.base stored.after rest is_at.has.follow))
 
 count_since : (count before after : ℕ) → count ≡ counted before → counted (count + after) ≡ counted (after + before)
 count_since count before after same = omega (arith, same)

@@ -37,7 +37,7 @@ values_reverse [] = refl
 values_reverse (point ∷ points) =
     ap values (reverse_cons point points)
     ∙ filter_map-append value_of (reverse points) (point ∷ [])
-    ∙ ap (λ (front : List Added). front ++ cons_option (value_of point) []) (values_reverse points)
+    ∙ ap (λ (prefix : List Added). prefix ++ cons_option (value_of point) []) (values_reverse points)
     ∙ by (value_of point)
   where
     by : (value : Option Added) → reverse (values points) ++ cons_option value [] ≡ reverse (cons_option value (values points))

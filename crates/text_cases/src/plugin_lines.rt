@@ -242,9 +242,9 @@ fn refuses_what_is_not_text(rt: HostRuntime) {
     }
 }
 
-// A line of `front`, a word of so many `a`, and `back`.
-fn long_line(alloc: Global, front: &str, len: usize, back: &str) -> Result<String, AllocError> {
-    let mut line = String::from_str(alloc, front)?;
+// A line of `prefix`, a word of so many `a`, and `back`.
+fn long_line(alloc: Global, prefix: &str, len: usize, back: &str) -> Result<String, AllocError> {
+    let mut line = String::from_str(alloc, prefix)?;
     for _ in 0..len {
         line.push('a')?;
     }
@@ -271,12 +271,12 @@ fn refuses_long_ids(rt: HostRuntime) -> Result<(), Fail> {
         ("SET ", 201, " = x", long),
         ("SET ", 201, "", long),
     ];
-    for (front, len, back, want) in rows {
-        let line = long_line(rt.alloc(), front, len, back)?;
+    for (prefix, len, back, want) in rows {
+        let line = long_line(rt.alloc(), prefix, len, back)?;
         assert_eq!(rt;
             read_line(rt.alloc(), line.as_bytes()).err(),
             want,
-            "at {front} {len}"
+            "at {prefix} {len}"
         );
     }
     Ok(())

@@ -18,7 +18,7 @@ ghost use Rattle.agent_core.specs.Copies.{data_of_history};
 ghost use Rattle.agent_core.specs.Copying.{beats_of, copy_refusal, events_onto, refusal_by};
 ghost use Rattle.agent_core.specs.Faults.{fault_after, IsReading, IsSpending, LeavesAll, RefusedBy, Reopens};
 ghost use Rattle.agent_core.specs.Kept.{onto};
-ghost use Rattle.agent_core.specs.Stands.{StandsForFront};
+ghost use Rattle.agent_core.specs.Stands.{StandsForPrefix};
 ghost use Rattle.agent_core.specs.Roles.{child_in};
 
 use super::Agent;
@@ -93,7 +93,7 @@ impl Agent {
         ensures verdict { IfOk result (λ taken. taken.0 ≡ agent_verdict self.old message.now) }
         ensures any_moment { H.honest → (set : ASettings) (h : List HistoryBeat)
             → IsAgentOf (H.seen host.old).past self.old set h
-            → Throughout (EveryDisk (StandsForFront set h (agent_adds self.old message.now)))
+            → Throughout (EveryDisk (StandsForPrefix set h (agent_adds self.old message.now)))
             (H.seen host.old).past (H.seen host.new).past }
         ensures done { OnOk result
             (H.honest → (set : ASettings) (h : List HistoryBeat)
@@ -157,7 +157,7 @@ impl Agent {
         requires free { copy_refusal self.old.registry self.old.role message.now ≡ None }
         ensures any_moment { H.honest → (set : ASettings) (h : List HistoryBeat)
             → IsAgentOf (H.seen host.old).past self.old set h
-            → Throughout (EveryDisk (StandsForFront set h
+            → Throughout (EveryDisk (StandsForPrefix set h
             (beats_of self.old.registry message.now))) (H.seen host.old).past
             (H.seen host.new).past }
         ensures done { OnOk result

@@ -734,8 +734,8 @@ fn other_bytes_are_refused(rt: HostRuntime) -> Result<(), Fail> {
     let bytes = bytes_of(&one_template(&rt, alloc)?)?;
     assert_eq!(rt; bytes.len(), 155);
     for size in 0..bytes.len() {
-        let front = bytes.as_slice().get(..size).ok_or("size")?;
-        assert!(rt; is_refused(alloc, front, &registry), "{size}");
+        let prefix = bytes.as_slice().get(..size).ok_or("size")?;
+        assert!(rt; is_refused(alloc, prefix, &registry), "{size}");
     }
     assert!(rt; is_refused(alloc, bytes.as_slice(), &Registry::new(alloc)));
     let mut longer = bytes;

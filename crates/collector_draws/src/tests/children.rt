@@ -126,12 +126,12 @@ fn write_lines(bytes: &mut Vec<u8>, plain: &mut Plain, lines: &[Row]) -> Result<
 
 /// A line that is filled up to as many bytes as a line may have, or one more.
 fn write_long(draws: &mut Draws, bytes: &mut Vec<u8>, plain: &mut Plain) -> Result<(), AllocError> {
-    let (front, said): (&[u8], Said) = if draws.is_rare(2) {
+    let (prefix, said): (&[u8], Said) = if draws.is_rare(2) {
         (b"BEGIN a.b ", Said::Begin(B))
     } else {
         (b"# ", Said::Other)
     };
-    let mut line = Vec::from_slice(plain.alloc, front)?;
+    let mut line = Vec::from_slice(plain.alloc, prefix)?;
     let count = if draws.is_rare(2) { 8_193 } else { 8_192 };
     line.resize(count, b'x')?;
     write_line(bytes, plain, line.as_slice(), said)

@@ -129,10 +129,10 @@ fn wanted(plain: &Plain, run: Ending) -> Result<Ending, Fail> {
         Status::Refused(line, 28) if answer.is_err() => {
             let rest = unfinished(plain.alloc, line)?;
             let told = run.told.as_slice();
-            let front = told.strip_suffix(rest.as_bytes()).unwrap_or(told);
+            let prefix = told.strip_suffix(rest.as_bytes()).unwrap_or(told);
             Ok(Ending {
                 status: status_of(answer),
-                told: front.to_vec(plain.alloc)?,
+                told: prefix.to_vec(plain.alloc)?,
             })
         }
         _ => Ok(run),

@@ -135,7 +135,7 @@ static SCRIPTS: [Script; 10] = [
 ];
 
 #[test]
-fn stops_leave_what_was_worked_out_by_hand(rt: HostRuntime) -> Result<(), Fail> {
+fn crashes_leave_what_was_worked_out_by_hand(rt: HostRuntime) -> Result<(), Fail> {
     for script in &SCRIPTS {
         for (keep, want) in [
             (Keep::All, script.all),

@@ -8,23 +8,23 @@ use Rattle.store_core.specs.declared.beats.beat.Beat.{Beat}
 use Rattle.store_core.specs.beats.Records.{beats_from, last_after, next_beat}
 
 -- the beats that were read before, in front of those that are still read
-abbrev pub with_front : List Beat → Option (List Beat) → Option (List Beat)
-with_front front rest = option_map (λ beats. front ++ beats) rest
+abbrev pub with_prefix : List Beat → Option (List Beat) → Option (List Beat)
+with_prefix prefix rest = option_map (λ beats. prefix ++ beats) rest
 
-pub with_front-nil : (rest : Option (List Beat)) → with_front [] rest ≡ rest
-with_front-nil None = refl
-with_front-nil (Some rest) = refl
+pub with_prefix-nil : (rest : Option (List Beat)) → with_prefix [] rest ≡ rest
+with_prefix-nil None = refl
+with_prefix-nil (Some rest) = refl
 
-regroup : (front : List Beat) (beat : Beat) (rest : Option (List Beat)) → with_front front (option_map (λ beats. beat ∷ beats) rest) ≡ with_front (front ++ beat ∷ []) rest
-regroup front beat None = refl
-regroup front beat (Some rest) = ap (λ (beats : List Beat). Some beats) (sym (append_assoc front (beat ∷ []) rest))
+regroup : (prefix : List Beat) (beat : Beat) (rest : Option (List Beat)) → with_prefix prefix (option_map (λ beats. beat ∷ beats) rest) ≡ with_prefix (prefix ++ beat ∷ []) rest
+regroup prefix beat None = refl
+regroup prefix beat (Some rest) = ap (λ (beats : List Beat). Some beats) (sym (append_assoc prefix (beat ∷ []) rest))
 
 -- one beat more is read
-pub goes_on : (front : List Beat) (last : ℕ) (body : List ℕ) (bodies : List (List ℕ)) (beat : Beat) (total : Option (List Beat)) → next_beat last body ≡ Some beat
-    → with_front front (beats_from last (body ∷ bodies)) ≡ total
-    → with_front (front ++ beat ∷ []) (beats_from (last_after last beat.moment) bodies) ≡ total
-goes_on front last body bodies beat total read so_far =
-    sym (regroup front beat (beats_from (last_after last beat.moment) bodies)) ∙ sym (ap (with_front front) (one last body bodies beat read)) ∙ so_far
+pub goes_on : (prefix : List Beat) (last : ℕ) (body : List ℕ) (bodies : List (List ℕ)) (beat : Beat) (total : Option (List Beat)) → next_beat last body ≡ Some beat
+    → with_prefix prefix (beats_from last (body ∷ bodies)) ≡ total
+    → with_prefix (prefix ++ beat ∷ []) (beats_from (last_after last beat.moment) bodies) ≡ total
+goes_on prefix last body bodies beat total read so_far =
+    sym (regroup prefix beat (beats_from (last_after last beat.moment) bodies)) ∙ sym (ap (with_prefix prefix) (one last body bodies beat read)) ∙ so_far
   where
     one : (last : ℕ) (body : List ℕ) (bodies : List (List ℕ)) (beat : Beat) → next_beat last body ≡ Some beat
         → beats_from last (body ∷ bodies) ≡ option_map (λ beats. beat ∷ beats) (beats_from (last_after last beat.moment) bodies)

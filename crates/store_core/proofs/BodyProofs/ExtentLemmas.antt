@@ -175,11 +175,11 @@ module _ {T Paged W : Type 0} (tier : ℕ) (written : W → Written) (pages_of :
     -- they are extents of their tier
     pub next-extents : (settings : Tier) → length now.sealed ≤ settings.extents → are_extents settings old ≡ true → are_extents settings next ≡ true
     next-extents settings most extents =
-        let front = and_parts (nat_le (length old) settings.extents && list_all (is_low settings.extents) old) (are_apart old) extents in
-        let few = and_parts (nat_le (length old) settings.extents) (list_all (is_low settings.extents) old) front.0 in
+        let prefix = and_parts (nat_le (length old) settings.extents && list_all (is_low settings.extents) old) (are_apart old) extents in
+        let few = and_parts (nat_le (length old) settings.extents) (list_all (is_low settings.extents) old) prefix.0 in
         and_from _ _
         (and_from _ _ (le-leb (length next) settings.extents (omega (arith, next-few, most))) (next-low settings.extents (leb-true (length old) settings.extents few.0) few.1))
-        (next-apart front.1)
+        (next-apart prefix.1)
 
     pub next-fit : AllByRecursion FitsExtent old → AllByRecursion FitsExtent next
     next-fit fit =
@@ -238,7 +238,7 @@ module _ {T Paged W : Type 0} (tier : ℕ) (written : W → Written) (pages_of :
             let pairs : zip next (drop gone old_pages ++ new_pages new) ≡ drop gone (zip old old_pages) ++ zip are.added (new_pages new) =
             ap (λ (extents : List Extent). zip extents (drop gone old_pages ++ new_pages new)) next-is
             ∙ zip-append (drop gone old) are.added (drop gone old_pages) (new_pages new) lengths
-            ∙ ap (λ (front : List (Extent × List Page)). front ++ zip are.added (new_pages new)) (zip-drop gone old old_pages (sym count)) in
+            ∙ ap (λ (prefix : List (Extent × List Page)). prefix ++ zip are.added (new_pages new)) (zip-drop gone old old_pages (sym count)) in
             subst (All (IsKeptOrNew tier (zip old old_pages) (map written new))) (sym pairs)
             (All-append (IsKeptOrNew tier (zip old old_pages) (map written new)) (drop gone (zip old old_pages)) (zip are.added (new_pages new))
             (All-drop (IsKeptOrNew tier (zip old old_pages) (map written new)) gone (zip old old_pages) (λ k d lt. inl (Contains-get_or (zip old old_pages) k d lt)))
@@ -253,7 +253,7 @@ module _ {T Paged W : Type 0} (tier : ℕ) (written : W → Written) (pages_of :
         let there : map to_page (pages_after old next kept (map pages_of new)) ≡ drop gone (map to_page kept) ++ map (λ (one : W). (written one).pages) new =
         map-append to_page (drop (length old + length (map pages_of new) - length next) kept) (map pages_of new)
         ∙ ap (λ (n : ℕ). map to_page (drop n kept) ++ map to_page (map pages_of new)) (ap (λ (n : ℕ). length old + n - length next) pages_count ∙ gone-is)
-        ∙ ap (λ (front : List (List Page)). front ++ map to_page (map pages_of new)) (drop-map to_page gone kept)
+        ∙ ap (λ (prefix : List (List Page)). prefix ++ map to_page (map pages_of new)) (drop-map to_page gone kept)
         ∙ ap (λ (back : List (List Page)). drop gone (map to_page kept) ++ back) (map-map (λ (one : W). (written one).pages) pages_of to_page same new) in
         subst (GoesOn tier old (map to_page kept) (map written new) next) (sym there)
         (next-goes_on (map to_page kept) (length-map kept to_page ∙ count))

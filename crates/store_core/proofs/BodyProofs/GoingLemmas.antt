@@ -173,16 +173,16 @@ module _ {Page T : Type 0} (AreItemsOf : List Page → List (Item T) → Type 0)
         → extent.beats ≡ counted (beats_before (beats_after count_in before (take gone segments)) (drop gone extents) + count_in segment.items) → AreItemsOf pages segment.items
         → AreOf (first_number now (length (drop gone segments ++ segment ∷ []))) (beats_after count_in before (take gone segments)) (drop gone extents ++ extent ∷ []) (drop gone kept ++ pages ∷ []) (drop gone segments ++ segment ∷ [])
     one-are is extent pages segment serial sealed_at beats items =
-        let front = renumbered was now (length segments) gone 1 le within is (beats_after count_in before (take gone segments)) (drop gone extents) (drop gone kept) (drop gone segments)
+        let prefix = renumbered was now (length segments) gone 1 le within is (beats_after count_in before (take gone segments)) (drop gone extents) (drop gone kept) (drop gone segments)
         (drop-are gone (first_number was (length segments)) before extents kept segments are) in
         let same : length segments - gone + 1 ≡ length (drop gone segments) + 1 = omega (arith, left-count) in
         let whole : length (drop gone segments) + 1 ≡ length (drop gone segments ++ segment ∷ []) = sym (length-append (drop gone segments) (segment ∷ [])) in
-        let up_to = last-beats (first_number now (length segments - gone + 1)) (beats_after count_in before (take gone segments)) (drop gone extents) (drop gone kept) (drop gone segments) front in
+        let up_to = last-beats (first_number now (length segments - gone + 1)) (beats_after count_in before (take gone segments)) (drop gone extents) (drop gone kept) (drop gone segments) prefix in
         let number : HasNumber (number_after (length (drop gone segments)) (first_number now (length (drop gone segments) + 1))) extent =
         has-last now (length (drop gone segments)) extent (λ low. omega (arith, left-count)) serial in
         subst (λ (n : ℕ). AreOf (first_number now n) (beats_after count_in before (take gone segments)) (drop gone extents ++ extent ∷ []) (drop gone kept ++ pages ∷ []) (drop gone segments ++ segment ∷ []))
         (same ∙ whole)
-        (push-are (first_number now (length segments - gone + 1)) (beats_after count_in before (take gone segments)) (drop gone extents) (drop gone kept) (drop gone segments) front extent pages segment
+        (push-are (first_number now (length segments - gone + 1)) (beats_after count_in before (take gone segments)) (drop gone extents) (drop gone kept) (drop gone segments) prefix extent pages segment
         (record {
           named = record {
             serial = subst (λ (n : ℕ). HasNumber (number_after (length (drop gone segments)) (first_number now n)) extent) (sym same) number;

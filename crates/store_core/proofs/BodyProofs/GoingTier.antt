@@ -41,8 +41,8 @@ module _ {T : Type 0} where
 
   -- the last of the segments, which was sealed since
   pub record IsFound (IsOne : Segment T → Type 0) (segments : List (Segment T)) (segment : Segment T) : Type 0 where
-    pub front : List (Segment T)
-    pub is : segments ≡ front ++ segment ∷ []
+    pub prefix : List (Segment T)
+    pub is : segments ≡ prefix ++ segment ∷ []
     pub one : IsOne segment
 
   -- how a tier went on: nothing is left, or one new segment alone, or it goes on with one at most
@@ -80,10 +80,10 @@ module _ {T : Type 0} (IsItem : Item T → Type 0) (count_in : List (Item T) →
     pub found-new : IfSome (sealed_after moment now.sealed) (IsFound IsOne now.sealed)
     found-new = by going.outcome
       where
-        at-one : (front : List (Segment T)) (segment : Segment T) → IsOne segment → now.sealed ≡ front ++ segment ∷ [] → IfSome (sealed_after moment now.sealed) (IsFound IsOne now.sealed)
-        at-one front segment is sealed =
-            subst (λ (found : Option (Segment T)). IfSome found (IsFound IsOne now.sealed)) (sym (ap (sealed_after moment) sealed ∙ one-after moment front segment is.0))
-            (record { front = front; is = sealed; one = is })
+        at-one : (prefix : List (Segment T)) (segment : Segment T) → IsOne segment → now.sealed ≡ prefix ++ segment ∷ [] → IfSome (sealed_after moment now.sealed) (IsFound IsOne now.sealed)
+        at-one prefix segment is sealed =
+            subst (λ (found : Option (Segment T)). IfSome found (IsFound IsOne now.sealed)) (sym (ap (sealed_after moment) sealed ∙ one-after moment prefix segment is.0))
+            (record { prefix = prefix; is = sealed; one = is })
 
         at-none : sealed_after moment now.sealed ≡ None → IfSome (sealed_after moment now.sealed) (IsFound IsOne now.sealed)
         at-none none = subst (λ (found : Option (Segment T)). IfSome found (IsFound IsOne now.sealed)) (sym none) tt
@@ -114,13 +114,13 @@ module _ {T : Type 0} (IsItem : Item T → Type 0) (count_in : List (Item T) →
     found-each =
         in-found (λ segment. AllByRecursion IsItem segment.items)
         (λ segment found.
-        (all-right (λ (one : Segment T). AllByRecursion IsItem one.items) found.front (segment ∷ [])
+        (all-right (λ (one : Segment T). AllByRecursion IsItem one.items) found.prefix (segment ∷ [])
         (subst (AllByRecursion (λ (one : Segment T). AllByRecursion IsItem one.items)) found.is (each-sealed IsItem now.sealed (all_left IsItem (items_in now.sealed) now.unsealed going.each)))).0)
 
     found-ordered : IfSome (sealed_after moment now.sealed) (λ segment. AreOrdered segment.items)
     found-ordered =
         in-found (λ segment. AreOrdered segment.items)
-        (λ segment found. (all-right IsInOrder found.front (segment ∷ []) (subst (AllByRecursion IsInOrder) found.is (sealed-order now going.ordered))).0)
+        (λ segment found. (all-right IsInOrder found.prefix (segment ∷ []) (subst (AllByRecursion IsInOrder) found.is (sealed-order now going.ordered))).0)
 
     pub can-name : CanBeNamed IsItem moment extents now
     can-name = record {
@@ -222,7 +222,7 @@ module _ {T : Type 0} (IsItem : Item T → Type 0) (count_in : List (Item T) →
           let up : up_to now.before are_next.stay ≡ now.before = ap (up_to now.before) (are_next.stay_is ∙ no_extents) ∙ agree None [] [] [] tt in
           to-sealed (segment ∷ []) alone (drop went extents ++ extent ∷ []) (drop went kept ++ pages_of one ∷ [])
           (to-lists (first_number now.count 1) now.before (segment ∷ []) (drop went extents ++ extent ∷ []) (extent ∷ []) (drop went kept ++ pages_of one ∷ []) (pages_of one ∷ [])
-          (ap (λ (front : List Extent). front ++ extent ∷ []) no_extents) (ap (λ (front : List (List Paged)). front ++ pages_of one ∷ []) no_pages) (
+          (ap (λ (prefix : List Extent). prefix ++ extent ∷ []) no_extents) (ap (λ (prefix : List (List Paged)). prefix ++ pages_of one ∷ []) no_pages) (
             record {
               named = record {
                 serial = has-last now.count 0 extent (λ _. some) new_is.serial;
@@ -265,11 +265,11 @@ module _ {T : Type 0} (IsItem : Item T → Type 0) (count_in : List (Item T) →
             let same : went ≡ left = let one = counts in omega (arith, all, one.0, within) in
             let stay : are_next.stay ≡ drop left extents = are_next.stay_is ∙ ap (λ (n : ℕ). drop n extents) same in
             let numbers = number_after left (first_number was.count (length was.sealed)) in
-            let front = drop-are AreItemsOf count_in left (first_number was.count (length was.sealed)) was.before extents kept was.sealed are in
+            let prefix = drop-are AreItemsOf count_in left (first_number was.count (length was.sealed)) was.before extents kept was.sealed are in
             let up : up_to now.before are_next.stay ≡ beats_before (beats_after count_in was.before (take left was.sealed)) (drop left extents) =
             agree numbers are_next.stay (drop left kept) (drop left was.sealed)
             (subst (λ (b : ℕ). AreSegmentsIn AreItemsOf count_in numbers b are_next.stay (drop left kept) (drop left was.sealed)) (sym more.before)
-            (subst (λ (list : List Extent). AreSegmentsIn AreItemsOf count_in numbers (beats_after count_in was.before (take left was.sealed)) list (drop left kept) (drop left was.sealed)) (sym stay) front))
+            (subst (λ (list : List Extent). AreSegmentsIn AreItemsOf count_in numbers (beats_after count_in was.before (take left was.sealed)) list (drop left kept) (drop left was.sealed)) (sym stay) prefix))
             ∙ ap (λ (b : ℕ). beats_before b are_next.stay) more.before ∙ ap (beats_before (beats_after count_in was.before (take left was.sealed))) stay in
             by-these
             (λ found _. absurd (let no : None ≡ Some segment = sym found ∙ last in cc))

@@ -59,8 +59,8 @@ record-extents tier kept is =
 
 pub extents-few : (tier : Tier) (extents : List Extent) → are_extents tier extents ≡ true → length extents ≤ tier.extents
 extents-few tier extents are =
-    let front = and_parts (nat_le (length extents) tier.extents && list_all (λ (extent : Extent). nat_le extent.slot tier.extents) extents) _ are in
-    leb-true (length extents) tier.extents (and_parts (nat_le (length extents) tier.extents) _ front.0).0
+    let prefix = and_parts (nat_le (length extents) tier.extents && list_all (λ (extent : Extent). nat_le extent.slot tier.extents) extents) _ are in
+    leb-true (length extents) tier.extents (and_parts (nat_le (length extents) tier.extents) _ prefix.0).0
 
 -- ---- open records
 

@@ -48,9 +48,9 @@ unfolding reach
 says_again (Rest size said) bytes other entries same says = (same_long size size bytes other (omega arith) same says.0, says.1)
 says_again (Next field after) bytes other entries same says =
     let width = field.width in let rest = reach (after (little_number width bytes)) (drop width bytes) in
-    let front = same_less width (width + rest) bytes other (omega arith) same in
-    let number = same_number width bytes other front in (
-      same_long width width bytes other (omega arith) front says.0,
+    let prefix = same_less width (width + rest) bytes other (omega arith) same in
+    let number = same_number width bytes other prefix in (
+      same_long width width bytes other (omega arith) prefix says.0,
       subst (IsAllowed field) number says.1,
       subst (λ (v : ℕ). Says (after v) (drop width other) entries) number
           (says_again (after (little_number width bytes)) (drop width bytes) (drop width other) entries (same_behind width rest bytes other same) says.2),

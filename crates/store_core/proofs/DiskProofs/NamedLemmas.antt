@@ -102,13 +102,13 @@ too_short tier start file entry page of_tier some short named =
     let long = page_long tier page (take n (drop entry.place (drop start file))) of_tier named.items in
     let count : (entry_of 0 page).count ≡ entry.count = sym (count_is entry.place page) ∙ ap (λ (e : Entry). e.count) named.head in
     let all : (entry_of 0 page).count * item_size tier ≡ n = ap (λ (k : ℕ). k * item_size tier) count in
-    let cut = length-drop entry.place (drop start file) in let front = length-drop start file in
+    let cut = length-drop entry.place (drop start file) in let prefix = length-drop start file in
     let taken = length-take n (drop entry.place (drop start file)) in
     let bytes : 0 < n = elim (item-cases tier) [
       | inl a ↦ (let e = ap (λ (k : ℕ). entry.count * k) a.1 in let r : 0 < n = omega (arith, e, some) in r)
       | inr a ↦ (let e = ap (λ (k : ℕ). entry.count * k) a.1 in let r : 0 < n = omega (arith, e, some) in r)
     ] in
-    omega (arith, long, all, cut, front, taken, short, bytes)
+    omega (arith, long, all, cut, prefix, taken, short, bytes)
 
 -- ---- the pages of an extent
 

@@ -39,12 +39,12 @@ pub record IsUpTo (items words : List ℕ) (place : ℕ) : Type 0 where
   pub empty : ℕ
   pub most : empty ≤ 6
   pub first : length items ≡ 0 → empty ≡ 0
-  pub front : items ++ replicate empty 0 ≡ take place words
+  pub prefix : items ++ replicate empty 0 ≡ take place words
   pub rest : 0 < length words → spaced (gap (length items) empty) (drop place words) ≡ true
 
 pub no_words : (words : List ℕ) → (0 < length words → spaced 6 words ≡ true) → IsUpTo [] words 0
 unfolding gap
-no_words words spread = record { empty = 0; most = omega arith; first = λ _. refl; front = refl; rest = spread }
+no_words words spread = record { empty = 0; most = omega arith; first = λ _. refl; prefix = refl; rest = spread }
 
 spaced_empty : (before : ℕ) (rest : List ℕ) → spaced before (0 ∷ rest) ≡ true → (before < 6) × (spaced (before + 1) rest ≡ true)
 spaced_empty before rest spread =
@@ -67,16 +67,16 @@ empty_slot items words place within none up =
       empty = up.empty + 1;
       most = omega (arith, few, same);
       first = λ nothing. absurd (omega (arith, nothing, filled));
-      front =
+      prefix =
           ap (λ (z : List ℕ). items ++ z) (sym (replicate_more up.empty 0)) ∙ sym (append_assoc items (replicate up.empty 0) (0 ∷ []))
-          ∙ ap (λ (l : List ℕ). l ++ 0 ∷ []) up.front ∙ ap (λ (w : ℕ). take place words ++ w ∷ []) (sym none) ∙ sym (take_more words place 0 within);
+          ∙ ap (λ (l : List ℕ). l ++ 0 ∷ []) up.prefix ∙ ap (λ (w : ℕ). take place words ++ w ∷ []) (sym none) ∙ sym (take_more words place 0 within);
       rest = λ _. subst (λ (n : ℕ). spaced n (drop (place + 1) words) ≡ true) next parts.1;
     }
 
 -- how many slots there are so far
 pub count_up : (items words : List ℕ) (place : ℕ) → place ≤ length words → (up : IsUpTo items words place) → length items + up.empty ≡ place
 count_up items words place within up =
-    let sizes = ap length up.front in let joined = length-append items (replicate up.empty 0) in let zeros = length-replicate {A = ℕ} up.empty 0 in let cut = length-take place words in
+    let sizes = ap length up.prefix in let joined = length-append items (replicate up.empty 0) in let zeros = length-replicate {A = ℕ} up.empty 0 in let cut = length-take place words in
     omega (arith, sizes, joined, zeros, cut, within)
 
 -- a point more
@@ -92,23 +92,23 @@ word_slot items words place empty word within is some up same =
       empty = 0;
       most = omega arith;
       first = λ _. refl;
-      front =
+      prefix =
           append-nil (items ++ (replicate empty 0 ++ word ∷ [])) ∙ sym (append_assoc items (replicate empty 0) (word ∷ []))
           ∙ ap (λ (n : ℕ). (items ++ replicate n 0) ++ word ∷ []) same
-          ∙ ap (λ (l : List ℕ). l ++ word ∷ []) up.front ∙ ap (λ (w : ℕ). take place words ++ w ∷ []) (sym is) ∙ sym (take_more words place 0 within);
+          ∙ ap (λ (l : List ℕ). l ++ word ∷ []) up.prefix ∙ ap (λ (w : ℕ). take place words ++ w ∷ []) (sym is) ∙ sym (take_more words place 0 within);
       rest = λ _. subst (λ (n : ℕ). spaced n (drop (place + 1) words) ≡ true) (sym (gap_some (length (items ++ (replicate empty 0 ++ word ∷ []))) 0 filled)) spread;
     }
 
 -- all words are in the page
 pub all_words : (items words : List ℕ) → IsUpTo items words (length words) → items ≡ words
 all_words items [] up =
-    let sizes = ap length up.front in let joined = length-append items (replicate up.empty 0) in
+    let sizes = ap length up.prefix in let joined = length-append items (replicate up.empty 0) in
     nil_from_length items (omega (arith, sizes, joined))
 all_words items (word ∷ words) up =
     let end : drop (length (word ∷ words)) (word ∷ words) ≡ [] = drop_all (length (word ∷ words)) (word ∷ words) (omega arith) in
     let spread : spaced (gap (length items) up.empty) [] ≡ true = subst (λ (l : List ℕ). spaced (gap (length items) up.empty) l ≡ true) end (up.rest (omega arith)) in
     let none = gap_none (length items) up.empty (eqb-true (gap (length items) up.empty) 0 spread) in
-    sym (append-nil items) ∙ ap (λ (n : ℕ). items ++ replicate n 0) (sym none.1) ∙ up.front ∙ take_all (length (word ∷ words)) (word ∷ words) (omega arith)
+    sym (append-nil items) ∙ ap (λ (n : ℕ). items ++ replicate n 0) (sym none.1) ∙ up.prefix ∙ take_all (length (word ∷ words)) (word ∷ words) (omega arith)
 
 reached : (count empty : ℕ) → empty ≤ 6 → (count ≡ 0 → empty ≡ 0) → empty < reach count
 reached zero empty most none = let e = none refl in omega (arith, e)

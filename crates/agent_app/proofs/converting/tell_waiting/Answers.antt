@@ -2,7 +2,7 @@ use Rattle.std.proofs.Common.{sym, subst}
 use Rattle.host_model.specs.Seen.{Seen}
 use Rattle.agent_app.specs.Convert.{LeavesDisk}
 use Rattle.std.proofs.lemmas.Result.{err_from_is_err_and}
-use Rattle.agent_app.proofs.ConvertingLemmas.{front_told}
+use Rattle.agent_app.proofs.ConvertingLemmas.{prefix_told}
 use Rattle.agent_app.proofs.LeavesLemmas.{leaves-none, told-leaves, torn-leaves}
 use Rattle.agent_app.proofs.converting.tell_waiting.Goals as goal
 use Rattle.agent_app.proofs.converting.tell_waiting.Goals.{then-not-is_empty+in_ok-tell, else-not-is_empty}
@@ -10,7 +10,7 @@ use Rattle.agent_app.proofs.converting.tell_waiting.Goals.{then-not-is_empty+in_
 pub returns-in_err-tell-clause-torn : goal.returns-in_err-tell-clause-torn
 returns-in_err-tell-clause-torn g c =
     let p = err_from_is_err_and c.from_residual.result c.from_residual.ensures.1 in
-    rw p.1 (λ honest. rw (← c.as_bytes.ensures.value) (front_told c.as_bytes.result.now _ _ (c.in_err-tell.ensures.torn honest)))
+    rw p.1 (λ honest. rw (← c.as_bytes.ensures.value) (prefix_told c.as_bytes.result.now _ _ (c.in_err-tell.ensures.torn honest)))
 
 pub returns-in_err-tell-clause-disk : goal.returns-in_err-tell-clause-disk
 returns-in_err-tell-clause-disk g c =

@@ -1,6 +1,6 @@
 use Rattle.std.proofs.Common.{ap, ◌∙◌, ◌+◌, List, length}
 use Rattle.replication.specs.declared.beats.Beat.{Beat as SentBeat}
-use Rattle.agent_core.proofs.FrontLemmas.{length-none, length-some}
+use Rattle.agent_core.proofs.PrefixLemmas.{length-none, length-some}
 use Rattle.agent_core.proofs.copying.beats_in.Goals as goal
 
 pub returns-then-message : goal.returns-then-message

@@ -5,7 +5,7 @@ use Rattle.agent_core.specs.Copies.{IsCopyOfChild}
 use Rattle.agent_core.specs.Copying.{added_to}
 use Rattle.agent_core.specs.Kept.{onto}
 use Rattle.agent_core.proofs.AnswerTruth.{answer-is_all, answer-is_true}
-use Rattle.agent_core.proofs.CopyLemmas.{added-behind, added-copy, front-copy, gaps-end, seen-rises}
+use Rattle.agent_core.proofs.CopyLemmas.{added-behind, added-copy, prefix-copy, gaps-end, seen-rises}
 use Rattle.agent_core.proofs.GoingOnLemmas.{none-copy, stays-copy, stays-true}
 use Rattle.agent_core.proofs.TakenLemmas.{each-follows}
 use Rattle.agent_core.proofs.Within.{within-of}
@@ -24,10 +24,10 @@ pub returns-clause-none : goal.returns-clause-none
 returns-clause-none c = none-copy
 
 pub returns-clause-keeps : goal.returns-clause-keeps
-returns-clause-keeps c h beats floors child message n are data_is rises copies truth prev = front-copy h message data_is floors child rises (gaps-end h beats are) copies truth prev n
+returns-clause-keeps c h beats floors child message n are data_is rises copies truth prev = prefix-copy h message data_is floors child rises (gaps-end h beats are) copies truth prev n
 
-pub returns-clause-front : goal.returns-clause-front
-returns-clause-front c h beats floors child message n are data_is rises copies truth = added-copy h message data_is floors child rises (gaps-end h beats are) copies truth n
+pub returns-clause-prefix : goal.returns-clause-prefix
+returns-clause-prefix c h beats floors child message n are data_is rises copies truth = added-copy h message data_is floors child rises (gaps-end h beats are) copies truth n
 
 pub returns-clause-added : goal.returns-clause-added
 returns-clause-added c h beats floors child message are data_is rises copies truth =

@@ -10,18 +10,18 @@ use Rattle.agent_core.proofs.replaying.replay_all.Goals as goal
 pub returns-in_err-replay_next-clause-stands : goal.returns-in_err-replay_next-clause-stands
 returns-in_err-replay_next-clause-stands g c =
     let error = err_from_is_err_and c.from_residual.result c.from_residual.ensures.1 in
-    rw (error.1, error.2) (λ past set front h at by.
-    let begun : IsReplaying past c.args.store.now c.args.left.now set h = record { prefix = front; at = at; left_by = by } in
+    rw (error.1, error.2) (λ past set prefix h at by.
+    let begun : IsReplaying past c.args.store.now c.args.left.now set h = record { prefix = prefix; at = at; left_by = by } in
     c.in_err-replay_next.ensures.stands past set h (c.loop.invariant.replaying past set h begun))
 
 pub returns-clause-holds : goal.returns-clause-holds
-returns-clause-holds g c past set front h at by =
-    let begun : IsReplaying past c.args.store.now c.args.left.now set h = record { prefix = front; at = at; left_by = by } in
+returns-clause-holds g c past set prefix h at by =
+    let begun : IsReplaying past c.args.store.now c.args.left.now set h = record { prefix = prefix; at = at; left_by = by } in
     replayed-holds past c.replay_next.new.store c.replay_next.new.left set h (c.in_ok-replay_next.ensures.replaying past set h (c.loop.invariant.replaying past set h begun)) (search rules)
 
 pub returns-clause-left_by : goal.returns-clause-left_by
-returns-clause-left_by g c past set front h at by =
-    let begun : IsReplaying past c.args.store.now c.args.left.now set h = record { prefix = front; at = at; left_by = by } in
+returns-clause-left_by g c past set prefix h at by =
+    let begun : IsReplaying past c.args.store.now c.args.left.now set h = record { prefix = prefix; at = at; left_by = by } in
     replayed-left past c.replay_next.new.store c.replay_next.new.left set h (c.in_ok-replay_next.ensures.replaying past set h (c.loop.invariant.replaying past set h begun)) (search rules)
 
 -- ---- whatever the store has stored

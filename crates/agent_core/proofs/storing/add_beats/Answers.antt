@@ -5,9 +5,9 @@ use Rattle.host_model.specs.Moments.{begins, Throughout}
 use Rattle.host_model.proofs.MomentLemmas.{joined}
 use Rattle.history.specs.History.{Beat, copied}
 use Rattle.history.specs.Registry.{Registry}
-use Rattle.agent_core.specs.Stands.{StandsForFront}
+use Rattle.agent_core.specs.Stands.{StandsForPrefix}
 use Rattle.agent_core.specs.Storing.{later_copies, AreSent, HasAdded, MayTakeAll}
-use Rattle.agent_core.proofs.FrontLemmas.{added-behind, copies-are, first_copy, first-moments, rest-moments, rest-sent, sent-first}
+use Rattle.agent_core.proofs.PrefixLemmas.{added-behind, copies-are, first_copy, first-moments, rest-moments, rest-sent, sent-first}
 use Rattle.agent_core.proofs.KeepsLemmas.{keeps-after, keeps-both}
 use Rattle.agent_core.proofs.KeptLemmas.{stays}
 use Rattle.agent_core.proofs.storing.add_beats.Goals as goal
@@ -30,7 +30,7 @@ returns-in_err-events-clause-any_moment g c true_host before set h holds was is 
     let past = (g.H.Host.seen c.args.host.now).past in
     let middle = (g.H.Host.seen c.add_copy.new.host).past in
     let begun = first-moments set h (copied copy) later past middle (c.add_copy.ensures.any_moment true_host set h copy holds sent) in
-    subst (λ (more : List Beat). Throughout (EveryDisk (StandsForFront set h more)) past middle) (sym same) begun
+    subst (λ (more : List Beat). Throughout (EveryDisk (StandsForPrefix set h more)) past middle) (sym same) begun
 
 pub returns-in_err-more-clause-any_moment : goal.returns-in_err-more-clause-any_moment
 returns-in_err-more-clause-any_moment g c true_host before set h holds was is all =
@@ -52,8 +52,8 @@ returns-in_err-more-clause-any_moment g c true_host before set h holds was is al
     let more_is : later_copies c.add_copy.new.left.registry message rest ≡ later = ap (λ (r : Registry). later_copies r message rest) c.add_copy.ensures.registry in
     let takes : MayTakeAll (copied copy ∷ h) (later_copies c.add_copy.new.left.registry message rest) = subst (MayTakeAll (copied copy ∷ h)) (sym more_is) mine.1 in
     let went = rest-moments set h (copied copy) later middle new
-    (subst (λ (more : List Beat). Throughout (EveryDisk (StandsForFront set (copied copy ∷ h) more)) middle new) more_is (c.add_later.ensures.any_moment true_host set (copied copy ∷ h) stored.holds stored.left_by takes)) in
-    subst (λ (more : List Beat). Throughout (EveryDisk (StandsForFront set h more)) past new) (sym same) (joined begun went)
+    (subst (λ (more : List Beat). Throughout (EveryDisk (StandsForPrefix set (copied copy ∷ h) more)) middle new) more_is (c.add_later.ensures.any_moment true_host set (copied copy ∷ h) stored.holds stored.left_by takes)) in
+    subst (λ (more : List Beat). Throughout (EveryDisk (StandsForPrefix set h more)) past new) (sym same) (joined begun went)
 
 pub returns-in_err-add_events-clause-any_moment : goal.returns-in_err-add_events-clause-any_moment
 returns-in_err-add_events-clause-any_moment g c true_host before set h holds was is all =
@@ -75,8 +75,8 @@ returns-in_err-add_events-clause-any_moment g c true_host before set h holds was
     let more_is : later_copies c.add_copy.new.left.registry message rest ≡ later = ap (λ (r : Registry). later_copies r message rest) c.add_copy.ensures.registry in
     let takes : MayTakeAll (copied copy ∷ h) (later_copies c.add_copy.new.left.registry message rest) = subst (MayTakeAll (copied copy ∷ h)) (sym more_is) mine.1 in
     let went = rest-moments set h (copied copy) later middle new
-    (subst (λ (more : List Beat). Throughout (EveryDisk (StandsForFront set (copied copy ∷ h) more)) middle new) more_is (c.add_later.ensures.any_moment true_host set (copied copy ∷ h) stored.holds stored.left_by takes)) in
-    subst (λ (more : List Beat). Throughout (EveryDisk (StandsForFront set h more)) past new) (sym same) (joined begun went)
+    (subst (λ (more : List Beat). Throughout (EveryDisk (StandsForPrefix set (copied copy ∷ h) more)) middle new) more_is (c.add_later.ensures.any_moment true_host set (copied copy ∷ h) stored.holds stored.left_by takes)) in
+    subst (λ (more : List Beat). Throughout (EveryDisk (StandsForPrefix set h more)) past new) (sym same) (joined begun went)
 
 pub returns-clause-any_moment : goal.returns-clause-any_moment
 returns-clause-any_moment g c true_host before set h holds was is all =
@@ -98,8 +98,8 @@ returns-clause-any_moment g c true_host before set h holds was is all =
     let more_is : later_copies c.add_copy.new.left.registry message rest ≡ later = ap (λ (r : Registry). later_copies r message rest) c.add_copy.ensures.registry in
     let takes : MayTakeAll (copied copy ∷ h) (later_copies c.add_copy.new.left.registry message rest) = subst (MayTakeAll (copied copy ∷ h)) (sym more_is) mine.1 in
     let went = rest-moments set h (copied copy) later middle new
-    (subst (λ (more : List Beat). Throughout (EveryDisk (StandsForFront set (copied copy ∷ h) more)) middle new) more_is (c.add_later.ensures.any_moment true_host set (copied copy ∷ h) stored.holds stored.left_by takes)) in
-    subst (λ (more : List Beat). Throughout (EveryDisk (StandsForFront set h more)) past new) (sym same) (joined begun went)
+    (subst (λ (more : List Beat). Throughout (EveryDisk (StandsForPrefix set (copied copy ∷ h) more)) middle new) more_is (c.add_later.ensures.any_moment true_host set (copied copy ∷ h) stored.holds stored.left_by takes)) in
+    subst (λ (more : List Beat). Throughout (EveryDisk (StandsForPrefix set h more)) past new) (sym same) (joined begun went)
 
 pub returns-clause-done : goal.returns-clause-done
 returns-clause-done g c true_host before set h holds was is all some =

@@ -9,7 +9,7 @@ use Rattle.agent_core.specs.declared.left.Role.TheVariants.{Copies}
 use Rattle.agent_core.specs.Stands.{HoldsHistory, StandsForHistory}
 use Rattle.agent_core.specs.Left.{AwaitsAlarms}
 use Rattle.agent_core.proofs.StoredLemmas.{applied-all}
-use Rattle.agent_core.proofs.FrontLemmas.{added-one}
+use Rattle.agent_core.proofs.PrefixLemmas.{added-one}
 use Rattle.agent_core.proofs.KeepsLemmas.{keeps-after, keeps-err}
 use Rattle.agent_core.proofs.KeptLemmas.{stays}
 use Rattle.agent_core.proofs.Outcomes.{if_both}

@@ -6,10 +6,10 @@ use Rattle.host_model.proofs.MomentLemmas.{joined}
 use Rattle.history.specs.History.{Beat, missing, Gap}
 use Rattle.agent_core.specs.declared.left.Role.TheVariants.{Copies}
 use Rattle.agent_core.specs.Kept.{onto}
-use Rattle.agent_core.specs.Stands.{HoldsHistory, StandsForFront}
+use Rattle.agent_core.specs.Stands.{HoldsHistory, StandsForPrefix}
 use Rattle.agent_core.specs.Left.{IsLeftBy}
 use Rattle.agent_core.specs.Storing.{gap_beats}
-use Rattle.agent_core.proofs.FrontLemmas.{first-moments, front-none}
+use Rattle.agent_core.proofs.PrefixLemmas.{first-moments, prefix-none}
 use Rattle.agent_core.proofs.KeepsLemmas.{keeps-both}
 use Rattle.agent_core.proofs.KeptLemmas.{left-gap, stays}
 use Rattle.agent_core.proofs.StoringLemmas.{gap-none, gap-some}
@@ -17,7 +17,7 @@ use Rattle.agent_core.proofs.storing.add_gap_before.Goals as goal
 
 pub returns-in_err-make_room-clause-any_moment : goal.returns-in_err-make_room-clause-any_moment
 returns-in_err-make_room-clause-any_moment g c true_host set h holds by role =
-    front-none set h (gap_beats c.args.message.now) (g.H.Host.seen c.args.host.now).past (g.H.Host.seen c.make_room.new.host).past (c.make_room.ensures.any_moment true_host set h holds by)
+    prefix-none set h (gap_beats c.args.message.now) (g.H.Host.seen c.args.host.now).past (g.H.Host.seen c.make_room.new.host).past (c.make_room.ensures.any_moment true_host set h holds by)
 
 pub returns-in_err-add_gap-clause-any_moment : goal.returns-in_err-add_gap-clause-any_moment
 returns-in_err-add_gap-clause-any_moment g c true_host set h holds by role =
@@ -27,8 +27,8 @@ returns-in_err-add_gap-clause-any_moment g c true_host set h holds by role =
     let message = c.args.message.now in
     let gap : Gap = record { child = message.child; from = message.prev; to = message.from } in
     let room = c.in_ok-make_room.ensures.done true_host set h holds by in
-    joined (front-none set h (gap_beats message) past middle (c.make_room.ensures.any_moment true_host set h holds by))
-    (subst (λ (more : List Beat). Throughout (EveryDisk (StandsForFront set h more)) middle new) (gap-some message (search rules)) (first-moments set h (missing gap) [] middle new (c.add_gap.ensures.any_moment true_host set h room role)))
+    joined (prefix-none set h (gap_beats message) past middle (c.make_room.ensures.any_moment true_host set h holds by))
+    (subst (λ (more : List Beat). Throughout (EveryDisk (StandsForPrefix set h more)) middle new) (gap-some message (search rules)) (first-moments set h (missing gap) [] middle new (c.add_gap.ensures.any_moment true_host set h room role)))
 
 pub returns-in_ok-add_gap-clause-any_moment : goal.returns-in_ok-add_gap-clause-any_moment
 returns-in_ok-add_gap-clause-any_moment g c true_host set h holds by role =
@@ -38,8 +38,8 @@ returns-in_ok-add_gap-clause-any_moment g c true_host set h holds by role =
     let message = c.args.message.now in
     let gap : Gap = record { child = message.child; from = message.prev; to = message.from } in
     let room = c.in_ok-make_room.ensures.done true_host set h holds by in
-    joined (front-none set h (gap_beats message) past middle (c.make_room.ensures.any_moment true_host set h holds by))
-    (subst (λ (more : List Beat). Throughout (EveryDisk (StandsForFront set h more)) middle new) (gap-some message (search rules)) (first-moments set h (missing gap) [] middle new (c.add_gap.ensures.any_moment true_host set h room role)))
+    joined (prefix-none set h (gap_beats message) past middle (c.make_room.ensures.any_moment true_host set h holds by))
+    (subst (λ (more : List Beat). Throughout (EveryDisk (StandsForPrefix set h more)) middle new) (gap-some message (search rules)) (first-moments set h (missing gap) [] middle new (c.add_gap.ensures.any_moment true_host set h room role)))
 
 pub returns-in_ok-add_gap-clause-done : goal.returns-in_ok-add_gap-clause-done
 returns-in_ok-add_gap-clause-done g c true_host set h holds by role =

@@ -8,7 +8,7 @@ use Rattle.replication.specs.Names.{beat_moment}
 use Rattle.link_frames.specs.DataForm.{has_rising_places, has_storage_numbers}
 use Rattle.agent_core.specs.Kept.{onto}
 use Rattle.agent_core.specs.Storing.{later_copies}
-use Rattle.agent_core.proofs.FrontLemmas.{all-at, later-at, later_copy, latest-next, rises-at, room-moments, sent-later, stored-moments, stored-more, stored-none, stored-room, takes-next, HaveStored}
+use Rattle.agent_core.proofs.PrefixLemmas.{all-at, later-at, later_copy, latest-next, rises-at, room-moments, sent-later, stored-moments, stored-more, stored-none, stored-room, takes-next, HaveStored}
 use Rattle.agent_core.proofs.KeepsLemmas.{keeps-after, keeps-both, keeps-err, keeps-so-far, own-joined}
 use Rattle.agent_core.proofs.storing.add_later.Goals as goal
 

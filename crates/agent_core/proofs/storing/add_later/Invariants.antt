@@ -10,7 +10,7 @@ use Rattle.agent_core.specs.declared.left.Role.TheVariants.{Copies}
 use Rattle.agent_core.specs.Stands.{HoldsHistory}
 use Rattle.agent_core.specs.Left.{IsLeftBy}
 use Rattle.agent_core.specs.Storing.{later_copies, MayTakeAll}
-use Rattle.agent_core.proofs.FrontLemmas.{HaveStored}
+use Rattle.agent_core.proofs.PrefixLemmas.{HaveStored}
 use Rattle.agent_core.proofs.storing.add_later.Given as goal
 
 abbrev pub invariant-loop-beat : goal.invariant-loop-beat

@@ -10,10 +10,10 @@ use Rattle.replication.specs.declared.beats.Beat.{Beat as SentBeat}
 use Rattle.agent_core.specs.declared.left.Left.{Left}
 use Rattle.agent_core.specs.Copying.{definitions_in, names_refusal}
 use Rattle.agent_core.specs.Kept.{onto}
-use Rattle.agent_core.specs.Stands.{StandsForFront}
+use Rattle.agent_core.specs.Stands.{StandsForPrefix}
 use Rattle.agent_core.specs.Rules.{lacks_chart, IsOpenBeat}
 use Rattle.agent_core.specs.Storing.{gap_beats, sent_copies, with_names, HasAdded, MayTakeAll}
-use Rattle.agent_core.proofs.FrontLemmas.{front-none, message-added, message-before, message-behind, message-takes}
+use Rattle.agent_core.proofs.PrefixLemmas.{prefix-none, message-added, message-before, message-behind, message-takes}
 use Rattle.agent_core.proofs.KeepsLemmas.{keeps-after, keeps-both, keeps-err}
 use Rattle.agent_core.proofs.KeptLemmas.{stays, store-last}
 use Rattle.agent_core.proofs.Outcomes.{on_ok}
@@ -52,7 +52,7 @@ returns-in_err-make_room-clause-any_moment g c true_host set h holds was role =
     let kept = c.in_ok-add_gap_before.ensures.done true_host set h holds was role in
     let left = c.in_ok-add_gap_before.ensures.left_by set h was in
     joined (message-before set h registry message past middle (c.add_gap_before.ensures.any_moment true_host set h holds was role))
-    (message-behind set h registry message middle roomed (front-none set behind (sent_copies (with_names registry message) message message.beats) middle roomed (c.make_room.ensures.any_moment true_host set behind kept left)))
+    (message-behind set h registry message middle roomed (prefix-none set behind (sent_copies (with_names registry message) message message.beats) middle roomed (c.make_room.ensures.any_moment true_host set behind kept left)))
 
 pub returns-in_err-defines-clause-any_moment : goal.returns-in_err-defines-clause-any_moment
 returns-in_err-defines-clause-any_moment g c true_host set h holds was role =
@@ -65,7 +65,7 @@ returns-in_err-defines-clause-any_moment g c true_host set h holds was role =
     let kept = c.in_ok-add_gap_before.ensures.done true_host set h holds was role in
     let left = c.in_ok-add_gap_before.ensures.left_by set h was in
     joined (message-before set h registry message past middle (c.add_gap_before.ensures.any_moment true_host set h holds was role))
-    (message-behind set h registry message middle roomed (front-none set behind (sent_copies (with_names registry message) message message.beats) middle roomed (c.make_room.ensures.any_moment true_host set behind kept left)))
+    (message-behind set h registry message middle roomed (prefix-none set behind (sent_copies (with_names registry message) message message.beats) middle roomed (c.make_room.ensures.any_moment true_host set behind kept left)))
 
 pub returns-clause-any_moment : goal.returns-clause-any_moment
 returns-clause-any_moment g c true_host set h holds was role =
@@ -89,8 +89,8 @@ returns-clause-any_moment g c true_host set h holds was role =
     let kept = c.in_ok-make_room.ensures.done true_host set behind was_kept left in
     let new = (g.H.Host.seen c.add_beats.new.host).past in
     let begun = message-before set h registry message past middle (c.add_gap_before.ensures.any_moment true_host set h holds was role) in
-    let room = front-none set behind (sent_copies (with_names registry message) message message.beats) middle roomed (c.make_room.ensures.any_moment true_host set behind was_kept left) in
-    let went = subst (λ (more : List Beat). Throughout (EveryDisk (StandsForFront set behind more)) roomed new) same (c.add_beats.ensures.any_moment true_host gone.registry set behind kept left defined all) in
+    let room = prefix-none set behind (sent_copies (with_names registry message) message message.beats) middle roomed (c.make_room.ensures.any_moment true_host set behind was_kept left) in
+    let went = subst (λ (more : List Beat). Throughout (EveryDisk (StandsForPrefix set behind more)) roomed new) same (c.add_beats.ensures.any_moment true_host gone.registry set behind kept left defined all) in
     joined begun (message-behind set h registry message middle new (joined room went))
 
 pub returns-clause-done : goal.returns-clause-done

@@ -8,7 +8,7 @@ use Rattle.indexmap.specs.IndexMap.{values}
 use Rattle.chart_registry.specs.declared.charts.Chart.{Chart}
 use Rattle.chart_registry.specs.Rows.{Row, row_of, ids}
 use Rattle.chart_registry.proofs.ChartsLemmas.{rows-push, values-push}
-use Rattle.chart_registry.proofs.LeavingLemmas.{front-same}
+use Rattle.chart_registry.proofs.LeavingLemmas.{prefix-same}
 use Rattle.chart_registry.proofs.charts.remove_last.Goals as goal
 
 -- what is taken from a list that has something is its last
@@ -37,4 +37,4 @@ returns-clause-by_id c = λ by_id.
     let rows : ids (map row_of (values_of charts.entries)) ≡ ids (map row_of (values_of fs)) ++ chart.def.id ∷ []
     = ap (λ (es : List (String Global × Chart)). ids (map row_of (values_of es))) last.1
     ∙ ap ids (rows-push fs id chart) ∙ map-append (λ (row : Row). row.id) (map row_of (values_of fs)) (row_of chart ∷ []) in
-    front-same (map string_bytes (keys_of fs)) (ids (map row_of (values_of fs))) (string_bytes id) chart.def.id (sym keys ∙ by_id ∙ rows)
+    prefix-same (map string_bytes (keys_of fs)) (ids (map row_of (values_of fs))) (string_bytes id) chart.def.id (sym keys ∙ by_id ∙ rows)

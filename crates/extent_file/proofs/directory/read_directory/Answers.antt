@@ -9,12 +9,12 @@ use Rattle.extent_file.proofs.OrderLemmas.{order-push, after_all-push, one_left,
 use Rattle.extent_file.proofs.directory.read_directory.Goals as goal
 
 pub returns-in-Err-clause-bad : goal.returns-in-Err-clause-bad
-returns-in-Err-clause-bad c place is bytes window form front enough leads =
+returns-in-Err-clause-bad c place is bytes window form prefix enough leads =
     let left : ℕ = c.args.pages - 1 - c.loop-index.index in
     let here = one_left c.args.tier c.args.size c.args.pages c.loop-index.index c.loop-index.before c.loop-index.entries form bytes (24 + 24 * c.loop-index.index) (omega (arith, c.loop-index-test.true))
-    (c.loop-index.invariant.leads bytes window form front enough leads) in
+    (c.loop-index.invariant.leads bytes window form prefix enough leads) in
     let stop : StopsAt form bytes c.in-Err.place = c.in-Err.ensures.leads (λ (entry : Entry). directory_form c.args.tier c.args.size left (after_entry c.args.tier entry) (c.loop-index.entries ++ entry ∷ []))
-    bytes window form front (omega (arith, enough, c.loop-index-test.true)) here in
+    bytes window form prefix (omega (arith, enough, c.loop-index-test.true)) here in
     (c.in-Err.place, (let same : c.args.start + c.in-Err.place ≡ place = cc in sym same), stop)
 
 pub loop-index-preserved : goal.loop-index-preserved
@@ -31,17 +31,17 @@ loop-index-preserved c =
       count = omega (arith, long, both, count);
       inside = omega (arith, inside);
       place = omega (arith, place, inside);
-      leads = λ bytes window form front enough start.
+      leads = λ bytes window form prefix enough start.
           let left : ℕ = c.args.pages - 1 - c.loop-index.index in
           let here = one_left tier c.args.size c.args.pages c.loop-index.index c.loop-index.before entries form bytes (24 + 24 * c.loop-index.index) (omega (arith, c.loop-index-test.true))
-          (c.loop-index.invariant.leads bytes window form front enough start) in
+          (c.loop-index.invariant.leads bytes window form prefix enough start) in
           one_read tier c.args.size c.args.pages c.loop-index.index (24 + 24 * c.loop-index.index) c.after-before.result entries c.push.new.self entry form bytes more c.after-before.ensures refl
           (c.in-Ok.ensures.leads (λ (e : Entry). directory_form tier c.args.size left (after_entry tier e) (entries ++ e ∷ []))
-          bytes window form front (omega (arith, enough, c.loop-index-test.true)) here);
+          bytes window form prefix (omega (arith, enough, c.loop-index-test.true)) here);
     }
 
 pub returns-clause-whole : goal.returns-clause-whole
-returns-clause-whole c bytes window form front enough leads =
+returns-clause-whole c bytes window form prefix enough leads =
     all_read c.args.tier c.args.size c.args.pages c.loop-index.index c.loop-index.before c.loop-index.entries form bytes
     (omega (arith, c.loop-index-test.false, c.loop-index.auto.index-end)) c.loop-index.invariant.count
-    (c.loop-index.invariant.leads bytes window form front enough leads)
+    (c.loop-index.invariant.leads bytes window form prefix enough leads)

@@ -9,4 +9,4 @@ pub returns-in-Ok-read_head-clause-leads : goal.returns-in-Ok-read_head-clause-l
 returns-in-Ok-read_head-clause-leads g c h =
     let bytes = drop c.args.start (contents (of c.args.file (g.H.Host.seen c.args.host.now).past)) in
     let form = extent_form c.args.tier c.args.slot c.args.size in
-    c.in-Ok-read_head.ensures.leads bytes 24 form (search (rules, c.in-Ok.ensures.front h)) (omega arith) (leads_here form bytes)
+    c.in-Ok-read_head.ensures.leads bytes 24 form (search (rules, c.in-Ok.ensures.prefix h)) (omega arith) (leads_here form bytes)

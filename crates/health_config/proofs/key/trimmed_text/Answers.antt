@@ -11,4 +11,4 @@ range-text-requires-clause-end_boundary c =
 
 pub range_from-requires : goal.range_from-requires
 range_from-requires c = λ _.
-    behind_blanks c.range-text.result.now c.front_len.result c.range-text.utf8 (c.front_len.ensures.len ∙ ap (prefix_len is_blank) c.as_bytes-2.ensures.value)
+    behind_blanks c.range-text.result.now c.leading_len.result c.range-text.utf8 (c.leading_len.ensures.len ∙ ap (prefix_len is_blank) c.as_bytes-2.ensures.value)

@@ -7,7 +7,7 @@ use Rattle.health_config.proofs.tally.read_entities.Given as goal
 abbrev pub invariant-loop-template : goal.invariant-loop-template
 invariant-loop-template l = record {
   whole : then_entities (none_but l.fn.skipped) (entities 0 (sections l.lines).groups) ≡ then_entities (tally_of l.tally) (entities l.before (sections l.ahead).groups);
-  here : (sections l.ahead).front ≡ [];
+  here : (sections l.ahead).prefix ≡ [];
   few : l.tally.skipped + length l.ahead ≤ l.fn.skipped + length l.lines;
   room : l.before ≤ 4096;
 }

@@ -4,6 +4,6 @@ use Rattle.line_stream.proofs.stream.hand_over.Given as goal
 
 abbrev pub invariant-loop-at : goal.invariant-loop-at
 invariant-loop-at g l =
-    ((start : g.row.T.Denot) (begin : g.row.H.Denot) (front : List (List ℕ)) → length front ≡ l.fn.count → Chain g.T.Taker.acts start begin front l.fn.taker l.fn.host
-    → Chain g.T.Taker.acts start begin (front ++ take l.at l.lines) l.taker l.host)
+    ((start : g.row.T.Denot) (begin : g.row.H.Denot) (prefix : List (List ℕ)) → length prefix ≡ l.fn.count → Chain g.T.Taker.acts start begin prefix l.fn.taker l.fn.host
+    → Chain g.T.Taker.acts start begin (prefix ++ take l.at l.lines) l.taker l.host)
     × (l.count ≡ l.fn.count + l.at) × g.T.Taker.ready l.taker l.host (l.count + 1)

@@ -7,5 +7,5 @@ use Rattle.link_frames.proofs.law.every_frame.Goals as goal
 pub returns-clause-one_frame : goal.returns-clause-one_frame
 returns-clause-one_frame c = λ a b spells_a spells_b same. one_frame a b [] [] spells_a spells_b (ap (λ bytes. bytes ++ []) same)
 
-pub returns-clause-no_front : goal.returns-clause-no_front
-returns-clause-no_front c = λ a b more spells_a spells_b same. one_end a b more [] spells_a spells_b (same ∙ sym (append-nil (frame_bytes b)))
+pub returns-clause-no_prefix : goal.returns-clause-no_prefix
+returns-clause-no_prefix c = λ a b more spells_a spells_b same. one_end a b more [] spells_a spells_b (same ∙ sym (append-nil (frame_bytes b)))

@@ -2,7 +2,7 @@ use Rattle.std.proofs.Common.{◌+◌, List, ◌++◌, take, subst, sym, ◌∙�
 use Rattle.replication.specs.declared.beats.Beat.{Beat}
 use Rattle.replication.specs.Marks.{AreMarks}
 use Rattle.replication.specs.Names.{uses, words_of}
-use Rattle.replication.proofs.FrontCode.{words_of-more}
+use Rattle.replication.proofs.PrefixCode.{words_of-more}
 use Rattle.link_frames.proofs.used.are_dimensions_used.Goals as goal
 
 pub loop-beat-preserved : goal.loop-beat-preserved

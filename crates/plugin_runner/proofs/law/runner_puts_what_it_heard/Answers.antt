@@ -6,7 +6,7 @@ use Rattle.plugin_runner.specs.Bytes.{bytes_of}
 use Rattle.plugin_runner.specs.Course.{Course, IsTold, answer_after}
 use Rattle.plugin_runner.specs.Runner.{lasting_answer}
 use Rattle.plugin_runner.specs.Text.{Text}
-use Rattle.plugin_runner.proofs.WholeLemmas.{told-front}
+use Rattle.plugin_runner.proofs.WholeLemmas.{told-prefix}
 use Rattle.plugin_runner.proofs.law.runner_puts_what_it_heard.Goals as goal
 
 all_of : (answer : Option (Result Turn RunFault)) (course : Course) (whole : Text) → answer ≢ Some (Err fault.Memory) → IsTold answer course whole
@@ -18,8 +18,8 @@ all_of (Some (Err fault.PipeFault)) course whole other told = (told.0, told.1)
 all_of (Some (Err (fault.Disabled status))) course whole other told = (told.0, told.1)
 all_of (Some (Err fault.Memory)) course whole other told = absurd (other refl)
 
-pub returns-clause-front : goal.returns-clause-front
-returns-clause-front c = λ runner course later r. told-front (lasting_answer runner) course _ (r.tells later)
+pub returns-clause-prefix : goal.returns-clause-prefix
+returns-clause-prefix c = λ runner course later r. told-prefix (lasting_answer runner) course _ (r.tells later)
 
 pub returns-clause-whole : goal.returns-clause-whole
 returns-clause-whole c = λ runner course later r other. (all_of (lasting_answer runner) course _ other (r.tells later)).0

@@ -1,7 +1,7 @@
 use Rattle.std.proofs.Common.{◌≡◌, ◌<◌, ◌+◌, ℕ, suc, List, [], ◌∷◌, ◌++◌, add-one, length, take, drop, get_or, sym, ap, subst, ◌∙◌, arith, drop-cons}
 use Rattle.std.proofs.lemmas.List.{take_more, take-append-drop}
 use Rattle.plugin_runner.specs.Steps.{PutsAll, PutsSome}
-use Rattle.plugin_runner.proofs.LinesLemmas.{IsPlain-snoc, Puts-next, PutsFront-next}
+use Rattle.plugin_runner.proofs.LinesLemmas.{IsPlain-snoc, Puts-next, PutsPrefix-next}
 use Rattle.plugin_runner.proofs.StepLemmas.{Puts-nothing, on_err}
 use Rattle.plugin_runner.proofs.runner.take_lines.Goals as goal
 
@@ -19,12 +19,12 @@ returns-in_err-take_line-clause-err g c =
     let line = c.line.result.now in
     let within : at < length lines = omega arith in
     let some : PutsSome lines c.args.follower.now (g.C.Clock.readings c.args.clock.now) (g.C.Clock.readings c.take_line.new.clock) c.args.out.now c.take_line.new.out = record {
-      front = take at lines;
+      prefix = take at lines;
       last = line;
       more = drop (at + 1) lines;
       whole = whole lines at line within c.line.ensures;
       plain = c.loop-at.invariant.0.plain;
-      puts = PutsFront-next (take at lines) line c.args.follower.now c.loop-at.follower _ _ _ c.args.out.now c.loop-at.out c.take_line.new.out c.loop-at.invariant.0.puts [] c.in_err-take_line.ensures.err;
+      puts = PutsPrefix-next (take at lines) line c.args.follower.now c.loop-at.follower _ _ _ c.args.out.now c.loop-at.out c.take_line.new.out c.loop-at.invariant.0.puts [] c.in_err-take_line.ensures.err;
     } in
     on_err _ _ some
 
@@ -35,7 +35,7 @@ returns-then-branch-clause-ok g c =
     let line = c.line.result.now in
     let within : at < length lines = omega arith in
     record {
-      front = take at lines;
+      prefix = take at lines;
       last = line;
       more = drop (at + 1) lines;
       whole = whole lines at line within c.line.ensures;

@@ -53,7 +53,7 @@ returns-in_err-left-clause-memory c =
     let line = c.in_ok-hand_out.ensures in
     let first = HasCut-line _ _ _ _ _ start c.in-Some.end.now c.in-Some.more.now _ _ c.in-Some.ensures.0 line.fits line.cleared line.line in
     let p = err_from_is_err_and c.from_residual-in_err-left.result c.from_residual-in_err-left.ensures.1 in
-    rw (p.1, p.2) (λ is. let front = c.in_err-left.ensures.memory (same_error _ _ is) in BeginsWithLines-lines _ _ _ _ _ first line.cleared front.0 _ front.1 front.2)
+    rw (p.1, p.2) (λ is. let prefix = c.in_err-left.ensures.memory (same_error _ _ is) in BeginsWithLines-lines _ _ _ _ _ first line.cleared prefix.0 _ prefix.1 prefix.2)
 
 -- ---- all lines are handed out
 pub returns-clause-lines : goal.returns-clause-lines

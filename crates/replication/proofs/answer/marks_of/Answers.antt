@@ -1,7 +1,7 @@
 use Rattle.std.proofs.Common.{take, subst, sym}
 use Rattle.replication.specs.Marks.{AreMarksOf}
 use Rattle.replication.specs.Names.{words_of}
-use Rattle.replication.proofs.FrontCode.{words_of-more}
+use Rattle.replication.proofs.PrefixCode.{words_of-more}
 use Rattle.replication.proofs.answer.marks_of.Goals as goal
 
 pub loop-beat-preserved : goal.loop-beat-preserved

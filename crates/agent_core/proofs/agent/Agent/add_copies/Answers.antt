@@ -4,7 +4,7 @@ use Rattle.host_model.specs.Moments.{Throughout}
 use Rattle.store_core.specs.Counts.{counted}
 use Rattle.agent_core.specs.Agent.{left_in, AgentState}
 use Rattle.agent_core.specs.Copying.{beats_of, definitions_in, events_onto, names_refusal}
-use Rattle.agent_core.specs.Stands.{HoldsHistory, StandsForFront}
+use Rattle.agent_core.specs.Stands.{HoldsHistory, StandsForPrefix}
 use Rattle.agent_core.specs.Left.{IsLeftBy}
 use Rattle.agent_core.specs.Roles.{may_copy, role_of}
 use Rattle.agent_core.specs.Storing.{HasAdded}
@@ -51,7 +51,7 @@ returns-in-Ok-clause-any_moment g c true_host set h is_of =
     let holds = subst (λ (a : AgentState). HoldsHistory past a.store set h) (sym c.self.view_is) is_of.holds in
     let was = subst (λ (a : AgentState). IsLeftBy set h (left_in a)) (sym c.self.view_is) is_of.left_by in
     let copies : may_copy (role_of h) ≡ true = ap may_copy (sym is_of.left_by.role_is) ∙ (nothing-against agent.registry agent.role message c.requires.free).0 in
-    subst (λ (a : AgentState). Throughout (EveryDisk (StandsForFront set h (beats_of a.registry message))) past (g.H.Host.seen c.add_message-added.new.host).past)
+    subst (λ (a : AgentState). Throughout (EveryDisk (StandsForPrefix set h (beats_of a.registry message))) past (g.H.Host.seen c.add_message-added.new.host).past)
     c.self.view_is (c.add_message-added.ensures.any_moment true_host set h holds was copies)
 
 pub returns-in-Ok-clause-events : goal.returns-in-Ok-clause-events
@@ -73,5 +73,5 @@ returns-in-Err-clause-any_moment g c true_host set h is_of =
     let holds = subst (λ (a : AgentState). HoldsHistory past a.store set h) (sym c.self.view_is) is_of.holds in
     let was = subst (λ (a : AgentState). IsLeftBy set h (left_in a)) (sym c.self.view_is) is_of.left_by in
     let copies : may_copy (role_of h) ≡ true = ap may_copy (sym is_of.left_by.role_is) ∙ (nothing-against agent.registry agent.role message c.requires.free).0 in
-    subst (λ (a : AgentState). Throughout (EveryDisk (StandsForFront set h (beats_of a.registry message))) past (g.H.Host.seen c.add_message-added.new.host).past)
+    subst (λ (a : AgentState). Throughout (EveryDisk (StandsForPrefix set h (beats_of a.registry message))) past (g.H.Host.seen c.add_message-added.new.host).past)
     c.self.view_is (c.add_message-added.ensures.any_moment true_host set h holds was copies)

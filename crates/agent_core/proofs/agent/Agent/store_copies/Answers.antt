@@ -8,7 +8,7 @@ use Rattle.agent_core.specs.Agent.{AgentState, IsAgentOf}
 use Rattle.agent_core.specs.Calls.{agent_adds, agent_verdict}
 use Rattle.agent_core.specs.Copying.{copy_refusal, events_onto, refusal_by}
 use Rattle.agent_core.specs.Kept.{onto}
-use Rattle.agent_core.specs.Stands.{StandsForFront}
+use Rattle.agent_core.specs.Stands.{StandsForPrefix}
 use Rattle.agent_core.proofs.CopyCalls.{left-events, none-added, stored-adds}
 use Rattle.agent_core.proofs.Outcomes.{spending-refusal}
 use Rattle.agent_core.proofs.agent.Agent.store_copies.Goals as goal
@@ -40,7 +40,7 @@ returns-in-Ok-clause-any_moment g c true_host set h is_of =
     let stored : is_stored (agent_verdict agent message) ≡ true = search rules in
     let free : copy_refusal agent.registry agent.role message ≡ None
     = ap (λ (a : AgentState). copy_refusal a.registry a.role message) (sym c.self.view_is) ∙ sym c.copy_refusal.ensures ∙ c.in_default-copy_refusal.is in
-    subst (λ (more : List HistoryBeat). Throughout (EveryDisk (StandsForFront set h more)) (g.H.Host.seen c.args.host.now).past (g.H.Host.seen c.add_copies.new.host).past)
+    subst (λ (more : List HistoryBeat). Throughout (EveryDisk (StandsForPrefix set h more)) (g.H.Host.seen c.args.host.now).past (g.H.Host.seen c.add_copies.new.host).past)
     (stored-adds agent message stored free) (c.in-Ok.ensures.any_moment true_host set h is_of)
 
 pub returns-in-Ok-clause-done : goal.returns-in-Ok-clause-done
@@ -78,7 +78,7 @@ returns-in-Err-clause-any_moment g c true_host set h is_of =
     let stored : is_stored (agent_verdict agent message) ≡ true = search rules in
     let free : copy_refusal agent.registry agent.role message ≡ None
     = ap (λ (a : AgentState). copy_refusal a.registry a.role message) (sym c.self.view_is) ∙ sym c.copy_refusal.ensures ∙ c.in_default-copy_refusal.is in
-    subst (λ (more : List HistoryBeat). Throughout (EveryDisk (StandsForFront set h more)) (g.H.Host.seen c.args.host.now).past (g.H.Host.seen c.add_copies.new.host).past)
+    subst (λ (more : List HistoryBeat). Throughout (EveryDisk (StandsForPrefix set h more)) (g.H.Host.seen c.args.host.now).past (g.H.Host.seen c.add_copies.new.host).past)
     (stored-adds agent message stored free) (c.in-Err.ensures.any_moment true_host set h is_of)
 
 pub add_copies-requires-clause-free : goal.add_copies-requires-clause-free

@@ -2,7 +2,7 @@ use Rattle.std.proofs.Common.{◌≡◌, ◌-◌, ◌∷◌, ◌++◌, List, Opt
 use Rattle.algorithms.specs.declared.last.Last.{Last}
 use Rattle.history.specs.History.{collected, copied}
 use Rattle.history.specs.declared.row.Row.{Row}
-use Rattle.chart_registry.proofs.Finding.{take-front}
+use Rattle.chart_registry.proofs.Finding.{take-prefix}
 use Rattle.beat_points.specs.LastRows.{AreLastOf, Takes}
 use Rattle.beat_points.specs.Numbered.{rows_values}
 use Rattle.beat_points.proofs.Growing.{nothing}
@@ -21,7 +21,7 @@ returns-clause-ok c =
     (subst (λ (grown : List (Option Last)). Takes beat.moment (rows_values c.as_slice.result.now) grown c.take_rows.new.last) room c.take_rows.ensures) in
     let count : length c.take_rows.new.last ≡ vec_len c.make_room.new.last = c.take_rows.ensures.length_is ∙ c.deref_mut.ensures.len in
     λ h opened lasts same regular is.
-    subst (λ (new : List (Option Last)). AreLastOf new (collected beat.moment opened ∷ h)) (sym (take-front c.take_rows.new.last _ _ count))
+    subst (λ (new : List (Option Last)). AreLastOf new (collected beat.moment opened ∷ h)) (sym (take-prefix c.take_rows.new.last _ _ count))
     (collected-taken registry h beat opened old c.take_rows.new.last takes lasts same regular is)
 
 pub returns-clause-copied : goal.returns-clause-copied
@@ -36,5 +36,5 @@ returns-clause-copied c =
     (subst (λ (grown : List (Option Last)). Takes beat.moment (rows_values c.as_slice.result.now) grown c.take_rows.new.last) room c.take_rows.ensures) in
     let count : length c.take_rows.new.last ≡ vec_len c.make_room.new.last = c.take_rows.ensures.length_is ∙ c.deref_mut.ensures.len in
     λ h copy lasts same none.
-    subst (λ (new : List (Option Last)). AreLastOf new (copied copy ∷ h)) (sym (take-front c.take_rows.new.last _ _ count))
+    subst (λ (new : List (Option Last)). AreLastOf new (copied copy ∷ h)) (sym (take-prefix c.take_rows.new.last _ _ count))
     (copied-taken registry h beat.moment copy beat.rows old c.take_rows.new.last takes lasts same none)

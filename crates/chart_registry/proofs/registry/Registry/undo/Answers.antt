@@ -9,7 +9,7 @@ use Rattle.chart_registry.specs.declared.dimensions.Dimension.{Dimension}
 use Rattle.chart_registry.specs.Changes.{IsChange}
 use Rattle.chart_registry.specs.Rows.{Row, row_of, mark_of, row_at, rows, marks, chart_defs, AreKept}
 use Rattle.chart_registry.proofs.ChangesLemmas.{chart-restored, dimension-restored, redefined-id, replaced-id, replaced-there, taken-unowned}
-use Rattle.chart_registry.proofs.LeavingLemmas.{all-front, owner-there, AreKept-without_chart, AreKept-without_dimension}
+use Rattle.chart_registry.proofs.LeavingLemmas.{all-prefix, owner-there, AreKept-without_chart, AreKept-without_dimension}
 use Rattle.chart_registry.proofs.registry.Registry.undo.Goals as goal
 
 abbrev has_grid : ChartDef → Type 0
@@ -33,8 +33,8 @@ invariant_of-self c =
     record {
       by_id = c.remove_last.ensures.by_id old.by_id;
       known = AreKept-without_chart (rows c.remove_last.new.charts) (row_of last.0) marked (subst (λ (rows : List Row). AreKept rows marked) split old.known) unowned;
-      grids = all-front has_grid (chart_defs c.remove_last.new.charts) last.0.def (subst (All has_grid) defs old.grids);
-      sizes = all-front is_short (rows c.remove_last.new.charts) (row_of last.0) (subst (All is_short) split old.sizes);
+      grids = all-prefix has_grid (chart_defs c.remove_last.new.charts) last.0.def (subst (All has_grid) defs old.grids);
+      sizes = all-prefix is_short (rows c.remove_last.new.charts) (row_of last.0) (subst (All is_short) split old.sizes);
       charts = omega (arith, old.charts, ap length defs, length_push (chart_defs c.remove_last.new.charts) last.0.def);
       dimensions = old.dimensions;
     }

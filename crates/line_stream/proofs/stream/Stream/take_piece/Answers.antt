@@ -7,7 +7,7 @@ use Rattle.plugin_text.specs.Lines.{fits, lines, rest}
 use Rattle.plugin_text.proofs.LongLemmas.{AllPass-lines}
 use Rattle.plugin_text.proofs.PartsLemmas.{parts_whole}
 use Rattle.line_stream.proofs.ChainLemmas.{on_ok-by, if_err-by}
-use Rattle.line_stream.proofs.RunLemmas.{front-one_line, piece-few, long-few, handed, piece-broke, long-broke, long-ended, pause-ended, piece-taken, piece-want}
+use Rattle.line_stream.proofs.RunLemmas.{prefix-one_line, piece-few, long-few, handed, piece-broke, long-broke, long-ended, pause-ended, piece-taken, piece-want}
 use Rattle.line_stream.proofs.stream.Stream.take_piece.Goals as goal
 
 pub hand_over-requires-clause-few : goal.hand_over-requires-clause-few
@@ -26,7 +26,7 @@ pub hand_over-requires-clause-whole : goal.hand_over-requires-clause-whole
 hand_over-requires-clause-whole g c =
     let text = c.args.self.now.splitter.rest ++ c.args.piece.now in
     let cut = c.in-Ok.ensures.lines ∙ ap (λ (before : List (List ℕ)). before ++ lines text) c.clear.ensures in
-    subst (AllPass is_one_line) (sym cut) (front-one_line text (lines text) (rest text ∷ []) (parts_whole text))
+    subst (AllPass is_one_line) (sym cut) (prefix-one_line text (lines text) (rest text ∷ []) (parts_whole text))
 
 pub returns-in_err-hand_over-in-Ok-clause-stops : goal.returns-in_err-hand_over-in-Ok-clause-stops
 returns-in_err-hand_over-in-Ok-clause-stops g c =
@@ -55,7 +55,7 @@ hand_over-requires-in-Err-LineTooLong-clause-whole g c =
     let text = c.args.self.now.splitter.rest ++ c.args.piece.now in
     let long = c.in-Err-LineTooLong.ensures.long c.requires.room.3.going (ap Err c.in-Err-LineTooLong.field-0-is) in
     let cut = long.1 ∙ ap (λ (before : List (List ℕ)). before ++ long.0) c.clear.ensures in
-    subst (AllPass is_one_line) (sym cut) (front-one_line text long.0 (long.2.long ∷ long.2.more) long.2.whole)
+    subst (AllPass is_one_line) (sym cut) (prefix-one_line text long.0 (long.2.long ∷ long.2.more) long.2.whole)
 
 pub returns-in_err-hand_over-in-Err-LineTooLong-clause-stops : goal.returns-in_err-hand_over-in-Err-LineTooLong-clause-stops
 returns-in_err-hand_over-in-Err-LineTooLong-clause-stops g c =

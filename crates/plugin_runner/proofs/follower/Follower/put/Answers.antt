@@ -1,11 +1,11 @@
 use Rattle.std.proofs.Common.{[], ◌∷◌, ◌++◌, length, sym, refl, ap, ◌∙◌, length-append, arith}
-use Rattle.plugin_runner.proofs.StepLemmas.{ok-with, err-with, on_ok, on_err, front-all, Puts-line, Puts-refused, PutsFront-line}
+use Rattle.plugin_runner.proofs.StepLemmas.{ok-with, err-with, on_ok, on_err, prefix-all, Puts-line, Puts-refused, PutsPrefix-line}
 use Rattle.plugin_runner.proofs.follower.Follower.put.Goals as goal
 
 pub returns-in_err-append_line-clause-err : goal.returns-in_err-append_line-clause-err
 returns-in_err-append_line-clause-err g c =
     let e = c.in_err-append_line.ensures.err in
-    on_err _ _ (PutsFront-line c.args.bytes.now c.args.self.now _ _ c.args.out.now c.append_line.new.out e.0 refl e.1 e.2)
+    on_err _ _ (PutsPrefix-line c.args.bytes.now c.args.self.now _ _ c.args.out.now c.append_line.new.out e.0 refl e.1 e.2)
 
 pub returns-in-Some-clause-ok : goal.returns-in-Some-clause-ok
 returns-in-Some-clause-ok g c =
@@ -20,7 +20,7 @@ pub returns-in-Some-clause-err : goal.returns-in-Some-clause-err
 returns-in-Some-clause-err g c =
     let line = c.args.bytes.now in
     err-with c.note.result _ _ c.note.ensures.err
-    (λ same. PutsFront-line line c.args.self.now _ _ c.args.out.now c.append_line.new.out (line ++ 10 ∷ []) same c.in_ok-append_line.ensures.ok (front-all (line ++ 10 ∷ []) (line ++ 10 ∷ []) refl))
+    (λ same. PutsPrefix-line line c.args.self.now _ _ c.args.out.now c.append_line.new.out (line ++ 10 ∷ []) same c.in_ok-append_line.ensures.ok (prefix-all (line ++ 10 ∷ []) (line ++ 10 ∷ []) refl))
 
 pub returns-in-Some-clause-grows : goal.returns-in-Some-clause-grows
 returns-in-Some-clause-grows g c =

@@ -1,5 +1,5 @@
 use Rattle.plugin_runner.specs.Text.{with_moment, with_due_moment}
-use Rattle.plugin_runner.proofs.StepLemmas.{ok-with, err-with, nothing, due-yes, due-no, Puts-as, PutsFront-as, Puts-nothing}
+use Rattle.plugin_runner.proofs.StepLemmas.{ok-with, err-with, nothing, due-yes, due-no, Puts-as, PutsPrefix-as, Puts-nothing}
 use Rattle.plugin_runner.proofs.follower.Follower.put_due_moment.Goals as goal
 
 pub returns-then-is_due-clause-ok : goal.returns-then-is_due-clause-ok
@@ -11,7 +11,7 @@ returns-then-is_due-clause-ok g c =
 pub returns-then-is_due-clause-err : goal.returns-then-is_due-clause-err
 returns-then-is_due-clause-err g c =
     err-with c.put_moment.result _ _ c.put_moment.ensures.err
-    (λ puts. PutsFront-as with_moment (with_due_moment c.args.next.now) c.args.self.now _ _ c.args.out.now c.put_moment.new.out
+    (λ puts. PutsPrefix-as with_moment (with_due_moment c.args.next.now) c.args.self.now _ _ c.args.out.now c.put_moment.new.out
     (due-yes c.args.self.now c.args.next.now c.is_due.result c.is_due.ensures c.if-is_due.true) puts)
 
 pub returns-else-is_due-clause-ok : goal.returns-else-is_due-clause-ok

@@ -1,6 +1,6 @@
 use Rattle.std.proofs.Common.{◌≡◌, ◌==◌, true, false, length, sym, ap, ◌∙◌, List, ℕ}
 use Rattle.plugin_runner.specs.Text.{with_moment, with_last_moment}
-use Rattle.plugin_runner.proofs.StepLemmas.{ok-with, err-with, nothing, last-none, last-some, Puts-as, PutsFront-as, Puts-nothing}
+use Rattle.plugin_runner.proofs.StepLemmas.{ok-with, err-with, nothing, last-none, last-some, Puts-as, PutsPrefix-as, Puts-nothing}
 use Rattle.plugin_runner.proofs.follower.Follower.put_last_moment.Goals as goal
 
 pub returns-then-is_empty-clause-ok : goal.returns-then-is_empty-clause-ok
@@ -18,4 +18,4 @@ pub returns-else-is_empty-clause-err : goal.returns-else-is_empty-clause-err
 returns-else-is_empty-clause-err g c =
     let some : (length c.args.self.now.rows == 0) ≡ false = ap (λ (l : List (List ℕ)). length l == 0) (sym c.as_slice.ensures) ∙ sym c.is_empty.ensures ∙ c.if-is_empty.false in
     err-with c.put_moment.result _ _ c.put_moment.ensures.err
-    (λ puts. PutsFront-as with_moment with_last_moment c.args.self.now _ _ c.args.out.now c.put_moment.new.out (last-some c.args.self.now some) puts)
+    (λ puts. PutsPrefix-as with_moment with_last_moment c.args.self.now _ _ c.args.out.now c.put_moment.new.out (last-some c.args.self.now some) puts)

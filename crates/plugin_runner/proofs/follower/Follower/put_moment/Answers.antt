@@ -1,14 +1,14 @@
 use Rattle.std.proofs.Common.{◌≡◌, ◌++◌, codes, sym, ap, subst, ◌∙◌}
 use Rattle.std.specs.Prelude.{decimal}
 use Rattle.plugin_runner.specs.Text.{moment, with_moment, with_line_put}
-use Rattle.plugin_runner.proofs.StepLemmas.{ok-with, err-with, on_err, grows-moment, same-moment, IsSame, Puts-as, PutsFront-as, PutsFront-nothing}
+use Rattle.plugin_runner.proofs.StepLemmas.{ok-with, err-with, on_err, grows-moment, same-moment, IsSame, Puts-as, PutsPrefix-as, PutsPrefix-nothing}
 use Rattle.plugin_runner.proofs.follower.Follower.put_moment.Goals as goal
 
 pub returns-in_err-line-clause-err : goal.returns-in_err-line-clause-err
-returns-in_err-line-clause-err g c = on_err _ _ (PutsFront-nothing with_moment c.args.self.now _ c.args.out.now grows-moment)
+returns-in_err-line-clause-err g c = on_err _ _ (PutsPrefix-nothing with_moment c.args.self.now _ c.args.out.now grows-moment)
 
 pub returns-in_err-said-clause-err : goal.returns-in_err-said-clause-err
-returns-in_err-said-clause-err g c = on_err _ _ (PutsFront-nothing with_moment c.args.self.now _ c.args.out.now grows-moment)
+returns-in_err-said-clause-err g c = on_err _ _ (PutsPrefix-nothing with_moment c.args.self.now _ c.args.out.now grows-moment)
 
 pub returns-clause-ok : goal.returns-clause-ok
 returns-clause-ok g c =
@@ -26,4 +26,4 @@ returns-clause-err g c =
     c.as_slice-2.ensures ∙ c.in_ok-line.ensures ∙ ap (λ m. codes "MOMENT " ++ decimal m) c.moment.ensures.value in
     let same = subst (λ l. IsSame old (with_line_put l) with_moment) (sym text) (same-moment old) in
     err-with c.put.result _ _ c.put.ensures.err
-    (λ puts. PutsFront-as (with_line_put c.as_slice-2.result.now) with_moment old _ _ c.args.out.now c.put.new.out same puts)
+    (λ puts. PutsPrefix-as (with_line_put c.as_slice-2.result.now) with_moment old _ _ c.args.out.now c.put.new.out same puts)

@@ -1,8 +1,8 @@
 use Rattle.std.proofs.Common.{◌≡◌, ◌≤◌, ℕ, List, [], ◌++◌, length, Err, refl, sym, ap, subst, ◌∙◌, append_assoc, append-nil, arith, length-append}
 use Rattle.plugin_text.specs.Lines.{parts, lines}
 use Rattle.plugin_runner.specs.declared.runner.Runner.{Runner}
-use Rattle.plugin_runner.specs.Bytes.{IsFront}
-use Rattle.plugin_runner.proofs.CourseLemmas.{lands-memory, listens-all, tells-disabled, tells-long, tells-front, tells-nothing, tells-some}
+use Rattle.plugin_runner.specs.Bytes.{IsPrefix}
+use Rattle.plugin_runner.proofs.CourseLemmas.{lands-memory, listens-all, tells-disabled, tells-long, tells-prefix, tells-nothing, tells-some}
 use Rattle.plugin_runner.proofs.PatienceLemmas.{feed-spends}
 use Rattle.plugin_runner.proofs.runner.Runner.put_piece.Goals as goal
 
@@ -61,9 +61,9 @@ returns-in_err-append_both-in-Err-LineTooLong-clause-goes g c = λ course l.
     let size : length (old.splitter.rest ++ piece) ≤ 8193 = omega (arith, c.requires.room, length-append old.splitter.rest piece) in
     let long = c.in-Err-LineTooLong.ensures.long l.going (ap Err c.in-Err-LineTooLong.field-0-is) in
     let e = c.in_err-append_both-in-Err-LineTooLong.ensures.err in
-    let front : IsFront e.0 (old.splitter.rest ++ piece) = subst (λ (b : List ℕ). IsFront e.0 (b ++ piece)) held e.2 in
+    let prefix : IsPrefix e.0 (old.splitter.rest ++ piece) = subst (λ (b : List ℕ). IsPrefix e.0 (b ++ piece)) held e.2 in
     lands-memory c.from_residual-in_err-append_both-in-Err-LineTooLong.result c.from_residual-in_err-append_both-in-Err-LineTooLong.ensures.0 piece course new _ _ c.args.out.now c.append_both.new.out
-    (record { taken = []; reads = refl; added = e.0; wrote = e.1; next = tells-front old course piece l e.0 long.0 long.2 size front })
+    (record { taken = []; reads = refl; added = e.0; wrote = e.1; next = tells-prefix old course piece l e.0 long.0 long.2 size prefix })
 
 pub returns-in-Err-LineTooLong-clause-goes : goal.returns-in-Err-LineTooLong-clause-goes
 returns-in-Err-LineTooLong-clause-goes g c = λ course l.

@@ -5,11 +5,11 @@ use Rattle.std.proofs.lemmas.List.{append-nil, take-append-drop, take-take, take
 use Rattle.std.proofs.lemmas.List.Concat.{flat_map-append}
 use Rattle.replication.specs.declared.beats.Beat.{Beat}
 use Rattle.replication.specs.declared.names.Names.{Names}
-use Rattle.replication.specs.Answer.{data_with, front}
+use Rattle.replication.specs.Answer.{data_with, prefix}
 use Rattle.replication.specs.Bytes.{data_bytes}
 use Rattle.replication.specs.Marks.{words_size}
 use Rattle.replication.specs.Names.{words_of}
-use Rattle.replication.proofs.FrontLaws.{fits, front-is}
+use Rattle.replication.proofs.PrefixLaws.{fits, prefix-is}
 use Rattle.replication.proofs.MarksLaws.{words_size-rises, length-data_with}
 
 -- the words of one more beat
@@ -20,7 +20,7 @@ words_of-more beats i x lt at =
 words_of-split : (beats : List Beat) (j k : ℕ) → j ≤ k → words_of (take k beats) ≡ words_of (take j beats) ++ words_of (drop j (take k beats))
 words_of-split beats j k le =
     ap words_of (sym (take-append-drop j (take k beats))) ∙ flat_map-append (λ (beat : Beat). beat.words) (take j (take k beats)) (drop j (take k beats))
-    ∙ ap (λ front. words_of front ++ words_of (drop j (take k beats))) (take-take j k beats le)
+    ∙ ap (λ prefix. words_of prefix ++ words_of (drop j (take k beats))) (take-take j k beats le)
 
 -- more beats take no less
 size-rises : (names : Names) (beats : List Beat) (j k : ℕ) → j ≤ k → words_size names (words_of (take j beats)) ≤ words_size names (words_of (take k beats))
@@ -34,25 +34,25 @@ counted-fits child floor prev names later count room le size =
     le-leb (length (data_bytes (data_with child floor prev names (take count later)))) 1048576 (omega (arith, length-data_with child floor prev names (take count later), length-take-le count later le))
 
 -- where the next beat has no room, or there is none, the prefix is what was counted
-pub front-stops : (child floor prev : ℕ) (names : Names) (later : List Beat) (count room : ℕ) (x : Beat) → count < length later → count ≤ 64 → x ≡ get_or later count x
+pub prefix-stops : (child floor prev : ℕ) (names : Names) (later : List Beat) (count room : ℕ) (x : Beat) → count < length later → count ≤ 64 → x ≡ get_or later count x
     → room + (37 + words_size names (words_of (take count later)) + 8 * count) ≡ 1048576
     → room + words_size names (words_of (take count later)) < 8 + words_size names (words_of (take count later) ++ x.words)
-    → take (max count 1) later ≡ front (data_with child floor prev names) later
-front-stops child floor prev names later count room x lt le at size past =
-    front-is (data_with child floor prev names) later count le (inr (counted-fits child floor prev names later count room (omega arith) size))
+    → take (max count 1) later ≡ prefix (data_with child floor prev names) later
+prefix-stops child floor prev names later count room x lt le at size past =
+    prefix-is (data_with child floor prev names) later count le (inr (counted-fits child floor prev names later count room (omega arith) size))
     (inr (λ k above within.
     let next = ap (words_size names) (words_of-more later count x lt at) in
     lt-leb (length (data_bytes (data_with child floor prev names (take k later)))) 1048576
     (omega (arith, length-data_with child floor prev names (take k later), length-take k later, size-rises names later (count + 1) k (omega arith), next))))
 
-pub front-full : (child floor prev : ℕ) (names : Names) (later : List Beat) (count room : ℕ) → count ≤ length later → count ≡ 64
+pub prefix-full : (child floor prev : ℕ) (names : Names) (later : List Beat) (count room : ℕ) → count ≤ length later → count ≡ 64
     → room + (37 + words_size names (words_of (take count later)) + 8 * count) ≡ 1048576
-    → take (max count 1) later ≡ front (data_with child floor prev names) later
-front-full child floor prev names later count room le full size =
-    front-is (data_with child floor prev names) later count (omega arith) (inr (counted-fits child floor prev names later count room le size)) (inr (λ k above within. absurd (omega arith)))
+    → take (max count 1) later ≡ prefix (data_with child floor prev names) later
+prefix-full child floor prev names later count room le full size =
+    prefix-is (data_with child floor prev names) later count (omega arith) (inr (counted-fits child floor prev names later count room le size)) (inr (λ k above within. absurd (omega arith)))
 
-pub front-all : (child floor prev : ℕ) (names : Names) (later : List Beat) (count room : ℕ) → count ≡ length later → count ≤ 64
+pub prefix-all : (child floor prev : ℕ) (names : Names) (later : List Beat) (count room : ℕ) → count ≡ length later → count ≤ 64
     → room + (37 + words_size names (words_of (take count later)) + 8 * count) ≡ 1048576
-    → take (max count 1) later ≡ front (data_with child floor prev names) later
-front-all child floor prev names later count room all le size =
-    front-is (data_with child floor prev names) later count le (inr (counted-fits child floor prev names later count room (omega arith) size)) (inl (omega arith))
+    → take (max count 1) later ≡ prefix (data_with child floor prev names) later
+prefix-all child floor prev names later count room all le size =
+    prefix-is (data_with child floor prev names) later count le (inr (counted-fits child floor prev names later count room (omega arith) size)) (inl (omega arith))

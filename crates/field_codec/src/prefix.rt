@@ -1,4 +1,4 @@
-//! The field at the front of some bytes, and what follows it.
+//! The field at the start of some bytes, and what follows it.
 
 ghost use Rattle.std.specs.Prelude.{◌≡◌, Ok};
 ghost use Rattle.field_codec.specs.Field.{seen};

@@ -33,7 +33,7 @@ use Rattle.store_core.specs.Store.{StoreState}
 use Rattle.agent_core.specs.Alarms.{events_at}
 use Rattle.agent_core.specs.Copying.{beats_of, copied_of, copy_refusal, definitions_in, events_onto, names_refusal, nothing_defined}
 use Rattle.agent_core.specs.Kept.{onto}
-use Rattle.agent_core.specs.Stands.{HoldsHistory, StandsForFront, StandsForHistory}
+use Rattle.agent_core.specs.Stands.{HoldsHistory, StandsForPrefix, StandsForHistory}
 use Rattle.agent_core.specs.declared.left.Left.{Left}
 use Rattle.agent_core.specs.Left.{IsLeftBy}
 use Rattle.agent_core.specs.Roles.{may_copy, role_of}
@@ -67,7 +67,7 @@ takes-next h (first ∷ more) (suc i) beat at all = takes-next (first ∷ h) mor
 
 -- the first n of these beats are stored on a history, and these events were told
 pub record HaveStored (old now : List Event) (set : Settings) (h more : List Beat) (n : ℕ) (store : StoreState) (left : Left) (events : List AlarmEvent) : Type 0 where
-  pub moments : Throughout (EveryDisk (StandsForFront set h more)) old now
+  pub moments : Throughout (EveryDisk (StandsForPrefix set h more)) old now
   pub added : HasAdded now store left set h (take n more) events
 
 pub stored-none : (past : List Event) (set : Settings) (h more : List Beat) (store : StoreState) (left : Left) → HoldsHistory past store set h → IsLeftBy set h left → HaveStored past past set h more 0 store left []
@@ -86,10 +86,10 @@ added-one past store left set h beat events holds by told = record { holds = hol
 module _ (old now new : List Event) (set : Settings) (h more : List Beat) (n : ℕ) (store : StoreState) (left : Left) (events : List AlarmEvent)
     (stored : HaveStored old now set h more n store left events) (beat : Beat) (at : slice_get more n ≡ Some beat)
     (moments : Throughout (EveryDisk (λ disk. StandsForHistory set (onto h (take n more)) disk ⊎ StandsForHistory set (beat ∷ onto h (take n more)) disk)) now new) where
-  pub stored-moments : Throughout (EveryDisk (StandsForFront set h more)) old new
+  pub stored-moments : Throughout (EveryDisk (StandsForPrefix set h more)) old new
   stored-moments = joined stored.moments (disks_weaker by moments)
     where
-      by : (disk : File → List ℕ) → StandsForHistory set (onto h (take n more)) disk ⊎ StandsForHistory set (beat ∷ onto h (take n more)) disk → StandsForFront set h more disk
+      by : (disk : File → List ℕ) → StandsForHistory set (onto h (take n more)) disk ⊎ StandsForHistory set (beat ∷ onto h (take n more)) disk → StandsForPrefix set h more disk
       by disk (inl stands) = (n, stands)
       by disk (inr stands) = (suc n, subst (λ (g : List Beat). StandsForHistory set g disk) (sym (onto-next set h more n beat at)) stands)
 
@@ -106,12 +106,12 @@ module _ (old now new : List Event) (set : Settings) (h more : List Beat) (n : �
 
 -- ---- room for the next of them
 -- the history stands without them
-pub front-none : (set : Settings) (h more : List Beat) (old new : List Event) → Throughout (EveryDisk (StandsForHistory set h)) old new → Throughout (EveryDisk (StandsForFront set h more)) old new
-front-none set h more old new moments = disks_weaker (λ disk stands. (0, stands)) moments
+pub prefix-none : (set : Settings) (h more : List Beat) (old new : List Event) → Throughout (EveryDisk (StandsForHistory set h)) old new → Throughout (EveryDisk (StandsForPrefix set h more)) old new
+prefix-none set h more old new moments = disks_weaker (λ disk stands. (0, stands)) moments
 
 module _ (old now new : List Event) (set : Settings) (h more : List Beat) (n : ℕ) (store : StoreState) (left : Left) (events : List AlarmEvent)
     (stored : HaveStored old now set h more n store left events) (moments : Throughout (EveryDisk (StandsForHistory set (onto h (take n more)))) now new) where
-  pub room-moments : Throughout (EveryDisk (StandsForFront set h more)) old new
+  pub room-moments : Throughout (EveryDisk (StandsForPrefix set h more)) old new
   room-moments = joined stored.moments (disks_weaker (λ disk stands. (n, stands)) moments)
 
   -- what was stored so far stays
@@ -188,17 +188,17 @@ later-length registry message beats = length-map (named_beats message.names beat
 
 -- ---- the first of them, and the others
 module _ (set : Settings) (h : List Beat) (beat : Beat) (more : List Beat) (old new : List Event) where
-  pub first-moments : Throughout (EveryDisk (λ disk. StandsForHistory set h disk ⊎ StandsForHistory set (beat ∷ h) disk)) old new → Throughout (EveryDisk (StandsForFront set h (beat ∷ more))) old new
+  pub first-moments : Throughout (EveryDisk (λ disk. StandsForHistory set h disk ⊎ StandsForHistory set (beat ∷ h) disk)) old new → Throughout (EveryDisk (StandsForPrefix set h (beat ∷ more))) old new
   first-moments moments = disks_weaker by moments
     where
-      by : (disk : File → List ℕ) → StandsForHistory set h disk ⊎ StandsForHistory set (beat ∷ h) disk → StandsForFront set h (beat ∷ more) disk
+      by : (disk : File → List ℕ) → StandsForHistory set h disk ⊎ StandsForHistory set (beat ∷ h) disk → StandsForPrefix set h (beat ∷ more) disk
       by disk (inl stands) = (0, stands)
       by disk (inr stands) = (1, stands)
 
-  pub rest-moments : Throughout (EveryDisk (StandsForFront set (beat ∷ h) more)) old new → Throughout (EveryDisk (StandsForFront set h (beat ∷ more))) old new
+  pub rest-moments : Throughout (EveryDisk (StandsForPrefix set (beat ∷ h) more)) old new → Throughout (EveryDisk (StandsForPrefix set h (beat ∷ more))) old new
   rest-moments moments = disks_weaker by moments
     where
-      by : (disk : File → List ℕ) → StandsForFront set (beat ∷ h) more disk → StandsForFront set h (beat ∷ more) disk
+      by : (disk : File → List ℕ) → StandsForPrefix set (beat ∷ h) more disk → StandsForPrefix set h (beat ∷ more) disk
       by disk stands = (suc stands.0, stands.1)
 
 -- ---- the definitions of a Data
@@ -252,24 +252,24 @@ pub takes-behind : (h xs ys : List Beat) → MayTakeAll h (xs ++ ys) → MayTake
 takes-behind h [] ys all = all
 takes-behind h (x ∷ xs) ys all = takes-behind (x ∷ h) xs ys all.1
 
-front-before : (n : ℕ) (xs ys : List Beat) → (m : ℕ) × (take m (xs ++ ys) ≡ take n xs)
-front-before zero xs ys = (0, refl)
-front-before (suc n) [] ys = (0, refl)
-front-before (suc n) (x ∷ xs) ys = let rest = front-before n xs ys in (suc rest.0, ap (λ (l : List Beat). x ∷ l) rest.1)
+prefix-before : (n : ℕ) (xs ys : List Beat) → (m : ℕ) × (take m (xs ++ ys) ≡ take n xs)
+prefix-before zero xs ys = (0, refl)
+prefix-before (suc n) [] ys = (0, refl)
+prefix-before (suc n) (x ∷ xs) ys = let rest = prefix-before n xs ys in (suc rest.0, ap (λ (l : List Beat). x ∷ l) rest.1)
 
 module _ (set : Settings) (h xs ys : List Beat) (old new : List Event) where
-  pub moments-before : Throughout (EveryDisk (StandsForFront set h xs)) old new → Throughout (EveryDisk (StandsForFront set h (xs ++ ys))) old new
+  pub moments-before : Throughout (EveryDisk (StandsForPrefix set h xs)) old new → Throughout (EveryDisk (StandsForPrefix set h (xs ++ ys))) old new
   moments-before moments = disks_weaker by moments
     where
-      by : (disk : File → List ℕ) → StandsForFront set h xs disk → StandsForFront set h (xs ++ ys) disk
+      by : (disk : File → List ℕ) → StandsForPrefix set h xs disk → StandsForPrefix set h (xs ++ ys) disk
       by disk stands =
-          let front = front-before stands.0 xs ys in
-          (front.0, subst (λ (more : List Beat). StandsForHistory set (onto h more) disk) (sym front.1) stands.1)
+          let prefix = prefix-before stands.0 xs ys in
+          (prefix.0, subst (λ (more : List Beat). StandsForHistory set (onto h more) disk) (sym prefix.1) stands.1)
 
-  pub moments-behind : Throughout (EveryDisk (StandsForFront set (onto h xs) ys)) old new → Throughout (EveryDisk (StandsForFront set h (xs ++ ys))) old new
+  pub moments-behind : Throughout (EveryDisk (StandsForPrefix set (onto h xs) ys)) old new → Throughout (EveryDisk (StandsForPrefix set h (xs ++ ys))) old new
   moments-behind moments = disks_weaker by moments
     where
-      by : (disk : File → List ℕ) → StandsForFront set (onto h xs) ys disk → StandsForFront set h (xs ++ ys) disk
+      by : (disk : File → List ℕ) → StandsForPrefix set (onto h xs) ys disk → StandsForPrefix set h (xs ++ ys) disk
       by disk stands =
           (length xs + stands.0, subst (λ (g : List Beat). StandsForHistory set g disk) (sym (ap (onto h) (take-append-add xs ys stands.0) ∙ onto-append h xs (take stands.0 ys))) stands.1)
 
@@ -294,11 +294,11 @@ module _ (set : Settings) (h : List Beat) (registry : Registry) (message : Data)
   abbrev copies : List Beat
   copies = sent_copies (with_names registry message) message message.beats
 
-  pub message-before : (old new : List Event) → Throughout (EveryDisk (StandsForFront set h (gap_beats message))) old new → Throughout (EveryDisk (StandsForFront set h (beats_of registry message))) old new
-  message-before old new moments = subst (λ (more : List Beat). Throughout (EveryDisk (StandsForFront set h more)) old new) (sym (beats-are-all registry message)) (moments-before set h (gap_beats message) copies old new moments)
+  pub message-before : (old new : List Event) → Throughout (EveryDisk (StandsForPrefix set h (gap_beats message))) old new → Throughout (EveryDisk (StandsForPrefix set h (beats_of registry message))) old new
+  message-before old new moments = subst (λ (more : List Beat). Throughout (EveryDisk (StandsForPrefix set h more)) old new) (sym (beats-are-all registry message)) (moments-before set h (gap_beats message) copies old new moments)
 
-  pub message-behind : (old new : List Event) → Throughout (EveryDisk (StandsForFront set (onto h (gap_beats message)) copies)) old new → Throughout (EveryDisk (StandsForFront set h (beats_of registry message))) old new
-  message-behind old new moments = subst (λ (more : List Beat). Throughout (EveryDisk (StandsForFront set h more)) old new) (sym (beats-are-all registry message)) (moments-behind set h (gap_beats message) copies old new moments)
+  pub message-behind : (old new : List Event) → Throughout (EveryDisk (StandsForPrefix set (onto h (gap_beats message)) copies)) old new → Throughout (EveryDisk (StandsForPrefix set h (beats_of registry message))) old new
+  message-behind old new moments = subst (λ (more : List Beat). Throughout (EveryDisk (StandsForPrefix set h more)) old new) (sym (beats-are-all registry message)) (moments-behind set h (gap_beats message) copies old new moments)
 
   pub message-added : (past : List Event) (store : StoreState) (left : Left) (events : List AlarmEvent) → HasAdded past store left set (onto h (gap_beats message)) copies events → HasAdded past store left set h (beats_of registry message) events
   message-added past store left events did =

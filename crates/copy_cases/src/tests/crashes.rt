@@ -161,7 +161,7 @@ fn first_unsound(alloc: Global, keep: Keep) -> Result<Option<(u64, &'static str)
 }
 
 #[test]
-fn a_parent_after_a_stop(rt: HostRuntime) -> Result<(), Fail> {
+fn a_parent_after_a_crash(rt: HostRuntime) -> Result<(), Fail> {
     for keep in [Keep::All, Keep::None, Keep::Fill(255)] {
         let unsound = first_unsound(rt.alloc(), keep)?;
         assert_eq!(rt; unsound, None, "with {keep:?}");

@@ -1,7 +1,7 @@
 use Rattle.std.proofs.Common.{◌≡◌, ◌+◌, ◌*◌, ◌≤◌, take}
 use Rattle.replication.specs.Marks.{AreMarksOf, IsAsLongAs, words_size}
 use Rattle.replication.specs.Names.{words_of}
-use Rattle.replication.proofs.front.front_len.Given as goal
+use Rattle.replication.proofs.prefix.fitting_len.Given as goal
 
 abbrev pub invariant-loop-beat : goal.invariant-loop-beat
 invariant-loop-beat l = record {

@@ -1,10 +1,10 @@
 use Rattle.std.proofs.Common.{◌≡◌, ◌+◌, ◌*◌, ◌<◌, ◌++◌, get_or, take, refl, subst, sym, ap, ◌∙◌, arith}
 use Rattle.replication.specs.Marks.{AreMarksOf, words_size}
 use Rattle.replication.specs.Names.{words_of}
-use Rattle.replication.proofs.FrontCode.{words_of-more, front-all, front-full, front-stops}
+use Rattle.replication.proofs.PrefixCode.{words_of-more, prefix-all, prefix-full, prefix-stops}
 use Rattle.replication.proofs.MarksCode.{words_size-none}
-use Rattle.replication.proofs.front.front_len.Goals as goal
-use Rattle.replication.proofs.front.front_len.Goals.{else-loop-beat-test, then-loop-beat-test+then-count-eq-BEAT_LIMIT, then-loop-beat-test+else-count-eq-BEAT_LIMIT+in-None}
+use Rattle.replication.proofs.prefix.fitting_len.Goals as goal
+use Rattle.replication.proofs.prefix.fitting_len.Goals.{else-loop-beat-test, then-loop-beat-test+then-count-eq-BEAT_LIMIT, then-loop-beat-test+else-count-eq-BEAT_LIMIT+in-None}
 
 pub loop-beat-init : goal.loop-beat-init
 loop-beat-init c =
@@ -33,8 +33,8 @@ loop-beat-preserved c =
       room = omega (arith, c.loop-beat.invariant.room, left, ap (words_size names) more);
     }
 
-pub returns-clause-front : goal.returns-clause-front
-returns-clause-front c =
+pub returns-clause-prefix : goal.returns-clause-prefix
+returns-clause-prefix c =
     let names = c.args.names.now in
     let later = c.args.later.now in
     let inv = c.loop-beat.invariant in
@@ -42,10 +42,10 @@ returns-clause-front c =
     let room = c.loop-beat.room in
     let size = subst (λ i. room + (37 + words_size names (words_of (take i later)) + 8 * count) ≡ 1048576) (sym inv.counted) inv.room in
     λ child floor prev. ap (λ n. take n later) c.max.ensures ∙ elim c.loop-beat-test.branch [
-      | else-loop-beat-test w ↦ front-all child floor prev names later count room (omega (arith, inv.counted, w.loop-beat-test.false)) inv.within size
-      | then-loop-beat-test+then-count-eq-BEAT_LIMIT w ↦ front-full child floor prev names later count room (omega (arith, inv.counted, w.loop-beat-test.true)) (omega (arith, w.if-count-eq-BEAT_LIMIT.true)) size
+      | else-loop-beat-test w ↦ prefix-all child floor prev names later count room (omega (arith, inv.counted, w.loop-beat-test.false)) inv.within size
+      | then-loop-beat-test+then-count-eq-BEAT_LIMIT w ↦ prefix-full child floor prev names later count room (omega (arith, inv.counted, w.loop-beat-test.true)) (omega (arith, w.if-count-eq-BEAT_LIMIT.true)) size
       | then-loop-beat-test+else-count-eq-BEAT_LIMIT+in-None w ↦
-          front-stops child floor prev names later count room w.beat-item.result (omega (arith, inv.counted, w.loop-beat-test.true)) inv.within
+          prefix-stops child floor prev names later count room w.beat-item.result (omega (arith, inv.counted, w.loop-beat-test.true)) inv.within
           (subst (λ i. w.beat-item.result ≡ get_or later i w.beat-item.result) (sym inv.counted) w.beat-item.is) size
           (subst (λ i. room + words_size names (words_of (take i later)) < 8 + words_size names (words_of (take i later) ++ w.beat-item.result.words)) (sym inv.counted)
           (w.in-None.ensures.room (words_of (take c.loop-beat.beat-index later)) inv.marks))

@@ -6,7 +6,7 @@ use Rattle.replication.specs.declared.ask.Ask.{Ask}
 use Rattle.replication.specs.declared.beats.Beat.{Beat}
 use Rattle.replication.specs.declared.message.Data.{Data}
 use Rattle.replication.specs.declared.names.Names.{Names}
-use Rattle.replication.specs.Answer.{from_of, data_with, longest, front, with_front, data_of}
+use Rattle.replication.specs.Answer.{from_of, data_with, longest, prefix, with_prefix, data_of}
 use Rattle.replication.specs.Bytes.{data_bytes}
 use Rattle.replication.specs.Copies.{RisesFrom, above}
 use Rattle.replication.specs.Names.{beat_moment}
@@ -54,16 +54,16 @@ longest-stop make beats (suc n) count long =
     within (inr ge) now = ge
 
 -- the prefix is the first `count` beats, where these fit and no more do, or there are no more
-pub front-is : (make : List Beat → Data) (beats : List Beat) (count : ℕ) → count ≤ 64 → ((count ≡ 0) ⊎ (fits make beats count ≡ true))
-    → ((length beats ≤ count) ⊎ ((k : ℕ) → count < k → k ≤ 64 → fits make beats k ≡ false)) → take (max count 1) beats ≡ front make beats
-front-is make beats count le fit ends =
+pub prefix-is : (make : List Beat → Data) (beats : List Beat) (count : ℕ) → count ≤ 64 → ((count ≡ 0) ⊎ (fits make beats count ≡ true))
+    → ((length beats ≤ count) ⊎ ((k : ℕ) → count < k → k ≤ 64 → fits make beats k ≡ false)) → take (max count 1) beats ≡ prefix make beats
+prefix-is make beats count le fit ends =
     by (reached fit) ends
   where
     reached : ((count ≡ 0) ⊎ (fits make beats count ≡ true)) → count ≤ longest make beats 64
     reached (inl none) = omega arith
     reached (inr fit) = longest-ge make beats 64 count le fit
 
-    by : count ≤ longest make beats 64 → ((length beats ≤ count) ⊎ ((k : ℕ) → count < k → k ≤ 64 → fits make beats k ≡ false)) → take (max count 1) beats ≡ front make beats
+    by : count ≤ longest make beats 64 → ((length beats ≤ count) ⊎ ((k : ℕ) → count < k → k ≤ 64 → fits make beats k ≡ false)) → take (max count 1) beats ≡ prefix make beats
     by ge (inl all) = take_all (max count 1) beats (omega arith) ∙ sym (take_all (max 1 (longest make beats 64)) beats (omega arith))
     by ge (inr long) =
         let stop = longest-stop make beats 64 count long in
@@ -78,12 +78,12 @@ longest-take make beats m (suc n) le =
     let rest = longest-take make beats m n (omega arith) in
     λ i. cond (leb (length (data_bytes (make (same i)))) 1048576) (suc n) (rest i)
 
-with_front-take : (make : List Beat → Data) (beats : List Beat) → with_front make (take 64 beats) ≡ with_front make beats
-with_front-take make [] = refl
-with_front-take make (x ∷ xs) =
+with_prefix-take : (make : List Beat → Data) (beats : List Beat) → with_prefix make (take 64 beats) ≡ with_prefix make beats
+with_prefix-take make [] = refl
+with_prefix-take make (x ∷ xs) =
     let le = longest-le make (x ∷ xs) 64 in
     let counts : longest make (take 64 (x ∷ xs)) 64 ≡ longest make (x ∷ xs) 64 = longest-take make (x ∷ xs) 64 64 (omega arith) in
-    ap (λ front. Some (make front))
+    ap (λ prefix. Some (make prefix))
     (ap (λ n. take (max 1 n) (take 64 (x ∷ xs))) counts ∙ take-take (max 1 (longest make (x ∷ xs) 64)) 64 (x ∷ xs) (omega arith))
 
 -- the first 64 beats above where an answer begins are all that it needs
@@ -94,4 +94,4 @@ data_of-take child floor names beats ask rises =
     let later = above beat_moment from beats in
     let same : above beat_moment from (take 64 later) ≡ take 64 later =
     above-all beat_moment from from (take 64 later) (rises-take beat_moment from 64 later (RisesFrom-above beat_moment 0 from beats rises)) (omega arith) in
-    ap (λ answer. cond (child == ask.child) answer None) (ap (with_front (data_with child floor ask.last names)) same ∙ with_front-take (data_with child floor ask.last names) later)
+    ap (λ answer. cond (child == ask.child) answer None) (ap (with_prefix (data_with child floor ask.last names)) same ∙ with_prefix-take (data_with child floor ask.last names) later)
