@@ -35,6 +35,7 @@ use Rattle.agent_core.specs.Stands.{StandsForPrefix}
 use Rattle.agent_core.specs.Replies.{event_lines, reply_text, stored_line}
 use Rattle.agent_core.specs.Roles.{role_of}
 use Rattle.agent_core.proofs.KeptLemmas.{agent-kept, child-is}
+use Rattle.agent_core.proofs.Sound.{untaken}
 use Rattle.agent_core.proofs.StoredLemmas.{WereKept}
 use Rattle.agent_core.proofs.KeptLemmas.{agent-told}
 use Rattle.link_session.specs.declared.fault.SessionFault.{SessionFault}

@@ -8,5 +8,5 @@ returns g c =
     let items = c.args.sorted.now in
     let point = IsPartitionPoint-from_clause (λ item. leb item.series c.args.series) items c.partition_point-end.result c.partition_point-end.ensures.partitioned
     (IsPartitionedBy-leb (λ item. item.series) items c.args.series c.requires) (λ a r f call. search rules) in
-    c.split_at.ensures.prefix
+    c.split_at.ensures.front
     ∙ take-filter (λ item. leb item.series c.args.series) c.partition_point-end.result items c.partition_point-end.ensures.bound point.0 point.1

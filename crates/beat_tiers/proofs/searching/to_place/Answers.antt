@@ -9,5 +9,5 @@ returns g c = λ o.
     let items = c.args.items.now in
     let point = IsPartitionPoint-from_clause (λ item. leb item.place c.args.high) items c.partition_point-end.result c.partition_point-end.ensures.partitioned
     (IsPartitionedBy-leb (λ item. item.place) items c.args.high (places-non_decreasing items o)) (λ a r f call. search rules) in
-    c.split_at.ensures.prefix
+    c.split_at.ensures.front
     ∙ take-filter (λ item. leb item.place c.args.high) c.partition_point-end.result items c.partition_point-end.ensures.bound point.0 point.1

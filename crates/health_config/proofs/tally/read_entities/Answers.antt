@@ -18,7 +18,7 @@ loop-template-init c = record {
 pub returns-in_err-add_entity-clause-fault : goal.returns-in_err-add_entity-clause-fault
 returns-in_err-add_entity-clause-fault c =
     let p = err_from_is_err_and c.from_residual.result c.from_residual.ensures.1 in
-    let cut = c.split_at.ensures.prefix ∙ ap (λ (n : ℕ). take n c.in-Some.behind.now) c.leading_len.ensures.len in
+    let cut = c.split_at.ensures.front ∙ ap (λ (n : ℕ). take n c.in-Some.behind.now) c.leading_len.ensures.len in
     rw (p.1, p.2)
     (refused_alike
     (entity c.loop-template.before (record { template = c.in-Some.template; head = c.in-Some.head.now; body = c.split_at.result.0.now }))
@@ -34,13 +34,13 @@ loop-template-preserved c =
     let read = c.in_ok-add_entity.ensures in
     let found = ap length c.in-Some.ensures.whole in
     let halves = c.split_at.ensures in
-    let cut = halves.prefix ∙ ap (λ (n : ℕ). take n c.in-Some.behind.now) c.leading_len.ensures.len in
+    let cut = halves.front ∙ ap (λ (n : ℕ). take n c.in-Some.behind.now) c.leading_len.ensures.len in
     let rest = halves.back ∙ ap (λ (n : ℕ). drop n c.in-Some.behind.now) c.leading_len.ensures.len in
     record {
       whole = kept.whole
           ∙ turned c.loop-template.before (tally_of c.loop-template.tally) c.loop-template.ahead.now c.in-Some.template c.in-Some.head.now c.in-Some.behind.now
           c.split_at.result.0.now c.split_at.result.1.now c.in-Some.ensures cut (tally_of c.add_entity.new.tally) rest read.ok;
       here = ap (λ (lines : List Line). (sections lines).prefix) rest ∙ none_before c.in-Some.behind.now;
-      few = omega (arith, read.skipped, halves.leading_len, halves.back_len, kept.few);
+      few = omega (arith, read.skipped, halves.front_len, halves.back_len, kept.few);
       room = omega (arith, read.few);
     }
