@@ -41,7 +41,7 @@ longer limit n m text cut long below more utf8 = elim (cases_lt limit m) [
 valid : (limit n : ℕ) (text : List ℕ) → IsLastCut limit text n → limit ≤ length text → n < limit → IsValidUpTo (take limit text) n
 valid limit n text cut long below = record {
   short = rw (length-take-le limit text long) below;
-  prefix = subst IsUtf8 (sym (take-take n limit text cut.bound)) (IsUtf8-take text n cut.utf8 cut.boundary);
+  front = subst IsUtf8 (sym (take-take n limit text cut.bound)) (IsUtf8-take text n cut.utf8 cut.boundary);
   longest = λ m more utf8. longer limit n m text cut long below more utf8;
 }
 
