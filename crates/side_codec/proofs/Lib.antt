@@ -3,3 +3,4 @@ pub mod Fields
 pub mod Parts
 pub mod Registered
 pub mod SidesLaw
+pub mod SizeLaws

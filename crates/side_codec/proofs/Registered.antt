@@ -48,10 +48,10 @@ pub few_dimensions : (charts : List NumberedChart) (dimensions : List NumberedDi
 few_dimensions charts dimensions is = (parts charts dimensions is).few_dimensions
 
 -- a beat that defines them and has no row
-abbrev beat_of : List NumberedChart → List NumberedDimension → NumberedBeat
+abbrev pub beat_of : List NumberedChart → List NumberedDimension → NumberedBeat
 beat_of charts dimensions = record { moment = 0; charts = charts; dimensions = dimensions; rows = [] }
 
-within : (charts : List NumberedChart) (dimensions : List NumberedDimension) → are_registered charts dimensions ≡ true → IsWithinLimits (beat_of charts dimensions)
+pub within : (charts : List NumberedChart) (dimensions : List NumberedDimension) → are_registered charts dimensions ≡ true → IsWithinLimits (beat_of charts dimensions)
 within charts dimensions is =
     let known = parts charts dimensions is in
     record {

@@ -6,3 +6,4 @@ pub mod Lasts
 pub mod Moments
 pub mod Roles
 pub mod Sides
+pub mod Size

@@ -1,4 +1,5 @@
 use Rattle.side_codec.proofs.SidesLaw.{reads_back, is_read, one_value}
+use Rattle.side_codec.proofs.SizeLaws.{side-within}
 use Rattle.side_codec.proofs.law.every_side.Goals as goal
 
 pub returns : goal.returns
@@ -7,4 +8,5 @@ returns c = record {
   has_spelling = λ s bytes fits is. (is_read bytes s fits is).0;
   is_spelt = λ s bytes fits is. (is_read bytes s fits is).1;
   one_value = one_value;
+  size = side-within;
 }
