@@ -11,6 +11,7 @@ ghost use Rattle.history.specs.Regular.{AreApart};
 ghost use Rattle.beat_entries.specs.Rules.{changes_grid, with_beat};
 
 use crate::fresh::Fresh;
+use crate::near::series_near;
 use chart_registry::Registry;
 use history::{ChartDef, OpenBeat, OpenDim};
 use std::alloc::Global;
@@ -146,7 +147,8 @@ impl<'a> Coming<'a> {
     }
 
     /// The series of a dimension that the registry or the beat has, of the chart that the registry has as `known`.
-    pub(crate) fn series(&self, known: Option<u32>, chart: &str, id: &str) -> Option<u32>
+    /// Where it is `near` it is not looked for.
+    pub(crate) fn series(&self, known: Option<u32>, near: u32, chart: &str, id: &str) -> Option<u32>
         requires { IsKnownAs self.now.registry.now chart.now known }
         ensures found { is_some result
             ≡ has_dimension self.now.registry.now self.now.beat.now chart.now id.now }
@@ -154,7 +156,7 @@ impl<'a> Coming<'a> {
             → result
             ≡ series_of (with_beat self.now.registry.now self.now.beat.now) chart.now id.now }
     {
-        match known_series(self.registry, known, id) {
+        match known_series(self.registry, known, near, id) {
             Some(series) => Some(series),
             None => self.fresh_series(chart, id),
         }
@@ -212,13 +214,13 @@ impl<'a> Coming<'a> {
 }
 
 /// The series of a dimension of the chart with this number.
-fn known_series(registry: &Registry, known: Option<u32>, id: &str) -> Option<u32>
+fn known_series(registry: &Registry, known: Option<u32>, near: u32, id: &str) -> Option<u32>
     requires { IfSome known (λ number. number < length registry.now.charts) }
     ensures { result ≡ option_and_then
         (λ number. series_of registry.now (chart_id registry.now number) id.now) known }
 {
     match known {
-        Some(number) => registry.series_of(number, id),
+        Some(number) => series_near(registry, number, near, id),
         None => None,
     }
 }

@@ -88,6 +88,7 @@ pub(crate) fn charts(
 /// A dimension with its number and that of its chart.
 fn number_dimension(
     coming: &Coming,
+    near: u32,
     dimension: &OpenDim,
 ) -> Result<Option<NumberedDimension>, AllocError>
     requires { CanNumber coming.now }
@@ -98,13 +99,21 @@ fn number_dimension(
     let Some(place) = coming.chart(chart) else {
         return Ok(None);
     };
-    match coming.series(place.known, chart, dimension.def.id.as_str()) {
+    match coming.series(place.known, near, chart, dimension.def.id.as_str()) {
         Some(series) => Ok(Some(NumberedDimension {
             series,
             chart: place.number,
             def: dimension.def.clone()?,
         })),
         None => Ok(None),
+    }
+}
+
+/// The series behind the last of these dimensions.
+fn series_behind(dimensions: &[NumberedDimension]) -> u32 {
+    match dimensions.last() {
+        Some(dimension) => dimension.series.saturating_add(1),
+        None => 0,
     }
 }
 
@@ -119,7 +128,8 @@ fn push_dimension(
         ++ cons_option
         (dimension_at (with_beat coming.now.registry.now coming.now.beat.now) dimension.now) []) }
 {
-    if let Some(numbered) = number_dimension(coming, dimension)? {
+    let near = series_behind(dimensions.as_slice());
+    if let Some(numbered) = number_dimension(coming, near, dimension)? {
         dimensions.push(numbered)?;
     }
     Ok(())

@@ -6,8 +6,10 @@
 //! in the registry what it defines. What is given is proved to be its definition, which goes once through the registry, while the code
 //! looks up by hashes and sorts what the beat says. A new id's number is known before anything is defined: it is
 //! the id's place among the new ones, behind what the registry has. So each chart and each value is looked up once,
-//! for the judgement and for the number. A beat so numbered is in the one form that has a spelling. `number_beat`
-//! does the same where the registry has the beat's definitions already.
+//! for the judgement and for the number. A value is compared first with the dimension behind that of the value
+//! before it: where it is of that, as where a row sets its dimensions in their order, no hash looks it up. A beat so
+//! numbered is in the one form that has a spelling. `number_beat` does the same where the registry has the beat's
+//! definitions already.
 //!
 //! `define` reads a numbered beat back: it defines what the beat defines, each under its number, and tests that
 //! the rows are of what is there. No id is looked up for a value, and no beat by ids is made again. The entry of
@@ -25,6 +27,7 @@ mod entry;
 mod fresh;
 mod gathered;
 mod law;
+mod near;
 mod reasons;
 mod refusal;
 mod rows;

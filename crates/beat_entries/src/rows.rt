@@ -1,4 +1,5 @@
-//! The rows of a beat by number. Each chart and each value is looked up once.
+//! The rows of a beat by number. Each chart and each value is looked up once, a value by a hash only where it is not
+//! of the dimension behind that of the value before it.
 
 ghost use Rattle.std.specs.Prelude.{◌≡◌, ◌++◌, ◌||◌, [], true, false, not, IfOk, OnOk, IfSome, All, filter_map, is_none};
 ghost use Rattle.std.specs.List.{cons_option, list_any};
@@ -34,11 +35,29 @@ struct FoundValues {
     lack: bool,
 }
 
-/// Keeps a value of a row of this chart by number, if its dimension is there.
+/// The series behind the last of these values, or `first` where there are none.
+fn series_behind(values: &[Value], first: u32) -> u32 {
+    match values.last() {
+        Some(value) => value.series.saturating_add(1),
+        None => first,
+    }
+}
+
+/// The series behind the last row, or 0.
+fn series_behind_rows(rows: &[Row]) -> u32 {
+    match rows.last() {
+        Some(row) => series_behind(row.values.as_slice(), 0),
+        None => 0,
+    }
+}
+
+/// Keeps a value of a row of this chart by number, if its dimension is there. It is tried first as the series behind
+/// that of the value before it, or as `first`.
 fn take_value(
     values: &mut Gathered<Value>,
     coming: &Coming,
     known: Option<u32>,
+    first: u32,
     chart: &str,
     value: &OpenValue,
 ) -> bool
@@ -50,7 +69,8 @@ fn take_value(
         → values.new.items.items ≡ values.old.items.items ++ cons_option
         (value_at (with_beat coming.now.registry.now coming.now.beat.now) chart.now value.now) [] }
 {
-    match coming.series(known, chart, value.id.as_str()) {
+    let near = series_behind(values.items.as_slice(), first);
+    match coming.series(known, near, chart, value.id.as_str()) {
         Some(series) => {
             values.push(Value {
                 series,
@@ -67,6 +87,7 @@ fn find_values(
     alloc: Global,
     coming: &Coming,
     known: Option<u32>,
+    first: u32,
     chart: &str,
     given: &[OpenValue],
 ) -> FoundValues
@@ -80,7 +101,7 @@ fn find_values(
     let mut values = Gathered::with_room(alloc, given.len());
     let mut lack = false;
     for value in given {
-        let there = take_value(&mut values, coming, known, chart, value);
+        let there = take_value(&mut values, coming, known, first, chart, value);
         lack = lack || !there;
     }
     FoundValues { values, lack }
@@ -146,8 +167,15 @@ fn take_row(
     let Some(place) = coming.chart(row.chart.as_str()) else {
         return false;
     };
-    let given = row.values.as_slice();
-    let values = find_values(alloc, coming, place.known, row.chart.as_str(), given);
+    let first = series_behind_rows(found.rows.items.as_slice());
+    let values = find_values(
+        alloc,
+        coming,
+        place.known,
+        first,
+        row.chart.as_str(),
+        row.values.as_slice(),
+    );
     found.lack = found.lack || values.lack;
     found.off_grid = found.off_grid || is_off(Some(place.update_every), moment);
     found.rows.keep(numbered_row(place.number, values.values));

@@ -14,5 +14,5 @@ returns-clause-rows c there can whole =
     row-kept registry c.args.row.now c.in-Some.place.number (sym (c.in-Some.ensures.number can ∙ ap (chart_of registry) c.as_str.ensures))
     (dimensions-apart c.args.coming.now.registry.now c.args.coming.now.beat.now can.own_dimensions) c.requires
     values.whole values.items.items c.numbered_row.result c.args.found.now.rows.items.items c.keep.new.self.items.items
-    (λ all. c.find_values-values.ensures.values can all ∙ (λ i. filter_map (value_at registry (c.as_str-2.ensures i)) (c.as_slice-given.ensures i)))
+    (λ all. c.find_values-values.ensures.values can all ∙ (λ i. filter_map (value_at registry (c.as_str-2.ensures i)) (c.as_slice-2.ensures i)))
     c.numbered_row.ensures.whole c.numbered_row.ensures.chart c.numbered_row.ensures.same c.numbered_row.ensures.rises (c.keep.ensures.items whole)
