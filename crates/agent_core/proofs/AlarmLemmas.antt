@@ -104,6 +104,7 @@ module _ (set : Settings) (h : List Beat) (beat : Beat) (left : Left) (awaits : 
     role_is = awaits.role_is;
     last_rows_are = awaits.last_rows_are;
     latest_is = awaits.latest_is;
+    gaps_are = awaits.gaps_are;
     alarms_are = followed;
   }
 

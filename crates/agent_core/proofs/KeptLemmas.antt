@@ -1,6 +1,6 @@
 -- What is kept of a beat, and what a crash leaves of a history.
 use Rattle.std.proofs.lemmas.Option.{same_Some}
-use Rattle.std.proofs.Common.{◌≡◌, ℕ, ◌+◌, ◌⊎◌, inl, inr, List, [], ◌∷◌, length, map, Option, Some, None, is_some, refl, sym, ap, ◌∙◌, subst, arith}
+use Rattle.std.proofs.Common.{◌≡◌, ℕ, ◌+◌, ◌<◌, ◌≤◌, ◌⊎◌, inl, inr, List, [], ◌∷◌, length, map, Option, Some, None, is_some, refl, sym, ap, ◌∙◌, subst, arith}
 use Rattle.host_model.specs.declared.file.File.{File}
 use Rattle.host_model.specs.Past.{Event, Told}
 use Rattle.host_model.specs.Disks.{EveryDisk}
@@ -31,6 +31,8 @@ use Rattle.store_core.specs.Stored.{advanced, stored_with}
 use Rattle.store_core.proofs.StandLemmas.{images-at, told-at}
 use Rattle.alarm_core.specs.declared.latest.Latest.{Latest}
 use Rattle.agent_core.specs.Agent.{left_in, AgentState, IsAgentOf}
+use Rattle.agent_core.specs.Answers.{tier_beats}
+use Rattle.agent_core.specs.Gaps.{gap_span, join_gap, AreGapsLeft}
 use Rattle.agent_core.specs.LastSeen.{IsLatestOf}
 use Rattle.agent_core.specs.Kept.{copied_point, kept_of, note_of, point_of, stored_points, AreBeatsOf, Follows, IsBeatOf, IsCopyOf, IsTakenBeat}
 use Rattle.agent_core.specs.Sides.{IsSideOf}
@@ -44,8 +46,9 @@ use Rattle.agent_core.specs.Rules.{beat_refusal, IsOpenBeat}
 use Rattle.agent_core.specs.Health.{health_refusal}
 use Rattle.agent_core.proofs.HistoryLemmas.{before-of, child-of, copies-of, follows-passed}
 use Rattle.agent_core.proofs.AlarmLemmas.{gap-outcome}
+use Rattle.agent_core.proofs.GapLemmas.{first-tier, gap-joins, gaps-stay, health-stays, later-for}
 use Rattle.agent_core.proofs.LastSeenLemmas.{latest-missing}
-use Rattle.agent_core.proofs.StoredLemmas.{answers, stored_advanced, stored_more, were_kept, WereKept}
+use Rattle.agent_core.proofs.StoredLemmas.{answers, applied-all, stored_advanced, stored_more, were_kept, WereKept}
 
 -- what is kept is put together of its parts
 pub kept-is : (registry : Registry) (lasts : List (Option Last)) (h : List Beat) (moment : ℕ) (beat : OpenBeat) (words : List SeriesWord) (points : List BeatPoint) (note : List ℕ) → IsNext registry lasts h moment beat
@@ -161,6 +164,8 @@ module _ (past : List Event) (store : StoreState) (set : Settings) (h : List Bea
             last_rows_are = subst (λ (l : Left). AreLastOf l.last_rows (collected moment beat ∷ h)) (sym only)
                 (rows-taken left.registry left.last_rows lasts' h moment beat numbered taken.numbered_is rows is-next taken.regular);
             latest_is = seen-taken left.registry left.latest seen.latest h moment beat numbered kept taken.numbered_is points all.beats left.last_rows all.are was.last_rows_are was.latest_is is-next.registry_is taken.regular is-kept;
+            gaps_are = subst (λ (l : Left). AreGapsLeft set (collected moment beat ∷ h) l.gaps) (sym only)
+                (gaps-stay set h all.beats all.are (collected moment beat) (later-for h moment (follows-passed h moment beat follows).later) left.gaps refl was.gaps_are);
             before = at ∙ store-last;
             alarms_are = ap (λ (l : Left). held l.alarms) only ∙ was.alarms_are;
           }
@@ -179,6 +184,8 @@ module _ (past : List Event) (store : StoreState) (set : Settings) (h : List Bea
         role_is = refl;
         last_rows_are = subst (λ (l : Left). AreLastOf l.last_rows (copied copy ∷ h)) (sym only) (room h copy was.last_rows_are is);
         latest_is = points h all.beats left.last_rows copy all.are was.last_rows_are was.latest_is is moment_is points_are;
+        gaps_are = subst (λ (l : Left). AreGapsLeft set (copied copy ∷ h) l.gaps) (sym only)
+            (gaps-stay set h all.beats all.are (copied copy) (later-for h copy.moment of.follows.later) left.gaps refl was.gaps_are);
         before = before_is ∙ store-last;
         alarms_are = ap (λ (l : Left). held l.alarms) only ∙ was.alarms_are;
       }
@@ -194,19 +201,25 @@ health-awaits set h left text before was at = record {
   role_is = was.role_is;
   last_rows_are = record { rows = was.last_rows_are.rows; within = was.last_rows_are.within };
   latest_is = record { charts = was.latest_is.charts; points = was.latest_is.points; raws = was.latest_is.raws };
+  gaps_are = health-stays set h text left.gaps was.gaps_are;
   before = at;
   alarms_are = was.alarms_are;
 }
 
 -- ---- a gap
-pub left-gap : (set : Settings) (h : List Beat) (gap : Gap) (left : Left) → IsLeftBy set h left → IsLeftBy set (missing gap ∷ h) (record left { role = Copies gap.child })
-left-gap set h gap left was = record {
+pub left-gap : (past : List Event) (store : StoreState) (set : Settings) (h : List Beat) → HoldsHistory past store set h → (gap : Gap) (left joined : Left) → IsLeftBy set h left → joined ≡ record left { gaps = joined.gaps }
+    → joined.gaps ≡ join_gap left.gaps (gap_span gap) → last h ≤ gap.from → last h < gap.to → IsLeftBy set (missing gap ∷ h) (record joined { role = Copies gap.child })
+left-gap past store set h holds gap left joined was only gaps from later = subst (λ (l : Left). IsLeftBy set (missing gap ∷ h) (record l { role = Copies gap.child })) (sym only) (record {
   registry_is = was.registry_is;
   role_is = refl;
   last_rows_are = record { rows = was.last_rows_are.rows; within = was.last_rows_are.within };
   latest_is = latest-missing left.latest h gap was.latest_is;
+  gaps_are =
+      let all = were_kept set h holds.stored holds.are in
+      subst (AreGapsLeft set (missing gap ∷ h)) (sym gaps)
+      (gap-joins set h all.beats all.are (first-tier set (tier_beats h) store (applied-all past store set h holds)) gap from later left.gaps was.gaps_are);
   alarms_are = was.alarms_are ∙ ap (λ (o : Outcome). o.held) (gap-outcome set h gap);
-}
+})
 
 -- ---- the history stands, and then it or another
 pub then-either : (old middle new : List Event) (set : Settings) (h more : List Beat) → Throughout (EveryDisk (StandsForHistory set h)) old middle

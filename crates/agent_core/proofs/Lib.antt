@@ -8,9 +8,12 @@ pub mod CopyCalls
 pub mod CopyLemmas
 pub mod EntryLemmas
 pub mod FedLemmas
+pub mod FloorLemmas
 pub mod FollowLemmas
 pub mod FormLemmas
 pub mod PrefixLemmas
+pub mod GapLemmas
+pub mod GapLists
 pub mod GoingOnLemmas
 pub mod HealthLemmas
 pub mod HistoryLemmas

@@ -23,6 +23,9 @@ use Rattle.beat_entries.proofs.DefinedLemmas.{chart-alike, chart-itself, dimensi
 use Rattle.beat_entries.proofs.FollowLemmas.{beat-goes-on, last-is}
 use Rattle.beat_entries.proofs.PutLemmas.{apart-put_all}
 use Rattle.tier_settings.specs.declared.settings.Settings.{Settings}
+use Rattle.tier_settings.specs.Settings.{first_tier}
+use Rattle.side_codec.specs.declared.gap.GapSpan.{GapSpan}
+use Rattle.beat_tiers.specs.Tiers.{IsTier}
 use Rattle.store_core.specs.declared.beats.beat.Beat.{Beat as StoreBeat}
 use Rattle.beat_tiers.specs.declared.item.BeatPoint.{BeatPoint}
 use Rattle.agent_core.specs.declared.fault.AgentFault.{AgentFault}
@@ -36,9 +39,11 @@ use Rattle.agent_core.specs.declared.alarming.Stepping.{Stepping}
 use Rattle.agent_core.specs.declared.alarming.Stepping.TheVariants as stepping
 use Rattle.agent_core.specs.Alarms.{IsSteppingOf}
 use Rattle.agent_core.specs.LastSeen.{IsLatestOf}
-use Rattle.agent_core.specs.Replay.{HasRows, HasSeen, HasSeenNone, IsDoneBy}
+use Rattle.agent_core.specs.Gaps.{AreGapsLeft}
+use Rattle.agent_core.specs.Replay.{gaps_after, HasRows, HasSeen, HasSeenNone, IsDoneBy}
 use Rattle.agent_core.specs.Roles.{may_collect, role_of}
 use Rattle.agent_core.proofs.FollowLemmas.{follows-may, follows-owned, follows-regular}
+use Rattle.agent_core.proofs.GapLemmas.{beat-later, gap-joins, gaps-stay, health-stays}
 use Rattle.agent_core.proofs.HistoryLemmas.{copies-of, follows-alone}
 use Rattle.agent_core.proofs.NoteLemmas.{found-in, note-left, note-takes}
 use Rattle.agent_core.proofs.PointLemmas.{points-named}
@@ -141,16 +146,24 @@ latest-after g beats lasts (health text) kept latest latest' are last of was see
 latest-after g beats lasts (missing gap) kept latest latest' are last of was seen =
     none-seen latest latest' g (missing gap ∷ g) seen (λ was. record { charts = was.charts; points = was.points; raws = was.raws }) was
 
+-- ---- the gaps
+gaps-taken : (set : Settings) (g : List Beat) (beats : List StoreBeat) (beat : Beat) (kept : StoreBeat) (left : List GapSpan) → IsTier (first_tier set) → AreBeatsOf g beats → IsBeatOf g beat kept → AreGapsLeft set g left
+    → AreGapsLeft set (beat ∷ g) (gaps_after left (entry_for g beat))
+gaps-taken set g beats (collected moment beat) kept left is_tier are of was = gaps-stay set g beats are (collected moment beat) (beat-later g (collected moment beat) kept of) left refl was
+gaps-taken set g beats (copied copy) kept left is_tier are of was = gaps-stay set g beats are (copied copy) (beat-later g (copied copy) kept of) left refl was
+gaps-taken set g beats (health text) kept left is_tier are of was = health-stays set g text left was
+gaps-taken set g beats (missing gap) kept left is_tier are of was = gap-joins set g beats are is_tier gap of.from of.later left was
+
 -- what was left has the registry and the role of its history
 pub noted-is : (set : Settings) (g : List Beat) (left : Left) → IsLeftBy set g left → noted_in left ≡ noted_of g
 noted-is set g left was = λ i. record { registry = was.registry_is i; role = was.role_is i }
 
 -- all but the alarms has taken the beat
 pub beat-taken : (set : Settings) (g : List Beat) (beats : List StoreBeat) (beat : Beat) (kept : StoreBeat) (left left' : Left) (found : Entry)
-    → AreBeatsOf g beats → IsBeatOf g beat kept → IsLeftBy set g left → entry_in kept ≡ Some found → noted_in left' ≡ with_note (noted_in left) kept
-    → HasRows left'.registry left.last_rows left'.last_rows found → HasSeen left'.registry left.latest left'.latest found kept.points → left'.latest.before ≡ last g → left'.alarms ≡ left.alarms
+    → IsTier (first_tier set) → AreBeatsOf g beats → IsBeatOf g beat kept → IsLeftBy set g left → entry_in kept ≡ Some found → noted_in left' ≡ with_note (noted_in left) kept
+    → HasRows left'.registry left.last_rows left'.last_rows found → HasSeen left'.registry left.latest left'.latest found kept.points → left'.latest.before ≡ last g → left'.gaps ≡ gaps_after left.gaps found → left'.alarms ≡ left.alarms
     → AwaitsAlarms set g beat left'
-beat-taken set g beats beat kept left left' found are of was has made rows seen before alarms =
+beat-taken set g beats beat kept left left' found is_tier are of was has made rows seen before gaps alarms =
     let is : noted_in left' ≡ noted_of (beat ∷ g) = beat-leaves g beats are beat kept of (noted_in left) (noted_in left') (noted-is set g left was) made in
     let registry : left'.registry ≡ registry_of (beat ∷ g) = ap (λ (n : Noted). n.registry) is in
     let same : found ≡ entry_for g beat = same_Some found (entry_for g beat) (sym has ∙ note-is g beat kept of) in
@@ -163,6 +176,7 @@ beat-taken set g beats beat kept left left' found are of was has made rows seen 
       role_is = ap (λ (n : Noted). n.role) is;
       last_rows_are = last-after g beat kept left.last_rows left'.last_rows of was.last_rows_are now;
       latest_is = latest-after g beats left.last_rows beat kept left.latest left'.latest are was.last_rows_are of was.latest_is seen_now;
+      gaps_are = subst (AreGapsLeft set (beat ∷ g)) (sym (gaps ∙ ap (gaps_after left.gaps) same)) (gaps-taken set g beats beat kept left.gaps is_tier are of was.gaps_are);
       before = before;
       alarms_are = ap held alarms ∙ was.alarms_are;
     }

@@ -26,6 +26,8 @@ use Rattle.agent_core.specs.declared.left.Left.{Left}
 use Rattle.agent_core.specs.declared.left.Role.{Role}
 use Rattle.agent_core.specs.declared.left.Role.TheVariants.{Undecided, Collects, Copies}
 use Rattle.agent_core.specs.Alarms.{alarms_at}
+use Rattle.agent_core.specs.Answers.{floor_of_history}
+use Rattle.agent_core.specs.Gaps.{AreGapsLeft}
 use Rattle.agent_core.specs.Kept.{AreBeatsOf}
 use Rattle.agent_core.specs.LastSeen.{charts_seen, points_seen, seen_at}
 use Rattle.agent_core.specs.Left.{IsFit, IsLeftBy}
@@ -33,6 +35,7 @@ use Rattle.agent_core.specs.Notes.{defined_in, is_good, noted_by, noted_if, note
 use Rattle.agent_core.specs.Roles.{role_of}
 use Rattle.agent_core.specs.Rules.{HasLimits}
 use Rattle.agent_core.specs.Sides.{all_charts, all_dimensions, filled, last_row, point_in_side, side_by, side_of, side_role, stored_point, IsReadFrom, IsSideOf}
+use Rattle.agent_core.proofs.GapLemmas.{gaps-read, gaps-written}
 use Rattle.agent_core.proofs.LimitLemmas.{entry-limits, none-limits}
 use Rattle.agent_core.proofs.SideAlarms.{alarms-again}
 use Rattle.agent_core.proofs.SideLists.{filled-whole, points-again, points-length, raws-are, rows-are, rows-filled, words-stored}
@@ -50,7 +53,7 @@ if-err-both (Ok x) P Q S both first second = tt
 if-err-both (Err y) P Q S both first second = both y first second
 
 -- ---- what is written
-module _ (set : Settings) (h : List Beat) (beats : List StoreBeat) (are : AreBeatsOf h beats) (left : Left) (is : IsLeftBy set h left) where
+module _ (set : Settings) (h : List Beat) (beats : List StoreBeat) (are : AreBeatsOf h beats) (left : Left) (is : IsLeftBy set h left) (floor : ℕ) (floor_is : floor ≡ floor_of_history set h 0) where
   moments-are : filled 0 (length left.registry.charts) left.latest.charts ≡ charts_seen h
   moments-are =
       (λ i. filled 0 (length (is.registry_is i).charts) (is.latest_is.charts i))
@@ -64,7 +67,7 @@ module _ (set : Settings) (h : List Beat) (beats : List StoreBeat) (are : AreBea
       ap (map stored_point) ((λ i. filled None (length (is.registry_is i).dimensions) (is.latest_is.points i)) ∙ filled-whole None (length (registry_of h).dimensions) (points_seen h) (points-length h))
       ∙ words-stored (points_seen h) (last-words h beats are)
 
-  side-is : side_by left ≡ side_of set h
+  side-is : side_by floor left ≡ side_of set h
   unfolding side_by side_of
   side-is = λ i. record {
     role = side_role (is.role_is i);
@@ -74,10 +77,10 @@ module _ (set : Settings) (h : List Beat) (beats : List StoreBeat) (are : AreBea
     last_rows = rows-written i;
     last_points = points-written i;
     alarms = kept (is.alarms_are i);
-    gaps = [];
+    gaps = gaps-written set h left.gaps floor floor_is is.gaps_are i;
   }
 
-  pub side-written : (bytes : List ℕ) → HasSpelling (side_by left) → bytes ≡ side_bytes (side_by left) → IsSideOf set h bytes
+  pub side-written : (bytes : List ℕ) → HasSpelling (side_by floor left) → bytes ≡ side_bytes (side_by floor left) → IsSideOf set h bytes
   side-written bytes spelt are = record { spelt = subst HasSpelling side-is spelt; bytes_are = are ∙ ap side_bytes side-is }
 
 -- ---- what is read
@@ -108,6 +111,7 @@ module _ (set : Settings) (h : List Beat) (beats : List StoreBeat) (are : AreBea
       points = is.points_are ∙ points-again (points_seen h);
       raws = is.raws_are ∙ raws-are h;
     };
+    gaps_are = subst (AreGapsLeft set h) (sym is.gaps_are) (gaps-read set h);
     alarms_are = same_Some (held left.alarms) (alarms_at set h) (sym is.alarms_are ∙ kept-again left.registry (is.registry_is ∙ defined));
   }
 

@@ -105,7 +105,7 @@ applied-at past store set h stored rest are is_at =
 pub applied-all : (past : List Event) (store : StoreState) (set : Settings) (h : List Beat) → HoldsHistory past store set h → HasApplied set (tier_beats h) store
 applied-all past store set h holds = applied-at past store set h holds.stored [] holds.are holds.store_of
 
-tiers-last : (h : List Beat) → tiers.last (tier_beats h) ≡ last h
+pub tiers-last : (h : List Beat) → tiers.last (tier_beats h) ≡ last h
 tiers-last [] = refl
 tiers-last (collected moment beat ∷ h) = refl
 tiers-last (copied copy ∷ h) = refl

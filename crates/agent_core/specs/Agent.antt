@@ -8,6 +8,7 @@ use Rattle.history.specs.Registry.{Registry, same_chart, same_dimension}
 use Rattle.history.specs.Regular.{AreApart}
 use Rattle.alarm_core.specs.declared.latest.Latest.{Latest}
 use Rattle.alarm_core.specs.declared.alarms.Alarms.{Alarms}
+use Rattle.side_codec.specs.declared.gap.GapSpan.{GapSpan}
 use Rattle.alarm_core.specs.UpTo.{IsUpTo}
 use Rattle.tier_settings.specs.declared.settings.Settings.{Settings}
 use Rattle.store_core.specs.declared.fault.Why.{Why}
@@ -29,6 +30,8 @@ pub record AgentState : Type 0 where
   pub last_rows : List (Option Last)
   -- what was last seen of each chart and each series
   pub latest : Latest
+  -- the gaps of a copy, the oldest first
+  pub gaps : List GapSpan
   -- the alarms of its configuration
   pub alarms : Alarms
   -- the last moment, or 0
@@ -51,6 +54,7 @@ left_in agent = record {
   role = agent.role;
   last_rows = agent.last_rows;
   latest = agent.latest;
+  gaps = agent.gaps;
   alarms = agent.alarms;
 }
 

@@ -1,5 +1,5 @@
 -- How a store keeps the beats of a history. A history has its newest beat first, and so has the store.
-use Rattle.std.specs.Prelude.{◌≡◌, ℕ, ◌<◌, true, List, [], ◌∷◌, map, find, slice_get, Some, None, is_some}
+use Rattle.std.specs.Prelude.{◌≡◌, ℕ, ◌<◌, ◌≤◌, true, List, [], ◌∷◌, map, find, slice_get, Some, None, is_some}
 use Rattle.std.specs.Option.{option_map_or, option_and_then}
 use Rattle.history.specs.declared.beat.OpenBeat.{OpenBeat}
 use Rattle.history.specs.declared.beat.OpenDim.{OpenDim}
@@ -95,6 +95,8 @@ gap_entry gap = entry.Gap (record { child = gap.child; from = gap.from; to = gap
 -- what a store keeps of a gap, where nothing was collected: the moment of its end, and its entry
 pub record IsGapOf (h : List Beat) (gap : Gap) (kept : StoreBeat) : Type 0 where
   pub role : may_copy (role_of h) ≡ true
+  -- it does not begin before the history ends
+  pub from : last h ≤ gap.from
   pub later : last h < gap.to
   pub is_kept : kept ≡ record { moment = Some gap.to; points = []; note = entry_bytes (gap_entry gap) }
   pub spelt : HasSpelling (gap_entry gap)

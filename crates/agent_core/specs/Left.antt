@@ -9,6 +9,7 @@ use Rattle.alarm_core.specs.UpTo.{IsUpTo}
 use Rattle.tier_settings.specs.declared.settings.Settings.{Settings}
 use Rattle.agent_core.specs.declared.left.Left.{Left}
 use Rattle.agent_core.specs.Alarms.{alarms_at}
+use Rattle.agent_core.specs.Gaps.{AreGapsLeft}
 use Rattle.agent_core.specs.LastSeen.{IsLatestOf}
 use Rattle.agent_core.specs.Roles.{role_of}
 use Rattle.agent_core.specs.Rules.{HasLimits}
@@ -19,6 +20,7 @@ pub record IsLeftBy (set : Settings) (h : List Beat) (left : Left) : Type 0 wher
   pub role_is : left.role ≡ role_of h
   pub last_rows_are : AreLastOf left.last_rows h
   pub latest_is : IsLatestOf left.latest h
+  pub gaps_are : AreGapsLeft set h left.gaps
   pub alarms_are : held left.alarms ≡ alarms_at set h
 
 -- the history with this beat left all of it but the alarms, which have still to follow the beat
@@ -27,6 +29,7 @@ pub record AwaitsAlarms (set : Settings) (h : List Beat) (beat : Beat) (left : L
   pub role_is : left.role ≡ role_of (beat ∷ h)
   pub last_rows_are : AreLastOf left.last_rows (beat ∷ h)
   pub latest_is : IsLatestOf left.latest (beat ∷ h)
+  pub gaps_are : AreGapsLeft set (beat ∷ h) left.gaps
   pub before : left.latest.before ≡ last h
   pub alarms_are : held left.alarms ≡ alarms_at set h
 

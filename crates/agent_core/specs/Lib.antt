@@ -7,6 +7,7 @@ pub mod Copies
 pub mod Copying
 pub mod Faults
 pub mod Fed
+pub mod Gaps
 pub mod Health
 pub mod Keeping
 pub mod Kept

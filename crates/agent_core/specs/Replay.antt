@@ -13,6 +13,7 @@ use Rattle.alarm_core.specs.declared.latest.Latest.{Latest}
 use Rattle.alarm_core.specs.UpTo.{IsUpTo}
 use Rattle.entry_codec.specs.declared.entry.Entry.{Entry}
 use Rattle.entry_codec.specs.declared.entry.Entry.TheVariants as entry
+use Rattle.side_codec.specs.declared.gap.GapSpan.{GapSpan}
 use Rattle.tier_settings.specs.declared.settings.Settings.{Settings}
 use Rattle.beat_tiers.specs.declared.item.BeatPoint.{BeatPoint}
 use Rattle.store_core.specs.declared.beats.beat.Beat.{Beat as StoreBeat}
@@ -23,6 +24,7 @@ use Rattle.agent_core.specs.Agent.{AgentState}
 use Rattle.agent_core.specs.declared.alarming.Stepping.{Stepping}
 use Rattle.agent_core.specs.declared.alarming.Stepping.TheVariants as stepping
 use Rattle.agent_core.specs.Alarms.{IsReadOf}
+use Rattle.agent_core.specs.Gaps.{join_gap}
 use Rattle.agent_core.specs.Kept.{copied_point, onto, stored_points, AreBeatsOf, IsBeatOf}
 use Rattle.agent_core.specs.Stands.{IsStoredOf}
 use Rattle.agent_core.specs.LastSeen.{IsLatestOf}
@@ -50,6 +52,13 @@ HasRows registry lasts lasts' (entry.Collected found) = HasTakenRows registry la
 HasRows registry lasts lasts' (entry.Copied found) = HasRoom registry lasts lasts'
 HasRows registry lasts lasts' (entry.Health text) = lasts' ≡ lasts
 HasRows registry lasts lasts' (entry.Gap gap) = lasts' ≡ lasts
+
+-- ---- the gaps
+
+-- the gaps after an entry
+abbrev pub gaps_after : List GapSpan → Entry → List GapSpan
+gaps_after gaps (entry.Gap gap) = join_gap gaps (record { from = gap.from; to = gap.to })
+gaps_after gaps found = gaps
 
 -- ---- what was last seen
 

@@ -28,6 +28,8 @@ use Rattle.agent_core.specs.declared.left.Left.{Left}
 use Rattle.agent_core.specs.declared.left.Role.{Role}
 use Rattle.agent_core.specs.declared.left.Role.TheVariants.{Undecided, Collects, Copies}
 use Rattle.agent_core.specs.Alarms.{alarms_at}
+use Rattle.agent_core.specs.Answers.{floor_of_history}
+use Rattle.agent_core.specs.Gaps.{gaps_above, gaps_of}
 use Rattle.agent_core.specs.LastSeen.{charts_seen, points_seen}
 use Rattle.agent_core.specs.Notes.{defined_in, role_in}
 use Rattle.agent_core.specs.Roles.{role_of}
@@ -62,8 +64,8 @@ point_in_side point = record { moment = point.moment; word = point.word }
 
 -- ---- the side
 
--- The role, the charts and dimensions, when each chart was last seen, the last row and the last point of each dimension, and
--- the alarms with their log. Gaps are not kept.
+-- The role, the charts and dimensions, when each chart was last seen, the last row and the last point of each dimension, the
+-- alarms with their log, and the gaps, without the first ones, those that end below the floor of tier 0.
 unfoldable pub side_of : Settings → List Beat → Side
 side_of set h = record {
   role = side_role (role_of h);
@@ -73,7 +75,7 @@ side_of set h = record {
   last_rows = map (last_row h) (registry_of h).dimensions;
   last_points = map (option_map point_in_side) (points_seen h);
   alarms = kept (alarms_at set h);
-  gaps = [];
+  gaps = gaps_above (floor_of_history set h 0) (gaps_of h);
 }
 
 -- these bytes are the side of this history
@@ -95,8 +97,9 @@ point_by_word point = if is_word point.word then Some (point_in_side point) else
 abbrev pub stored_point : Option Point → Option LastPoint
 stored_point point = option_and_then point_by_word point
 
-unfoldable pub side_by : Left → Side
-side_by left = record {
+-- the floor is that of tier 0
+unfoldable pub side_by : ℕ → Left → Side
+side_by floor left = record {
   role = side_role left.role;
   charts = all_charts left.registry;
   dimensions = all_dimensions left.registry;
@@ -104,7 +107,7 @@ side_by left = record {
   last_rows = filled None (length left.registry.dimensions) left.last_rows;
   last_points = map stored_point (filled None (length left.registry.dimensions) left.latest.points);
   alarms = kept (held left.alarms);
-  gaps = [];
+  gaps = gaps_above floor left.gaps;
 }
 
 -- ---- what is read of a side
@@ -123,6 +126,7 @@ pub record IsReadFrom (side : Side) (left : Left) : Type 0 where
   pub charts_are : left.latest.charts ≡ side.chart_moments
   pub points_are : left.latest.points ≡ map (option_map point_back) side.last_points
   pub raws_are : left.latest.raws ≡ map (option_map raw_of) side.last_rows
+  pub gaps_are : left.gaps ≡ side.gaps
   pub alarms_are : of_kept left.registry side.alarms ≡ Some (held left.alarms)
   -- its charts and dimensions go on from nothing
   pub goes : goes_on empty (defined_in side) ≡ true

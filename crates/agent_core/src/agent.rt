@@ -91,6 +91,7 @@ impl Model for Agent {
       registry = agent.left.registry;
       last_rows = agent.left.last_rows;
       latest = agent.left.latest;
+      gaps = agent.left.gaps;
       alarms = agent.left.alarms;
       last = agent.last;
       count = agent.count;
@@ -157,7 +158,7 @@ impl Agent {
         ensures tells { (H.seen host.new).tell_faults ≡ (H.seen host.old).tell_faults }
     {
         let left = Left::new(alloc)?;
-        let side = write_left(alloc, &left)?;
+        let side = write_left(alloc, &left, 0)?;
         match Store::create(alloc, host, settings, side) {
             Ok(store) => Ok(Agent {
                 alloc,
@@ -180,8 +181,8 @@ impl Agent {
     /// that is refused or of a chart that is not there. A note is bad where it is no entry of a beat with the
     /// moment of its record, does not go on from the side and the notes before, mixes copies with collected
     /// beats, has a definition that does not keep its limits, or is a configuration whose text is refused. A
-    /// point is bad where it names a series that is not there. What a side says of last rows and last points is
-    /// compared with nothing. The words
+    /// point is bad where it names a series that is not there. What a side says of last rows, last points and
+    /// gaps is compared with nothing. The words
     /// and steps of points are not compared with their definition, and a gap's child and beginning are compared
     /// with nothing. The alarms are those of that history: each beat steps them as it did when it was stored.
     /// At `Ok` the agent is of each history that the disk stands for, and these are all
@@ -501,6 +502,7 @@ impl Agent {
           registry = self.new.registry;
           last_rows = self.new.last_rows;
           latest = self.new.latest;
+          gaps = self.new.gaps;
           role = self.new.role;
         } }
     {

@@ -105,7 +105,7 @@ pub(crate) fn make_room<H: Host>(
     if !store.due() {
         return Ok(());
     }
-    let side = write_left(alloc, left)?;
+    let side = write_left(alloc, left, store.floor(0))?;
     match store.checkpoint(host, side) {
         Ok(()) => Ok(()),
         Err(fault) => Err(store_fault(fault)),

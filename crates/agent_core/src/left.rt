@@ -3,6 +3,7 @@
 ghost use Rattle.std.specs.Prelude.{◌≡◌};
 
 use crate::fault::AgentFault;
+use crate::gaps::Gaps;
 use crate::last_seen::nothing_seen;
 use alarm_core::{Alarms, Latest};
 use beat_points::LastRows;
@@ -73,6 +74,8 @@ pub struct Left {
     pub last_rows: LastRows,
     /// What was last seen of each chart and each series.
     pub latest: Latest,
+    /// The gaps of a copy: those whose end may lie at or above the floor of tier 0.
+    pub gaps: Gaps,
     /// The alarms of its configuration.
     pub alarms: Alarms,
 }
@@ -94,11 +97,13 @@ impl Left {
         let registry = Registry::new(alloc);
         let last_rows = LastRows::new(alloc);
         let latest = nothing_seen(alloc);
+        let gaps = Gaps::new(alloc);
         Ok(Left {
             registry,
             role: Role::Undecided,
             last_rows,
             latest,
+            gaps,
             alarms,
         })
     }

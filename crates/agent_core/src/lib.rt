@@ -19,6 +19,7 @@ mod answering;
 mod asking;
 mod copying;
 mod fault;
+mod gaps;
 mod keeping;
 mod last_seen;
 mod law;

@@ -8,15 +8,18 @@ ghost use Rattle.history.specs.Regular.{AreApart};
 ghost use Rattle.beat_entries.specs.Copied.{copied_goes_on, defined_by};
 ghost use Rattle.beat_entries.specs.Next.{goes_on, with_numbered};
 ghost use Rattle.beat_entries.specs.declared.refusal.EntryRefusal.TheVariants.{Memory as NoMemory, NotNext};
+ghost use Rattle.beat_tiers.specs.Tiers.{IsTier};
 ghost use Rattle.tier_settings.specs.declared.settings.Settings.{Settings as ASettings};
+ghost use Rattle.tier_settings.specs.Settings.{first_tier};
 ghost use Rattle.store_core.specs.declared.beats.beat.Beat.{Beat as StoreBeat};
+ghost use Rattle.agent_core.specs.Gaps.{join_gap};
 ghost use Rattle.agent_core.specs.Kept.{AreBeatsOf, IsBeatOf};
 ghost use Rattle.agent_core.specs.Left.{AwaitsAlarms, IsLeftBy};
 ghost use Rattle.agent_core.specs.Notes.{entry_goes_on, entry_in, moment_of, names_series, noted_in, takes_note, with_entry, with_note};
 ghost use Rattle.agent_core.specs.Roles.{may_copy};
 ghost use Rattle.agent_core.specs.Alarms.{DefinesNothing, IsReadOf, IsSteppingOf};
 ghost use Rattle.agent_core.specs.Health.{health_refusal};
-ghost use Rattle.agent_core.specs.Replay.{HasRows, HasSeen, IsDoneBy, IsEntryThere};
+ghost use Rattle.agent_core.specs.Replay.{gaps_after, HasRows, HasSeen, IsDoneBy, IsEntryThere};
 ghost use Rattle.agent_core.specs.Rules.{HasLimits};
 
 use crate::alarming::Stepping;
@@ -25,9 +28,10 @@ use crate::keeping::{see_beat, see_copy, take_rows};
 use crate::left::{Left, Role};
 use beat_entries::{EntryRefusal, define, define_copied};
 use chart_registry::Registry;
-use entry_codec::{Copied, Entry, EntryFault, read_entry};
+use entry_codec::{Copied, Entry, EntryFault, Gap, read_entry};
 use health_config::{Config, ConfigFault};
 use history::NumberedBeat;
+use side_codec::GapSpan;
 use std::alloc::Global;
 use store_core::{Beat, BeatPoint};
 
@@ -132,6 +136,7 @@ fn take_collected(left: &mut Left, entry: &NumberedBeat) -> Result<(), AgentFaul
     ensures faults { IfErr result
         (λ fault. (fault ≡ AgentFault.Memory) ⊎ (fault ≡ AgentFault.Damaged 5)) }
     ensures latest { left.new.latest ≡ left.old.latest }
+    ensures gaps { left.new.gaps ≡ left.old.gaps }
     ensures alarms { left.new.alarms ≡ left.old.alarms }
 {
     if !left.role.may_collect() {
@@ -157,6 +162,7 @@ fn take_copied(alloc: Global, left: &mut Left, entry: &Copied) -> Result<(), Age
     ensures faults { IfErr result
         (λ fault. (fault ≡ AgentFault.Memory) ⊎ (fault ≡ AgentFault.Damaged 5)) }
     ensures latest { left.new.latest ≡ left.old.latest }
+    ensures gaps { left.new.gaps ≡ left.old.gaps }
     ensures alarms { left.new.alarms ≡ left.old.alarms }
 {
     if !left.role.may_copy() {
@@ -169,19 +175,28 @@ fn take_copied(alloc: Global, left: &mut Left, entry: &Copied) -> Result<(), Age
 }
 
 /// Takes a gap, where nothing was collected.
-fn take_gap(left: &mut Left, child: u64) -> Result<(), AgentFault>
-    ensures left { OnOk result (left.new ≡ record left.old { role = Role.Copies child }) }
+fn take_gap(left: &mut Left, gap: &Gap) -> Result<(), AgentFault>
+    ensures left { OnOk result (left.new ≡ record left.old {
+      role = Role.Copies gap.now.child;
+      gaps = join_gap left.old.gaps (record { from = gap.now.from; to = gap.now.to });
+    }) }
     ensures next { OnOk result (may_copy left.old.role ≡ true) }
     ensures broken { IfErr result
         (λ fault. fault ≡ AgentFault.Damaged 5 → may_copy left.old.role ≡ false) }
-    ensures faults { IfErr result (λ fault. fault ≡ AgentFault.Damaged 5) }
-    ensures refused { OnErr result (left.new ≡ left.old) }
+    ensures faults { IfErr result
+        (λ fault. (fault ≡ AgentFault.Memory) ⊎ (fault ≡ AgentFault.Damaged 5)) }
+    ensures refused { OnErr result (left.new ≡ record left.old { gaps = left.new.gaps }) }
 {
-    if left.role.may_copy() {
-        left.role = Role::Copies(child);
-        Ok(())
-    } else {
-        Err(AgentFault::Damaged(5))
+    if !left.role.may_copy() {
+        return Err(AgentFault::Damaged(5));
+    }
+    let (from, to) = (gap.from, gap.to);
+    match left.gaps.join(GapSpan { from, to }) {
+        Ok(()) => {
+            left.role = Role::Copies(gap.child);
+            Ok(())
+        }
+        Err(_) => Err(AgentFault::Memory),
     }
 }
 
@@ -231,6 +246,7 @@ fn take_entry(alloc: Global, left: &mut Left, entry: &Entry) -> Result<Stepping,
     ensures faults { IfErr result
         (λ fault. (fault ≡ AgentFault.Memory) ⊎ (fault ≡ AgentFault.Damaged 5)) }
     ensures latest { left.new.latest ≡ left.old.latest }
+    ensures gaps { OnOk result (left.new.gaps ≡ gaps_after left.old.gaps entry.now) }
     ensures alarms { left.new.alarms ≡ left.old.alarms }
 {
     match entry {
@@ -248,7 +264,7 @@ fn take_entry(alloc: Global, left: &mut Left, entry: &Entry) -> Result<Stepping,
             Ok(Stepping::Configuration(config))
         }
         Entry::Gap(gap) => {
-            take_gap(left, gap.child)?;
+            take_gap(left, gap)?;
             Ok(Stepping::Nothing)
         }
     }
@@ -302,8 +318,8 @@ pub(crate) fn replay_beat(
     requires limits { HasLimits left.old.registry }
     ensures taken { OnOk result
         ((set : ASettings) (g : List HistoryBeat) (beats : List StoreBeat) (beat : HistoryBeat)
-        → AreBeatsOf g beats → IsBeatOf g beat kept.now → before ≡ last g
-        → IsLeftBy set g left.old → AwaitsAlarms set g beat left.new) }
+        → IsTier (first_tier set) → AreBeatsOf g beats → IsBeatOf g beat kept.now
+        → before ≡ last g → IsLeftBy set g left.old → AwaitsAlarms set g beat left.new) }
     ensures does { IfOk result
         (λ does. (g : List HistoryBeat) (beat : HistoryBeat) → IsBeatOf g beat kept.now
         → IsSteppingOf beat does) }

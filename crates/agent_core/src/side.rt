@@ -11,12 +11,14 @@ ghost use Rattle.alarm_core.specs.UpTo.{IsUpTo};
 ghost use Rattle.beat_entries.specs.Next.{goes_on, with_numbered};
 ghost use Rattle.store_core.specs.declared.beats.beat.Beat.{Beat as StoreBeat};
 ghost use Rattle.side_codec.specs.Sides.{read_side, HasSpelling};
+ghost use Rattle.agent_core.specs.Answers.{floor_of_history};
 ghost use Rattle.agent_core.specs.Kept.{AreBeatsOf};
 ghost use Rattle.agent_core.specs.Left.{IsFit, IsLeftBy};
 ghost use Rattle.agent_core.specs.Notes.{is_good, noted_in, noted_in_side, role_in};
 ghost use Rattle.agent_core.specs.Sides.{all_charts, all_dimensions, dimension_at, filled, point_back, raw_of, side_by, side_role, stored_point, IsReadFrom, IsSideOf};
 
 use crate::fault::AgentFault;
+use crate::gaps::Gaps;
 use crate::left::{Left, Role};
 use alarm_core::{AlarmFault, Alarms, Latest, SeriesPointList, SeriesValueList};
 use alarm_events::KeptAlarms;
@@ -28,8 +30,7 @@ use fixed_num::{ByteList, ListOf};
 use history::{ChartList, DimensionList, NumberedBeat, NumberedChart, NumberedDimension, RowList};
 use query_engine::Point;
 use side_codec::{
-    GapSpanList, LastPoint, LastPointList, Side, SideFault, SideRole, is_short, read_side,
-    write_side,
+    LastPoint, LastPointList, Side, SideFault, SideRole, is_short, read_side, write_side,
 };
 use std::alloc::{AllocError, Global};
 use storage_number::is_word;
@@ -133,10 +134,10 @@ fn keep_alarms(alarms: &Alarms) -> Result<KeptAlarms, AllocError>
     }
 }
 
-/// The side of what beats left.
+/// The side of what beats left, where this is the floor of tier 0.
 #[tactic(auto, unfolding(crate::specs::Sides::side_by))]
-fn side_of(alloc: Global, left: &Left) -> Result<Side, AllocError>
-    ensures { IfOk result (λ side. side ≡ side_by left.now) }
+fn side_of(alloc: Global, left: &Left, floor: u32) -> Result<Side, AllocError>
+    ensures { IfOk result (λ side. side ≡ side_by floor left.now) }
 {
     let registry = &left.registry;
     let charts = registry.charts() as usize;
@@ -150,19 +151,20 @@ fn side_of(alloc: Global, left: &Left) -> Result<Side, AllocError>
         last_rows: filled(alloc, left.last_rows.as_slice(), series, None)?,
         last_points: stored_points(alloc, points.as_slice())?,
         alarms: keep_alarms(&left.alarms)?,
-        gaps: GapSpanList::new(alloc),
+        gaps: left.gaps.above(alloc, floor)?,
     })
 }
 
-/// The side of what beats left. `Memory` also where it would have 2^32 bytes or no spelling.
-pub(crate) fn write_left(alloc: Global, left: &Left) -> Result<ByteList, AgentFault>
+/// The side of what beats left, where this is the floor of tier 0. `Memory` also where it would have 2^32 bytes or no
+/// spelling.
+pub(crate) fn write_left(alloc: Global, left: &Left, floor: u32) -> Result<ByteList, AgentFault>
     ensures side { IfOk result (λ bytes. (set : ASettings) (h : List HistoryBeat)
         (beats : List StoreBeat) → AreBeatsOf h beats → IsLeftBy set h left.now
-        → IsSideOf set h bytes) }
+        → floor ≡ floor_of_history set h 0 → IsSideOf set h bytes) }
     ensures short { IfOk result (λ bytes. length bytes < 2 ^ 32) }
     ensures memory { IfErr result (λ fault. fault ≡ AgentFault.Memory) }
 {
-    let Ok(side) = side_of(alloc, left) else {
+    let Ok(side) = side_of(alloc, left, floor) else {
         return Err(AgentFault::Memory);
     };
     if !is_short(&side) {
@@ -325,7 +327,7 @@ fn left_of(alloc: Global, side: Side) -> Result<Left, AgentFault>
         last_rows,
         last_points,
         alarms,
-        gaps: _gaps,
+        gaps,
     } = side;
     let registry = defined(alloc, charts, dimensions)?;
     let alarms = alarms_of(alloc, &alarms, &registry)?;
@@ -340,6 +342,7 @@ fn left_of(alloc: Global, side: Side) -> Result<Left, AgentFault>
         role: role_of(role),
         last_rows: LastRows::from_list(last_rows),
         latest,
+        gaps: Gaps::from_list(gaps),
         alarms,
     })
 }

@@ -18,6 +18,7 @@ ghost use Rattle.link_frames.specs.DataForm.{AreApart as AreNamesApart};
 ghost use Rattle.store_core.specs.beats.Beats.{beat_bytes, InForm};
 ghost use Rattle.store_core.specs.Store.{is_due, IsReady, IsReplayed};
 ghost use Rattle.agent_core.specs.Copying.{beats_of, definitions_in, names_refusal};
+ghost use Rattle.agent_core.specs.Gaps.{join_gap};
 ghost use Rattle.agent_core.specs.Keeping.{KeepsStore};
 ghost use Rattle.agent_core.specs.Kept.{onto, IsCopyOf};
 ghost use Rattle.agent_core.specs.Stands.{HoldsHistory, StandsForPrefix, StandsForHistory};
@@ -39,6 +40,7 @@ use fixed_num::ListOf;
 use history::{NumberedBeat, OpenBeat};
 use host_model::Host;
 use replication::{Beat as SentBeat, Data};
+use side_codec::GapSpan;
 use std::alloc::{AllocError, Global};
 use store_core::{Beat, Store};
 
@@ -56,6 +58,7 @@ fn add_gap<H: Host>(
     requires replayed { IsReplayed store.old }
     requires going { store.old.fault ≡ None }
     requires not_due { is_due store.old ≡ false }
+    requires begins { store.old.tiers.last ≤ from }
     requires later { store.old.tiers.last < to }
     ensures any_moment { H.honest → (set : ASettings) (h : List HistoryBeat)
         → HoldsHistory (H.seen host.old).past store.old set h → may_copy (role_of h) ≡ true
@@ -319,8 +322,21 @@ fn add_beats<H: Host>(
     Ok(events)
 }
 
+/// Adds a gap to those that are left. After an `Err` nothing of these is of use.
+fn join_gap(left: &mut Left, from: u32, to: u32) -> Result<(), AgentFault>
+    ensures joined { OnOk result
+        (left.new.gaps ≡ join_gap left.old.gaps (record { from = from; to = to })) }
+    ensures only { left.new ≡ record left.old { gaps = left.new.gaps } }
+    ensures memory { IfErr result (λ fault. fault ≡ AgentFault.Memory) }
+{
+    match left.gaps.join(GapSpan { from, to }) {
+        Ok(()) => Ok(()),
+        Err(_) => Err(AgentFault::Memory),
+    }
+}
+
 /// Adds the gap before the beats of a message, if there is one. At every moment a crash leaves the history with the
-/// gap or without it.
+/// gap or without it. After an `Err` nothing of the store and of what was left is of use.
 fn add_gap_before<H: Host>(
     alloc: Global,
     store: &mut Store,
@@ -342,15 +358,17 @@ fn add_gap_before<H: Host>(
         → HoldsHistory (H.seen host.old).past store.old set h → IsLeftBy set h left.old
         → may_copy (role_of h) ≡ true
         → HoldsHistory (H.seen host.new).past store.new set (onto h (gap_beats message.now))) }
-    ensures left_by { OnOk result ((set : ASettings) (h : List HistoryBeat)
-        → IsLeftBy set h left.old → IsLeftBy set (onto h (gap_beats message.now)) left.new) }
-    ensures only { left.new ≡ record left.old { role = left.new.role } }
+    ensures left_by { OnOk result ((past : List Event) (set : ASettings) (h : List HistoryBeat)
+        → HoldsHistory past store.old set h → IsLeftBy set h left.old
+        → IsLeftBy set (onto h (gap_beats message.now)) left.new) }
+    ensures only { left.new ≡ record left.old { role = left.new.role; gaps = left.new.gaps } }
     ensures keeps { KeepsStore H.honest (H.seen host.old) store.old result (H.seen host.new)
         store.new }
     ensures last { OnOk result (store.new.tiers.last ≡ message.now.from) }
 {
     if message.prev < message.from {
         make_room(alloc, store, left, host)?;
+        join_gap(left, message.prev, message.from)?;
         add_gap(
             alloc,
             store,

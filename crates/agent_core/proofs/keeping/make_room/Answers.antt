@@ -1,7 +1,10 @@
+use Rattle.std.proofs.Common.{◌∙◌}
 use Rattle.host_model.specs.Moments.{begins}
+use Rattle.agent_core.specs.Answers.{tier_beats}
+use Rattle.agent_core.proofs.AnswerLemmas.{floor-is}
 use Rattle.agent_core.proofs.KeepsLemmas.{checkpoint-failed}
 use Rattle.agent_core.proofs.KeptLemmas.{holds-moved, moves, stays}
-use Rattle.agent_core.proofs.StoredLemmas.{were_kept}
+use Rattle.agent_core.proofs.StoredLemmas.{applied-all, were_kept}
 use Rattle.agent_core.proofs.keeping.make_room.Goals as goal
 
 pub returns-then-not-due-clause-any_moment : goal.returns-then-not-due-clause-any_moment
@@ -14,21 +17,22 @@ pub returns-in-Ok-clause-any_moment : goal.returns-in-Ok-clause-any_moment
 returns-in-Ok-clause-any_moment g c true_host set h holds by =
     let past = (g.H.Host.seen c.args.host.now).past in
     let all = were_kept set h holds.stored holds.are in
-    let is = c.in_ok-side.ensures.side set h all.beats all.are by in
+    let is = c.in_ok-side.ensures.side set h all.beats all.are by (c.floor.ensures.applied set (tier_beats h) (applied-all past c.args.store.now set h holds) ∙ floor-is set h 0) in
     moves past c.args.store.now set h holds c.in_ok-side.side is (g.H.Host.seen c.checkpoint.new.host).past (c.checkpoint.ensures.any_moment true_host holds.stored holds.store_of)
 
 pub returns-in-Err-clause-any_moment : goal.returns-in-Err-clause-any_moment
 returns-in-Err-clause-any_moment g c true_host set h holds by =
     let past = (g.H.Host.seen c.args.host.now).past in
     let all = were_kept set h holds.stored holds.are in
-    let is = c.in_ok-side.ensures.side set h all.beats all.are by in
+    let is = c.in_ok-side.ensures.side set h all.beats all.are by (c.floor.ensures.applied set (tier_beats h) (applied-all past c.args.store.now set h holds) ∙ floor-is set h 0) in
     moves past c.args.store.now set h holds c.in_ok-side.side is (g.H.Host.seen c.checkpoint.new.host).past (c.checkpoint.ensures.any_moment true_host holds.stored holds.store_of)
 
 pub returns-in-Ok-clause-done : goal.returns-in-Ok-clause-done
 returns-in-Ok-clause-done g c true_host set h holds by =
+    let past = (g.H.Host.seen c.args.host.now).past in
     let all = were_kept set h holds.stored holds.are in
-    let is = c.in_ok-side.ensures.side set h all.beats all.are by in
-    holds-moved (g.H.Host.seen c.args.host.now).past c.args.store.now set h holds c.in_ok-side.side is (g.H.Host.seen c.checkpoint.new.host).past c.checkpoint.new.self
+    let is = c.in_ok-side.ensures.side set h all.beats all.are by (c.floor.ensures.applied set (tier_beats h) (applied-all past c.args.store.now set h holds) ∙ floor-is set h 0) in
+    holds-moved past c.args.store.now set h holds c.in_ok-side.side is (g.H.Host.seen c.checkpoint.new.host).past c.checkpoint.new.self
     (c.in-Ok.ensures.advanced true_host holds.stored holds.store_of)
 
 pub returns-in-Err-clause-keeps : goal.returns-in-Err-clause-keeps

@@ -38,7 +38,7 @@ pub returns-clause-alarms : goal.returns-clause-alarms
 returns-clause-alarms c = ap (λ (l : Left). l.alarms) c.see_entry.ensures.only ∙ c.take_entry.ensures.alarms
 
 pub returns-clause-taken : goal.returns-clause-taken
-returns-clause-taken c set g beats beat are of before was =
+returns-clause-taken c set g beats beat is_tier are of before was =
     let old = c.args.left.now in
     let took = c.take_entry.new.left in
     let new = c.see_entry.new.left in
@@ -48,9 +48,9 @@ returns-clause-taken c set g beats beat are of before was =
     let rows = subst (λ (l : Left). HasRows l.registry old.last_rows l.last_rows entry) (sym only) c.in_ok-does.ensures.rows in
     let points = subst (HasSeen took.registry took.latest new.latest entry) c.as_slice-points.ensures c.in_ok-see_entry.ensures.seen in
     let seen = subst (λ (l : Left). HasSeen l.registry old.latest new.latest entry kept.points) (sym only) (rw (sym c.take_entry.ensures.latest) points) in
-    beat-taken set g beats beat kept old new entry are of was c.in_ok-entry.ensures.found
+    beat-taken set g beats beat kept old new entry is_tier are of was c.in_ok-entry.ensures.found
     (ap noted_in only ∙ note-left (noted_in old) kept entry c.in_ok-entry.ensures.found (noted_in took) c.in_ok-does.ensures.left)
-    rows seen (c.in_ok-see_entry.ensures.before ∙ before) (ap (λ (l : Left). l.alarms) only ∙ c.take_entry.ensures.alarms)
+    rows seen (c.in_ok-see_entry.ensures.before ∙ before) (ap (λ (l : Left). l.gaps) only ∙ c.in_ok-does.ensures.gaps) (ap (λ (l : Left). l.alarms) only ∙ c.take_entry.ensures.alarms)
 
 pub returns-clause-charts : goal.returns-clause-charts
 returns-clause-charts c =

@@ -1,8 +1,10 @@
-use Rattle.std.proofs.Common.{ap, sym, subst, ◌∙◌}
+use Rattle.std.proofs.Common.{◌∷◌, ap, sym, subst, ◌∙◌}
 use Rattle.std.proofs.lemmas.Result.{err_from_is_err_and}
 use Rattle.store_core.specs.Store.{Replays, StoreState}
+use Rattle.agent_core.specs.Answers.{tier_beats}
 use Rattle.agent_core.specs.Notes.{noted_in}
 use Rattle.agent_core.specs.Replay.{HasTaken, IsReplaying}
+use Rattle.agent_core.proofs.GapLemmas.{first-tier}
 use Rattle.agent_core.proofs.NoteLemmas.{taken-broken, taken-more, taken-same}
 use Rattle.agent_core.proofs.OpenFaults.{memory-whole}
 use Rattle.agent_core.proofs.OpeningLemmas.{replaying-more, replaying-same, replaying-stands}
@@ -28,7 +30,7 @@ returns-in_ok-follow-in-Some-clause-replaying g c past set h was =
     (λ stored rest is_at. subst (Replays past c.next_beat.new.store stored rest) c.in-Some.is (c.in_ok-kept.ensures.next past stored rest is_at))
     c.follow.new.left
     (λ g' beats beat all of applied before by.
-    c.in_ok-follow-in-Some.ensures.left_by set g' beat applied (c.in_ok-does-in-Some.ensures.taken set g' beats beat all of (c.last-before.ensures ∙ before) by)
+    c.in_ok-follow-in-Some.ensures.left_by set g' beat applied (c.in_ok-does-in-Some.ensures.taken set g' beats beat (first-tier set (tier_beats (beat ∷ g')) c.next_beat.new.store applied) all of (c.last-before.ensures ∙ before) by)
     (c.in_ok-does-in-Some.ensures.does g' beat of)))
 
 pub returns-in-None-clause-replaying : goal.returns-in-None-clause-replaying

@@ -13,7 +13,7 @@ pub returns-in-Ok-clause-any_moment : goal.returns-in-Ok-clause-any_moment
 returns-in-Ok-clause-any_moment g c true_host set h holds role =
     let past = (g.H.Host.seen c.args.host.now).past in
     let gap : Gap = record { child = c.args.child; from = c.args.from; to = c.args.to } in
-    let of = gap-of past c.args.store.now set h holds gap c.in-Ok.kept c.in-Ok.ensures.kept c.in-Ok.ensures.spelt role c.requires.later in
+    let of = gap-of past c.args.store.now set h holds gap c.in-Ok.kept c.in-Ok.ensures.kept c.in-Ok.ensures.spelt role c.requires.begins c.requires.later in
     climbs past c.args.store.now set h holds (missing gap) c.in-Ok.kept of (g.H.Host.seen c.commit.new.host).past (c.commit.ensures.any_moment true_host holds.stored holds.store_of)
 
 pub returns-in-Ok-clause-done : goal.returns-in-Ok-clause-done
@@ -21,5 +21,5 @@ returns-in-Ok-clause-done g c =
     on_ok _ _ c.commit.result c.commit.ensures.stored (λ stored true_host set h holds role.
     let past = (g.H.Host.seen c.args.host.now).past in
     let gap : Gap = record { child = c.args.child; from = c.args.from; to = c.args.to } in
-    let of = gap-of past c.args.store.now set h holds gap c.in-Ok.kept c.in-Ok.ensures.kept c.in-Ok.ensures.spelt role c.requires.later in
+    let of = gap-of past c.args.store.now set h holds gap c.in-Ok.kept c.in-Ok.ensures.kept c.in-Ok.ensures.spelt role c.requires.begins c.requires.later in
     holds-beat past c.args.store.now set h holds (missing gap) c.in-Ok.kept of (g.H.Host.seen c.commit.new.host).past c.commit.new.store (stored true_host holds.stored holds.store_of))

@@ -1,4 +1,4 @@
-use Rattle.std.proofs.Common.{List, [], Ok, Err, rules, subst}
+use Rattle.std.proofs.Common.{◌<◌, List, [], Ok, Err, arith, refl, rules, subst}
 use Rattle.std.proofs.lemmas.Result.{err_from_is_err_and}
 use Rattle.host_model.specs.Disks.{EveryDisk}
 use Rattle.host_model.specs.Moments.{begins, Throughout}
@@ -10,13 +10,17 @@ use Rattle.agent_core.specs.Stands.{HoldsHistory, StandsForPrefix}
 use Rattle.agent_core.specs.Left.{IsLeftBy}
 use Rattle.agent_core.specs.Storing.{gap_beats}
 use Rattle.agent_core.proofs.PrefixLemmas.{first-moments, prefix-none}
-use Rattle.agent_core.proofs.KeepsLemmas.{keeps-both}
-use Rattle.agent_core.proofs.KeptLemmas.{left-gap, stays}
+use Rattle.agent_core.proofs.KeepsLemmas.{keeps-after, keeps-both}
+use Rattle.agent_core.proofs.KeptLemmas.{left-gap, stays, store-last}
 use Rattle.agent_core.proofs.StoringLemmas.{gap-none, gap-some}
 use Rattle.agent_core.proofs.storing.add_gap_before.Goals as goal
 
 pub returns-in_err-make_room-clause-any_moment : goal.returns-in_err-make_room-clause-any_moment
 returns-in_err-make_room-clause-any_moment g c true_host set h holds by role =
+    prefix-none set h (gap_beats c.args.message.now) (g.H.Host.seen c.args.host.now).past (g.H.Host.seen c.make_room.new.host).past (c.make_room.ensures.any_moment true_host set h holds by)
+
+pub returns-in_err-join_gap-clause-any_moment : goal.returns-in_err-join_gap-clause-any_moment
+returns-in_err-join_gap-clause-any_moment g c true_host set h holds by role =
     prefix-none set h (gap_beats c.args.message.now) (g.H.Host.seen c.args.host.now).past (g.H.Host.seen c.make_room.new.host).past (c.make_room.ensures.any_moment true_host set h holds by)
 
 pub returns-in_err-add_gap-clause-any_moment : goal.returns-in_err-add_gap-clause-any_moment
@@ -48,13 +52,23 @@ returns-in_ok-add_gap-clause-done g c true_host set h holds by role =
     subst (λ (more : List Beat). HoldsHistory (g.H.Host.seen c.add_gap.new.host).past c.add_gap.new.store set (onto h more)) (gap-some message (search rules)) (c.in_ok-add_gap.ensures.done true_host set h room role)
 
 pub returns-in_ok-add_gap-clause-left_by : goal.returns-in_ok-add_gap-clause-left_by
-returns-in_ok-add_gap-clause-left_by g c set h by =
+returns-in_ok-add_gap-clause-left_by g c past set h holds by =
     let message = c.args.message.now in
     let gap : Gap = record { child = message.child; from = message.prev; to = message.from } in
-    subst (λ (more : List Beat). IsLeftBy set (onto h more) (record c.args.left.now { role = Copies message.child })) (gap-some message (search rules)) (left-gap set h gap c.args.left.now by)
+    let last_is = store-last past c.args.store.now set h holds in
+    let less : message.prev < message.from = search rules in
+    let at = c.requires.at in
+    subst (λ (more : List Beat). IsLeftBy set (onto h more) (record c.join_gap.new.left { role = Copies message.child })) (gap-some message less)
+    (left-gap past c.args.store.now set h holds gap c.args.left.now c.join_gap.new.left by c.join_gap.ensures.only c.in_ok-join_gap.ensures.joined (omega (arith, last_is, at)) (omega (arith, last_is, at, less)))
 
 pub returns-else-message-clause-any_moment : goal.returns-else-message-clause-any_moment
 returns-else-message-clause-any_moment g c true_host set h holds by role = begins (λ disk images. (0, stays (g.H.Host.seen c.args.host.now).past c.args.store.now set h holds disk images))
+
+pub returns-in_err-join_gap-clause-keeps : goal.returns-in_err-join_gap-clause-keeps
+returns-in_err-join_gap-clause-keeps g c =
+    let p = err_from_is_err_and c.from_residual-in_err-join_gap.result c.from_residual-in_err-join_gap.ensures.1 in
+    rw (p.1, p.2) (keeps-after g.H.Host.honest (g.H.Host.seen c.args.host.now) (g.H.Host.seen c.make_room.new.host) (g.H.Host.seen c.make_room.new.host) c.args.store.now c.make_room.new.store c.make_room.new.store
+    c.in_ok-make_room.field-0 (Err c.in_err-join_gap.field-0.0) c.in_ok-make_room.ensures.keeps refl refl c.in_err-join_gap.ensures.memory)
 
 pub returns-in_err-add_gap-clause-keeps : goal.returns-in_err-add_gap-clause-keeps
 returns-in_err-add_gap-clause-keeps g c =
@@ -72,4 +86,4 @@ returns-else-message-clause-done g c true_host set h holds by role =
     subst (λ (more : List Beat). HoldsHistory (g.H.Host.seen c.args.host.now).past c.args.store.now set (onto h more)) (gap-none c.args.message.now (search rules)) holds
 
 pub returns-else-message-clause-left_by : goal.returns-else-message-clause-left_by
-returns-else-message-clause-left_by g c set h by = subst (λ (more : List Beat). IsLeftBy set (onto h more) c.args.left.now) (gap-none c.args.message.now (search rules)) by
+returns-else-message-clause-left_by g c past set h holds by = subst (λ (more : List Beat). IsLeftBy set (onto h more) c.args.left.now) (gap-none c.args.message.now (search rules)) by

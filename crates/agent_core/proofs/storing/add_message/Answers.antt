@@ -50,7 +50,7 @@ returns-in_err-make_room-clause-any_moment g c true_host set h holds was role =
     let message = c.args.message.now in
     let behind = onto h (gap_beats message) in
     let kept = c.in_ok-add_gap_before.ensures.done true_host set h holds was role in
-    let left = c.in_ok-add_gap_before.ensures.left_by set h was in
+    let left = c.in_ok-add_gap_before.ensures.left_by (g.H.Host.seen c.args.host.now).past set h holds was in
     joined (message-before set h registry message past middle (c.add_gap_before.ensures.any_moment true_host set h holds was role))
     (message-behind set h registry message middle roomed (prefix-none set behind (sent_copies (with_names registry message) message message.beats) middle roomed (c.make_room.ensures.any_moment true_host set behind kept left)))
 
@@ -63,7 +63,7 @@ returns-in_err-defines-clause-any_moment g c true_host set h holds was role =
     let message = c.args.message.now in
     let behind = onto h (gap_beats message) in
     let kept = c.in_ok-add_gap_before.ensures.done true_host set h holds was role in
-    let left = c.in_ok-add_gap_before.ensures.left_by set h was in
+    let left = c.in_ok-add_gap_before.ensures.left_by (g.H.Host.seen c.args.host.now).past set h holds was in
     joined (message-before set h registry message past middle (c.add_gap_before.ensures.any_moment true_host set h holds was role))
     (message-behind set h registry message middle roomed (prefix-none set behind (sent_copies (with_names registry message) message message.beats) middle roomed (c.make_room.ensures.any_moment true_host set behind kept left)))
 
@@ -85,7 +85,7 @@ returns-clause-any_moment g c true_host set h holds was role =
     (message-takes set h registry message c.requires.form (let all = were_kept set h holds.stored holds.are in within-of h all.beats all.are) was.registry_is role c.requires.free prev) in
     let roomed = (g.H.Host.seen c.make_room.new.host).past in
     let was_kept = c.in_ok-add_gap_before.ensures.done true_host set h holds was role in
-    let left = c.in_ok-add_gap_before.ensures.left_by set h was in
+    let left = c.in_ok-add_gap_before.ensures.left_by (g.H.Host.seen c.args.host.now).past set h holds was in
     let kept = c.in_ok-make_room.ensures.done true_host set behind was_kept left in
     let new = (g.H.Host.seen c.add_beats.new.host).past in
     let begun = message-before set h registry message past middle (c.add_gap_before.ensures.any_moment true_host set h holds was role) in
@@ -111,7 +111,7 @@ returns-clause-done g c =
     let all = subst (MayTakeAll behind) (sym same)
     (message-takes set h registry message c.requires.form (let all = were_kept set h holds.stored holds.are in within-of h all.beats all.are) was.registry_is role c.requires.free prev) in
     let was_kept = c.in_ok-add_gap_before.ensures.done true_host set h holds was role in
-    let left = c.in_ok-add_gap_before.ensures.left_by set h was in
+    let left = c.in_ok-add_gap_before.ensures.left_by (g.H.Host.seen c.args.host.now).past set h holds was in
     let kept = c.in_ok-make_room.ensures.done true_host set behind was_kept left in
     let some : 0 < length beats = subst (λ (bs : List SentBeat). 0 < length bs) (sym c.as_slice-beats.ensures) c.requires.form.moments.some in
     message-added set h registry message (g.H.Host.seen c.add_beats.new.host).past c.add_beats.new.store c.add_beats.new.left events

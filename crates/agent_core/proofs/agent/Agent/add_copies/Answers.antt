@@ -27,6 +27,7 @@ returns-in-Ok-clause-done g c true_host set h is_of =
       registry = c.add_message-added.new.left.registry;
       last_rows = c.add_message-added.new.left.last_rows;
       latest = c.add_message-added.new.left.latest;
+      gaps = c.add_message-added.new.left.gaps;
       alarms = c.add_message-added.new.left.alarms;
       last = message.upto;
       count = c.raised_by-self-inside.result;

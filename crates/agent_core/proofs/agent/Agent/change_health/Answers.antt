@@ -60,6 +60,7 @@ returns-in-Ok-add_health-clause-done g c =
       registry = inside.left.registry;
       last_rows = inside.left.last_rows;
       latest = record inside.left.latest { before = inside.last };
+      gaps = inside.left.gaps;
       alarms = inside.left.alarms;
       last = inside.last;
       count = inside.count;
@@ -94,6 +95,7 @@ returns-in-Ok-add_health-clause-ready g c =
       registry = inside.left.registry;
       last_rows = inside.left.last_rows;
       latest = record inside.left.latest { before = inside.last };
+      gaps = inside.left.gaps;
       alarms = inside.left.alarms;
       last = inside.last;
       count = inside.count;

@@ -2,6 +2,7 @@ use Rattle.std.proofs.Common.{[], Err, inl, inr, ap, refl, sym, ◌∙◌, true�
 use Rattle.std.proofs.lemmas.Result.{err_from_is_err_and}
 use Rattle.host_model.specs.Moments.{begins}
 use Rattle.host_model.proofs.MomentLemmas.{at_end}
+use Rattle.agent_core.proofs.GapLemmas.{floor-none}
 use Rattle.agent_core.proofs.NewLemmas.{before-at_end, before-itself, made-cause, made-memory, made-told, new_climbs, new_is_of}
 use Rattle.agent_core.proofs.agent.Agent.make.Goals as goal
 
@@ -14,12 +15,12 @@ returns-in_err-side-clause-any_moment g c true_host = begins (λ disk images. in
 
 pub returns-in-Ok-clause-any_moment : goal.returns-in-Ok-clause-any_moment
 returns-in-Ok-clause-any_moment g c true_host =
-    new_climbs c.args.settings.now c.in_ok-side.side c.requires (c.in_ok-side.ensures.side c.args.settings.now [] [] tt (c.in_ok-left.ensures.left c.args.settings.now))
+    new_climbs c.args.settings.now c.in_ok-side.side c.requires (c.in_ok-side.ensures.side c.args.settings.now [] [] tt (c.in_ok-left.ensures.left c.args.settings.now) (floor-none c.args.settings.now))
     (g.H.Host.seen c.args.host.now).past (g.H.Host.seen c.create.new.host).past (c.create.ensures.any_moment true_host)
 
 pub returns-in-Err-clause-any_moment : goal.returns-in-Err-clause-any_moment
 returns-in-Err-clause-any_moment g c true_host =
-    new_climbs c.args.settings.now c.in_ok-side.side c.requires (c.in_ok-side.ensures.side c.args.settings.now [] [] tt (c.in_ok-left.ensures.left c.args.settings.now))
+    new_climbs c.args.settings.now c.in_ok-side.side c.requires (c.in_ok-side.ensures.side c.args.settings.now [] [] tt (c.in_ok-left.ensures.left c.args.settings.now) (floor-none c.args.settings.now))
     (g.H.Host.seen c.args.host.now).past (g.H.Host.seen c.create.new.host).past (c.create.ensures.any_moment true_host)
 
 pub returns-in_err-left-clause-made_moment : goal.returns-in_err-left-clause-made_moment
@@ -32,7 +33,7 @@ returns-in_err-side-clause-made_moment g c true_host made = begins (λ disk imag
 pub returns-in-Ok-clause-created : goal.returns-in-Ok-clause-created
 returns-in-Ok-clause-created g c true_host =
     let left = c.in_ok-left.ensures.left c.args.settings.now in
-    new_is_of c.args.settings.now c.in_ok-side.side c.requires (c.in_ok-side.ensures.side c.args.settings.now [] [] tt left)
+    new_is_of c.args.settings.now c.in_ok-side.side c.requires (c.in_ok-side.ensures.side c.args.settings.now [] [] tt left (floor-none c.args.settings.now))
     (g.H.Host.seen c.create.new.host).past c.in-Ok.store _ (c.in-Ok.ensures.created true_host) left refl refl refl refl
 
 -- ---- where there is a database already

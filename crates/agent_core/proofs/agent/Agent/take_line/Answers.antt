@@ -45,6 +45,7 @@ returns-in-Memory g c =
       registry = c.self.inside.left.registry;
       last_rows = c.self.inside.left.last_rows;
       latest = c.self.inside.left.latest;
+      gaps = c.self.inside.left.gaps;
       alarms = c.self.inside.left.alarms;
       last = c.self.inside.last;
       count = c.self.inside.count;

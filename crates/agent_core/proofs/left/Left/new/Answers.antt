@@ -1,8 +1,10 @@
-use Rattle.std.proofs.Common.{refl, sym, subst, ◌∙◌}
+use Rattle.std.proofs.Common.{[], refl, sym, subst, ◌∙◌}
 use Rattle.history.specs.Registry.{Registry, same_chart, same_dimension}
 use Rattle.history.specs.Regular.{AreApart}
 use Rattle.agent_core.specs.Rules.{HasLimits}
+use Rattle.agent_core.specs.Gaps.{AreGapsLeft}
 use Rattle.agent_core.proofs.AlarmLemmas.{none-yet}
+use Rattle.agent_core.proofs.GapLemmas.{none-left}
 use Rattle.agent_core.proofs.LimitLemmas.{none-limits}
 use Rattle.agent_core.proofs.left.Left.new.Goals as goal
 
@@ -12,6 +14,7 @@ returns-clause-left c set = record {
   role_is = refl;
   last_rows_are = c.new-last_rows.ensures.of_no_beats;
   latest_is = c.nothing_seen-latest.ensures.none;
+  gaps_are = subst (AreGapsLeft set []) (sym c.new-gaps.ensures) (none-left set);
   alarms_are = c.in-Ok.ensures.held ∙ none-yet set;
 }
 
