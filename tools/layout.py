@@ -486,6 +486,9 @@ class Database:
 
     def switch(self, number):
         self.number = number
+        gaps = self.side["gaps"]
+        while gaps and gaps[0]["upto"] < self.tiers[0].floor:
+            del gaps[0]
         self.files[2 + number % 2] = empty_journal(number)
         body = {
             "version": 1, "id": self.id, "quotas": [{"full": tier.full, "kept": tier.kept} for tier in self.tiers],
@@ -649,6 +652,7 @@ class Copying(Database):
         side["role"], side["child"] = 2, data["child"]
         if data["from"] > data["prev"]:
             self.store(data["from"], [], (4, {"child": data["child"], "above": data["prev"], "upto": data["from"]}))
+            self.miss(data["prev"], data["from"])
         series_of, names = self.names(data)
         for beat in data["beats"]:
             if self.is_due:
@@ -665,6 +669,13 @@ class Copying(Database):
                 side["moments"][chart] = moment
                 side["last_points"][word["series"]] = {"moment": moment, "word": word["word"]}
         return f"STORED {self.count}"
+
+    def miss(self, above, upto):
+        """A span was not copied: where the last one ends where it begins, the two are one."""
+        gaps = self.side["gaps"]
+        if gaps and gaps[-1]["upto"] == above:
+            above = gaps.pop()["above"]
+        gaps.append({"above": above, "upto": upto})
 
     def names(self, data):
         """The series of the dimensions of a Data, and its charts and dimensions by their numbers."""
