@@ -1,6 +1,6 @@
 -- The side of a checkpoint: what an opening takes of the history up to it, in place of its beats. A history has its newest
 -- beat first.
-use Rattle.std.specs.Prelude.{◌≡◌, ℕ, ◌-◌, true, List, [], ◌++◌, length, map, replicate, take, ℤ, Option, Some, None, if◌then◌else◌}
+use Rattle.std.specs.Prelude.{◌≡◌, ℕ, ◌-◌, true, List, ◌++◌, length, map, replicate, take, ℤ, Option, Some, None, if◌then◌else◌}
 use Rattle.std.specs.List.{enumerate_from, position_or_len}
 use Rattle.std.specs.Option.{option_and_then, option_map}
 use Rattle.algorithms.specs.declared.last.Last.{Last}
