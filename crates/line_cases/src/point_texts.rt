@@ -245,7 +245,6 @@ fn numbers_each_refusal(rt: HostRuntime) {
         (Refusal::Block(BlockFault::MixedRoles), 29),
         (Refusal::Block(BlockFault::GridChanged), 31),
         (Refusal::Block(BlockFault::TooManyDimensions), 33),
-        (Refusal::NotBuilt, 90),
     ] {
         assert_eq!(rt; refusal.number(), number);
     }

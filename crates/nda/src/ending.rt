@@ -129,7 +129,7 @@ fn event_of(status: Status) -> &'static str {
         Status::LinkEnded => "the link ended before the other agent was done",
         Status::Disabled => "the collector ended with another status than 0, or wrote DISABLE",
         Status::InputLimit => "2^40 bytes of input were taken, and no end had come",
-        Status::Memory => "memory ran out",
+        Status::Memory => "out of memory",
         _ => "all was done",
     }
 }

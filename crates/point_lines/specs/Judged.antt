@@ -54,4 +54,3 @@ block_number Memory = 0
 abbrev pub refusal_number : Refusal → ℕ
 refusal_number (refusal.Line fault) = option_map_or (λ (number : ℕ). number) (fault_number fault) 0
 refusal_number (refusal.Block fault) = block_number fault
-refusal_number refusal.NotBuilt = 90

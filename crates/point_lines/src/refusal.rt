@@ -11,8 +11,6 @@ pub enum Refusal {
     Line(LineFault),
     /// By where the line stands.
     Block(BlockFault),
-    /// It is a question, where nothing answers questions yet.
-    NotBuilt,
 }
 
 impl Refusal {
@@ -23,7 +21,6 @@ impl Refusal {
         match self {
             Refusal::Line(fault) => fault.number().unwrap_or(0),
             Refusal::Block(fault) => block_number(fault),
-            Refusal::NotBuilt => 90,
         }
     }
 }

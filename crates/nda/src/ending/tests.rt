@@ -38,7 +38,7 @@ fn each_status_of_an_input_has_its_line(rt: HostRuntime) -> Result<(), Fail> {
         ),
         (
             Status::Memory,
-            "memory ran out; what was told as stored is kept; free some, and run again",
+            "out of memory; what was told as stored is kept; free some, and run again",
         ),
     ];
     for (status, line) in table {
