@@ -1,5 +1,4 @@
 //! The tests of `store_core::disk`: what the files of a database hold, on a host in memory.
 
-mod free_slot;
 mod making;
 mod opening;

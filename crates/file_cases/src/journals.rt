@@ -1,10 +1,8 @@
-//! The tests of `journal_core`: journals that are prepared, opened and appended to, and crashes.
+//! The tests of `journal_core`: a journal that is prepared, opened and appended to, and bytes that are one or none.
 
-use fixed_num::ByteList;
-use host_model::{CallList, Failed, File, Host, Keep, MemoryHost};
+use host_model::{CallList, File, Host, MemoryHost};
 use journal_core::{Journal, JournalFault, RecordList, prepare};
 use std::alloc::Global;
-use std::process::Abort;
 use std::test::Fail;
 
 const FILE: File = File::JournalA;
@@ -12,32 +10,19 @@ const FILE: File = File::JournalA;
 /// What a journal of the generation 7 begins with.
 const HEADER: [u8; 16] = *b"NDAJRNL1\x07\0\0\0\0\0\0\0";
 
-static BODIES: [&[u8]; 3] = [b"one", b"", b"three"];
-
-/// Prepares a journal of the generation 7.
-fn begin(host: &mut MemoryHost) -> Result<(), JournalFault> {
-    prepare(host, FILE, 7)
+fn host_of(alloc: Global) -> Result<MemoryHost, Fail> {
+    Ok(MemoryHost::new(alloc, CallList::new(alloc))?)
 }
 
-/// Opens it, and adds records while that goes well. It says how many were told to be stored.
-fn add(alloc: Global, host: &mut MemoryHost, bodies: &[&[u8]]) -> usize {
+/// Opens the journal and adds a record, and says whether that went well.
+fn add(alloc: Global, host: &mut MemoryHost, body: &[u8]) -> bool {
     let Ok((mut journal, _records)) = Journal::open(alloc, host, FILE, 7) else {
-        return 0;
+        return false;
     };
-    for (count, body) in bodies.iter().enumerate() {
-        if journal.bytes() > 1 << 60 || journal.append(host, body).is_err() {
-            return count;
-        }
+    if journal.bytes() > 1 << 60 || journal.append(host, body).is_err() {
+        return false;
     }
-    bodies.len()
-}
-
-/// Writes these bytes into an empty file, unless the host fails.
-fn put(host: &mut MemoryHost, prefix: &[u8], rest: &[u8]) {
-    let _ = host.write_at(FILE, 0, prefix);
-    if host.len(FILE).is_ok_and(|len| len == prefix.len() as u64) {
-        let _ = host.write_at(FILE, prefix.len() as u64, rest);
-    }
+    true
 }
 
 fn open_file(alloc: Global, host: &mut MemoryHost) -> Result<RecordList, JournalFault> {
@@ -45,204 +30,67 @@ fn open_file(alloc: Global, host: &mut MemoryHost) -> Result<RecordList, Journal
     Ok(records)
 }
 
-fn host_of(alloc: Global, fails: &[u64]) -> Result<MemoryHost, Fail> {
-    let list = CallList::from_vec(fails.to_vec(alloc)?);
-    Ok(MemoryHost::new(alloc, list)?)
-}
-
-/// How many records the journal of these bytes has.
-fn count_of(alloc: Global, prefix: &[u8], rest: &[u8]) -> Result<usize, JournalFault> {
-    let Ok(mut host) = MemoryHost::new(alloc, CallList::new(alloc)) else {
-        return Err(JournalFault::Memory);
-    };
-    put(&mut host, prefix, rest);
-    Ok(open_file(alloc, &mut host)?.len())
+/// A host whose journal of the generation 7 has the record `abc`.
+fn host_of_one(alloc: Global) -> Result<MemoryHost, Fail> {
+    let mut host = host_of(alloc)?;
+    prepare(&mut host, FILE, 7)?;
+    if !add(alloc, &mut host, b"abc") {
+        return Err(Fail::from("nothing was added"));
+    }
+    Ok(host)
 }
 
 #[test]
-fn one_record_of_three_bytes(rt: HostRuntime) -> Result<(), Fail> {
-    let mut host = host_of(rt.alloc(), &[10])?;
-    begin(&mut host)?;
-    assert_eq!(rt; host.len(FILE)?, 17);
-    assert_eq!(rt; add(rt.alloc(), &mut host, &BODIES), 0);
-    let mut host = host_of(rt.alloc(), &[13])?;
-    begin(&mut host)?;
-    assert_eq!(rt; add(rt.alloc(), &mut host, &BODIES), 1);
-    let mut host = host.stop(Keep::None)?;
-    assert_eq!(rt; host.len(FILE)?, 25);
-    let records = open_file(rt.alloc(), &mut host)?;
-    assert_eq!(rt; records.len(), 1);
-    assert_eq!(rt; records.as_slice()[0].as_slice(), b"one".as_slice());
+fn a_journal_of_three_bytes_has_25(rt: HostRuntime) -> Result<(), Fail> {
+    let mut host = host_of_one(rt.alloc())?;
+    let mut bytes = [0; 26];
+    assert_eq!(rt; host.read(FILE, 0, &mut bytes)?, 25);
+    let wanted = b"NDAJRNL1\x07\0\0\0\0\0\0\0\x01\x03\0\0\0abc\0\0";
+    assert_eq!(rt; bytes.as_slice(), wanted.as_slice());
     Ok(())
 }
 
-/// The records are those that were told to be stored, or one more.
-fn are_told(records: &[ByteList], bodies: &[&[u8]], told: usize) -> bool {
-    if records.len() < told || records.len() - told > 1 || records.len() > bodies.len() {
-        return false;
-    }
-    for (record, body) in records.iter().zip(bodies) {
-        if record.as_slice() != *body {
-            return false;
-        }
-    }
-    true
-}
-
-/// Uses a journal until a call fails, crashes, and opens it again.
-fn survive(
-    rt: &impl Abort,
-    alloc: Global,
-    mut host: MemoryHost,
-    keep: Keep,
-    call: u64,
-) -> Result<(), Fail> {
-    let ready = begin(&mut host).is_ok();
-    assert_eq!(rt; ready, call >= 4, "call {call}");
-    if !ready {
+#[test]
+fn a_record_is_there_when_its_journal_is_opened(rt: HostRuntime) -> Result<(), Fail> {
+    let mut host = host_of_one(rt.alloc())?;
+    let records = open_file(rt.alloc(), &mut host)?;
+    let [record] = records.as_slice() else {
+        assert!(rt; false, "not one record");
         return Ok(());
-    }
-    let told = add(alloc, &mut host, &BODIES);
-    let mut host = host.stop(keep)?;
-    let records = open_file(alloc, &mut host)?;
-    assert!(rt;
-        are_told(records.as_slice(), &BODIES, told),
-        "call {call}, {keep:?}"
-    );
+    };
+    assert_eq!(rt; record.as_slice(), b"abc".as_slice());
     Ok(())
 }
 
-#[test]
-fn a_crash_leaves_what_was_told_or_one_record_more(rt: HostRuntime) -> Result<(), Fail> {
-    for call in 0..26u64 {
-        for keep in [Keep::All, Keep::None, Keep::Fill(255), Keep::Fill(1)] {
-            survive(&rt, rt.alloc(), host_of(rt.alloc(), &[call])?, keep, call)?;
-            survive(
-                &rt,
-                rt.alloc(),
-                MemoryHost::fused(rt.alloc(), call)?,
-                keep,
-                call,
-            )?;
-        }
-    }
-    Ok(())
+/// How many records a journal has in which these bytes stand behind the header.
+fn opened(alloc: Global, rest: &[u8]) -> Result<Result<usize, JournalFault>, Fail> {
+    let mut bytes = HEADER.to_vec(alloc)?;
+    bytes.extend_from_slice(rest)?;
+    let mut host = host_of(alloc)?;
+    host.write_at(FILE, 0, bytes.as_slice())?;
+    Ok(match open_file(alloc, &mut host) {
+        Ok(records) => Ok(records.len()),
+        Err(fault) => Err(fault),
+    })
 }
 
-#[test]
-fn the_last_call_is_the_last_sync(rt: HostRuntime) -> Result<(), Fail> {
-    let mut host = host_of(rt.alloc(), &[24])?;
-    begin(&mut host)?;
-    assert_eq!(rt; add(rt.alloc(), &mut host, &BODIES), 2);
-    let mut host = host_of(rt.alloc(), &[25])?;
-    begin(&mut host)?;
-    assert_eq!(rt; add(rt.alloc(), &mut host, &BODIES), 3);
-    assert_eq!(rt; host.len(FILE), Err(Failed));
-    assert_eq!(rt; host.len(FILE)?, 17 + 8 + 5 + 10);
-    Ok(())
-}
-
-#[test]
-fn reads_records_across_pieces(rt: HostRuntime) -> Result<(), Fail> {
-    let mut host = host_of(rt.alloc(), &[])?;
-    begin(&mut host)?;
-    let long = vec![in rt.alloc(); 7u8; 5000]?;
-    let short = vec![in rt.alloc(); 8u8; 3000]?;
-    let bodies = [b"x".as_slice(), &long, &short, &short, b"", &short];
-    assert_eq!(rt; add(rt.alloc(), &mut host, &bodies), 6);
-    let records = open_file(rt.alloc(), &mut host)?;
-    assert!(rt; are_told(records.as_slice(), &bodies, 6));
-    Ok(())
-}
-
-struct Row {
-    says: &'static str,
-    /// What stands behind the header.
-    rest: &'static [u8],
-    opens: Result<usize, JournalFault>,
-}
-
-static ROWS: [Row; 12] = [
-    Row {
-        says: "a closed gate",
-        rest: b"\0",
-        opens: Ok(0),
-    },
-    Row {
-        says: "another byte than 1 at the gate",
-        rest: b"\xff\x03\0\0\0abc",
-        opens: Ok(0),
-    },
-    Row {
-        says: "one record",
-        rest: b"\x01\x03\0\0\0abc\0",
-        opens: Ok(1),
-    },
-    Row {
-        says: "an empty record",
-        rest: b"\x01\0\0\0\0\0",
-        opens: Ok(1),
-    },
-    Row {
-        says: "a torn record behind the last gate",
-        rest: b"\x01\x03\0\0\0abc\0\x09\0\0\0a",
-        opens: Ok(1),
-    },
-    Row {
-        says: "a byte behind the last gate",
-        rest: b"\x01\x03\0\0\0abc\x02\x01",
-        opens: Ok(1),
-    },
-    Row {
-        says: "no gate",
-        rest: b"",
-        opens: Err(JournalFault::NotAJournal(16)),
-    },
-    Row {
-        says: "the file ends in a length",
-        rest: b"\x01\x03\0",
-        opens: Err(JournalFault::NotAJournal(19)),
-    },
-    Row {
-        says: "the file ends in a record",
-        rest: b"\x01\x03\0\0\0a",
-        opens: Err(JournalFault::NotAJournal(22)),
-    },
-    Row {
-        says: "the file ends before the gate behind a record",
-        rest: b"\x01\x03\0\0\0abc",
-        opens: Err(JournalFault::NotAJournal(24)),
-    },
-    Row {
-        says: "a record of 2^26 bytes that the file cuts",
-        rest: b"\x01\0\0\0\x04a",
-        opens: Err(JournalFault::NotAJournal(22)),
-    },
-    Row {
-        says: "a record of 2^26 + 1 bytes",
-        rest: b"\x01\x01\0\0\x04a",
-        opens: Err(JournalFault::NotAJournal(20)),
-    },
+/// Bytes behind the header, and how many records there are.
+const ROWS: [(&[u8], Result<usize, JournalFault>); 5] = [
+    // Another byte than 1 at the gate.
+    (b"\xff\x03\0\0\0abc", Ok(0)),
+    // A torn record behind the last gate.
+    (b"\x01\x03\0\0\0abc\0\x09\0\0\0a", Ok(1)),
+    // The file ends in a record, and in one of 2^26 bytes.
+    (b"\x01\x03\0\0\0a", Err(JournalFault::NotAJournal(22))),
+    (b"\x01\0\0\0\x04a", Err(JournalFault::NotAJournal(22))),
+    // A record of 2^26 + 1 bytes.
+    (b"\x01\x01\0\0\x04a", Err(JournalFault::NotAJournal(20))),
 ];
 
 #[test]
 fn opens_what_was_worked_out_by_hand(rt: HostRuntime) -> Result<(), Fail> {
-    for row in &ROWS {
-        let opened = count_of(rt.alloc(), &HEADER, row.rest);
-        assert_eq!(rt; opened, row.opens, "{}", row.says);
-    }
-    Ok(())
-}
-
-#[test]
-fn names_the_first_byte_that_is_not_the_headers(rt: HostRuntime) -> Result<(), Fail> {
-    for place in 0..16usize {
-        let mut prefix = HEADER;
-        prefix[place] ^= 1;
-        let opened = count_of(rt.alloc(), &prefix, b"\0");
-        assert_eq!(rt; opened, Err(JournalFault::NotAJournal(place as u64)));
-        let opened = count_of(rt.alloc(), &HEADER[..place], b"");
-        assert_eq!(rt; opened, Err(JournalFault::NotAJournal(place as u64)));
+    for (rest, opens) in ROWS {
+        assert_eq!(rt; opened(rt.alloc(), rest)?, opens, "{rest:?}");
     }
     Ok(())
 }

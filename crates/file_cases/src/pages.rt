@@ -42,24 +42,11 @@ fn heads(alloc: Global, pages: &[SlotPage]) -> Result<Vec<(u32, u32, u32, usize)
 
 #[test]
 fn points_of_two_series(rt: HostRuntime) -> Result<(), Fail> {
-    let items = [
-        point(100, 3, 10),
-        point(100, 7, 5),
-        point(110, 3, 10),
-        point(180, 3, 10),
-        point(200, 7, 1),
-        point(260, 3, 10),
-    ];
+    let items = [point(100, 3, 10), point(100, 7, 5), point(110, 3, 10)];
     let pages = slot_pages_of(rt.alloc(), items.as_slice())?;
     assert_eq!(rt;
         heads(rt.alloc(), pages.as_slice())?.as_slice(),
-        [
-            (3, 100, 10, 9),
-            (3, 260, 10, 1),
-            (7, 100, 5, 1),
-            (7, 200, 1, 1)
-        ]
-        .as_slice()
+        [(3, 100, 10, 2), (7, 100, 5, 1)].as_slice()
     );
     pages_determine_their_items();
     let back = items_of_slots(rt.alloc(), pages.as_slice())?;
@@ -102,37 +89,14 @@ fn record_heads(
 
 #[test]
 fn records_of_two_series(rt: HostRuntime) -> Result<(), Fail> {
-    let items = [
-        bucket(5, 3, 1),
-        bucket(5, 7, 2),
-        bucket(6, 3, 3),
-        bucket(8, 3, 4),
-        bucket(9, 7, 5),
-    ];
+    let items = [bucket(5, 3, 1), bucket(5, 7, 2), bucket(6, 3, 3)];
     let pages = record_pages_of(rt.alloc(), 60, items.as_slice())?;
     assert_eq!(rt;
         record_heads(rt.alloc(), pages.as_slice())?.as_slice(),
-        [
-            (3, 300, 60, 2),
-            (3, 480, 60, 1),
-            (7, 300, 60, 1),
-            (7, 540, 60, 1)
-        ]
-        .as_slice()
+        [(3, 300, 60, 2), (7, 300, 60, 1)].as_slice()
     );
     pages_determine_their_items();
     let back = items_of_records(rt.alloc(), pages.as_slice())?;
     assert_eq!(rt; back.as_slice(), items.as_slice());
-    Ok(())
-}
-
-#[test]
-fn no_items_are_no_pages(rt: HostRuntime) -> Result<(), Fail> {
-    let points: [Item<Stepped>; 0] = [];
-    let pages = slot_pages_of(rt.alloc(), points.as_slice())?;
-    assert_eq!(rt; pages.len(), 0);
-    let records: [Item<Record>; 0] = [];
-    let pages = record_pages_of(rt.alloc(), 60, records.as_slice())?;
-    assert_eq!(rt; pages.len(), 0);
     Ok(())
 }

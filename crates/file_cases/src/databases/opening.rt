@@ -7,11 +7,6 @@ use std::alloc::{AllocError, Global};
 use std::test::Fail;
 use store_core::disk::{FilesFault, Opened, open};
 
-fn host_of(alloc: Global, fails: &[u64]) -> Result<MemoryHost, Fail> {
-    let list = CallList::from_vec(fails.to_vec(alloc)?);
-    Ok(MemoryHost::new(alloc, list)?)
-}
-
 /// Adds numbers of 32 bits.
 fn add_all(out: &mut ByteList, numbers: &[u32]) -> Result<(), AllocError> {
     for number in numbers {
@@ -56,38 +51,46 @@ fn extent(alloc: Global, tier: u32, size: u32, items: &[u32]) -> Result<ByteList
 static RECORD: [u32; 14] = [1, 0, 0, 0, 2, 0, 0, 0, 3, 0, 0, 0, 4, 5];
 
 /// The journal of generation 0 with one record.
-static JOURNAL: &[u8] = b"NDAJRNL1\0\0\0\0\0\0\0\0\x01\x03\0\0\0abc\0";
+const JOURNAL: &[u8] = b"NDAJRNL1\0\0\0\0\0\0\0\0\x01\x03\0\0\0abc\0";
 
-/// Writes these bytes into an empty file, and says whether that went well.
-fn put(host: &mut MemoryHost, file: File, bytes: &[u8]) -> bool {
-    host.write_at(file, 0, bytes).is_ok()
+/// Writes these bytes into an empty file.
+fn put(host: &mut MemoryHost, file: File, bytes: &[u8]) -> Result<(), Fail> {
+    Ok(host.write_at(file, 0, bytes)?)
 }
 
-/// Writes an extent into each tier, and says whether that went well.
-fn put_extents(alloc: Global, host: &mut MemoryHost) -> Result<bool, Fail> {
-    let points = put(host, File::Tier0, extent(alloc, 0, 52, &[7])?.as_slice());
-    let minutes = put(
+/// Writes an extent into each tier.
+fn put_extents(alloc: Global, host: &mut MemoryHost) -> Result<(), Fail> {
+    put(host, File::Tier0, extent(alloc, 0, 52, &[7])?.as_slice())?;
+    put(
         host,
         File::Tier1,
         extent(alloc, 1, 104, &RECORD)?.as_slice(),
-    );
-    let hours = put(
+    )?;
+    put(
         host,
         File::Tier2,
         extent(alloc, 2, 104, &RECORD)?.as_slice(),
-    );
-    Ok(points && minutes && hours)
+    )
 }
 
-/// Writes the database, and says whether that went well.
-fn write(alloc: Global, host: &mut MemoryHost) -> Result<bool, Fail> {
-    let extents = put_extents(alloc, host)?;
-    let journal = put(host, File::JournalA, JOURNAL);
-    let body = body(alloc, 1, [52, 104, 104])?;
-    Ok(extents && journal && switch(host, 0, body.as_slice()).is_ok())
+/// Writes the checkpoint with this body.
+fn put_body(host: &mut MemoryHost, body: &[u8]) -> Result<(), Fail> {
+    Ok(switch(host, 0, body)?)
 }
 
-/// Whether it is the database that `write` writes.
+/// The database whose body has this version and says this length of the extent of points, with this journal.
+fn database(alloc: Global, version: u8, size: u32, journal: &[u8]) -> Result<MemoryHost, Fail> {
+    let mut host = MemoryHost::new(alloc, CallList::new(alloc))?;
+    put_extents(alloc, &mut host)?;
+    put(&mut host, File::JournalA, journal)?;
+    put_body(
+        &mut host,
+        body(alloc, version, [size, 104, 104])?.as_slice(),
+    )?;
+    Ok(host)
+}
+
+/// Whether it is the database whose body has the version 1 and says 52 bytes.
 fn is_written(found: &Opened) -> bool {
     found.body.settings.id == 7
         && found.body.last == 60
@@ -125,74 +128,27 @@ fn have_record(kept: &[RecordPageList]) -> bool {
         && (record.count, record.anomalies) == (4, 5)
 }
 
-/// Whether what was written is there, as it is opened.
-fn is_there(alloc: Global, host: &mut MemoryHost) -> Result<bool, FilesFault> {
-    let found = open(alloc, host)?;
-    Ok(is_written(&found))
-}
-
 #[test]
 fn a_database_is_opened(rt: HostRuntime) -> Result<(), Fail> {
-    let mut host = host_of(rt.alloc(), &[])?;
-    assert!(rt; write(rt.alloc(), &mut host)?);
-    assert!(rt; is_there(rt.alloc(), &mut host)?);
+    let mut host = database(rt.alloc(), 1, 52, JOURNAL)?;
+    let found = open(rt.alloc(), &mut host)?;
+    assert!(rt; is_written(&found));
     Ok(())
 }
 
-/// What opening answers where the body, the extents and the journal are these.
-fn fault_of(
-    alloc: Global,
-    version: u8,
-    sizes: [u32; 3],
-    journal: &[u8],
-) -> Result<Option<FilesFault>, Fail> {
-    let mut host = host_of(alloc, &[])?;
-    put_extents(alloc, &mut host)?;
-    put(&mut host, File::JournalA, journal);
-    switch(&mut host, 0, body(alloc, version, sizes)?.as_slice())?;
-    Ok(open(alloc, &mut host).err())
-}
+/// A version, a length of the extent of points, a journal, and the part that is damaged then.
+const ROWS: [(u8, u32, &[u8], u32); 3] = [
+    (2, 52, JOURNAL, 2),
+    (1, 56, JOURNAL, 3),
+    (1, 52, b"NDAJRNL2", 4),
+];
 
 #[test]
 fn a_part_that_is_damaged_is_named(rt: HostRuntime) -> Result<(), Fail> {
-    let alloc = rt.alloc();
-    let sizes = [52, 104, 104];
-    assert_eq!(rt; fault_of(alloc, 1, sizes, JOURNAL)?, None);
-    assert_eq!(rt;
-        fault_of(alloc, 2, sizes, JOURNAL)?,
-        Some(FilesFault::Damaged(2))
-    );
-    assert_eq!(rt;
-        fault_of(alloc, 1, [56, 104, 104], JOURNAL)?,
-        Some(FilesFault::Damaged(3))
-    );
-    assert_eq!(rt;
-        fault_of(alloc, 1, [52, 104, 160], JOURNAL)?,
-        Some(FilesFault::Damaged(3))
-    );
-    assert_eq!(rt;
-        fault_of(alloc, 1, sizes, b"NDAJRNL2")?,
-        Some(FilesFault::Damaged(4))
-    );
-    Ok(())
-}
-
-#[test]
-fn no_database_and_half_of_one(rt: HostRuntime) -> Result<(), Fail> {
-    let mut host = host_of(rt.alloc(), &[])?;
-    assert_eq!(rt;
-        open(rt.alloc(), &mut host).err(),
-        Some(FilesFault::NotADatabase)
-    );
-    // A checkpoint whose gate is open, and that says 3 bytes, of which there is none.
-    put(
-        &mut host,
-        File::CheckA,
-        b"\x01\0\0\0\0\0\0\0\0\x03\0\0\0\0\0\0\0",
-    );
-    assert_eq!(rt;
-        open(rt.alloc(), &mut host).err(),
-        Some(FilesFault::Damaged(1))
-    );
+    for (version, size, journal, part) in ROWS {
+        let mut host = database(rt.alloc(), version, size, journal)?;
+        let fault = open(rt.alloc(), &mut host).err();
+        assert_eq!(rt; fault, Some(FilesFault::Damaged(part)));
+    }
     Ok(())
 }
