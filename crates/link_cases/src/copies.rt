@@ -1,6 +1,5 @@
-//! The tests of `replication`: what a child answers, what its parent keeps, and schedules against plain words.
+//! The tests of `replication`: what a child answers, what its parent keeps, and a schedule with a gap.
 
 mod answers;
-mod plain;
 mod schedules;
 mod verdicts;
