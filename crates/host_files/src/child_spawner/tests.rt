@@ -3,6 +3,8 @@ use fixed_num::Text;
 use std::fs;
 use std::test::Fail;
 
+type OwnSpawner<'a> = ChildSpawner<&'a HostRuntime>;
+
 const T: &[u8] = b"CHART test.one '' 'One' 'units'\nDIMENSION a\nBEGIN test.one\nSET a = 42\nEND\n";
 
 fn words_of(alloc: Global, words: &[&str]) -> Result<WordsList, Fail> {
@@ -13,58 +15,70 @@ fn words_of(alloc: Global, words: &[&str]) -> Result<WordsList, Fail> {
     Ok(list)
 }
 
+fn start(alloc: Global, spawner: &mut OwnSpawner<'_>, words: &[&str]) -> Result<(), Fail> {
+    Ok(spawner.start(&words_of(alloc, words)?)?)
+}
+
+fn finish(spawner: &mut OwnSpawner<'_>) -> Result<i32, Fail> {
+    Ok(spawner.finish()?)
+}
+
+/// Adds what is taken of the child's text by one call.
+fn pull(spawner: &mut OwnSpawner<'_>, text: &mut Vec<u8>) -> Result<(), Fail> {
+    let mut piece = [b'-'; 32];
+    let taken = spawner.pull(&mut piece)?;
+    text.extend_from_slice(&piece[..taken])?;
+    Ok(())
+}
+
 #[test]
 fn cat_writes_the_file_that_it_is_given(rt: HostRuntime) -> Result<(), Fail> {
     fs::write(&rt, "1", T)?;
     let mut spawner = ChildSpawner::new(rt.alloc(), &rt);
-    spawner.start(&words_of(rt.alloc(), &["cat", "1"])?)?;
+    start(rt.alloc(), &mut spawner, &["cat", "1"])?;
     let mut text = Vec::new(rt.alloc());
-    let mut piece = [b'-'; 7];
-    for _ in 0..1_000 {
-        let taken = spawner.pull(&mut piece)?;
-        text.extend_from_slice(&piece[..taken])?;
+    for _ in 0..100 {
+        pull(&mut spawner, &mut text)?;
     }
     assert_eq!(rt; text.as_slice(), T);
-    assert_eq!(rt; spawner.finish()?, 0);
-    assert!(rt; spawner.error().is_none());
-    assert!(rt; spawner.finish().is_err());
+    assert_eq!(rt; finish(&mut spawner)?, 0);
     Ok(())
 }
 
 #[test]
 fn ends_are_told(rt: HostRuntime) -> Result<(), Fail> {
     let mut spawner = ChildSpawner::new(rt.alloc(), &rt);
-    assert!(rt;
-        spawner
-            .start(&words_of(rt.alloc(), &["no.such.program"])?)
-            .is_err()
-    );
+    for (script, status) in [("exit 3", 3), ("kill -9 $$", -1)] {
+        start(rt.alloc(), &mut spawner, &["sh", "-c", script])?;
+        assert_eq!(rt; finish(&mut spawner)?, status);
+    }
+    Ok(())
+}
+
+#[test]
+fn a_program_that_is_not_there_fails(rt: HostRuntime) -> Result<(), Fail> {
+    let mut spawner = ChildSpawner::new(rt.alloc(), &rt);
+    let words = words_of(rt.alloc(), &["no.such.program"])?;
+    assert!(rt; spawner.start(&words).is_err());
     assert!(rt; spawner.error().is_some());
-    spawner.start(&words_of(rt.alloc(), &["sh", "-c", "exit 3"])?)?;
-    assert_eq!(rt; spawner.finish()?, 3);
-    spawner.start(&words_of(rt.alloc(), &["sh", "-c", "kill -9 $$"])?)?;
-    assert_eq!(rt; spawner.finish()?, -1);
-    // Without a byte on its input it would not end by itself.
-    spawner.start(&words_of(rt.alloc(), &["cat"])?)?;
-    spawner.stop()?;
-    assert!(rt; spawner.pull(&mut [0; 1]).is_err());
     Ok(())
 }
 
 /// Starts a child that tells its number and does not end by itself, and gives the number.
-fn start_waiting<S: Spawner>(alloc: Global, spawner: &mut S) -> Result<String, Fail> {
-    spawner.start(&words_of(alloc, &["sh", "-c", "echo $$; exec cat"])?)?;
-    let mut piece = [0; 32];
-    let taken = spawner.pull(&mut piece)?;
-    let number = std::str::from_utf8(&piece[..taken])?;
+fn start_waiting(alloc: Global, spawner: &mut OwnSpawner<'_>) -> Result<String, Fail> {
+    start(alloc, spawner, &["sh", "-c", "echo $$; exec cat"])?;
+    let mut text = Vec::new(alloc);
+    pull(spawner, &mut text)?;
+    let number = std::str::from_utf8(text.as_slice())?;
     Ok(String::from_str(alloc, number.trim_end())?)
 }
 
 /// Whether there is a process of this number.
-fn is_there<S: Spawner>(alloc: Global, spawner: &mut S, number: &str) -> Result<bool, Fail> {
+fn is_there(rt: &HostRuntime, number: &str) -> Result<bool, Fail> {
     let script = "kill -0 $0 2> /dev/null";
-    spawner.start(&words_of(alloc, &["sh", "-c", script, number])?)?;
-    Ok(spawner.finish()? == 0)
+    let mut spawner = ChildSpawner::new(rt.alloc(), rt);
+    start(rt.alloc(), &mut spawner, &["sh", "-c", script, number])?;
+    Ok(finish(&mut spawner)? == 0)
 }
 
 /// The number of a child that ran where its spawner was dropped.
@@ -75,17 +89,15 @@ fn dropped(rt: &HostRuntime) -> Result<String, Fail> {
 
 #[test]
 fn a_child_is_gone_where_it_is_left(rt: HostRuntime) -> Result<(), Fail> {
-    let alloc = rt.alloc();
-    let mut looker = ChildSpawner::new(alloc, &rt);
-    let mut spawner = ChildSpawner::new(alloc, &rt);
-    let first = start_waiting(alloc, &mut spawner)?;
-    assert!(rt; is_there(alloc, &mut looker, first.as_str())?);
-    let second = start_waiting(alloc, &mut spawner)?;
-    assert!(rt; !is_there(alloc, &mut looker, first.as_str())?);
+    let mut spawner = ChildSpawner::new(rt.alloc(), &rt);
+    let first = start_waiting(rt.alloc(), &mut spawner)?;
+    assert!(rt; is_there(&rt, first.as_str())?);
+    let second = start_waiting(rt.alloc(), &mut spawner)?;
+    assert!(rt; !is_there(&rt, first.as_str())?);
     spawner.stop()?;
-    assert!(rt; !is_there(alloc, &mut looker, second.as_str())?);
+    assert!(rt; !is_there(&rt, second.as_str())?);
     let third = dropped(&rt)?;
-    assert!(rt; !is_there(alloc, &mut looker, third.as_str())?);
+    assert!(rt; !is_there(&rt, third.as_str())?);
     Ok(())
 }
 
@@ -93,8 +105,10 @@ fn a_child_is_gone_where_it_is_left(rt: HostRuntime) -> Result<(), Fail> {
 #[test]
 fn the_input_of_a_child_is_open_while_it_runs(rt: HostRuntime) -> Result<(), Fail> {
     let mut spawner = ChildSpawner::new(rt.alloc(), &rt);
-    spawner.start(&words_of(rt.alloc(), &["timeout", "0.2", "cat"])?)?;
-    assert_eq!(rt; spawner.pull(&mut [0; 1])?, 0);
-    assert_eq!(rt; spawner.finish()?, 124);
+    start(rt.alloc(), &mut spawner, &["timeout", "0.2", "cat"])?;
+    let mut text = Vec::new(rt.alloc());
+    pull(&mut spawner, &mut text)?;
+    assert_eq!(rt; text.len(), 0);
+    assert_eq!(rt; finish(&mut spawner)?, 124);
     Ok(())
 }

@@ -26,30 +26,58 @@ fn host_in<'a>(rt: &'a HostRuntime, folder: &str, lock: LockKind) -> Result<OwnH
     Ok(FileHost::in_folder(rt.alloc(), rt, folder, lock, output)?)
 }
 
+/// Writes bytes from a place on.
+fn put(host: &mut OwnHost<'_>, file: File, at: u64, bytes: &[u8]) -> Result<(), Failed> {
+    host.write_at(file, at, bytes)
+}
+
+/// Up to nine bytes from a place on, with `-` behind those that are there.
+fn get(host: &mut OwnHost<'_>, file: File, at: u64) -> Result<[u8; 9], Fail> {
+    let mut bytes = [b'-'; 9];
+    host.read(file, at, &mut bytes)?;
+    Ok(bytes)
+}
+
+/// The length of a file, if it is told.
+fn len_of(host: &mut OwnHost<'_>, file: File) -> Option<u64> {
+    host.len(file).ok()
+}
+
+/// Writes nine bytes, and lets go of the folder.
+fn write_nine(rt: &HostRuntime, folder: &str) -> Result<(), Fail> {
+    let mut host = host_in(rt, folder, LockKind::Alone)?;
+    put(&mut host, File::JournalA, 0, b"abcdef")?;
+    put(&mut host, File::JournalA, 4, b"EFG")?;
+    host.cut(File::JournalA, 6)?;
+    put(&mut host, File::JournalA, 6, &[0; 3])?;
+    host.sync(File::JournalA)?;
+    Ok(())
+}
+
 #[test]
 fn a_file_keeps_what_was_written(rt: HostRuntime) -> Result<(), Fail> {
     let folder = own_folder(&rt, "host_files_kept")?;
-    let mut host = host_in(&rt, folder.as_str(), LockKind::Alone)?;
-    assert_eq!(rt; host.len(File::JournalA)?, 0);
-    host.write_at(File::JournalA, 0, b"abcdef")?;
-    host.write_at(File::JournalA, 4, b"EFG")?;
-    host.cut(File::JournalA, 6)?;
-    host.write_at(File::JournalA, 6, &[0; 3])?;
-    host.sync(File::JournalA)?;
-    assert_eq!(rt; host.len(File::JournalA)?, 9);
-    let mut bytes = [b'-'; 9];
-    assert_eq!(rt; host.read(File::JournalA, 1, &mut bytes)?, 8);
+    write_nine(&rt, folder.as_str())?;
+    let mut host = host_in(&rt, folder.as_str(), LockKind::Shared)?;
+    let bytes = get(&mut host, File::JournalA, 1)?;
     assert_eq!(rt; bytes.as_slice(), b"bcdEF\0\0\0-".as_slice());
-    assert_eq!(rt; host.read(File::JournalA, 9, &mut bytes)?, 0);
-    assert_eq!(rt; host.read(File::JournalB, 0, &mut bytes)?, 0);
-    drop(host);
-
-    let mut again = host_in(&rt, folder.as_str(), LockKind::Shared)?;
-    assert_eq!(rt; again.read(File::JournalA, 0, &mut bytes)?, 9);
-    assert_eq!(rt; bytes.as_slice(), b"abcdEF\0\0\0".as_slice());
-    assert!(rt; again.write_at(File::JournalA, 0, b"a").is_err());
-    assert!(rt; again.cut(File::JournalB, 0).is_err());
+    let bytes = get(&mut host, File::JournalB, 0)?;
+    assert_eq!(rt; bytes.as_slice(), b"---------".as_slice());
+    assert!(rt; put(&mut host, File::JournalA, 0, b"a").is_err());
+    assert!(rt; host.cut(File::JournalB, 0).is_err());
     fs::remove_dir_all(&rt, folder.as_str())?;
+    Ok(())
+}
+
+/// Writes zeros within the file, over its end and behind it, and a byte behind all of them.
+fn write_hole(host: &mut OwnHost<'_>) -> Result<(), Fail> {
+    put(host, File::Tier0, 0, b"abcdef")?;
+    put(host, File::Tier0, 1, &[0; 2])?;
+    put(host, File::Tier0, 4, &[0; 4])?;
+    for piece in 0..64 {
+        put(host, File::Tier0, 8 + 4_096 * piece, &[0; 4_096])?;
+    }
+    put(host, File::Tier0, 262_152, b"g")?;
     Ok(())
 }
 
@@ -57,19 +85,12 @@ fn a_file_keeps_what_was_written(rt: HostRuntime) -> Result<(), Fail> {
 fn zeros_at_the_end_take_no_room(rt: HostRuntime) -> Result<(), Fail> {
     let folder = own_folder(&rt, "host_files_hole")?;
     let mut host = host_in(&rt, folder.as_str(), LockKind::Alone)?;
-    host.write_at(File::Tier0, 0, b"abcdef")?;
-    host.write_at(File::Tier0, 1, &[0; 2])?;
-    host.write_at(File::Tier0, 4, &[0; 4])?;
-    for piece in 0..64 {
-        host.write_at(File::Tier0, 8 + 4_096 * piece, &[0; 4_096])?;
-    }
-    host.write_at(File::Tier0, 262_152, b"g")?;
+    write_hole(&mut host)?;
     host.sync(File::Tier0)?;
-    let mut bytes = [b'-'; 10];
-    assert_eq!(rt; host.read(File::Tier0, 0, &mut bytes)?, 10);
-    assert_eq!(rt; bytes.as_slice(), b"a\0\0d\0\0\0\0\0\0".as_slice());
-    assert_eq!(rt; host.read(File::Tier0, 262_144, &mut bytes)?, 9);
-    assert_eq!(rt; bytes.as_slice(), b"\0\0\0\0\0\0\0\0g\0".as_slice());
+    let bytes = get(&mut host, File::Tier0, 0)?;
+    assert_eq!(rt; bytes.as_slice(), b"a\0\0d\0\0\0\0\0".as_slice());
+    let bytes = get(&mut host, File::Tier0, 262_145)?;
+    assert_eq!(rt; bytes.as_slice(), b"\0\0\0\0\0\0\0g-".as_slice());
     let name = format!(in rt.alloc(); "{folder}/nda.4")?;
     // Of 513 blocks of 512 bytes, those that were written, and what a file system adds to them.
     assert!(rt; fs::metadata(&rt, name.as_str())?.blocks() <= 64);
@@ -82,17 +103,9 @@ fn what_was_told_reaches_the_writer(rt: HostRuntime) -> Result<(), Fail> {
     let folder = own_folder(&rt, "host_files_told")?;
     let name = format!(in rt.alloc(); "{folder}/output")?;
     let output = fs::create(&rt, name.as_str())?;
-    let lock = LockKind::None;
-    let mut host = FileHost::in_folder(rt.alloc(), &rt, folder.as_str(), lock, output)?;
+    let mut host = FileHost::new(rt.alloc(), &rt, LockKind::None, output)?;
     host.tell(b"ab")?;
     assert_eq!(rt; fs::read_to_string(&rt, name.as_str())?.as_str(), "ab");
-    host.tell(b"c")?;
-    let mut source = StdinSource::new(fs::open(&rt, name.as_str())?);
-    let mut piece = [b'-'; 2];
-    assert_eq!(rt; source.pull(&mut piece)?, 2);
-    assert_eq!(rt; piece.as_slice(), b"ab".as_slice());
-    assert_eq!(rt; source.pull(&mut piece)?, 1);
-    assert_eq!(rt; source.pull(&mut piece)?, 0);
     fs::remove_dir_all(&rt, folder.as_str())?;
     Ok(())
 }
@@ -104,6 +117,26 @@ fn an_output_for_reading_fails_each_tell(rt: HostRuntime) -> Result<(), Fail> {
     assert!(rt; host.tell(b"a").is_err());
     assert!(rt; host.tell(b"b").is_err());
     assert!(rt; host.tell_error().is_some());
+    Ok(())
+}
+
+#[test]
+fn a_source_gives_what_a_file_holds(rt: HostRuntime) -> Result<(), Fail> {
+    let folder = own_folder(&rt, "host_files_source")?;
+    let name = format!(in rt.alloc(); "{folder}/input")?;
+    fs::write(&rt, name.as_str(), b"abc")?;
+    let mut source = StdinSource::new(fs::open(&rt, name.as_str())?);
+    let mut piece = [b'-'; 2];
+    assert_eq!(rt; source.pull(&mut piece)?, 2);
+    assert_eq!(rt; piece.as_slice(), b"ab".as_slice());
+    assert_eq!(rt; source.pull(&mut piece)?, 1);
+    assert_eq!(rt; source.pull(&mut piece)?, 0);
+    fs::remove_dir_all(&rt, folder.as_str())?;
+    Ok(())
+}
+
+#[test]
+fn a_folder_is_no_source(rt: HostRuntime) -> Result<(), Fail> {
     let mut source = StdinSource::new(fs::open(&rt, ".")?);
     assert!(rt; source.pull(&mut [0; 1]).is_err());
     assert!(rt; source.error().is_some());
@@ -111,41 +144,63 @@ fn an_output_for_reading_fails_each_tell(rt: HostRuntime) -> Result<(), Fail> {
 }
 
 #[test]
-fn a_folder_is_used_by_one_or_by_readers(rt: HostRuntime) -> Result<(), Fail> {
-    let folder = own_folder(&rt, "host_files_locked")?;
+fn a_folder_is_used_by_one(rt: HostRuntime) -> Result<(), Fail> {
+    let folder = own_folder(&rt, "host_files_alone")?;
     let mut one = host_in(&rt, folder.as_str(), LockKind::Alone)?;
+    put(&mut one, File::CheckA, 0, b"a")?;
     let mut other = host_in(&rt, folder.as_str(), LockKind::Alone)?;
-    let mut reader = host_in(&rt, folder.as_str(), LockKind::Shared)?;
-    let mut beside = host_in(&rt, folder.as_str(), LockKind::Shared)?;
-    one.write_at(File::CheckA, 0, b"a")?;
-    assert!(rt; other.len(File::CheckA).is_err());
+    assert_eq!(rt; len_of(&mut other, File::CheckA), None);
     assert!(rt; matches!(other.disk_error(), Some(DiskError::Taken)));
-    assert!(rt; reader.len(File::CheckA).is_err());
+    let mut reader = host_in(&rt, folder.as_str(), LockKind::Shared)?;
+    assert_eq!(rt; len_of(&mut reader, File::CheckA), None);
     drop(one);
-    assert_eq!(rt; reader.len(File::CheckA)?, 1);
-    assert_eq!(rt; beside.len(File::CheckA)?, 1);
-    assert!(rt; other.len(File::CheckA).is_err());
-    let mut none = host_in(&rt, folder.as_str(), LockKind::None)?;
-    assert!(rt; none.len(File::CheckA).is_err());
+    assert_eq!(rt; len_of(&mut reader, File::CheckA), Some(1));
     fs::remove_dir_all(&rt, folder.as_str())?;
+    Ok(())
+}
+
+#[test]
+fn a_folder_is_used_by_readers(rt: HostRuntime) -> Result<(), Fail> {
+    let folder = own_folder(&rt, "host_files_shared")?;
+    write_nine(&rt, folder.as_str())?;
+    let mut reader = host_in(&rt, folder.as_str(), LockKind::Shared)?;
+    assert_eq!(rt; len_of(&mut reader, File::JournalA), Some(9));
+    let mut beside = host_in(&rt, folder.as_str(), LockKind::Shared)?;
+    assert_eq!(rt; len_of(&mut beside, File::JournalA), Some(9));
+    for lock in [LockKind::Alone, LockKind::None] {
+        let mut other = host_in(&rt, folder.as_str(), lock)?;
+        assert_eq!(rt; len_of(&mut other, File::JournalA), None);
+    }
+    fs::remove_dir_all(&rt, folder.as_str())?;
+    Ok(())
+}
+
+/// Puts a folder and two links in the place of files.
+fn make_odd(rt: &HostRuntime, folder: &str) -> Result<(), Fail> {
+    fs::create_dir(rt, format!(in rt.alloc(); "{folder}/nda.0")?)?;
+    symlink(rt, "/dev/zero", format!(in rt.alloc(); "{folder}/nda.1")?)?;
+    symlink(rt, "nowhere", format!(in rt.alloc(); "{folder}/nda.2")?)?;
     Ok(())
 }
 
 #[test]
 fn what_is_no_regular_file_is_a_failure(rt: HostRuntime) -> Result<(), Fail> {
     let folder = own_folder(&rt, "host_files_odd")?;
-    fs::create_dir(&rt, format!(in rt.alloc(); "{folder}/nda.0")?)?;
-    symlink(&rt, "/dev/zero", format!(in rt.alloc(); "{folder}/nda.1")?)?;
-    symlink(&rt, "nowhere", format!(in rt.alloc(); "{folder}/nda.2")?)?;
+    make_odd(&rt, folder.as_str())?;
     let mut host = host_in(&rt, folder.as_str(), LockKind::Alone)?;
-    assert!(rt; host.len(File::CheckA).is_err());
-    assert!(rt; host.len(File::CheckB).is_err());
-    assert!(rt; host.len(File::JournalA).is_err());
-    assert!(rt; host.write_at(File::JournalA, 0, b"a").is_err());
-    assert_eq!(rt; host.len(File::JournalB)?, 0);
+    for file in [File::CheckA, File::CheckB, File::JournalA] {
+        assert_eq!(rt; len_of(&mut host, file), None);
+    }
+    assert!(rt; put(&mut host, File::JournalA, 0, b"a").is_err());
+    assert_eq!(rt; len_of(&mut host, File::JournalB), Some(0));
     fs::remove_dir_all(&rt, folder.as_str())?;
-    let mut missing = host_in(&rt, folder.as_str(), LockKind::Alone)?;
-    assert!(rt; missing.len(File::CheckA).is_err());
+    Ok(())
+}
+
+#[test]
+fn a_folder_that_is_not_there_is_a_failure(rt: HostRuntime) -> Result<(), Fail> {
+    let mut host = host_in(&rt, "no.such.folder", LockKind::Alone)?;
+    assert_eq!(rt; len_of(&mut host, File::CheckA), None);
     Ok(())
 }
 

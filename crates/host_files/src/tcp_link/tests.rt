@@ -1,6 +1,8 @@
 use super::*;
 use std::test::Fail;
 
+type OwnLink<'a> = TcpLink<&'a HostRuntime>;
+
 /// An address of this machine at which nobody listens. Its port was free a moment ago.
 fn free_address(rt: &HostRuntime) -> Result<String, Fail> {
     let listener = TcpListener::bind(rt, "127.0.0.1:0")?;
@@ -8,60 +10,66 @@ fn free_address(rt: &HostRuntime) -> Result<String, Fail> {
     Ok(format!(in rt.alloc(); "{address}")?)
 }
 
-/// Takes just as many bytes as fit.
-fn take_all<R: Net<Stream = TcpStream, Listener = TcpListener> + Drop>(
-    link: &mut TcpLink<R>,
-    into: &mut [u8],
-) -> Result<(), Fail> {
-    let mut filled = 0;
-    for _ in 0..into.len() {
-        if filled < into.len() {
-            let more = link.recv(&mut into[filled..])?;
-            filled += more;
+fn connecting<'a>(rt: &'a HostRuntime, address: &str) -> Result<OwnLink<'a>, Fail> {
+    Ok(TcpLink::connecting(rt.alloc(), rt, address)?)
+}
+
+fn send(link: &mut OwnLink<'_>, bytes: &[u8]) -> Result<(), Failed> {
+    link.send(bytes)
+}
+
+/// Takes so many bytes one by one, or those before the end.
+fn take(alloc: Global, link: &mut OwnLink<'_>, size: usize) -> Result<Vec<u8>, Fail> {
+    let mut bytes = Vec::new(alloc);
+    let mut byte = [0; 1];
+    for _ in 0..size {
+        if link.recv(&mut byte)? > 0 {
+            bytes.push(byte[0])?;
         }
     }
-    Ok(())
+    Ok(bytes)
 }
 
 #[test]
 fn two_ends_speak_in_turn(rt: HostRuntime) -> Result<(), Fail> {
     let address = free_address(&rt)?;
     let mut here = TcpLink::listening(&rt, address.as_str());
-    let mut there = TcpLink::connecting(rt.alloc(), &rt, address.as_str())?;
-    there.send(b"hello")?;
-    let mut bytes = [b'-'; 8];
-    take_all(&mut here, &mut bytes[..5])?;
-    assert_eq!(rt; bytes.as_slice(), b"hello---".as_slice());
-    here.send(b"and ")?;
-    here.send(b"")?;
-    here.send(b"back")?;
-    take_all(&mut there, &mut bytes)?;
+    let mut there = connecting(&rt, address.as_str())?;
+    send(&mut there, b"hello")?;
+    let bytes = take(rt.alloc(), &mut here, 5)?;
+    assert_eq!(rt; bytes.as_slice(), b"hello".as_slice());
+    send(&mut here, b"and ")?;
+    send(&mut here, b"back")?;
+    let bytes = take(rt.alloc(), &mut there, 8)?;
     assert_eq!(rt; bytes.as_slice(), b"and back".as_slice());
+    Ok(())
+}
+
+#[test]
+fn an_end_that_is_gone_sends_and_takes_nothing(rt: HostRuntime) -> Result<(), Fail> {
+    let address = free_address(&rt)?;
+    let mut here = TcpLink::listening(&rt, address.as_str());
+    let mut there = connecting(&rt, address.as_str())?;
+    send(&mut there, b"a")?;
     drop(there);
-    assert_eq!(rt; here.recv(&mut bytes)?, 0);
-    assert!(rt; here.error().is_none());
+    assert_eq!(rt; take(rt.alloc(), &mut here, 3)?.len(), 1);
     // The system may take bytes before it has heard that the peer is gone.
     let mut failed = false;
     for _ in 0..1_000 {
-        failed = failed || here.send(b"x").is_err();
+        failed = failed || send(&mut here, b"x").is_err();
     }
     assert!(rt; failed);
     assert!(rt; here.error().is_some());
-    assert!(rt; here.recv(&mut bytes).is_err());
     Ok(())
 }
 
 #[test]
 fn an_address_that_is_none_fails(rt: HostRuntime) -> Result<(), Fail> {
     for address in ["", "127.0.0.1", "127.0.0.1:65536", "127.0.0.1:x"] {
-        let mut there = TcpLink::connecting(rt.alloc(), &rt, address)?;
-        assert!(rt; there.error().is_none());
-        assert!(rt; there.send(b"a").is_err());
-        assert!(rt; there.error().is_some());
+        let mut there = connecting(&rt, address)?;
+        assert!(rt; send(&mut there, b"a").is_err());
         let mut here = TcpLink::listening(&rt, address);
-        assert!(rt; here.error().is_none());
         assert!(rt; here.recv(&mut [0; 1]).is_err());
-        assert!(rt; here.error().is_some());
     }
     Ok(())
 }
@@ -69,11 +77,8 @@ fn an_address_that_is_none_fails(rt: HostRuntime) -> Result<(), Fail> {
 #[test]
 fn a_connection_that_is_refused_fails(rt: HostRuntime) -> Result<(), Fail> {
     let address = free_address(&rt)?;
-    let mut there = TcpLink::connecting(rt.alloc(), &rt, address.as_str())?;
+    let mut there = connecting(&rt, address.as_str())?;
     assert!(rt; there.recv(&mut [0; 1]).is_err());
-    // The first call alone connects.
-    let _here = TcpLink::listening(&rt, address.as_str());
-    assert!(rt; there.send(b"a").is_err());
     Ok(())
 }
 
@@ -82,8 +87,7 @@ fn an_address_that_is_taken_fails(rt: HostRuntime) -> Result<(), Fail> {
     let address = free_address(&rt)?;
     let _here = TcpLink::listening(&rt, address.as_str());
     let mut second = TcpLink::listening(&rt, address.as_str());
-    assert!(rt; second.send(b"a").is_err());
-    assert!(rt; second.recv(&mut [0; 1]).is_err());
+    assert!(rt; send(&mut second, b"a").is_err());
     Ok(())
 }
 
@@ -91,10 +95,10 @@ fn an_address_that_is_taken_fails(rt: HostRuntime) -> Result<(), Fail> {
 fn one_connection_is_accepted(rt: HostRuntime) -> Result<(), Fail> {
     let address = free_address(&rt)?;
     let mut here = TcpLink::listening(&rt, address.as_str());
-    let mut first = TcpLink::connecting(rt.alloc(), &rt, address.as_str())?;
-    first.send(b"a")?;
-    assert_eq!(rt; here.recv(&mut [0; 1])?, 1);
-    let mut second = TcpLink::connecting(rt.alloc(), &rt, address.as_str())?;
-    assert!(rt; second.send(b"b").is_err());
+    let mut first = connecting(&rt, address.as_str())?;
+    send(&mut first, b"a")?;
+    assert_eq!(rt; take(rt.alloc(), &mut here, 1)?.len(), 1);
+    let mut second = connecting(&rt, address.as_str())?;
+    assert!(rt; send(&mut second, b"b").is_err());
     Ok(())
 }
