@@ -1,4 +1,4 @@
-//! The tests of `journal_core`: a journal that is prepared, opened and appended to, and bytes that are one or none.
+//! The tests of `journal_core`: a journal that is prepared, opened and appended to, and bytes by hand.
 
 use host_model::{CallList, File, Host, MemoryHost};
 use journal_core::{Journal, JournalFault, RecordList, prepare};
@@ -41,7 +41,7 @@ fn host_of_one(alloc: Global) -> Result<MemoryHost, Fail> {
 }
 
 #[test]
-fn a_journal_of_three_bytes_has_25(rt: HostRuntime) -> Result<(), Fail> {
+fn a_journal_of_one_record_has_25_bytes(rt: HostRuntime) -> Result<(), Fail> {
     let mut host = host_of_one(rt.alloc())?;
     let mut bytes = [0; 26];
     assert_eq!(rt; host.read(FILE, 0, &mut bytes)?, 25);

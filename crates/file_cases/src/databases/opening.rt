@@ -78,7 +78,7 @@ fn put_body(host: &mut MemoryHost, body: &[u8]) -> Result<(), Fail> {
     Ok(switch(host, 0, body)?)
 }
 
-/// The database whose body has this version and says this length of the extent of points, with this journal.
+/// The database whose body has this version and says this length of the extent of points.
 fn database(alloc: Global, version: u8, size: u32, journal: &[u8]) -> Result<MemoryHost, Fail> {
     let mut host = MemoryHost::new(alloc, CallList::new(alloc))?;
     put_extents(alloc, &mut host)?;
