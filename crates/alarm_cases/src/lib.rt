@@ -3,4 +3,8 @@
 #![tactic(auto)]
 
 #[cfg(test)]
-mod tests;
+mod charts;
+#[cfg(test)]
+mod points;
+#[cfg(test)]
+mod scripts;
