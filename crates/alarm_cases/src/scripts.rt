@@ -38,7 +38,7 @@ const DISK_TOLD: &str = "EVENT 1 60 test.one disk_space_usage UNINITIALIZED WARN
     EVENT 2 120 test.one disk_space_usage WARNING CRITICAL 99 210\n\
     EVENT 3 180 test.one disk_space_usage CRITICAL WARNING 85 2205\n";
 
-/// An alarm whose changes wait, one of which the change to clear is not told, and one whose changes do not wait.
+/// An alarm whose changes wait, the same which tells no change to clear, and one whose changes do not wait.
 const DELAYED: &str = "alarm: d\non: test.one\ncalc: $a\nevery: 1s\nwarn: $this > 0\n\
     delay: up 10s down 60s multiplier 1.5 max 5m\n\
     alarm: s\non: test.one\ncalc: $a\nevery: 1s\nwarn: $this > 0\n\

@@ -1,5 +1,5 @@
 //! The tests of bytes and of pages, and tests only: fields, entries, sides and bodies as bytes, checkpoints in their
-//! two files, and pages. Each file holds the tables of one subject.
+//! two files, and pages. Each file has the tests of one subject.
 #![tactic(auto)]
 
 #[cfg(test)]
@@ -12,8 +12,6 @@ mod checkpoints;
 mod entries;
 #[cfg(test)]
 mod fields;
-#[cfg(test)]
-mod page_calls;
 #[cfg(test)]
 mod raw_pages;
 #[cfg(test)]
