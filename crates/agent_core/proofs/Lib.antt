@@ -1,7 +1,9 @@
 pub mod AlarmLemmas
+pub mod AlarmTexts
 pub mod AnswerLemmas
 pub mod AnswerTruth
 pub mod AskLemmas
+pub mod BoundLemmas
 pub mod CallLemmas
 pub mod ClosedLemmas
 pub mod CopyCalls
@@ -35,6 +37,7 @@ pub mod PointLemmas
 pub mod ReadyLemmas
 pub mod ReplayLemmas
 pub mod ReplyLemmas
+pub mod RunLemmas
 pub mod SeenLemmas
 pub mod SentBeats
 pub mod SentNames
@@ -43,6 +46,7 @@ pub mod SideLemmas
 pub mod SideLists
 pub mod SideNoted
 pub mod SideRegistry
+pub mod SideSizes
 pub mod SideWords
 pub mod Sound
 pub mod StepLemmas

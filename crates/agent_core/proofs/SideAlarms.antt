@@ -23,7 +23,7 @@ text-of : (text : List ℕ) → health_refusal text ≡ None → IsTextOf text (
 text-of text accepted = read-as (config_read text) accepted
 
 module _ (set : Settings) where
-  whole-of : (h : List Beat) (beats : List StoreBeat) → AreBeatsOf h beats → IsWhole (alarms_at set h) (registry_of h)
+  pub whole-of : (h : List Beat) (beats : List StoreBeat) → AreBeatsOf h beats → IsWhole (alarms_at set h) (registry_of h)
   unfolding alarms_by
   whole-of [] beats are = whole_nothing empty
   whole-of (collected moment beat ∷ h) [] are = absurd are

@@ -1,5 +1,5 @@
 -- What an agent does with each step of a feed, and with a line that leads to no step.
-use Rattle.std.proofs.Common.{◌≡◌, ◌≢◌, ◌⊎◌, ℕ, inl, inr, Bool, true, List, Option, Some, None, Result, Ok, Err, IfOk, OnOk, refl, sym, ap, ◌∙◌, subst, le_refl}
+use Rattle.std.proofs.Common.{◌≡◌, ◌≢◌, ◌⊎◌, ◌≤◌, ℕ, length, inl, inr, Bool, true, List, Option, Some, None, Result, Ok, Err, IfOk, OnOk, refl, sym, ap, ◌∙◌, subst, le_refl}
 use Rattle.std.specs.Option.{option_map_or}
 use Rattle.std.proofs.lemmas.Option.{none-some}
 use Rattle.host_model.specs.Disks.{EveryDisk}
@@ -18,6 +18,7 @@ use Rattle.collect_block.specs.declared.step.Step.{Step}
 use Rattle.collect_block.specs.declared.step.Step.TheVariants as step
 use Rattle.collect_block.specs.Feed.{step_of, Becomes, CountsAt, CountsFor, CountsPast, IsFeedOf}
 use Rattle.collect_block.specs.Feed as block_feed
+use Rattle.side_codec.specs.Size.{side_limit}
 use Rattle.tier_settings.specs.declared.settings.Settings.{Settings}
 use Rattle.store_core.specs.declared.fault.Why.{Why}
 use Rattle.store_core.specs.declared.fault.Why.TheVariants as why
@@ -28,6 +29,7 @@ use Rattle.agent_core.specs.declared.reply.Reply.{Reply}
 use Rattle.agent_core.specs.declared.reply.Said.{Said}
 use Rattle.agent_core.specs.declared.reply.Said.TheVariants.{Disabled, Nothing, Stored, Table}
 use Rattle.agent_core.specs.Agent.{AgentIsReady, AgentState, IsAgentOf}
+use Rattle.agent_core.specs.Bound.{GrowsWithin}
 use Rattle.agent_core.specs.Calls.{AsksHost, Beats, ClosesBeat, FeedTakes, Lines, Queries}
 use Rattle.host_model.specs.Seen.{Seen}
 use Rattle.agent_core.specs.Fed.{IsFed}
@@ -37,6 +39,7 @@ use Rattle.agent_core.specs.Roles.{copies}
 use Rattle.agent_core.specs.Rules.{closing_refusal, count_with, history_with, last_with, line_refusal}
 use Rattle.agent_core.specs.Said.{Answers, IsSaid, TellsEvents}
 use Rattle.agent_core.specs.Steps.{step_count, step_history, step_last, step_refusal, AnswersStep, HasBeat, IsSaidOf, NeedsHost, Takes, TellsStep}
+use Rattle.agent_core.proofs.BoundLemmas.{grows-none, grows-still}
 use Rattle.agent_core.proofs.FedLemmas.{fed-more}
 use Rattle.agent_core.proofs.KeptLemmas.{nothing_done}
 use Rattle.agent_core.proofs.Outcomes.{always, fails-free, on_err, on_ok}
@@ -75,6 +78,8 @@ beat-stored honest host host' agent agent' beat moment reply going did = record 
   id = did.id;
   ready = did.ready;
   cause = record { later = did.cause.later; failed = λ e. absurd (never-disk (Stored reply) e); stays = λ _. did.cause.stays (λ e. cc) };
+  bound = did.bound;
+  gaps = did.gaps;
   only_here = did.only_here;
   tells = did.tells;
 }
@@ -105,6 +110,8 @@ module _ (honest : Type 0) (host : Seen) (agent : AgentState) (going : agent.fau
     id = refl;
     ready = ready;
     cause = record { later = le_refl host.disk_faults; failed = λ e. absurd (never-disk now e); stays = λ _. refl };
+    bound = λ true_host set h is_of limit fits. grows-none set limit host.past agent.store;
+    gaps = refl;
     only_here = λ true_host. record { others = λ other far. refl; output = refl };
     tells = refl;
   }
@@ -132,6 +139,10 @@ module _ (honest : Type 0) (host host' : Seen) (agent agent' : AgentState) (text
   asked-here : (honest → host'.past ≡ host.past) → honest → OnlyOwn host.past host'.past
   asked-here quiet true_host = subst (OnlyOwn host.past) (sym (quiet true_host)) (record { others = λ other far. refl; output = refl })
 
+  asked-within : (honest → host'.past ≡ host.past) → agent'.store ≡ agent.store → honest → (set : Settings) (h : List Beat) → IsAgentOf host.past agent set h → (limit : ℕ) → side_limit (length agent.gaps) ≤ limit
+      → GrowsWithin set limit host.past agent.store host'.past agent'.store
+  asked-within quiet same true_host set h is_of limit fits = grows-still set limit host.past host'.past agent.store agent'.store (quiet true_host) same
+
   pub query-answered : (reply : List ℕ) → Queries honest host agent text (replied reply) host' agent' → Takes honest host agent (step.Query text) (saying (Table reply)) host' agent'
   query-answered reply did = record {
     any_moment = asked-moments (replied reply) did.reads.quiet;
@@ -154,6 +165,8 @@ module _ (honest : Type 0) (host host' : Seen) (agent agent' : AgentState) (text
     id = did.reads.id;
     ready = did.reads.ready;
     cause = record { later = did.reads.cause.later; failed = λ e. absurd (never-disk (Table reply) e); stays = λ _. did.reads.cause.stays (λ e. cc) };
+    bound = asked-within did.reads.quiet did.reads.store;
+    gaps = did.reads.gaps;
     only_here = asked-here did.reads.quiet;
     tells = did.reads.tells;
   }
@@ -192,6 +205,8 @@ module _ (honest : Type 0) (host host' : Seen) (agent agent' : AgentState) (text
     id = did.reads.id;
     ready = did.reads.ready;
     cause = record { later = did.reads.cause.later; failed = λ e. did.reads.cause.failed (same-disk fault e); stays = λ never. did.reads.cause.stays (λ e. never (other-disk fault e)) };
+    bound = asked-within did.reads.quiet did.reads.store;
+    gaps = did.reads.gaps;
     only_here = asked-here did.reads.quiet;
     tells = did.reads.tells;
   }
@@ -360,6 +375,8 @@ module _ (honest : Type 0) (host host' : Seen) (agent agent' : AgentState) (feed
     id = took.id;
     ready = took.ready;
     cause = took.cause;
+    bound = took.bound;
+    gaps = took.gaps;
     only_here = took.only_here;
     tells = took.tells;
   }
@@ -405,6 +422,8 @@ module _ (honest : Type 0) (host : Seen) (agent : AgentState) (feed feed' : Feed
     id = refl;
     ready = ready;
     cause = record { later = le_refl host.disk_faults; failed = λ e. absurd (no-disk (Reopen cause) (λ e. cc) e); stays = λ _. refl };
+    bound = λ true_host set h is_of limit fits. grows-none set limit host.past agent.store;
+    gaps = refl;
     only_here = λ true_host. record { others = λ other far. refl; output = refl };
     tells = refl;
   }
@@ -436,6 +455,8 @@ module _ (honest : Type 0) (host : Seen) (agent : AgentState) (feed feed' : Feed
     id = refl;
     ready = ready;
     cause = record { later = le_refl host.disk_faults; failed = λ e. absurd (no-disk (Refused fault) (λ e. cc) e); stays = λ _. refl };
+    bound = λ true_host set h is_of limit fits. grows-none set limit host.past agent.store;
+    gaps = refl;
     only_here = λ true_host. record { others = λ other far. refl; output = refl };
     tells = refl;
   }
@@ -476,6 +497,8 @@ module _ (honest : Type 0) (host : Seen) (agent : AgentState) (feed feed' : Feed
     id = refl;
     ready = λ now. absurd (none-some why.Memory (sym now));
     cause = record { later = le_refl host.disk_faults; failed = λ e. absurd (no-disk Memory (λ e. cc) e); stays = λ _. refl };
+    bound = λ true_host set h is_of limit fits. grows-none set limit host.past agent.store;
+    gaps = refl;
     only_here = λ true_host. record { others = λ other far. refl; output = refl };
     tells = refl;
   }

@@ -20,13 +20,16 @@ use Rattle.replication.specs.Verdict.{is_stored, verdict_by}
 use Rattle.link_frames.specs.declared.frame.Frame.TheVariants as frame
 use Rattle.link_frames.specs.Frames.{HasSpelling}
 use Rattle.alarm_events.specs.declared.log.Log.{Log}
+use Rattle.side_codec.specs.Size.{side_limit}
 use Rattle.tier_settings.specs.declared.settings.Settings.{Settings}
 use Rattle.beat_tiers.specs.declared.kept.Kept.{Kept}
 use Rattle.store_core.specs.disk.Holds.{OnlyOwn}
+use Rattle.store_core.specs.disk.Shares.{share, IsWithin}
 use Rattle.store_core.specs.Damaged.{IsDamagedIn}
 use Rattle.store_core.specs.Stands.{is_made, Stands}
 use Rattle.agent_core.specs.Notes.{IsDamaged}
 use Rattle.store_core.specs.Counts.{counted, raised}
+use Rattle.store_core.specs.Store.{is_due}
 use Rattle.store_core.specs.Stored.{Stored}
 use Rattle.agent_core.specs.declared.fault.AgentFault.{AgentFault}
 use Rattle.agent_core.specs.declared.fault.AgentFault.TheVariants.{DiskFault, NotADatabase, Damaged, Exists, Memory}
@@ -35,6 +38,7 @@ use Rattle.agent_core.specs.declared.reply.Reply.{Reply}
 use Rattle.agent_core.specs.declared.reply.Said.{Said}
 use Rattle.agent_core.specs.Agent.{id_of, AgentIsReady, AgentState, HasLeft, IsAgentOf, IsNewAgent}
 use Rattle.agent_core.specs.Alarms.{events_at, log_at}
+use Rattle.agent_core.specs.Bound.{GrowsWithin}
 use Rattle.agent_core.specs.Answers.{kept_of_history, reply_of}
 use Rattle.agent_core.specs.Copies.{data_of_history}
 use Rattle.agent_core.specs.Copying.{added_by, events_onto, refusal_by}
@@ -62,6 +66,8 @@ pub record Beats (honest : Type 0) (host : Seen) (agent : AgentState) (beat : Op
   pub last : OnOk result (agent'.last ≡ moment)
   -- it is refused exactly for the first reason against it, in the order of the reasons
   pub refused : agent.fault ≡ None → RefusedBy (beat_refusal agent.registry (copies agent.role) agent.last moment beat) result
+  -- where no checkpoint is due, none is made
+  pub untouched : is_due agent.store ≡ false → agent'.store.body ≡ agent.store.body
   -- a refusal, and Reopen, change nothing
   pub unchanged : IfErr result (λ fault. LeavesAll fault → (agent' ≡ agent) × (host' ≡ host))
   -- after another fault each call answers Reopen with its cause
@@ -74,6 +80,10 @@ pub record Beats (honest : Type 0) (host : Seen) (agent : AgentState) (beat : Op
   pub ready : AgentIsReady honest host'.past agent'
   -- the disk fails exactly where the host counted a failure
   pub cause : HasCause host.disk_faults host'.disk_faults (IsErrOf result DiskFault)
+  -- each file of the database stays within its share, where a side with the agent's gaps has at most so many bytes
+  pub bound : honest → (set : Settings) (h : List Beat) → IsAgentOf host.past agent set h → (limit : ℕ) → side_limit (length agent.gaps) ≤ limit
+      → GrowsWithin set limit host.past agent.store host'.past agent'.store
+  pub gaps : agent'.gaps ≡ agent.gaps
   -- nothing happens to a file that is not the store's own, and nothing is told
   pub only_here : honest → OnlyOwn host.past host'.past
   pub tells : host'.tell_faults ≡ host.tell_faults
@@ -93,6 +103,8 @@ pub record SetsHealth (honest : Type 0) (host : Seen) (agent : AgentState) (text
   pub registry : agent'.registry ≡ agent.registry
   -- it is refused exactly for the first reason against it; memory may be short before
   pub refused : agent.fault ≡ None → HealthRefusedBy (health_refusal text) result
+  -- where no checkpoint is due, none is made
+  pub untouched : is_due agent.store ≡ false → agent'.store.body ≡ agent.store.body
   -- a refusal, and Reopen, change nothing
   pub unchanged : IfErr result (λ fault. LeavesAll fault → (agent' ≡ agent) × (host' ≡ host))
   -- after another fault each call answers Reopen with its cause
@@ -105,6 +117,10 @@ pub record SetsHealth (honest : Type 0) (host : Seen) (agent : AgentState) (text
   pub ready : AgentIsReady honest host'.past agent'
   -- the disk fails exactly where the host counted a failure
   pub cause : HasCause host.disk_faults host'.disk_faults (IsErrOf result DiskFault)
+  -- each file of the database stays within its share, where a side with the agent's gaps has at most so many bytes
+  pub bound : honest → (set : Settings) (h : List Beat) → IsAgentOf host.past agent set h → (limit : ℕ) → side_limit (length agent.gaps) ≤ limit
+      → GrowsWithin set limit host.past agent.store host'.past agent'.store
+  pub gaps : agent'.gaps ≡ agent.gaps
   -- nothing happens to a file that is not the store's own, and nothing is told
   pub only_here : honest → OnlyOwn host.past host'.past
   pub tells : host'.tell_faults ≡ host.tell_faults
@@ -141,6 +157,8 @@ pub record Creates (honest : Type 0) (host : Seen) (set : Settings) (result : Re
   pub faults : IfErr result IsCreating
   -- the disk fails exactly where the host counted a failure
   pub cause : HasCause host.disk_faults host'.disk_faults (IsErrOf result DiskFault)
+  -- each file of the database stays within its share, where a side without gaps has at most so many bytes
+  pub bound : (limit : ℕ) → side_limit 0 ≤ limit → honest → IsWithin (share set limit) host.past → Throughout (IsWithin (share set limit)) host.past host'.past
   -- nothing happens to a file that is not the store's own, and nothing is told
   pub only_here : honest → OnlyOwn host.past host'.past
   pub tells : host'.tell_faults ≡ host.tell_faults
@@ -176,6 +194,8 @@ pub record Opens (honest : Type 0) (host : Seen) (result : Result AgentState Age
   pub faults : IfErr result IsOpening
   -- the disk fails exactly where the host counted a failure
   pub cause : HasCause host.disk_faults host'.disk_faults (IsErrOf result DiskFault)
+  -- each file stays within its share, whatever the shares are
+  pub bound : (shares : File → ℕ) → honest → IsWithin shares host.past → Throughout (IsWithin shares) host.past host'.past
   -- nothing happens to a file that is not the store's own, and nothing is told
   pub only_here : honest → OnlyOwn host.past host'.past
   pub tells : host'.tell_faults ≡ host.tell_faults
@@ -242,6 +262,10 @@ pub record Lines (honest : Type 0) (host : Seen) (agent : AgentState) (feed : Fe
   pub ready : AgentIsReady honest host'.past agent'
   -- the disk fails exactly where the host counted a failure
   pub cause : HasCause host.disk_faults host'.disk_faults (IsErrOf result DiskFault)
+  -- each file of the database stays within its share, where a side with the agent's gaps has at most so many bytes
+  pub bound : honest → (set : Settings) (h : List Beat) → IsAgentOf host.past agent set h → (limit : ℕ) → side_limit (length agent.gaps) ≤ limit
+      → GrowsWithin set limit host.past agent.store host'.past agent'.store
+  pub gaps : agent'.gaps ≡ agent.gaps
   -- nothing happens to a file that is not the store's own, and nothing is told
   pub only_here : honest → OnlyOwn host.past host'.past
   pub tells : host'.tell_faults ≡ host.tell_faults
@@ -262,6 +286,8 @@ pub record Reads {T : Type 0} (honest : Type 0) (host : Seen) (agent : AgentStat
   pub stays : (agent'.count ≡ agent.count) × (agent'.last ≡ agent.last)
   pub id : id_of agent' ≡ id_of agent
   pub registry : agent'.registry ≡ agent.registry
+  pub store : agent'.store ≡ agent.store
+  pub gaps : agent'.gaps ≡ agent.gaps
   -- what a later call requires
   pub ready : AgentIsReady honest host'.past agent'
   -- the disk fails exactly where the host counted a failure
@@ -308,6 +334,10 @@ pub record TakesData (honest : Type 0) (host : Seen) (agent : AgentState) (messa
   pub refused : agent.fault ≡ None → RefusedBy (refusal_by (agent_verdict agent message) agent.registry agent.role message) result
   -- another is left, and changes nothing
   pub left : OnOk result (is_stored (agent_verdict agent message) ≡ false → (agent' ≡ agent) × (host' ≡ host))
+  -- and nothing of the host, whatever the result
+  pub quiet : is_stored (agent_verdict agent message) ≡ false → host' ≡ host
+  -- the disk fails, and memory runs out, only for a Data that is to be stored
+  pub fails : IsErrOf result DiskFault ⊎ IsErrOf result Memory → is_stored (agent_verdict agent message) ≡ true
   -- a refusal, and Reopen, change nothing
   pub unchanged : IfErr result (λ fault. LeavesAll fault → (agent' ≡ agent) × (host' ≡ host))
   -- after another fault each call answers Reopen with its cause
@@ -320,6 +350,11 @@ pub record TakesData (honest : Type 0) (host : Seen) (agent : AgentState) (messa
   pub ready : AgentIsReady honest host'.past agent'
   -- the disk fails exactly where the host counted a failure
   pub cause : HasCause host.disk_faults host'.disk_faults (IsErrOf result DiskFault)
+  -- each file of the database stays within its share, where a side with the agent's gaps and one more has at most so many
+  -- bytes
+  pub bound : honest → (set : Settings) (h : List Beat) → IsAgentOf host.past agent set h → (limit : ℕ) → side_limit (length agent.gaps + 1) ≤ limit
+      → GrowsWithin set limit host.past agent.store host'.past agent'.store
+  pub few : agent'.fault ≡ None → length agent'.gaps ≤ length agent.gaps + 1
   -- nothing happens to a file that is not the store's own, and nothing is told
   pub only_here : honest → OnlyOwn host.past host'.past
   pub tells : host'.tell_faults ≡ host.tell_faults

@@ -2,6 +2,7 @@ pub mod Agent
 pub mod Alarms
 pub mod Answers
 pub mod Asking
+pub mod Bound
 pub mod Calls
 pub mod Copies
 pub mod Copying

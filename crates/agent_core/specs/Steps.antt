@@ -1,5 +1,5 @@
 -- What an agent does with what a line led to, and what it promises of it.
-use Rattle.std.specs.Prelude.{◌≡◌, ℕ, Bool, List, ◌∷◌, Option, None, Result, IfOk, IfErr, IsErrOf, OnOk, OnErr}
+use Rattle.std.specs.Prelude.{◌≡◌, ◌≤◌, ℕ, Bool, List, ◌∷◌, length, Option, None, Result, IfOk, IfErr, IsErrOf, OnOk, OnErr}
 use Rattle.host_model.specs.Disks.{EveryDisk}
 use Rattle.host_model.specs.Cause.{HasCause}
 use Rattle.host_model.specs.Moments.{Throughout}
@@ -9,6 +9,7 @@ use Rattle.history.specs.Registry.{Registry}
 use Rattle.collect_block.specs.declared.step.Step.{Step}
 use Rattle.collect_block.specs.declared.step.Step.TheVariants as step
 use Rattle.alarm_events.specs.declared.event.Event.{Event}
+use Rattle.side_codec.specs.Size.{side_limit}
 use Rattle.tier_settings.specs.declared.settings.Settings.{Settings}
 use Rattle.store_core.specs.disk.Holds.{OnlyOwn}
 use Rattle.store_core.specs.Counts.{raised}
@@ -19,6 +20,7 @@ use Rattle.agent_core.specs.declared.reply.Said.TheVariants.{Nothing, Stored, Ta
 use Rattle.agent_core.specs.Agent.{id_of, AgentIsReady, AgentState, IsAgentOf}
 use Rattle.agent_core.specs.Alarms.{events_at}
 use Rattle.agent_core.specs.Answers.{reply_of}
+use Rattle.agent_core.specs.Bound.{GrowsWithin}
 use Rattle.host_model.specs.Seen.{Seen}
 use Rattle.agent_core.specs.Faults.{fault_after, LeavesAll, RefusedBy, Reopens}
 use Rattle.agent_core.specs.Stands.{StandsForOneOf}
@@ -105,6 +107,10 @@ pub record Takes (honest : Type 0) (host : Seen) (agent : AgentState) (step : St
   pub id : id_of agent' ≡ id_of agent
   pub ready : AgentIsReady honest host'.past agent'
   pub cause : HasCause host.disk_faults host'.disk_faults (IsErrOf result DiskFault)
+  -- each file of the database stays within its share, where a side with the agent's gaps has at most so many bytes
+  pub bound : honest → (set : Settings) (h : List Beat) → IsAgentOf host.past agent set h → (limit : ℕ) → side_limit (length agent.gaps) ≤ limit
+      → GrowsWithin set limit host.past agent.store host'.past agent'.store
+  pub gaps : agent'.gaps ≡ agent.gaps
   -- nothing happens to a file that is not the store's own, and nothing is told
   pub only_here : honest → OnlyOwn host.past host'.past
   pub tells : host'.tell_faults ≡ host.tell_faults

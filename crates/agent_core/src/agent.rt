@@ -1,4 +1,4 @@
-ghost use Rattle.std.specs.Prelude.{◌≡◌, ◌<◌, ◌≤◌, ◌^◌, ◌⊎◌, ◌∷◌, [], ℕ, List, None, true, false, IfOk, IfErr, IsErrOf, OnOk, OnErr};
+ghost use Rattle.std.specs.Prelude.{◌≡◌, ◌<◌, ◌≤◌, ◌^◌, ◌⊎◌, ◌∷◌, [], ℕ, List, None, true, false, length, IfOk, IfErr, IsErrOf, OnOk, OnErr};
 ghost use Rattle.host_model.specs.declared.file.File.{File as AFile};
 ghost use Rattle.host_model.specs.Past.{Event, IsDisk};
 ghost use Rattle.host_model.specs.Disks.{EveryDisk, reads_as};
@@ -6,15 +6,17 @@ ghost use Rattle.host_model.specs.Cause.{HasCause};
 ghost use Rattle.host_model.specs.Moments.{Throughout};
 ghost use Rattle.history.specs.History.{Beat as HistoryBeat, collected, health};
 ghost use Rattle.history.specs.Limits.{keeps_limits};
+ghost use Rattle.side_codec.specs.Size.{side_limit};
 ghost use Rattle.tier_settings.specs.declared.settings.Settings.{Settings as ASettings};
 ghost use Rattle.tier_settings.specs.Limits.{InLimits};
 ghost use Rattle.store_core.specs.disk.Holds.{OnlyOwn};
+ghost use Rattle.store_core.specs.disk.Shares.{share, IsWithin};
 ghost use Rattle.store_core.specs.Stands.{is_made, Stands};
 ghost use Rattle.agent_core.specs.Notes.{IsDamaged};
 ghost use Rattle.beat_tiers.specs.State.{tier_floor};
 ghost use Rattle.store_core.specs.Counts.{raised};
 ghost use Rattle.store_core.specs.Damaged.{IsDamagedIn};
-ghost use Rattle.store_core.specs.Store.{IsReady, OpensAt};
+ghost use Rattle.store_core.specs.Store.{is_due, IsReady, OpensAt};
 ghost use Rattle.store_core.specs.Stored.{Stored as AStored};
 ghost use Rattle.agent_core.specs.Answers.{floor_of_history, kept_of_history, reply_of};
 ghost use Rattle.agent_core.specs.Agent.{left_in};
@@ -35,6 +37,7 @@ ghost use Rattle.history.specs.Numbered.{numbered_beat};
 ghost use Rattle.history.specs.Registry.{same_chart, same_dimension};
 ghost use Rattle.history.specs.Regular.{AreApart};
 ghost use Rattle.beat_entries.specs.Rules.{content_refusal, with_beat};
+ghost use Rattle.agent_core.specs.Bound.{GrowsWithin};
 ghost use Rattle.agent_core.specs.Keeping.{KeepsStore};
 ghost use Rattle.agent_core.specs.Kept.{Follows};
 
@@ -153,6 +156,10 @@ impl Agent {
         ensures faults { IfErr result IsCreating }
         ensures cause { HasCause (H.seen host.old).disk_faults (H.seen host.new).disk_faults
             (IsErrOf result AgentFault.DiskFault) }
+        ensures bound { (limit : ℕ) → side_limit 0 ≤ limit → H.honest
+            → IsWithin (share settings.now limit) (H.seen host.old).past
+            → Throughout (IsWithin (share settings.now limit)) (H.seen host.old).past
+            (H.seen host.new).past }
         ensures only_here { H.honest
             → OnlyOwn (H.seen host.old).past (H.seen host.new).past }
         ensures tells { (H.seen host.new).tell_faults ≡ (H.seen host.old).tell_faults }
@@ -233,6 +240,9 @@ impl Agent {
         ensures faults { IfErr result IsOpening }
         ensures cause { HasCause (H.seen host.old).disk_faults (H.seen host.new).disk_faults
             (IsErrOf result AgentFault.DiskFault) }
+        ensures bound { (shares : AFile → ℕ) → H.honest
+            → IsWithin shares (H.seen host.old).past
+            → Throughout (IsWithin shares) (H.seen host.old).past (H.seen host.new).past }
         ensures only_here { H.honest
             → OnlyOwn (H.seen host.old).past (H.seen host.new).past }
         ensures tells { (H.seen host.new).tell_faults ≡ (H.seen host.old).tell_faults }
@@ -415,6 +425,8 @@ impl Agent {
             → RefusedBy
             (beat_refusal self.old.registry (copies self.old.role) self.old.last moment beat.now)
             result }
+        ensures untouched { is_due self.old.store ≡ false
+            → self.new.store.body ≡ self.old.store.body }
         ensures unchanged { IfErr result
             (λ fault. LeavesAll fault → (self.new ≡ self.old) × (host.new ≡ host.old)) }
         ensures fault { self.new.fault ≡ fault_after self.old.fault result }
@@ -425,6 +437,12 @@ impl Agent {
         ensures ready { AgentIsReady H.honest (H.seen host.new).past self.new }
         ensures cause { HasCause (H.seen host.old).disk_faults (H.seen host.new).disk_faults
             (IsErrOf result AgentFault.DiskFault) }
+        ensures bound { H.honest → (set : ASettings) (h : List HistoryBeat)
+            → IsAgentOf (H.seen host.old).past self.old set h → (limit : ℕ)
+            → side_limit (length self.old.gaps) ≤ limit
+            → GrowsWithin set limit (H.seen host.old).past self.old.store
+            (H.seen host.new).past self.new.store }
+        ensures gaps { self.new.gaps ≡ self.old.gaps }
         ensures only_here { H.honest
             → OnlyOwn (H.seen host.old).past (H.seen host.new).past }
         ensures tells { (H.seen host.new).tell_faults ≡ (H.seen host.old).tell_faults }
@@ -494,6 +512,15 @@ impl Agent {
         ensures dimensions { OnOk result
             (AreApart same_dimension self.new.registry.dimensions) }
         ensures limits { OnOk result (HasLimits self.new.registry) }
+        ensures untouched { is_due self.old.store ≡ false
+            → self.new.store.body ≡ self.old.store.body }
+        ensures bound { H.honest → (set : ASettings) (h : List HistoryBeat)
+            → HoldsHistory (H.seen host.old).past self.old.store set h
+            → IsLeftBy set h (left_in self.old) → (limit : ℕ)
+            → side_limit (length self.old.gaps) ≤ limit
+            → GrowsWithin set limit (H.seen host.old).past self.old.store
+            (H.seen host.new).past self.new.store }
+        ensures gaps { self.new.gaps ≡ self.old.gaps }
         ensures keeps { KeepsStore H.honest (H.seen host.old) self.old.store result
             (H.seen host.new) self.new.store }
         ensures stored { OnOk result (self.new.store.tiers.last ≡ moment) }
@@ -539,6 +566,8 @@ impl Agent {
           last = last;
           count = raised self.old.count;
         }) }
+        ensures store { self.new.store ≡ self.old.store }
+        ensures gaps { self.new.gaps ≡ self.old.gaps }
         ensures up_to { OnOk result (IsUpTo self.new.alarms self.new.registry) }
         ensures spent { OnErr result (self.new ≡ record self.old {
           alarms = self.new.alarms;
@@ -597,6 +626,8 @@ impl Agent {
         ensures registry { self.new.registry ≡ self.old.registry }
         ensures refused { self.old.fault ≡ None
             → HealthRefusedBy (health_refusal text.now) result }
+        ensures untouched { is_due self.old.store ≡ false
+            → self.new.store.body ≡ self.old.store.body }
         ensures unchanged { IfErr result
             (λ fault. LeavesAll fault → (self.new ≡ self.old) × (host.new ≡ host.old)) }
         ensures fault { self.new.fault ≡ fault_after self.old.fault result }
@@ -606,6 +637,12 @@ impl Agent {
         ensures ready { AgentIsReady H.honest (H.seen host.new).past self.new }
         ensures cause { HasCause (H.seen host.old).disk_faults (H.seen host.new).disk_faults
             (IsErrOf result AgentFault.DiskFault) }
+        ensures bound { H.honest → (set : ASettings) (h : List HistoryBeat)
+            → IsAgentOf (H.seen host.old).past self.old set h → (limit : ℕ)
+            → side_limit (length self.old.gaps) ≤ limit
+            → GrowsWithin set limit (H.seen host.old).past self.old.store
+            (H.seen host.new).past self.new.store }
+        ensures gaps { self.new.gaps ≡ self.old.gaps }
         ensures only_here { H.honest
             → OnlyOwn (H.seen host.old).past (H.seen host.new).past }
         ensures tells { (H.seen host.new).tell_faults ≡ (H.seen host.old).tell_faults }

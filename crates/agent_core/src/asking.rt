@@ -188,7 +188,7 @@ fn sent(
 }
 
 /// The answer of a history with this number, floor and registry, by the first of its kept beats above where the
-/// answer begins.
+/// answer begins. None without more ado where there are none.
 fn answer_by(
     alloc: Global,
     child: u64,
@@ -210,6 +210,9 @@ fn answer_by(
     ensures asked { IfOk result (λ answer. IfSome answer
         (λ message. (message.child ≡ child) × (message.prev ≡ ask.last))) }
 {
+    if kept.is_empty() {
+        return Ok(None);
+    }
     let (names, beats) = sent(alloc, registry, kept)?;
     Child::answer(alloc, child, floor, &names, &beats, &ask)
 }

@@ -10,6 +10,7 @@ ghost use Rattle.beat_points.specs.Points.{IsNext};
 ghost use Rattle.history.specs.Regular.{AreApart};
 ghost use Rattle.history.specs.Numbered.{numbered_beat, IsThere};
 ghost use Rattle.entry_codec.specs.declared.entry.Entry.TheVariants as entry;
+ghost use Rattle.side_codec.specs.Size.{side_limit};
 ghost use Rattle.tier_settings.specs.declared.settings.Settings.{Settings as ASettings};
 ghost use Rattle.entry_codec.specs.Entries.{entry_bytes, is_collected_canonical, HasSpelling, IsWithinLimits};
 ghost use Rattle.store_core.specs.beats.Beats.{beat_bytes, InForm};
@@ -17,6 +18,7 @@ ghost use Rattle.store_core.specs.beats.Records.{last_after};
 ghost use Rattle.store_core.specs.Stands.{StandsAround};
 ghost use Rattle.store_core.specs.Store.{is_due, IsReady, IsReplayed, IsStoreOf};
 ghost use Rattle.store_core.specs.Stored.{Stored as AStored, stored_with};
+ghost use Rattle.agent_core.specs.Bound.{GrowsWithin};
 ghost use Rattle.agent_core.specs.Keeping.{KeepsStore};
 ghost use Rattle.agent_core.specs.Kept.{kept_of, Follows, IsTakenBeat};
 ghost use Rattle.agent_core.specs.Stands.{HoldsHistory, StandsForHistory};
@@ -99,6 +101,11 @@ pub(crate) fn make_room<H: Host>(
     ensures untouched { is_due store.old ≡ false
         → (store.new ≡ store.old) × (host.new ≡ host.old) }
     ensures tiers { store.new.tiers ≡ store.old.tiers }
+    ensures bound { H.honest → (set : ASettings) (h : List HistoryBeat)
+        → HoldsHistory (H.seen host.old).past store.old set h → IsLeftBy set h left.now
+        → (limit : ℕ) → side_limit (length left.now.gaps) ≤ limit
+        → GrowsWithin set limit (H.seen host.old).past store.old (H.seen host.new).past
+        store.new }
     ensures keeps { KeepsStore H.honest (H.seen host.old) store.old result (H.seen host.new)
         store.new }
 {
@@ -133,6 +140,11 @@ pub(crate) fn commit<H: Host>(
         (H.honest → (stored : AStored)
         → IsStoreOf (H.seen host.old).past store.old stored
         → IsStoreOf (H.seen host.new).past store.new (stored_with stored kept.now)) }
+    ensures body { store.new.body ≡ store.old.body }
+    ensures bound { H.honest → (set : ASettings) (h : List HistoryBeat)
+        → HoldsHistory (H.seen host.old).past store.old set h → (limit : ℕ)
+        → GrowsWithin set limit (H.seen host.old).past store.old (H.seen host.new).past
+        store.new }
     ensures keeps { KeepsStore H.honest (H.seen host.old) store.old result (H.seen host.new)
         store.new }
     ensures last { OnOk result
@@ -203,6 +215,12 @@ pub(crate) fn add_health<H: Host>(
     ensures done { OnOk result (H.honest → (set : ASettings) (h : List HistoryBeat)
         → HoldsHistory (H.seen host.old).past store.old set h → IsLeftBy set h left.now
         → HoldsHistory (H.seen host.new).past store.new set (health text.now ∷ h)) }
+    ensures untouched { is_due store.old ≡ false → store.new.body ≡ store.old.body }
+    ensures bound { H.honest → (set : ASettings) (h : List HistoryBeat)
+        → HoldsHistory (H.seen host.old).past store.old set h → IsLeftBy set h left.now
+        → (limit : ℕ) → side_limit (length left.now.gaps) ≤ limit
+        → GrowsWithin set limit (H.seen host.old).past store.old (H.seen host.new).past
+        store.new }
     ensures keeps { KeepsStore H.honest (H.seen host.old) store.old result (H.seen host.new)
         store.new }
     ensures last { OnOk result (store.new.tiers.last ≡ store.old.tiers.last) }
@@ -324,6 +342,12 @@ pub(crate) fn add<H: Host>(
         × AwaitsAlarms set h (collected moment opened) left.new) }
     ensures registry { left.new.registry ≡ left.old.registry }
     ensures alarms { left.new.alarms ≡ left.old.alarms }
+    ensures body { store.new.body ≡ store.old.body }
+    ensures bound { H.honest → (set : ASettings) (h : List HistoryBeat)
+        → HoldsHistory (H.seen host.old).past store.old set h → (limit : ℕ)
+        → GrowsWithin set limit (H.seen host.old).past store.old (H.seen host.new).past
+        store.new }
+    ensures gaps { left.new.gaps ≡ left.old.gaps }
     ensures keeps { KeepsStore H.honest (H.seen host.old) store.old result (H.seen host.new)
         store.new }
     ensures last { OnOk result (store.new.tiers.last ≡ numbered.now.moment) }

@@ -7,7 +7,9 @@
 //! that the disk stands for, and `open` writes nothing. `query`, `log`, `ask` and `data` answer by definitions
 //! over all beats. A history collects, or copies one child. Once a call that takes the agent for itself has had
 //! `DiskFault` or `Memory`, each such call gives the first cause: the agent must be opened again. Each call
-//! promises one record (`specs/Calls.antt`); the law `calls_keep_an_agent_sound` stands on these alone.
+//! promises one record (`specs/Calls.antt`); the law `calls_keep_an_agent_sound` stands on these alone. At every moment
+//! each file of the database stays within its share, by the gaps that the agent has
+//! (`calls_stay_within_shares`).
 //!
 //! It stands on `store_core`, `collect_block`, `chart_registry`, `beat_points`, `beat_entries`, `query_engine`,
 //! `query_text`, `alarm_core` and `replication`.
@@ -37,8 +39,8 @@ pub use alarm_core::{Event, EventList, Latest, Log, Status, write_event};
 pub use fault::AgentFault;
 pub use health_config::ConfigFault;
 pub use law::{
-    accepted_text_keeps_the_rules, calls_keep_an_agent_sound, copy_stays_a_copy,
-    history_notes_go_on, log_shows_all_events, tiers_see_the_points,
+    accepted_text_keeps_the_rules, calls_keep_an_agent_sound, calls_stay_within_shares,
+    copy_stays_a_copy, history_notes_go_on, log_shows_all_events, tiers_see_the_points,
 };
 pub use replication::{Ask, Data, Verdict};
 pub use reply::{Reply, Said, write_reply};

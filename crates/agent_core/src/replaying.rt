@@ -10,6 +10,7 @@ ghost use Rattle.history.specs.History.{Beat as HistoryBeat};
 ghost use Rattle.tier_settings.specs.declared.settings.Settings.{Settings as ASettings};
 ghost use Rattle.store_core.specs.declared.beats.beat.Beat.{Beat as StoreBeat};
 ghost use Rattle.store_core.specs.disk.Holds.{OnlyOwn};
+ghost use Rattle.store_core.specs.disk.Shares.{IsWithin};
 ghost use Rattle.store_core.specs.beats.Records.{TakesFirst};
 ghost use Rattle.store_core.specs.Damaged.{IsDamagedIn};
 ghost use Rattle.store_core.specs.Stands.{is_made, Stands};
@@ -57,6 +58,8 @@ pub(crate) fn open_store<H: Host>(alloc: Global, host: &mut H) -> Result<Store, 
     ensures faults { IfErr result IsUnopened }
     ensures cause { HasCause (H.seen host.old).disk_faults (H.seen host.new).disk_faults
         (IsErrOf result AgentFault.DiskFault) }
+    ensures bound { (shares : AFile → ℕ) → H.honest → IsWithin shares (H.seen host.old).past
+        → Throughout (IsWithin shares) (H.seen host.old).past (H.seen host.new).past }
     ensures only_here { H.honest → OnlyOwn (H.seen host.old).past (H.seen host.new).past }
     ensures tells { (H.seen host.new).tell_faults ≡ (H.seen host.old).tell_faults }
 {

@@ -11,6 +11,7 @@ ghost use Rattle.alarm_core.specs.UpTo.{IsUpTo};
 ghost use Rattle.beat_entries.specs.Next.{goes_on, with_numbered};
 ghost use Rattle.store_core.specs.declared.beats.beat.Beat.{Beat as StoreBeat};
 ghost use Rattle.side_codec.specs.Sides.{read_side, HasSpelling};
+ghost use Rattle.side_codec.specs.Size.{side_limit, KeepLimits};
 ghost use Rattle.agent_core.specs.Answers.{floor_of_history};
 ghost use Rattle.agent_core.specs.Kept.{AreBeatsOf};
 ghost use Rattle.agent_core.specs.Left.{IsFit, IsLeftBy};
@@ -162,6 +163,8 @@ pub(crate) fn write_left(alloc: Global, left: &Left, floor: u32) -> Result<ByteL
         (beats : List StoreBeat) → AreBeatsOf h beats → IsLeftBy set h left.now
         → floor ≡ floor_of_history set h 0 → IsSideOf set h bytes) }
     ensures short { IfOk result (λ bytes. length bytes < 2 ^ 32) }
+    ensures size { IfOk result (λ bytes. KeepLimits (kept (held left.now.alarms))
+        → length bytes ≤ side_limit (length left.now.gaps)) }
     ensures memory { IfErr result (λ fault. fault ≡ AgentFault.Memory) }
 {
     let Ok(side) = side_of(alloc, left, floor) else {

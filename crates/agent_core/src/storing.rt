@@ -1,6 +1,6 @@
 //! How the gap and the beats of a child's message are added to a history.
 
-ghost use Rattle.std.specs.Prelude.{◌≡◌, ◌<◌, ◌≤◌, ◌^◌, ◌++◌, ◌∷◌, ◌⊎◌, [], ℕ, List, Option, Some, None, true, false, length, IfOk, IfErr, OnOk};
+ghost use Rattle.std.specs.Prelude.{◌≡◌, ◌<◌, ◌≤◌, ◌+◌, ◌^◌, ◌++◌, ◌∷◌, ◌⊎◌, [], ℕ, List, Option, Some, None, true, false, length, IfOk, IfErr, OnOk};
 ghost use Rattle.alarm_core.specs.UpTo.{IsUpTo};
 ghost use Rattle.host_model.specs.Past.{Event};
 ghost use Rattle.host_model.specs.Disks.{EveryDisk};
@@ -9,6 +9,7 @@ ghost use Rattle.history.specs.History.{Beat as HistoryBeat, copied, missing, re
 ghost use Rattle.history.specs.Numbered.{numbered_charts, numbered_dimensions};
 ghost use Rattle.history.specs.Registry.{Registry as ARegistry, same_chart, same_dimension, with_definitions};
 ghost use Rattle.history.specs.Regular.{AreApart};
+ghost use Rattle.side_codec.specs.Size.{side_limit};
 ghost use Rattle.tier_settings.specs.declared.settings.Settings.{Settings as ASettings};
 ghost use Rattle.entry_codec.specs.Entries.{is_collected_canonical, IsWithinLimits};
 ghost use Rattle.replication.specs.Copies.{latest as latest_of};
@@ -17,6 +18,7 @@ ghost use Rattle.link_frames.specs.DataForm.{has_rising_places, has_storage_numb
 ghost use Rattle.link_frames.specs.DataForm.{AreApart as AreNamesApart};
 ghost use Rattle.store_core.specs.beats.Beats.{beat_bytes, InForm};
 ghost use Rattle.store_core.specs.Store.{is_due, IsReady, IsReplayed};
+ghost use Rattle.agent_core.specs.Bound.{GrowsWithin};
 ghost use Rattle.agent_core.specs.Copying.{beats_of, definitions_in, names_refusal};
 ghost use Rattle.agent_core.specs.Gaps.{join_gap};
 ghost use Rattle.agent_core.specs.Keeping.{KeepsStore};
@@ -69,6 +71,10 @@ fn add_gap<H: Host>(
         → HoldsHistory (H.seen host.old).past store.old set h → may_copy (role_of h) ≡ true
         → HoldsHistory (H.seen host.new).past store.new set
         (missing (record { child = child; from = from; to = to }) ∷ h)) }
+    ensures bound { H.honest → (set : ASettings) (h : List HistoryBeat)
+        → HoldsHistory (H.seen host.old).past store.old set h → (limit : ℕ)
+        → GrowsWithin set limit (H.seen host.old).past store.old (H.seen host.new).past
+        store.new }
     ensures keeps { KeepsStore H.honest (H.seen host.old) store.old result (H.seen host.new)
         store.new }
     ensures last { OnOk result (store.new.tiers.last ≡ to) }
@@ -116,6 +122,11 @@ fn store_copy<H: Host>(
         → AwaitsAlarms set g (copied copy) (record left.new { role = Role.Copies copy.child })) }
     ensures registry { left.new.registry ≡ left.old.registry }
     ensures alarms { left.new.alarms ≡ left.old.alarms }
+    ensures bound { H.honest → (set : ASettings) (g : List HistoryBeat)
+        → HoldsHistory (H.seen host.old).past store.old set g → (limit : ℕ)
+        → GrowsWithin set limit (H.seen host.old).past store.old (H.seen host.new).past
+        store.new }
+    ensures gaps { left.new.gaps ≡ left.old.gaps }
     ensures keeps { KeepsStore H.honest (H.seen host.old) store.old result (H.seen host.new)
         store.new }
     ensures last { OnOk result (store.new.tiers.last ≡ moment) }
@@ -168,6 +179,11 @@ fn add_copy<H: Host>(
     ensures registry { left.new.registry ≡ left.old.registry }
     ensures role { OnOk result (left.new.role ≡ Role.Copies message.now.child) }
     ensures up_to { OnOk result (IsUpTo left.new.alarms left.new.registry) }
+    ensures bound { H.honest → (set : ASettings) (g : List HistoryBeat)
+        → HoldsHistory (H.seen host.old).past store.old set g → (limit : ℕ)
+        → GrowsWithin set limit (H.seen host.old).past store.old (H.seen host.new).past
+        store.new }
+    ensures gaps { left.new.gaps ≡ left.old.gaps }
     ensures keeps { KeepsStore H.honest (H.seen host.old) store.old result (H.seen host.new)
         store.new }
     ensures last { OnOk result (store.new.tiers.last ≡ beat.now.moment) }
@@ -245,6 +261,13 @@ fn add_later<H: Host>(
     ensures role { OnOk result (left.old.role ≡ Role.Copies message.now.child
         → left.new.role ≡ Role.Copies message.now.child) }
     ensures up_to { OnOk result (IsUpTo left.new.alarms left.new.registry) }
+    ensures bound { H.honest → (set : ASettings) (g : List HistoryBeat)
+        → HoldsHistory (H.seen host.old).past store.old set g → IsLeftBy set g left.old
+        → MayTakeAll g (later_copies left.old.registry message.now beats.now)
+        → (limit : ℕ) → side_limit (length left.old.gaps) ≤ limit
+        → GrowsWithin set limit (H.seen host.old).past store.old (H.seen host.new).past
+        store.new }
+    ensures gaps { left.new.gaps ≡ left.old.gaps }
     ensures keeps { KeepsStore H.honest (H.seen host.old) store.old result (H.seen host.new)
         store.new }
     ensures last { OnOk result
@@ -308,6 +331,15 @@ fn add_beats<H: Host>(
         (0 < length beats.now → left.new.role ≡ Role.Copies message.now.child) }
     ensures up_to { OnOk result
         (0 < length beats.now → IsUpTo left.new.alarms left.new.registry) }
+    ensures bound { H.honest → (before : ARegistry) (set : ASettings) (g : List HistoryBeat)
+        → HoldsHistory (H.seen host.old).past store.old set g
+        → IsLeftBy set g (record left.old { registry = before })
+        → left.old.registry ≡ with_names before message.now
+        → MayTakeAll g (sent_copies left.old.registry message.now beats.now)
+        → (limit : ℕ) → side_limit (length left.old.gaps) ≤ limit
+        → GrowsWithin set limit (H.seen host.old).past store.old (H.seen host.new).past
+        store.new }
+    ensures gaps { left.new.gaps ≡ left.old.gaps }
     ensures keeps { KeepsStore H.honest (H.seen host.old) store.old result (H.seen host.new)
         store.new }
     ensures last { OnOk result
@@ -362,6 +394,12 @@ fn add_gap_before<H: Host>(
         → HoldsHistory past store.old set h → IsLeftBy set h left.old
         → IsLeftBy set (onto h (gap_beats message.now)) left.new) }
     ensures only { left.new ≡ record left.old { role = left.new.role; gaps = left.new.gaps } }
+    ensures bound { H.honest → (set : ASettings) (h : List HistoryBeat)
+        → HoldsHistory (H.seen host.old).past store.old set h → IsLeftBy set h left.old
+        → (limit : ℕ) → side_limit (length left.old.gaps) ≤ limit
+        → GrowsWithin set limit (H.seen host.old).past store.old (H.seen host.new).past
+        store.new }
+    ensures few { OnOk result (length left.new.gaps ≤ length left.old.gaps + 1) }
     ensures keeps { KeepsStore H.honest (H.seen host.old) store.old result (H.seen host.new)
         store.new }
     ensures last { OnOk result (store.new.tiers.last ≡ message.now.from) }
@@ -454,6 +492,13 @@ pub(crate) fn add_message<H: Host>(
         → may_copy (role_of h) ≡ true
         → HasAdded (H.seen host.new).past store.new left.new set h more events) }
     ensures role { OnOk result (left.new.role ≡ Role.Copies message.now.child) }
+    ensures bound { H.honest → (set : ASettings) (h : List HistoryBeat)
+        → HoldsHistory (H.seen host.old).past store.old set h → IsLeftBy set h left.old
+        → may_copy (role_of h) ≡ true → (limit : ℕ)
+        → side_limit (length left.old.gaps + 1) ≤ limit
+        → GrowsWithin set limit (H.seen host.old).past store.old (H.seen host.new).past
+        store.new }
+    ensures few { OnOk result (length left.new.gaps ≤ length left.old.gaps + 1) }
     ensures keeps { KeepsStore H.honest (H.seen host.old) store.old result (H.seen host.new)
         store.new }
     ensures last { OnOk result (store.new.tiers.last ≡ message.now.upto) }

@@ -1,11 +1,12 @@
 //! The calls by which an agent copies a child, and by which a parent copies it.
 
-ghost use Rattle.std.specs.Prelude.{◌≡◌, ◌<◌, ◌+◌, ◌^◌, [], List, length, None, false, IfOk, IfErr, IfSome, IsErrOf, OnOk, OnErr, if◌then◌else◌};
+ghost use Rattle.std.specs.Prelude.{◌≡◌, ◌⊎◌, ◌<◌, ◌≤◌, ◌+◌, ◌^◌, ℕ, [], List, length, None, false, true, IfOk, IfErr, IfSome, IsErrOf, OnOk, OnErr, if◌then◌else◌};
 ghost use Rattle.host_model.specs.Past.{Event};
 ghost use Rattle.host_model.specs.Disks.{EveryDisk};
 ghost use Rattle.host_model.specs.Cause.{HasCause};
 ghost use Rattle.host_model.specs.Moments.{Throughout};
 ghost use Rattle.history.specs.History.{Beat as HistoryBeat, child as child_of};
+ghost use Rattle.side_codec.specs.Size.{side_limit};
 ghost use Rattle.tier_settings.specs.declared.settings.Settings.{Settings as ASettings};
 ghost use Rattle.store_core.specs.disk.Holds.{OnlyOwn};
 ghost use Rattle.store_core.specs.Counts.{counted};
@@ -13,6 +14,7 @@ ghost use Rattle.replication.specs.Verdict.{is_stored};
 ghost use Rattle.link_frames.specs.declared.frame.Frame.TheVariants as frame;
 ghost use Rattle.link_frames.specs.DataForm.{IsData};
 ghost use Rattle.link_frames.specs.Frames.{HasSpelling};
+ghost use Rattle.agent_core.specs.Bound.{GrowsWithin};
 ghost use Rattle.agent_core.specs.Calls.{agent_adds, agent_verdict, AnswersAsk, TakesData};
 ghost use Rattle.agent_core.specs.Copies.{data_of_history};
 ghost use Rattle.agent_core.specs.Copying.{beats_of, copy_refusal, events_onto, refusal_by};
@@ -118,6 +120,10 @@ impl Agent {
             self.old.role message.now) result }
         ensures left { OnOk result (is_stored (agent_verdict self.old message.now) ≡ false
             → (self.new ≡ self.old) × (host.new ≡ host.old)) }
+        ensures quiet { is_stored (agent_verdict self.old message.now) ≡ false
+            → H.seen host.new ≡ H.seen host.old }
+        ensures fails { IsErrOf result AgentFault.DiskFault ⊎ IsErrOf result AgentFault.Memory
+            → is_stored (agent_verdict self.old message.now) ≡ true }
         ensures unchanged { IfErr result
             (λ fault. LeavesAll fault → (self.new ≡ self.old) × (host.new ≡ host.old)) }
         ensures fault { self.new.fault ≡ fault_after self.old.fault result }
@@ -128,6 +134,13 @@ impl Agent {
         ensures ready { AgentIsReady H.honest (H.seen host.new).past self.new }
         ensures cause { HasCause (H.seen host.old).disk_faults (H.seen host.new).disk_faults
             (IsErrOf result AgentFault.DiskFault) }
+        ensures bound { H.honest → (set : ASettings) (h : List HistoryBeat)
+            → IsAgentOf (H.seen host.old).past self.old set h → (limit : ℕ)
+            → side_limit (length self.old.gaps + 1) ≤ limit
+            → GrowsWithin set limit (H.seen host.old).past self.old.store
+            (H.seen host.new).past self.new.store }
+        ensures few { self.new.fault ≡ None
+            → length self.new.gaps ≤ length self.old.gaps + 1 }
         ensures only_here { H.honest
             → OnlyOwn (H.seen host.old).past (H.seen host.new).past }
         ensures tells { (H.seen host.new).tell_faults ≡ (H.seen host.old).tell_faults }
@@ -182,6 +195,13 @@ impl Agent {
         ensures ready { AgentIsReady H.honest (H.seen host.new).past self.new }
         ensures cause { HasCause (H.seen host.old).disk_faults (H.seen host.new).disk_faults
             (IsErrOf result AgentFault.DiskFault) }
+        ensures bound { H.honest → (set : ASettings) (h : List HistoryBeat)
+            → IsAgentOf (H.seen host.old).past self.old set h → (limit : ℕ)
+            → side_limit (length self.old.gaps + 1) ≤ limit
+            → GrowsWithin set limit (H.seen host.old).past self.old.store
+            (H.seen host.new).past self.new.store }
+        ensures few { self.new.fault ≡ None
+            → length self.new.gaps ≤ length self.old.gaps + 1 }
         ensures only_here { H.honest
             → OnlyOwn (H.seen host.old).past (H.seen host.new).past }
         ensures tells { (H.seen host.new).tell_faults ≡ (H.seen host.old).tell_faults }

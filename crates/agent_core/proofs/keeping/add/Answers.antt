@@ -4,6 +4,7 @@ use Rattle.history.specs.History.{collected}
 use Rattle.store_core.specs.beats.Records.{last_after}
 use Rattle.agent_core.specs.Replay.{HasSeenBeat}
 use Rattle.agent_core.proofs.KeptLemmas.{climbs, collected-awaits, collected-of, holds-beat, stays}
+use Rattle.agent_core.proofs.BoundLemmas.{grows-none}
 use Rattle.agent_core.proofs.keeping.add.Goals as goal
 
 pub returns-in_default-clause-any_moment : goal.returns-in_default-clause-any_moment
@@ -48,3 +49,6 @@ returns-clause-done g c true_host before moment beat set h taken holds was follo
 
 pub returns-clause-last : goal.returns-clause-last
 returns-clause-last g c = c.in_ok-commit.ensures.last ∙ ap (last_after c.args.store.now.tiers.last) c.in-Ok.ensures.moment
+
+pub returns-in_default-clause-bound : goal.returns-in_default-clause-bound
+returns-in_default-clause-bound g c true_host set h holds limit = grows-none set limit (g.H.Host.seen c.args.host.now).past c.args.store.now

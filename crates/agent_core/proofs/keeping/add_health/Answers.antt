@@ -1,9 +1,11 @@
-use Rattle.std.proofs.Common.{◌∷◌, inl}
+use Rattle.std.proofs.Common.{◌∷◌, inl, ap, ◌∙◌}
 use Rattle.host_model.proofs.DiskLemmas.{disks_weaker}
 use Rattle.history.specs.History.{health}
+use Rattle.store_core.specs.Store.{StoreState}
 use Rattle.agent_core.proofs.KeepsLemmas.{keeps-both}
 use Rattle.agent_core.proofs.KeptLemmas.{climbs, health-of, holds-beat, then-either}
 use Rattle.agent_core.proofs.Outcomes.{on_ok}
+use Rattle.agent_core.proofs.BoundLemmas.{grows-both}
 use Rattle.agent_core.proofs.keeping.add_health.Goals as goal
 
 pub returns-in_err-make_room-clause-any_moment : goal.returns-in_err-make_room-clause-any_moment
@@ -36,3 +38,18 @@ pub returns-in-Ok-clause-keeps : goal.returns-in-Ok-clause-keeps
 returns-in-Ok-clause-keeps g c =
     keeps-both g.H.Host.honest (g.H.Host.seen c.args.host.now) (g.H.Host.seen c.make_room.new.host) (g.H.Host.seen c.commit.new.host) c.args.store.now c.make_room.new.store c.commit.new.store
     c.in_ok-make_room.field-0 c.commit.result c.in_ok-make_room.ensures.keeps c.commit.ensures.keeps
+
+pub returns-in_err-make_room-clause-untouched : goal.returns-in_err-make_room-clause-untouched
+returns-in_err-make_room-clause-untouched g c not_due = ap (λ (s : StoreState). s.body) (c.make_room.ensures.untouched not_due).0
+
+pub returns-in-Err-clause-untouched : goal.returns-in-Err-clause-untouched
+returns-in-Err-clause-untouched g c not_due = ap (λ (s : StoreState). s.body) (c.make_room.ensures.untouched not_due).0
+
+pub returns-in-Ok-clause-untouched : goal.returns-in-Ok-clause-untouched
+returns-in-Ok-clause-untouched g c not_due = c.commit.ensures.body ∙ ap (λ (s : StoreState). s.body) (c.make_room.ensures.untouched not_due).0
+
+pub returns-in-Ok-clause-bound : goal.returns-in-Ok-clause-bound
+returns-in-Ok-clause-bound g c true_host set h holds by limit fits =
+    let room = c.in_ok-make_room.ensures.done true_host set h holds by in
+    grows-both set limit (g.H.Host.seen c.args.host.now).past (g.H.Host.seen c.make_room.new.host).past (g.H.Host.seen c.commit.new.host).past c.args.store.now c.make_room.new.store c.commit.new.store
+    (c.make_room.ensures.bound true_host set h holds by limit fits) (c.commit.ensures.bound true_host set h room limit)

@@ -1,10 +1,13 @@
-use Rattle.std.proofs.Common.{◌∙◌}
+use Rattle.std.proofs.Common.{◌∙◌, ap, arith}
 use Rattle.host_model.specs.Moments.{begins}
 use Rattle.agent_core.specs.Answers.{tier_beats}
 use Rattle.agent_core.proofs.AnswerLemmas.{floor-is}
 use Rattle.agent_core.proofs.KeepsLemmas.{checkpoint-failed}
 use Rattle.agent_core.proofs.KeptLemmas.{holds-moved, moves, stays}
 use Rattle.agent_core.proofs.StoredLemmas.{applied-all, were_kept}
+use Rattle.store_core.specs.Store.{StoreState}
+use Rattle.store_core.specs.Stored.{advanced}
+use Rattle.agent_core.proofs.BoundLemmas.{advanced-number, checkpoint-grows, either-reached, grows-none, left-texts, store-reached}
 use Rattle.agent_core.proofs.keeping.make_room.Goals as goal
 
 pub returns-then-not-due-clause-any_moment : goal.returns-then-not-due-clause-any_moment
@@ -40,3 +43,29 @@ returns-in-Err-clause-keeps g c =
     let did = c.in-Err.ensures in
     checkpoint-failed g.H.Host.honest (g.H.Host.seen c.args.host.now) (g.H.Host.seen c.checkpoint.new.host) c.args.store.now c.checkpoint.new.self c.in-Err.fault c.store_fault.result c.store_fault.ensures
     did.faults did.reopens c.requires.going did.ready c.requires.replayed did.waiting did.settings did.cause did.only_here did.output
+
+pub returns-then-not-due-clause-bound : goal.returns-then-not-due-clause-bound
+returns-then-not-due-clause-bound g c true_host set h holds by limit fits = grows-none set limit (g.H.Host.seen c.args.host.now).past c.args.store.now
+
+pub returns-in_err-side-clause-bound : goal.returns-in_err-side-clause-bound
+returns-in_err-side-clause-bound g c true_host set h holds by limit fits = grows-none set limit (g.H.Host.seen c.args.host.now).past c.args.store.now
+
+pub returns-in-Ok-clause-bound : goal.returns-in-Ok-clause-bound
+returns-in-Ok-clause-bound g c true_host set h holds by limit fits =
+    let past = (g.H.Host.seen c.args.host.now).past in
+    let new = (g.H.Host.seen c.checkpoint.new.host).past in
+    let side = c.in_ok-side.side in
+    let size = c.in_ok-side.ensures.size (left-texts past c.args.store.now set h holds c.args.left.now by) in
+    checkpoint-grows past new c.args.store.now c.checkpoint.new.self set h holds true_host limit side (omega (arith, size, fits))
+    (advanced-number past new c.args.store.now c.checkpoint.new.self set h holds side (c.in-Ok.ensures.advanced true_host holds.stored holds.store_of))
+    (store-reached new c.checkpoint.new.self (advanced holds.stored side) (c.in-Ok.ensures.advanced true_host holds.stored holds.store_of)) c.checkpoint.ensures.bound
+
+pub returns-in-Err-clause-bound : goal.returns-in-Err-clause-bound
+returns-in-Err-clause-bound g c true_host set h holds by limit fits =
+    let past = (g.H.Host.seen c.args.host.now).past in
+    let new = (g.H.Host.seen c.checkpoint.new.host).past in
+    let side = c.in_ok-side.side in
+    let size = c.in_ok-side.ensures.size (left-texts past c.args.store.now set h holds c.args.left.now by) in
+    let same = ap (λ (s : StoreState). s.files.number) c.in-Err.ensures.leaves in
+    checkpoint-grows past new c.args.store.now c.checkpoint.new.self set h holds true_host limit side (omega (arith, size, fits)) (omega (arith, same))
+    (either-reached past new c.args.store.now c.checkpoint.new.self set h holds side same (c.checkpoint.ensures.any_moment true_host holds.stored holds.store_of)) c.checkpoint.ensures.bound

@@ -1,4 +1,4 @@
-use Rattle.std.proofs.Common.{◌≡◌, List, ◌∷◌, [], Ok, Err, refl, rules, sym, ap, subst}
+use Rattle.std.proofs.Common.{◌≡◌, List, ◌∷◌, [], Ok, Err, refl, rules, sym, ap, subst, ◌≤◌, length, ◌∙◌}
 use Rattle.std.proofs.lemmas.Result.{err_from_is_err_and}
 use Rattle.host_model.specs.Disks.{EveryDisk}
 use Rattle.host_model.specs.Moments.{begins, Throughout}
@@ -10,6 +10,9 @@ use Rattle.agent_core.specs.Storing.{later_copies, AreSent, HasAdded, MayTakeAll
 use Rattle.agent_core.proofs.PrefixLemmas.{added-behind, copies-are, first_copy, first-moments, rest-moments, rest-sent, sent-first}
 use Rattle.agent_core.proofs.KeepsLemmas.{keeps-after, keeps-both}
 use Rattle.agent_core.proofs.KeptLemmas.{stays}
+use Rattle.side_codec.specs.declared.gap.GapSpan.{GapSpan}
+use Rattle.side_codec.specs.Size.{side_limit}
+use Rattle.agent_core.proofs.BoundLemmas.{grows-both, grows-none}
 use Rattle.agent_core.proofs.storing.add_beats.Goals as goal
 
 pub returns-in_default-clause-any_moment : goal.returns-in_default-clause-any_moment
@@ -144,3 +147,77 @@ pub returns-clause-keeps : goal.returns-clause-keeps
 returns-clause-keeps g c =
     keeps-after g.H.Host.honest (g.H.Host.seen c.args.host.now) (g.H.Host.seen c.add_later.new.host) (g.H.Host.seen c.add_later.new.host) c.args.store.now c.add_later.new.store c.add_later.new.store c.in_ok-more.more (Ok c.add_events.new.events)
     (keeps-both g.H.Host.honest (g.H.Host.seen c.args.host.now) (g.H.Host.seen c.add_copy.new.host) (g.H.Host.seen c.add_later.new.host) c.args.store.now c.add_copy.new.store c.add_later.new.store c.in_ok-events.events (Ok c.in_ok-more.more) c.in_ok-events.ensures.keeps c.in_ok-more.ensures.keeps) refl refl tt
+
+pub returns-in_default-clause-bound : goal.returns-in_default-clause-bound
+returns-in_default-clause-bound g c true_host before set h holds was is all limit fits =
+    grows-none set limit (g.H.Host.seen c.args.host.now).past c.args.store.now
+
+pub returns-in_err-events-clause-bound : goal.returns-in_err-events-clause-bound
+returns-in_err-events-clause-bound g c true_host before set h holds was is all limit fits =
+    c.add_copy.ensures.bound true_host set h holds limit
+
+pub returns-in_err-more-clause-bound : goal.returns-in_err-more-clause-bound
+returns-in_err-more-clause-bound g c true_host before set h holds was is all limit fits =
+    let registry = c.args.left.now.registry in
+    let message = c.args.message.now in
+    let first = c.in-Some.first.now in
+    let rest = c.in-Some.rest.now in
+    let beats : c.args.beats.now ≡ first ∷ rest = search rules in
+    let same = copies-are registry message c.args.beats.now first rest beats in
+    let copy = first_copy registry message first in
+    let later = later_copies registry message rest in
+    let mine : MayTakeAll h (copied copy ∷ later) = subst (MayTakeAll h) same all in
+    let sent = sent-first before registry message c.args.defines.now first h c.requires.charts c.requires.dimensions was.registry_is is mine.0 in
+    let stored = c.in_ok-events.ensures.done true_host before set h copy holds was sent in
+    let more_is : later_copies c.add_copy.new.left.registry message rest ≡ later = ap (λ (r : Registry). later_copies r message rest) c.add_copy.ensures.registry in
+    let takes : MayTakeAll (copied copy ∷ h) (later_copies c.add_copy.new.left.registry message rest) = subst (MayTakeAll (copied copy ∷ h)) (sym more_is) mine.1 in
+    let few = subst (λ (gaps : List GapSpan). side_limit (length gaps) ≤ limit) (sym c.add_copy.ensures.gaps) fits in
+    grows-both set limit (g.H.Host.seen c.args.host.now).past (g.H.Host.seen c.add_copy.new.host).past (g.H.Host.seen c.add_later.new.host).past c.args.store.now c.add_copy.new.store c.add_later.new.store
+    (c.add_copy.ensures.bound true_host set h holds limit) (c.add_later.ensures.bound true_host set (copied copy ∷ h) stored.holds stored.left_by takes limit few)
+
+pub returns-in_err-add_events-clause-bound : goal.returns-in_err-add_events-clause-bound
+returns-in_err-add_events-clause-bound g c true_host before set h holds was is all limit fits =
+    let registry = c.args.left.now.registry in
+    let message = c.args.message.now in
+    let first = c.in-Some.first.now in
+    let rest = c.in-Some.rest.now in
+    let beats : c.args.beats.now ≡ first ∷ rest = search rules in
+    let same = copies-are registry message c.args.beats.now first rest beats in
+    let copy = first_copy registry message first in
+    let later = later_copies registry message rest in
+    let mine : MayTakeAll h (copied copy ∷ later) = subst (MayTakeAll h) same all in
+    let sent = sent-first before registry message c.args.defines.now first h c.requires.charts c.requires.dimensions was.registry_is is mine.0 in
+    let stored = c.in_ok-events.ensures.done true_host before set h copy holds was sent in
+    let more_is : later_copies c.add_copy.new.left.registry message rest ≡ later = ap (λ (r : Registry). later_copies r message rest) c.add_copy.ensures.registry in
+    let takes : MayTakeAll (copied copy ∷ h) (later_copies c.add_copy.new.left.registry message rest) = subst (MayTakeAll (copied copy ∷ h)) (sym more_is) mine.1 in
+    let few = subst (λ (gaps : List GapSpan). side_limit (length gaps) ≤ limit) (sym c.add_copy.ensures.gaps) fits in
+    grows-both set limit (g.H.Host.seen c.args.host.now).past (g.H.Host.seen c.add_copy.new.host).past (g.H.Host.seen c.add_later.new.host).past c.args.store.now c.add_copy.new.store c.add_later.new.store
+    (c.add_copy.ensures.bound true_host set h holds limit) (c.add_later.ensures.bound true_host set (copied copy ∷ h) stored.holds stored.left_by takes limit few)
+
+pub returns-clause-bound : goal.returns-clause-bound
+returns-clause-bound g c true_host before set h holds was is all limit fits =
+    let registry = c.args.left.now.registry in
+    let message = c.args.message.now in
+    let first = c.in-Some.first.now in
+    let rest = c.in-Some.rest.now in
+    let beats : c.args.beats.now ≡ first ∷ rest = search rules in
+    let same = copies-are registry message c.args.beats.now first rest beats in
+    let copy = first_copy registry message first in
+    let later = later_copies registry message rest in
+    let mine : MayTakeAll h (copied copy ∷ later) = subst (MayTakeAll h) same all in
+    let sent = sent-first before registry message c.args.defines.now first h c.requires.charts c.requires.dimensions was.registry_is is mine.0 in
+    let stored = c.in_ok-events.ensures.done true_host before set h copy holds was sent in
+    let more_is : later_copies c.add_copy.new.left.registry message rest ≡ later = ap (λ (r : Registry). later_copies r message rest) c.add_copy.ensures.registry in
+    let takes : MayTakeAll (copied copy ∷ h) (later_copies c.add_copy.new.left.registry message rest) = subst (MayTakeAll (copied copy ∷ h)) (sym more_is) mine.1 in
+    let few = subst (λ (gaps : List GapSpan). side_limit (length gaps) ≤ limit) (sym c.add_copy.ensures.gaps) fits in
+    grows-both set limit (g.H.Host.seen c.args.host.now).past (g.H.Host.seen c.add_copy.new.host).past (g.H.Host.seen c.add_later.new.host).past c.args.store.now c.add_copy.new.store c.add_later.new.store
+    (c.add_copy.ensures.bound true_host set h holds limit) (c.add_later.ensures.bound true_host set (copied copy ∷ h) stored.holds stored.left_by takes limit few)
+
+pub returns-in_err-more-clause-gaps : goal.returns-in_err-more-clause-gaps
+returns-in_err-more-clause-gaps g c = c.add_later.ensures.gaps ∙ c.add_copy.ensures.gaps
+
+pub returns-in_err-add_events-clause-gaps : goal.returns-in_err-add_events-clause-gaps
+returns-in_err-add_events-clause-gaps g c = c.add_later.ensures.gaps ∙ c.add_copy.ensures.gaps
+
+pub returns-clause-gaps : goal.returns-clause-gaps
+returns-clause-gaps g c = c.add_later.ensures.gaps ∙ c.add_copy.ensures.gaps

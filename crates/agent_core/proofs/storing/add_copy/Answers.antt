@@ -1,4 +1,4 @@
-use Rattle.std.proofs.Common.{ℕ, ◌∷◌, ◌⊎◌, inl, sym, subst}
+use Rattle.std.proofs.Common.{ℕ, ◌∷◌, ◌⊎◌, inl, sym, subst, ap, ◌∙◌}
 use Rattle.std.proofs.lemmas.Result.{err_from_is_err_and}
 use Rattle.host_model.specs.Disks.{EveryDisk}
 use Rattle.host_model.specs.Moments.{begins, Throughout}
@@ -14,6 +14,9 @@ use Rattle.agent_core.proofs.KeepsLemmas.{keeps-after, keeps-err}
 use Rattle.agent_core.proofs.KeptLemmas.{stays}
 use Rattle.agent_core.proofs.Outcomes.{if_both}
 use Rattle.agent_core.proofs.StoringLemmas.{copy-of}
+use Rattle.agent_core.specs.declared.left.Left.{Left}
+use Rattle.agent_core.specs.Bound.{GrowsWithin}
+use Rattle.agent_core.proofs.BoundLemmas.{grows-none}
 use Rattle.agent_core.proofs.storing.add_copy.Goals as goal
 
 pub returns-in_default-clause-any_moment : goal.returns-in_default-clause-any_moment
@@ -53,3 +56,15 @@ pub returns-clause-keeps : goal.returns-clause-keeps
 returns-clause-keeps g c =
     keeps-after g.H.Host.honest (g.H.Host.seen c.args.host.now) (g.H.Host.seen c.store_copy.new.host) (g.H.Host.seen c.follow.new.host) c.args.store.now c.store_copy.new.store c.follow.new.store
     c.in_ok-store_copy.field-0 c.follow.result c.in_ok-store_copy.ensures.keeps c.follow.ensures.host c.follow.ensures.store c.follow.ensures.memory
+
+pub returns-in_default-clause-bound : goal.returns-in_default-clause-bound
+returns-in_default-clause-bound g c true_host set h holds limit = grows-none set limit (g.H.Host.seen c.args.host.now).past c.args.store.now
+
+pub returns-clause-bound : goal.returns-clause-bound
+returns-clause-bound g c true_host set h holds limit =
+    let past = (g.H.Host.seen c.args.host.now).past in
+    subst (λ (store : StoreState). GrowsWithin set limit past c.args.store.now (g.H.Host.seen c.follow.new.host).past store) (sym c.follow.ensures.store)
+    (subst (λ (s : Seen). GrowsWithin set limit past c.args.store.now s.past c.store_copy.new.store) (sym c.follow.ensures.host) (c.store_copy.ensures.bound true_host set h holds limit))
+
+pub returns-clause-gaps : goal.returns-clause-gaps
+returns-clause-gaps g c = ap (λ (l : Left). l.gaps) c.follow.ensures.only ∙ c.store_copy.ensures.gaps

@@ -1,4 +1,4 @@
-use Rattle.std.proofs.Common.{◌≡◌, ◌+◌, ℕ, suc, Some, Ok, Err, rules, slice_get, take, refl, sym, ap, subst, ◌∙◌, arith}
+use Rattle.std.proofs.Common.{◌≡◌, ◌+◌, ℕ, suc, Some, Ok, Err, rules, slice_get, take, refl, sym, ap, subst, ◌∙◌, arith, ◌≤◌, List, length}
 use Rattle.std.proofs.lemmas.Option.{slice_get-get_or}
 use Rattle.std.proofs.lemmas.Result.{err_from_is_err_and}
 use Rattle.history.specs.History.{copied}
@@ -10,6 +10,9 @@ use Rattle.agent_core.specs.Kept.{onto}
 use Rattle.agent_core.specs.Storing.{later_copies}
 use Rattle.agent_core.proofs.PrefixLemmas.{all-at, later-at, later_copy, latest-next, rises-at, room-moments, sent-later, stored-moments, stored-more, stored-none, stored-room, takes-next, HaveStored}
 use Rattle.agent_core.proofs.KeepsLemmas.{keeps-after, keeps-both, keeps-err, keeps-so-far, own-joined}
+use Rattle.side_codec.specs.declared.gap.GapSpan.{GapSpan}
+use Rattle.side_codec.specs.Size.{side_limit}
+use Rattle.agent_core.proofs.BoundLemmas.{grows-both, grows-none}
 use Rattle.agent_core.proofs.storing.add_later.Goals as goal
 
 pub loop-beat-init : goal.loop-beat-init
@@ -26,6 +29,8 @@ loop-beat-init g c = record {
   up_to = c.requires.up_to;
   last = refl;
   settings = refl;
+  bound = λ true_host set h holds by all limit fits. grows-none set limit (g.H.Host.seen c.args.host.now).past c.args.store.now;
+  gaps = refl;
   only_here = search rules;
   faults = refl;
   tells = refl;
@@ -124,6 +129,21 @@ loop-beat-preserved g c =
       up_to = c.in_ok-more.ensures.up_to;
       last = c.in_ok-more.ensures.last ∙ latest-next c.args.store.now.tiers.last beats n beat at ∙ ap (λ (k : ℕ). latest_of beat_moment c.args.store.now.tiers.last (take k beats)) next;
       settings = c.add_copy.ensures.keeps.settings ∙ c.make_room.ensures.keeps.settings ∙ c.loop-beat.invariant.settings;
+      bound = λ true_host set h holds by all limit fits.
+          let registry = c.args.left.now.registry in
+          let message = c.args.message.now in
+          let more = later_copies registry message c.args.beats.now in
+          let n = c.loop-beat.beat-index in
+          let past = (g.H.Host.seen c.args.host.now).past in
+          let here = (g.H.Host.seen c.loop-beat.host).past in
+          let roomed = (g.H.Host.seen c.make_room.new.host).past in
+          let was = c.loop-beat.invariant.stored true_host set h holds by all in
+          let few = subst (λ (gaps : List GapSpan). side_limit (length gaps) ≤ limit) (sym c.loop-beat.invariant.gaps) fits in
+          let so_far = c.loop-beat.invariant.bound true_host set h holds by all limit fits in
+          let first = grows-both set limit past here roomed c.args.store.now c.loop-beat.store c.make_room.new.store so_far (c.make_room.ensures.bound true_host set (onto h (take n more)) was.added.holds was.added.left_by limit few) in
+          let room = c.in_ok-make_room.ensures.done true_host set (onto h (take n more)) was.added.holds was.added.left_by in
+          grows-both set limit past roomed (g.H.Host.seen c.add_copy.new.host).past c.args.store.now c.make_room.new.store c.add_copy.new.store first (c.add_copy.ensures.bound true_host set (onto h (take n more)) room limit);
+      gaps = c.add_copy.ensures.gaps ∙ c.loop-beat.invariant.gaps;
       only_here = λ h.
           own-joined _ _ _ (own-joined _ _ _ (c.loop-beat.invariant.only_here h) (c.in_ok-make_room.ensures.keeps.only_here h)) (c.in_ok-more.ensures.keeps.only_here h);
       faults = c.in_ok-more.ensures.keeps.cause.stays (λ e. cc) ∙ c.in_ok-make_room.ensures.keeps.cause.stays (λ e. cc) ∙ c.loop-beat.invariant.faults;
@@ -170,3 +190,50 @@ returns-in_err-add_events-clause-keeps g c =
     let p = err_from_is_err_and c.from_residual-in_err-add_events.result c.from_residual-in_err-add_events.ensures.1 in
     rw (p.1, p.2) (keeps-after g.H.Host.honest (g.H.Host.seen c.args.host.now) (g.H.Host.seen c.add_copy.new.host) (g.H.Host.seen c.add_copy.new.host) c.args.store.now c.add_copy.new.store c.add_copy.new.store c.in_ok-more.more (Err c.in_err-add_events.field-0.0)
     (keeps-both g.H.Host.honest (g.H.Host.seen c.args.host.now) (g.H.Host.seen c.make_room.new.host) (g.H.Host.seen c.add_copy.new.host) c.args.store.now c.make_room.new.store c.add_copy.new.store c.in_ok-make_room.field-0 (Ok c.in_ok-more.more) room c.in_ok-more.ensures.keeps) refl refl c.in_err-add_events.ensures.memory)
+
+pub returns-in_err-make_room-clause-bound : goal.returns-in_err-make_room-clause-bound
+returns-in_err-make_room-clause-bound g c true_host set h holds by all limit fits =
+    let registry = c.args.left.now.registry in
+    let message = c.args.message.now in
+    let more = later_copies registry message c.args.beats.now in
+    let n = c.loop-beat.beat-index in
+    let past = (g.H.Host.seen c.args.host.now).past in
+    let here = (g.H.Host.seen c.loop-beat.host).past in
+    let roomed = (g.H.Host.seen c.make_room.new.host).past in
+    let was = c.loop-beat.invariant.stored true_host set h holds by all in
+    let few = subst (λ (gaps : List GapSpan). side_limit (length gaps) ≤ limit) (sym c.loop-beat.invariant.gaps) fits in
+    let so_far = c.loop-beat.invariant.bound true_host set h holds by all limit fits in
+    let first = grows-both set limit past here roomed c.args.store.now c.loop-beat.store c.make_room.new.store so_far (c.make_room.ensures.bound true_host set (onto h (take n more)) was.added.holds was.added.left_by limit few) in
+    first
+
+pub returns-in_err-more-clause-bound : goal.returns-in_err-more-clause-bound
+returns-in_err-more-clause-bound g c true_host set h holds by all limit fits =
+    let registry = c.args.left.now.registry in
+    let message = c.args.message.now in
+    let more = later_copies registry message c.args.beats.now in
+    let n = c.loop-beat.beat-index in
+    let past = (g.H.Host.seen c.args.host.now).past in
+    let here = (g.H.Host.seen c.loop-beat.host).past in
+    let roomed = (g.H.Host.seen c.make_room.new.host).past in
+    let was = c.loop-beat.invariant.stored true_host set h holds by all in
+    let few = subst (λ (gaps : List GapSpan). side_limit (length gaps) ≤ limit) (sym c.loop-beat.invariant.gaps) fits in
+    let so_far = c.loop-beat.invariant.bound true_host set h holds by all limit fits in
+    let first = grows-both set limit past here roomed c.args.store.now c.loop-beat.store c.make_room.new.store so_far (c.make_room.ensures.bound true_host set (onto h (take n more)) was.added.holds was.added.left_by limit few) in
+    let room = c.in_ok-make_room.ensures.done true_host set (onto h (take n more)) was.added.holds was.added.left_by in
+    grows-both set limit past roomed (g.H.Host.seen c.add_copy.new.host).past c.args.store.now c.make_room.new.store c.add_copy.new.store first (c.add_copy.ensures.bound true_host set (onto h (take n more)) room limit)
+
+pub returns-in_err-add_events-clause-bound : goal.returns-in_err-add_events-clause-bound
+returns-in_err-add_events-clause-bound g c true_host set h holds by all limit fits =
+    let registry = c.args.left.now.registry in
+    let message = c.args.message.now in
+    let more = later_copies registry message c.args.beats.now in
+    let n = c.loop-beat.beat-index in
+    let past = (g.H.Host.seen c.args.host.now).past in
+    let here = (g.H.Host.seen c.loop-beat.host).past in
+    let roomed = (g.H.Host.seen c.make_room.new.host).past in
+    let was = c.loop-beat.invariant.stored true_host set h holds by all in
+    let few = subst (λ (gaps : List GapSpan). side_limit (length gaps) ≤ limit) (sym c.loop-beat.invariant.gaps) fits in
+    let so_far = c.loop-beat.invariant.bound true_host set h holds by all limit fits in
+    let first = grows-both set limit past here roomed c.args.store.now c.loop-beat.store c.make_room.new.store so_far (c.make_room.ensures.bound true_host set (onto h (take n more)) was.added.holds was.added.left_by limit few) in
+    let room = c.in_ok-make_room.ensures.done true_host set (onto h (take n more)) was.added.holds was.added.left_by in
+    grows-both set limit past roomed (g.H.Host.seen c.add_copy.new.host).past c.args.store.now c.make_room.new.store c.add_copy.new.store first (c.add_copy.ensures.bound true_host set (onto h (take n more)) room limit)

@@ -1,4 +1,4 @@
-use Rattle.std.proofs.Common.{◌≡◌, ◌<◌, List, Ok, Err, length, refl, sym, ap, subst, ◌∙◌}
+use Rattle.std.proofs.Common.{◌≡◌, ◌<◌, List, Ok, Err, length, refl, sym, ap, subst, ◌∙◌, ◌≤◌, arith}
 use Rattle.std.proofs.lemmas.Result.{err_from_is_err_and, IfOk-weaker}
 use Rattle.host_model.specs.Disks.{EveryDisk}
 use Rattle.host_model.specs.Moments.{begins, Throughout}
@@ -16,10 +16,13 @@ use Rattle.agent_core.specs.Storing.{gap_beats, sent_copies, with_names, HasAdde
 use Rattle.agent_core.proofs.PrefixLemmas.{prefix-none, message-added, message-before, message-behind, message-takes}
 use Rattle.agent_core.proofs.KeepsLemmas.{keeps-after, keeps-both, keeps-err}
 use Rattle.agent_core.proofs.KeptLemmas.{stays, store-last}
-use Rattle.agent_core.proofs.Outcomes.{on_ok}
+use Rattle.agent_core.proofs.Outcomes.{on_ok, always}
 use Rattle.agent_core.proofs.StoredLemmas.{were_kept}
 use Rattle.agent_core.proofs.TakenLemmas.{defined-has, defined-open}
 use Rattle.agent_core.proofs.Within.{within-of}
+use Rattle.side_codec.specs.declared.gap.GapSpan.{GapSpan}
+use Rattle.side_codec.specs.Size.{side_limit}
+use Rattle.agent_core.proofs.BoundLemmas.{grows-both, grows-none}
 use Rattle.agent_core.proofs.storing.add_message.Goals as goal
 
 pub returns-in_default-clause-any_moment : goal.returns-in_default-clause-any_moment
@@ -148,3 +151,72 @@ pub returns-clause-keeps : goal.returns-clause-keeps
 returns-clause-keeps g c =
     keeps-both g.H.Host.honest (g.H.Host.seen c.args.host.now) (g.H.Host.seen c.make_room.new.host) (g.H.Host.seen c.add_beats.new.host) c.args.store.now c.make_room.new.store c.add_beats.new.store c.in_ok-make_room.field-0 c.add_beats.result
     (keeps-both g.H.Host.honest (g.H.Host.seen c.args.host.now) (g.H.Host.seen c.add_gap_before.new.host) (g.H.Host.seen c.make_room.new.host) c.args.store.now c.add_gap_before.new.store c.make_room.new.store c.in_ok-add_gap_before.field-0 (Ok c.in_ok-make_room.field-0) c.in_ok-add_gap_before.ensures.keeps c.in_ok-make_room.ensures.keeps) c.add_beats.ensures.keeps
+
+pub returns-in_default-clause-bound : goal.returns-in_default-clause-bound
+returns-in_default-clause-bound g c true_host set h holds was role limit fits =
+    grows-none set limit (g.H.Host.seen c.args.host.now).past c.args.store.now
+
+pub returns-in_err-add_gap_before-clause-bound : goal.returns-in_err-add_gap_before-clause-bound
+returns-in_err-add_gap_before-clause-bound g c true_host set h holds was role limit fits =
+    c.add_gap_before.ensures.bound true_host set h holds was limit (omega (arith, fits))
+
+pub returns-in_err-make_room-clause-bound : goal.returns-in_err-make_room-clause-bound
+returns-in_err-make_room-clause-bound g c true_host set h holds was role limit fits =
+    let past = (g.H.Host.seen c.args.host.now).past in
+    let middle = (g.H.Host.seen c.add_gap_before.new.host).past in
+    let roomed = (g.H.Host.seen c.make_room.new.host).past in
+    let behind = onto h (gap_beats c.args.message.now) in
+    let kept = c.in_ok-add_gap_before.ensures.done true_host set h holds was role in
+    let left = c.in_ok-add_gap_before.ensures.left_by past set h holds was in
+    let grown = c.in_ok-add_gap_before.ensures.few in
+    let few : side_limit (length c.add_gap_before.new.left.gaps) ≤ limit = omega (arith, fits, grown) in
+    let room = grows-both set limit past middle roomed c.args.store.now c.add_gap_before.new.store c.make_room.new.store (c.add_gap_before.ensures.bound true_host set h holds was limit (omega (arith, fits)))
+    (c.make_room.ensures.bound true_host set behind kept left limit few) in
+    room
+
+pub returns-in_err-defines-clause-bound : goal.returns-in_err-defines-clause-bound
+returns-in_err-defines-clause-bound g c true_host set h holds was role limit fits =
+    let past = (g.H.Host.seen c.args.host.now).past in
+    let middle = (g.H.Host.seen c.add_gap_before.new.host).past in
+    let roomed = (g.H.Host.seen c.make_room.new.host).past in
+    let behind = onto h (gap_beats c.args.message.now) in
+    let kept = c.in_ok-add_gap_before.ensures.done true_host set h holds was role in
+    let left = c.in_ok-add_gap_before.ensures.left_by past set h holds was in
+    let grown = c.in_ok-add_gap_before.ensures.few in
+    let few : side_limit (length c.add_gap_before.new.left.gaps) ≤ limit = omega (arith, fits, grown) in
+    let room = grows-both set limit past middle roomed c.args.store.now c.add_gap_before.new.store c.make_room.new.store (c.add_gap_before.ensures.bound true_host set h holds was limit (omega (arith, fits)))
+    (c.make_room.ensures.bound true_host set behind kept left limit few) in
+    room
+
+pub returns-clause-bound : goal.returns-clause-bound
+returns-clause-bound g c true_host set h holds was role limit fits =
+    let past = (g.H.Host.seen c.args.host.now).past in
+    let middle = (g.H.Host.seen c.add_gap_before.new.host).past in
+    let roomed = (g.H.Host.seen c.make_room.new.host).past in
+    let new = (g.H.Host.seen c.add_beats.new.host).past in
+    let registry = c.args.left.now.registry in
+    let message = c.args.message.now in
+    let gone = c.add_gap_before.new.left in
+    let same_registry : gone.registry ≡ registry = ap (λ (l : Left). l.registry) c.add_gap_before.ensures.only in
+    let defined : c.define.new.registry ≡ with_names gone.registry message = c.in_ok-defines.ensures.applied ∙ ap (λ (defs : OpenBeat). with_definitions gone.registry defs.charts defs.dimensions) c.in-Ok.ensures in
+    let is : c.define.new.registry ≡ with_names registry message = defined ∙ ap (λ (r : Registry). with_names r message) same_registry in
+    let beats = c.as_slice-beats.result.now in
+    let same : sent_copies c.define.new.registry message beats ≡ sent_copies (with_names registry message) message message.beats = λ i. sent_copies (is i) message (c.as_slice-beats.ensures i) in
+    let prev = c.requires.at ∙ store-last past c.args.store.now set h holds in
+    let behind = onto h (gap_beats message) in
+    let all = subst (MayTakeAll behind) (sym same)
+    (message-takes set h registry message c.requires.form (let all = were_kept set h holds.stored holds.are in within-of h all.beats all.are) was.registry_is role c.requires.free prev) in
+    let was_kept = c.in_ok-add_gap_before.ensures.done true_host set h holds was role in
+    let left = c.in_ok-add_gap_before.ensures.left_by past set h holds was in
+    let kept = c.in_ok-make_room.ensures.done true_host set behind was_kept left in
+    let grown = c.in_ok-add_gap_before.ensures.few in
+    let few : side_limit (length gone.gaps) ≤ limit = omega (arith, fits, grown) in
+    let room = grows-both set limit past middle roomed c.args.store.now c.add_gap_before.new.store c.make_room.new.store (c.add_gap_before.ensures.bound true_host set h holds was limit (omega (arith, fits)))
+    (c.make_room.ensures.bound true_host set behind was_kept left limit few) in
+    grows-both set limit past roomed new c.args.store.now c.make_room.new.store c.add_beats.new.store room (c.add_beats.ensures.bound true_host gone.registry set behind kept left defined all limit few)
+
+pub returns-clause-few : goal.returns-clause-few
+returns-clause-few g c =
+    let same = ap (λ (gaps : List GapSpan). length gaps) c.add_beats.ensures.gaps in
+    let grown = c.in_ok-add_gap_before.ensures.few in
+    always _ c.add_beats.result (omega (arith, same, grown))

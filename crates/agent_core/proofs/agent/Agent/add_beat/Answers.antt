@@ -1,9 +1,10 @@
-use Rattle.std.proofs.Common.{◌≡◌, ◌∷◌, ◌∙◌, inl, sym, ap, subst}
+use Rattle.std.proofs.Common.{◌≡◌, ◌∷◌, ◌∙◌, inl, sym, ap, subst, ◌≤◌, length}
 use Rattle.host_model.proofs.DiskLemmas.{disks_weaker}
 use Rattle.history.specs.History.{collected}
 use Rattle.history.specs.Numbered.{numbered_beat}
 use Rattle.history.specs.Registry.{Registry}
 use Rattle.beat_entries.specs.Rules.{with_beat}
+use Rattle.store_core.specs.Store.{is_due, StoreState}
 use Rattle.agent_core.specs.Agent.{left_in, AgentState}
 use Rattle.agent_core.specs.Keeping.{KeepsStore}
 use Rattle.agent_core.specs.Kept.{IsTakenBeat}
@@ -13,6 +14,9 @@ use Rattle.agent_core.specs.Stands.{HoldsHistory}
 use Rattle.agent_core.proofs.KeepsLemmas.{keeps-both, limits-with_beat}
 use Rattle.agent_core.proofs.KeptLemmas.{numbered-at, then-either}
 use Rattle.agent_core.proofs.Outcomes.{always, on_ok}
+use Rattle.side_codec.specs.Size.{side_limit}
+use Rattle.agent_core.specs.Bound.{GrowsWithin}
+use Rattle.agent_core.proofs.BoundLemmas.{grows-both}
 use Rattle.agent_core.proofs.agent.Agent.add_beat.Goals as goal
 
 pub define_beat-requires-clause-content : goal.define_beat-requires-clause-content
@@ -95,3 +99,51 @@ returns-in-Ok-clause-keeps g c =
     let new = g.H.Host.seen c.add.new.host in
     subst (λ (a : AgentState). KeepsStore g.H.Host.honest host a.store c.add.result new c.add.new.store) c.self.view_is
     (keeps-both g.H.Host.honest host (g.H.Host.seen c.make_room.new.host) new c.self.inside.store c.make_room.new.store c.add.new.store c.in_ok-make_room.field-0 c.add.result c.in_ok-make_room.ensures.keeps c.add.ensures.keeps)
+
+pub returns-in_err-make_room-clause-untouched : goal.returns-in_err-make_room-clause-untouched
+returns-in_err-make_room-clause-untouched g c not_due =
+    let due = ap (λ (a : AgentState). is_due a.store) c.self.view_is ∙ not_due in
+    ap (λ (s : StoreState). s.body) (c.make_room.ensures.untouched due).0 ∙ ap (λ (a : AgentState). a.store.body) c.self.view_is
+
+pub returns-in-Err-clause-untouched : goal.returns-in-Err-clause-untouched
+returns-in-Err-clause-untouched g c not_due =
+    let due = ap (λ (a : AgentState). is_due a.store) c.self.view_is ∙ not_due in
+    ap (λ (s : StoreState). s.body) (c.make_room.ensures.untouched due).0 ∙ ap (λ (a : AgentState). a.store.body) c.self.view_is
+
+pub returns-in-Ok-clause-untouched : goal.returns-in-Ok-clause-untouched
+returns-in-Ok-clause-untouched g c not_due =
+    let due = ap (λ (a : AgentState). is_due a.store) c.self.view_is ∙ not_due in
+    c.add.ensures.body ∙ ap (λ (s : StoreState). s.body) (c.make_room.ensures.untouched due).0 ∙ ap (λ (a : AgentState). a.store.body) c.self.view_is
+
+pub returns-in_err-make_room-clause-bound : goal.returns-in_err-make_room-clause-bound
+returns-in_err-make_room-clause-bound g c true_host set h holds was limit fits =
+    let past = (g.H.Host.seen c.args.host.now).past in
+    let kept = subst (λ (a : AgentState). HoldsHistory past a.store set h) (sym c.self.view_is) holds in
+    let left = subst (λ (a : AgentState). IsLeftBy set h (left_in a)) (sym c.self.view_is) was in
+    let few = subst (λ (a : AgentState). side_limit (length a.gaps) ≤ limit) (sym c.self.view_is) fits in
+    subst (λ (a : AgentState). GrowsWithin set limit past a.store (g.H.Host.seen c.make_room.new.host).past c.make_room.new.store) c.self.view_is
+    (c.make_room.ensures.bound true_host set h kept left limit few)
+
+pub returns-in-Err-clause-bound : goal.returns-in-Err-clause-bound
+returns-in-Err-clause-bound g c true_host set h holds was limit fits =
+    let past = (g.H.Host.seen c.args.host.now).past in
+    let kept = subst (λ (a : AgentState). HoldsHistory past a.store set h) (sym c.self.view_is) holds in
+    let left = subst (λ (a : AgentState). IsLeftBy set h (left_in a)) (sym c.self.view_is) was in
+    let few = subst (λ (a : AgentState). side_limit (length a.gaps) ≤ limit) (sym c.self.view_is) fits in
+    subst (λ (a : AgentState). GrowsWithin set limit past a.store (g.H.Host.seen c.make_room.new.host).past c.make_room.new.store) c.self.view_is
+    (c.make_room.ensures.bound true_host set h kept left limit few)
+
+pub returns-in-Ok-clause-bound : goal.returns-in-Ok-clause-bound
+returns-in-Ok-clause-bound g c true_host set h holds was limit fits =
+    let past = (g.H.Host.seen c.args.host.now).past in
+    let middle = (g.H.Host.seen c.make_room.new.host).past in
+    let new = (g.H.Host.seen c.add.new.host).past in
+    let kept = subst (λ (a : AgentState). HoldsHistory past a.store set h) (sym c.self.view_is) holds in
+    let left = subst (λ (a : AgentState). IsLeftBy set h (left_in a)) (sym c.self.view_is) was in
+    let few = subst (λ (a : AgentState). side_limit (length a.gaps) ≤ limit) (sym c.self.view_is) fits in
+    let room = c.in_ok-make_room.ensures.done true_host set h kept left in
+    subst (λ (a : AgentState). GrowsWithin set limit past a.store new c.add.new.store) c.self.view_is
+    (grows-both set limit past middle new c.self.inside.store c.make_room.new.store c.add.new.store (c.make_room.ensures.bound true_host set h kept left limit few) (c.add.ensures.bound true_host set h room limit))
+
+pub returns-in-Ok-clause-gaps : goal.returns-in-Ok-clause-gaps
+returns-in-Ok-clause-gaps g c = c.add.ensures.gaps ∙ ap (λ (a : AgentState). a.gaps) c.self.view_is

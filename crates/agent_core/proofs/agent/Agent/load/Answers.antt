@@ -13,6 +13,8 @@ use Rattle.agent_core.proofs.NoteLemmas.{never-notes}
 use Rattle.agent_core.proofs.OpenFaults.{damaged-is, damaged-made, err-weaker, never-below, no-notes, one-told, only-four, told-on, unopened-opening, unreplayed-opening}
 use Rattle.agent_core.proofs.OpeningLemmas.{opened-for, opened-images, opened-ready, opened-stands}
 use Rattle.agent_core.proofs.Outcomes.{always, both_if, on_three}
+use Rattle.host_model.specs.Moments.{Throughout}
+use Rattle.store_core.specs.disk.Shares.{IsWithin}
 use Rattle.agent_core.proofs.agent.Agent.load.Goals as goal
 
 pub returns-in-Ok-clause-opened : goal.returns-in-Ok-clause-opened
@@ -118,3 +120,8 @@ returns-in-Ok-clause-faults g c = err-weaker c.replayed.result _ _ unreplayed-op
 
 pub returns-in-Err-clause-faults : goal.returns-in-Err-clause-faults
 returns-in-Err-clause-faults g c = unopened-opening c.in-Err.fault c.in-Err.ensures.faults
+
+-- ---- the share of each file
+pub returns-in-Ok-clause-bound : goal.returns-in-Ok-clause-bound
+returns-in-Ok-clause-bound g c shares true_host within =
+    subst (λ (s : Seen). Throughout (IsWithin shares) (g.H.Host.seen c.args.host.now).past s.past) (sym c.replayed.ensures.host) (c.open_store.ensures.bound shares true_host within)

@@ -4,6 +4,7 @@ use Rattle.host_model.specs.Moments.{begins}
 use Rattle.host_model.proofs.MomentLemmas.{at_end}
 use Rattle.agent_core.proofs.GapLemmas.{floor-none}
 use Rattle.agent_core.proofs.NewLemmas.{before-at_end, before-itself, made-cause, made-memory, made-told, new_climbs, new_is_of}
+use Rattle.agent_core.proofs.SideSizes.{new-short}
 use Rattle.agent_core.proofs.agent.Agent.make.Goals as goal
 
 -- ---- at every moment
@@ -97,3 +98,20 @@ returns-in-Ok-clause-ready g c going =
       dimensions = fit.dimensions;
       limits = fit.limits;
     }
+
+-- ---- the share of each file
+pub returns-in_err-left-clause-bound : goal.returns-in_err-left-clause-bound
+returns-in_err-left-clause-bound g c limit fits true_host within = begins within
+
+pub returns-in_err-side-clause-bound : goal.returns-in_err-side-clause-bound
+returns-in_err-side-clause-bound g c limit fits true_host within = begins within
+
+pub returns-in-Ok-clause-bound : goal.returns-in-Ok-clause-bound
+returns-in-Ok-clause-bound g c limit fits =
+    let left = c.in_ok-left.ensures.left c.args.settings.now in
+    c.create.ensures.bound limit (new-short c.args.settings.now c.in_ok-left.left left c.in_ok-side.side c.in_ok-side.ensures.size limit fits)
+
+pub returns-in-Err-clause-bound : goal.returns-in-Err-clause-bound
+returns-in-Err-clause-bound g c limit fits =
+    let left = c.in_ok-left.ensures.left c.args.settings.now in
+    c.create.ensures.bound limit (new-short c.args.settings.now c.in_ok-left.left left c.in_ok-side.side c.in_ok-side.ensures.size limit fits)

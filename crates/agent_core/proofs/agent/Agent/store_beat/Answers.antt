@@ -1,4 +1,4 @@
-use Rattle.std.proofs.Common.{◌≡◌, ◌∷◌, ◌∙◌, Bool, None, ap, refl, sym, subst}
+use Rattle.std.proofs.Common.{◌≡◌, ◌∷◌, ◌∙◌, Bool, None, ap, refl, sym, subst, rules}
 use Rattle.std.proofs.lemmas.Result.{IfOk-weaker}
 use Rattle.host_model.specs.Disks.{EveryDisk}
 use Rattle.host_model.specs.Moments.{begins, Throughout}
@@ -7,6 +7,7 @@ use Rattle.history.specs.History.{collected}
 use Rattle.history.specs.Registry.{Registry, with_definitions}
 use Rattle.alarm_core.specs.declared.alarms.Alarms.{Alarms}
 use Rattle.alarm_core.specs.UpTo.{IsUpTo}
+use Rattle.store_core.specs.Store.{StoreState}
 use Rattle.agent_core.specs.Agent.{AgentIsReady, AgentState, IsAgentOf}
 use Rattle.agent_core.specs.Roles.{copies}
 use Rattle.agent_core.specs.Rules.{beat_refusal, content_refusal}
@@ -15,6 +16,8 @@ use Rattle.agent_core.proofs.HistoryLemmas.{passes}
 use Rattle.agent_core.proofs.KeepsLemmas.{spent-never, told-ready}
 use Rattle.agent_core.proofs.KeptLemmas.{agent-more, follows-of, nothing_done, one_of}
 use Rattle.agent_core.proofs.Outcomes.{on_both}
+use Rattle.agent_core.specs.Bound.{GrowsWithin}
+use Rattle.agent_core.proofs.BoundLemmas.{grows-still}
 use Rattle.agent_core.proofs.agent.Agent.store_beat.Goals as goal
 
 pub returns-in-Err-Refused-clause-any_moment : goal.returns-in-Err-Refused-clause-any_moment
@@ -119,3 +122,33 @@ returns-in-Ok-add_beat-clause-ready g c =
 
 pub returns-clause-ready : goal.returns-clause-ready
 returns-clause-ready g c none = absurd (spent-never c.in-Err.fault c.in-Err.ensures.keeps.faults (sym c.cause-self-inside.ensures ∙ none))
+
+pub returns-in-Ok-add_beat-clause-untouched : goal.returns-in-Ok-add_beat-clause-untouched
+returns-in-Ok-add_beat-clause-untouched g c not_due = ap (λ (s : StoreState). s.body) c.tell.ensures.store ∙ c.add_beat.ensures.untouched not_due
+
+pub returns-clause-untouched : goal.returns-clause-untouched
+returns-clause-untouched g c not_due = ap (λ (a : AgentState). a.store.body) c.self-in-Err.view_is ∙ c.add_beat.ensures.untouched not_due
+
+pub returns-in-Err-Refused-clause-bound : goal.returns-in-Err-Refused-clause-bound
+returns-in-Err-Refused-clause-bound g c true_host set h is_of limit fits = let past = (g.H.Host.seen c.args.host.now).past in grows-still set limit past past _ _ refl (search rules)
+
+pub returns-in-Err-Memory-clause-bound : goal.returns-in-Err-Memory-clause-bound
+returns-in-Err-Memory-clause-bound g c true_host set h is_of limit fits =
+    let past = (g.H.Host.seen c.args.host.now).past in
+    grows-still set limit past past c.args.self.now.store c.self.inside.store refl (ap (λ (a : AgentState). a.store) c.self.view_is)
+
+pub returns-in-Ok-add_beat-clause-bound : goal.returns-in-Ok-add_beat-clause-bound
+returns-in-Ok-add_beat-clause-bound g c true_host set h is_of limit fits =
+    let past = (g.H.Host.seen c.args.host.now).past in
+    let agent : AgentState = c.args.self.now in
+    subst (λ (store : StoreState). GrowsWithin set limit past agent.store (g.H.Host.seen c.tell.new.host).past store) (sym c.tell.ensures.store)
+    (subst (λ (s : Seen). GrowsWithin set limit past agent.store s.past c.add_beat.new.self.store) (sym c.tell.ensures.host)
+    (c.add_beat.ensures.bound true_host set h is_of.holds is_of.left_by limit fits))
+
+pub returns-clause-bound : goal.returns-clause-bound
+returns-clause-bound g c true_host set h is_of limit fits =
+    subst (λ (a : AgentState). GrowsWithin set limit (g.H.Host.seen c.args.host.now).past c.args.self.now.store (g.H.Host.seen c.add_beat.new.host).past a.store) (sym c.self-in-Err.view_is)
+    (c.add_beat.ensures.bound true_host set h is_of.holds is_of.left_by limit fits)
+
+pub returns-in-Ok-add_beat-clause-gaps : goal.returns-in-Ok-add_beat-clause-gaps
+returns-in-Ok-add_beat-clause-gaps g c = c.tell.ensures.gaps ∙ c.add_beat.ensures.gaps

@@ -1,4 +1,4 @@
-use Rattle.std.proofs.Common.{rules, ◌≡◌, ◌+◌, List, length, None, Some, true, false, Bool, subst, sym, ap, ◌∙◌, if◌then◌else◌}
+use Rattle.std.proofs.Common.{rules, ◌≡◌, ◌+◌, List, length, None, Some, true, false, Bool, subst, sym, ap, ◌∙◌, if◌then◌else◌, refl, arith}
 use Rattle.host_model.specs.Disks.{EveryDisk}
 use Rattle.host_model.specs.Moments.{Throughout}
 use Rattle.history.specs.History.{Beat as HistoryBeat}
@@ -11,6 +11,7 @@ use Rattle.agent_core.specs.Kept.{onto}
 use Rattle.agent_core.specs.Stands.{StandsForPrefix}
 use Rattle.agent_core.proofs.CopyCalls.{left-events, none-added, stored-adds}
 use Rattle.agent_core.proofs.Outcomes.{spending-refusal}
+use Rattle.agent_core.proofs.BoundLemmas.{grows-still}
 use Rattle.agent_core.proofs.agent.Agent.store_copies.Goals as goal
 
 pub returns-then-not-is_stored-clause-any_moment : goal.returns-then-not-is_stored-clause-any_moment
@@ -103,3 +104,15 @@ returns-in-Err-clause-refused g c going =
     = ap (λ (a : AgentState). copy_refusal a.registry a.role message) (sym c.self.view_is) ∙ sym c.copy_refusal.ensures ∙ c.in_default-copy_refusal.is in
     spending-refusal (refusal_by (agent_verdict agent message) agent.registry agent.role message) c.in-Err.fault
     (ap (λ (b : Bool). if b then copy_refusal agent.registry agent.role message else None) stored ∙ free) c.in-Err.ensures.faults
+
+pub returns-then-not-is_stored-clause-bound : goal.returns-then-not-is_stored-clause-bound
+returns-then-not-is_stored-clause-bound g c true_host set h is_of limit fits = let past = (g.H.Host.seen c.args.host.now).past in grows-still set limit past past _ _ refl (search rules)
+
+pub returns-in-Some-copy_refusal-clause-bound : goal.returns-in-Some-copy_refusal-clause-bound
+returns-in-Some-copy_refusal-clause-bound g c true_host set h is_of limit fits = let past = (g.H.Host.seen c.args.host.now).past in grows-still set limit past past _ _ refl (search rules)
+
+pub returns-then-not-is_stored-clause-few : goal.returns-then-not-is_stored-clause-few
+returns-then-not-is_stored-clause-few g c going = let same = ap (λ (a : AgentState). length a.gaps) c.self.view_is in omega (arith, same)
+
+pub returns-in-Some-copy_refusal-clause-few : goal.returns-in-Some-copy_refusal-clause-few
+returns-in-Some-copy_refusal-clause-few g c going = let same = ap (λ (a : AgentState). length a.gaps) c.self.view_is in omega (arith, same)
