@@ -1,8 +1,12 @@
 -- Which stores may be called on a host in memory.
 use Rattle.host_model.specs.declared.memory_host.MemoryHost.{MemoryHost}
 use Rattle.host_model.specs.MemoryHost.{state_of}
-use Rattle.store_core.specs.Store.{IsReady, StoreState}
+use Rattle.store_core.specs.Store.{IsReady, IsReplayed, StoreState}
 
 -- what a call of a store requires of this host
 abbrev pub IsReadyOn : MemoryHost → StoreState → Type 0
 IsReadyOn host store = IsReady (Unit {0}) (state_of host).past store
+
+-- the same of a store that has applied all its beats
+abbrev pub IsGoingOn : MemoryHost → StoreState → Type 0
+IsGoingOn host store = IsReadyOn host store × IsReplayed store

@@ -13,6 +13,8 @@ use store_core::{
 };
 
 mod crash;
+mod plain;
+mod random;
 mod view;
 
 /// The most items, and the most segments, that a tier may have.
@@ -32,12 +34,16 @@ fn side_of(alloc: Global, count: u64) -> Result<ByteList, AllocError>
     ByteList::from_slice(alloc, count.to_le_bytes().as_slice())
 }
 
-/// Makes a database that keeps few points.
-fn create(alloc: Global, host: &mut MemoryHost) -> Result<Store, StoreFault>
+/// Makes a database with these items and segments of each tier.
+fn create_with(
+    alloc: Global,
+    host: &mut MemoryHost,
+    quotas: [(u32, u32); 3],
+) -> Result<Store, StoreFault>
     ensures ready { IfOk result (IsReadyOn host.new) }
     ensures replayed { IfOk result IsReplayed }
 {
-    let Ok(settings) = Settings::new(alloc, 7, FEW) else {
+    let Ok(settings) = Settings::new(alloc, 7, quotas) else {
         return Err(StoreFault::Memory);
     };
     let Ok(side) = side_of(alloc, 0) else {
@@ -47,6 +53,14 @@ fn create(alloc: Global, host: &mut MemoryHost) -> Result<Store, StoreFault>
         return Err(StoreFault::Damaged(0));
     }
     Store::create(alloc, host, &settings, side)
+}
+
+/// Makes a database that keeps few points.
+fn create(alloc: Global, host: &mut MemoryHost) -> Result<Store, StoreFault>
+    ensures ready { IfOk result (IsReadyOn host.new) }
+    ensures replayed { IfOk result IsReplayed }
+{
+    create_with(alloc, host, FEW)
 }
 
 /// Makes a checkpoint where one is due.
