@@ -1,5 +1,5 @@
 -- Which stored beats the whole lines of a text acknowledge.
-use Rattle.std.proofs.Common.{◌≡◌, ℕ, ◌<◌, ◌≤◌, ◌^◌, ⊎_elim, false, List, [], ◌∷◌, ◌++◌, length, take, drop, All, codes, refl, sym, ap, subst, ◌∙◌, append_assoc, append-nil, arith}
+use Rattle.std.proofs.Common.{◌≡◌, ℕ, ◌<◌, ◌≤◌, ◌^◌, ⊎_elim, Bool, true, false, true≢false, List, [], ◌∷◌, ◌++◌, length, take, drop, All, codes, refl, sym, ap, subst, ◌∙◌, append_assoc, append-nil, arith}
 use Rattle.std.specs.Fmt.{decimal}
 use Rattle.std.proofs.Math.ListN.{drop_of_length-le}
 use Rattle.std.proofs.Math.Seq.{drop-append_seam}
@@ -13,6 +13,8 @@ use Rattle.plugin_text.specs.Lines.{but_last, last_part, lines, parts, rest}
 use Rattle.plugin_text.proofs.PartsLemmas.{lines-append, rest-append}
 use Rattle.history.specs.Limits.{is_line_feed}
 use Rattle.query_text.proofs.ReplyLemmas.{decimal-number, free-append, IsFree}
+use Rattle.agent_core.specs.declared.reply.Reply.{Reply}
+use Rattle.agent_core.specs.Replies.{reply_text}
 use Rattle.link_session.specs.Keeps.{stored_line, IsAckedUpTo}
 
 -- ---- texts without a line feed
@@ -84,3 +86,11 @@ acked-stored n count small up =
 
 pub closed-stored : (count : ℕ) → rest (stored_line count ++ 10 ∷ []) ≡ []
 closed-stored count = ap last_part (one-line (stored_line count) (free-append (codes "STORED ") (decimal count) stored-free (decimal-free count)))
+
+-- a text that is not empty
+abbrev pub has-first : List ℕ → Bool
+has-first [] = false
+has-first (byte ∷ text) = true
+
+pub stored-some : (reply : Reply) → reply_text reply ≡ [] → ⊥
+stored-some reply none = true≢false (ap has-first none)

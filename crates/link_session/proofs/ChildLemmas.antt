@@ -14,6 +14,7 @@ use Rattle.agent_core.specs.declared.fault.AgentFault.{AgentFault}
 use Rattle.agent_core.specs.Agent.{id_of, AgentIsReady, AgentState, IsAgentOf}
 use Rattle.agent_core.specs.Calls.{AnswersAsk}
 use Rattle.agent_core.specs.Copies.{data_of_history}
+use Rattle.agent_core.proofs.RunLemmas.{data-runs}
 use Rattle.agent_core.proofs.StoredLemmas.{answers as store-answers}
 use Rattle.link_session.specs.declared.fault.PeerFault.TheVariants.{BadFrame, WrongChild}
 use Rattle.link_session.specs.declared.fault.SessionFault.{SessionFault}
@@ -95,7 +96,8 @@ module _ (honest : Type 0) (host : Seen) (agent : AgentState) where
     answers-data message result a b answered said = record {
       does = λ set h is_of. subst (λ (answer : Option Data). DoesSo (answers last answer) (Some message.upto) result a b) (answered.answered set h is_of)
           (said-does (answers last (Some message)) (Some message.upto) (frame.Data message) GoesOn result a b refl refl refl said);
-      reads = reads-well honest host agent host' agent' (Some message) result (said-outside (frame.Data message) GoesOn result a b said) answered.reads;
+      reads = reads-well honest host agent host' agent' (Some message) result (said-outside (frame.Data message) GoesOn result a b said) answered.reads
+          (data-runs honest host host' agent agent' ask (Ok (Some message)) answered);
       faults = said-sends (frame.Data message) GoesOn result a b said;
     }
 
@@ -104,14 +106,14 @@ module _ (honest : Type 0) (host : Seen) (agent : AgentState) where
     answers-none result a b answered said = record {
       does = λ set h is_of. subst (λ (answer : Option Data). DoesSo (answers last answer) last result a b) (answered.answered set h is_of)
           (said-does (answers last None) last (frame.Bye done) Done result a b refl refl refl said);
-      reads = reads-well honest host agent host' agent' None result (said-outside (frame.Bye done) Done result a b said) answered.reads;
+      reads = reads-well honest host agent host' agent' None result (said-outside (frame.Bye done) Done result a b said) answered.reads (data-runs honest host host' agent agent' ask (Ok None) answered);
       faults = said-sends (frame.Bye done) Done result a b said;
     }
 
     pub answers-badly : (fault : AgentFault) (a : Option (List ℕ)) → AnswersAsk honest host agent ask (Err fault) host' agent' → ChildTakes honest host agent answering (Err (Agent fault)) host' agent' last a a
     answers-badly fault a answered = record {
       does = λ set h is_of. agent-fails (answering set h) last host.past agent set h is_of a fault answered.reads.faults answered.reads.reopens;
-      reads = reads-badly honest host agent host' agent' fault answered.reads;
+      reads = reads-badly honest host agent host' agent' fault answered.reads (data-runs honest host host' agent agent' ask (Err fault) answered);
       faults = answered.reads.faults;
     }
 

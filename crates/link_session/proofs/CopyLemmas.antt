@@ -38,7 +38,7 @@ pub record IsBehind (h w : List Beat) : Type 0 where
   pub more : List Beat
   pub whole : w ≡ more ++ h
 
-behind : (h w : List Beat) → Extends h w → IsBehind h w
+pub behind : (h w : List Beat) → Extends h w → IsBehind h w
 behind h w no_more = record { more = []; whole = refl }
 behind h w (one_more beat g before) = let b = behind h g before in record { more = beat ∷ b.more; whole = ap (λ (l : List Beat). beat ∷ l) b.whole }
 
@@ -85,7 +85,7 @@ prefix-between (beat ∷ more) h g before after =
     (in-line g (beat ∷ h) (onto (beat ∷ h) more) after (extends-onto (beat ∷ h) more))
 
 -- ---- what a history that is behind another has
-behind-beats : (h more : List Beat) (beats : List StoreBeat) → AreBeatsOf (more ++ h) beats → (prefix : List StoreBeat) × AreBeatsOf h prefix
+pub behind-beats : (h more : List Beat) (beats : List StoreBeat) → AreBeatsOf (more ++ h) beats → (prefix : List StoreBeat) × AreBeatsOf h prefix
 behind-beats h [] beats are = (beats, are)
 behind-beats h (beat ∷ more) [] are = absurd are
 behind-beats h (beat ∷ more) (kept ∷ beats) are = behind-beats h more beats are.1
@@ -130,12 +130,16 @@ module _ (h : List Beat) where
   first-stays (frame.Have had) = refl
   first-stays (frame.Bye reason) = refl
 
-step-adds : (set : Settings) (now : Parent) (f : Frame) → ((parent_does set now f).now.history ≡ now.history) ⊎ Adds now.history f (parent_does set now f).now.history
+pub step-adds : (set : Settings) (now : Parent) (f : Frame) → ((parent_does set now f).now.history ≡ now.history) ⊎ Adds now.history f (parent_does set now f).now.history
 step-adds set now f = by now.peer
   where
     by : (peer : Option ℕ) → let course = option_map_or (λ id. hears_next set id now.history f) peer (hears_first now.history f) in (course.now.history ≡ now.history) ⊎ Adds now.history f course.now.history
     by None = inl (first-stays now.history f)
     by (Some id) = next-adds set id now.history f
+
+pub step-extends : (set : Settings) (now : Parent) (f : Frame) → Extends now.history (parent_does set now f).now.history
+step-extends set now f =
+    ⊎_elim (λ same. subst (Extends now.history) (sym same) no_more) (λ adds. subst (Extends now.history) (sym adds.with_it) (extends-onto now.history (added_to now.history adds.message))) (step-adds set now f)
 
 -- ---- a session
 module _ (set : Settings) (floors : List ℕ) (child : List SeenBeat) (rises : RisesFrom seen_moment 0 child) where

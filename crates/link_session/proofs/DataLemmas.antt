@@ -1,5 +1,5 @@
 -- What a parent makes of a Data.
-use Rattle.std.proofs.Common.{◌≡◌, inl, inr, ℕ, Bool, false, List, [], ◌∷◌, ◌++◌, length, take, Option, Some, None, Result, Ok, Err, IfErr, IsErrOf, refl, sym, ap, subst, ◌∙◌, true≢false, arith}
+use Rattle.std.proofs.Common.{◌≡◌, ◌⊎◌, inl, inr, ℕ, Bool, true, false, List, [], ◌∷◌, ◌++◌, length, take, Option, Some, None, Result, Ok, Err, IfErr, IsErrOf, refl, sym, ap, subst, ◌∙◌, true≢false, arith}
 use Rattle.std.proofs.Math.Seq.{take-length}
 use Rattle.host_model.specs.declared.file.File.{File}
 use Rattle.host_model.specs.Cause.{HasCause}
@@ -15,6 +15,7 @@ use Rattle.replication.specs.declared.message.Data.{Data}
 use Rattle.replication.specs.declared.verdict.Verdict.{Verdict}
 use Rattle.replication.specs.declared.verdict.Verdict.TheVariants as verdict
 use Rattle.replication.specs.Verdict.{is_stored, verdict_by}
+use Rattle.link_frames.specs.DataForm.{IsData}
 use Rattle.link_frames.specs.declared.frame.Frame.TheVariants as frame
 use Rattle.plugin_text.specs.Lines.{rest}
 use Rattle.alarm_events.specs.declared.event.Event.{Event as AlarmEvent}
@@ -28,13 +29,14 @@ use Rattle.agent_core.specs.declared.left.Role.{Role}
 use Rattle.agent_core.specs.declared.reply.Reply.{Reply}
 use Rattle.agent_core.specs.Agent.{AgentIsReady, AgentState, IsAgentOf, IsSpentAfter}
 use Rattle.agent_core.specs.Calls.{agent_adds, agent_verdict, TakesData}
-use Rattle.agent_core.specs.Copying.{added_by, added_to, events_onto, refusal_by, verdict_of}
+use Rattle.agent_core.specs.Copying.{added_by, added_to, copy_refusal, events_onto, refusal_by, verdict_of}
 use Rattle.agent_core.specs.Faults.{cause_of, fault_after, LeavesAll, RefusedBy, ReopensWith}
 use Rattle.agent_core.specs.Kept.{onto}
 use Rattle.agent_core.specs.Stands.{StandsForPrefix}
 use Rattle.agent_core.specs.Replies.{event_lines, reply_text, stored_line}
 use Rattle.agent_core.specs.Roles.{role_of}
 use Rattle.agent_core.proofs.KeptLemmas.{agent-kept, child-is}
+use Rattle.agent_core.proofs.RunLemmas.{runs-both, take-runs}
 use Rattle.agent_core.proofs.Sound.{untaken}
 use Rattle.agent_core.proofs.StoredLemmas.{WereKept}
 use Rattle.agent_core.proofs.KeptLemmas.{agent-told}
@@ -45,12 +47,15 @@ use Rattle.link_session.specs.declared.flow.Flow.TheVariants.{GoesOn}
 use Rattle.link_session.specs.Exchange.{ends, Course}
 use Rattle.link_session.specs.Keeps.{no_more, IsAckedUpTo, Keeps}
 use Rattle.link_session.specs.Parent.{copies, stores, stores_unless, takes_by, Parent}
-use Rattle.link_session.specs.Receiving.{keeps_all, CopiesSo, HasGoneOn, HasStored, IsAgentsReceiving, IsCutShort, IsReceiving, ParentTakes, SaysHave, StoresAt, StoresOnly, TellsPrefix}
+use Rattle.link_session.specs.Receiving.{is_for_data, is_spent_by, keeps_all, CopiesSo, HasGoneOn, HasStored, IsAgentsReceiving, IsCutShort, IsReceiving, OnlyFor, ParentTakes, SaysHave, StoresAt, StoresOnly, TellsPrefix}
 use Rattle.link_session.specs.Sending.{IsAgents}
 use Rattle.link_session.specs.Session.{is_refusal, result_of, says_all, ClosesSo, IsAgentEnd, IsRefusing, SaysThen}
+use Rattle.link_session.proofs.BoundLemmas.{have-runs}
 use Rattle.link_session.proofs.ChildLemmas.{id-is}
 use Rattle.link_session.proofs.EventLemmas.{acked-told, closed-told}
 use Rattle.link_session.proofs.ExtendsLemmas.{extends-onto}
+use Rattle.link_session.proofs.LeavesLemmas.{leaves-nothing}
+use Rattle.link_session.proofs.OnlyForLemmas.{added-some, spent-own, stored-is}
 use Rattle.link_session.proofs.ParentLemmas.{no-cause, still-copies, takes-still, IsStill}
 use Rattle.link_session.proofs.SendingLemmas.{spent-none}
 use Rattle.link_session.proofs.ReadyLemmas.{ready-after}
@@ -102,6 +107,21 @@ failed fault = Err (Agent fault)
 module _ (honest : Type 0) (host : Seen) (agent : AgentState) (message : Data) (middle : Seen) (agent' : AgentState) (id : ℕ) where
   abbrev taking : Settings → List Beat → Course Parent
   taking set h = takes_by set id h message (verdict_of h message)
+
+  -- where it is stored and nothing refuses it, what fails and what is told and written is for that
+  module _ (form : IsData message) (set : Settings) (h : List Beat) (stored : verdict_of h message ≡ verdict.Stored) (unrefused : refusal_by (verdict_of h message) (registry_of h) (role_of h) message ≡ None) where
+    storing-is : taking set h ≡ stores set id h (added_to h message)
+    storing-is = stored-by set id h message (verdict_of h message) stored unrefused
+
+    free-of : copy_refusal (registry_of h) (role_of h) message ≡ None
+    free-of = sym (ap (λ (v : Verdict). refusal_by v (registry_of h) (role_of h) message) stored) ∙ unrefused
+
+    storing-for : (result : Result Flow SessionFault) (old new : List Event) → (is_spent_by (result_of result) ≡ true → told new ≡ told old) → OnlyFor h (taking set h) (result_of result) old new
+    storing-for result old new silent = record {
+      stores = λ _. (last (onto h (added_to h message)), ap (λ (c : Course Parent). c.sent) storing-is);
+      silent = silent;
+      quiet = λ same. absurd (added-some h message stored free-of form (sym (ap (λ (c : Course Parent). c.now.history) storing-is) ∙ same));
+    }
 
   -- ---- the agent failed
   module _ (fault : AgentFault) (takes : TakesData honest host agent message (Err fault) middle agent') where
@@ -200,22 +220,52 @@ module _ (honest : Type 0) (host : Seen) (agent : AgentState) (message : Data) (
       badly-copies agent_fault.Exists refused reopens unchanged spent = absurd refused
       badly-copies agent_fault.Memory refused reopens unchanged spent = failed-copies agent_fault.Memory spent_for.Memory spent refused refl tt
 
-    pub data-badly : (a : Option (List ℕ)) → ParentTakes honest host agent taking (failed fault) middle agent' (Some id) a a
-    data-badly a = record {
+    -- what it did was for what the history does with the Data
+    module _ (form : IsData message) (hon : honest) (set : Settings) (h : List Beat) (is_of : IsAgentOf host.past agent set h) where
+      abbrev ForData : AgentFault → Type 0
+      ForData fault = OnlyFor h (taking set h) (result_of (failed fault)) host.past middle.past
+
+      spent-for-data : (fault : AgentFault) → refusal_by (agent_verdict agent message) agent.registry agent.role message ≡ None → is_stored (agent_verdict agent message) ≡ true → ForData fault
+      spent-for-data fault free stored =
+          storing-for form set h (stored-is (verdict_of h message) (ap is_stored (sym (verdict-is host.past agent set h is_of message)) ∙ stored)) (sym (refusal-is host.past agent set h is_of message) ∙ free)
+          (failed fault) host.past middle.past (λ _. (takes.only_here hon).output)
+
+      left-for : (fault : AgentFault) → is_for_data (result_of (failed fault)) ≡ false → middle ≡ host → ForData fault
+      left-for fault other same = subst (λ (x : Seen). OnlyFor h (taking set h) (result_of (failed fault)) host.past x.past) (sym same) (record {
+        stores = λ is. absurd (true≢false (sym is ∙ other));
+        silent = λ _. refl;
+        quiet = λ _. leaves-nothing host.past;
+      })
+
+      badly-for : (fault : AgentFault) → RefusedBy {T = Verdict × Reply} (refusal_by (agent_verdict agent message) agent.registry agent.role message) (Err fault)
+          → ((IsErrOf (untaken fault) agent_fault.DiskFault) ⊎ (IsErrOf (untaken fault) agent_fault.Memory) → is_stored (agent_verdict agent message) ≡ true) → (LeavesAll fault → (agent' ≡ agent) × (middle ≡ host)) → ForData fault
+      badly-for (agent_fault.Refused why) refused fails unchanged = left-for (agent_fault.Refused why) refl (unchanged tt).1
+      badly-for (agent_fault.Health why) refused fails unchanged = absurd refused
+      badly-for agent_fault.DiskFault refused fails unchanged = spent-for-data agent_fault.DiskFault refused (fails (inl refl))
+      badly-for agent_fault.NotADatabase refused fails unchanged = absurd refused
+      badly-for (agent_fault.Damaged part) refused fails unchanged = absurd refused
+      badly-for (agent_fault.Reopen cause) refused fails unchanged = absurd refused
+      badly-for agent_fault.Exists refused fails unchanged = absurd refused
+      badly-for agent_fault.Memory refused fails unchanged = spent-for-data agent_fault.Memory refused (fails (inr refl))
+
+    pub data-badly : IsData message → (a : Option (List ℕ)) → ParentTakes honest host agent 1 taking (failed fault) middle agent' (Some id) a a
+    data-badly form a = record {
       does = λ hon set h0 h start made at. badly-copies hon set h0 h start made at a fault (takes.refused at.agent_of.going) takes.reopens takes.unchanged
           (takes.fault ∙ ap (λ (f : Option Why). fault_after {T = Verdict × Reply} f (Err fault)) at.agent_of.going);
+      only_for = λ hon set h is_of. badly-for form hon set h is_of fault (takes.refused is_of.going) takes.fails takes.unchanged;
       stores = badly-stores;
       faults = agents-receiving fault takes.reopens takes.refused;
+      bound = take-runs honest host middle agent agent' message (Err fault) takes;
     }
 
   -- ---- it is not stored
   pub data-left : (v : Verdict) (reply : Reply) → TakesData honest host agent message (Ok (v, reply)) middle agent' → is_stored v ≡ false → (result : Result Flow SessionFault) (a b : Option (List ℕ)) → AgentIsReady honest host.past agent → IfErr result IsRefusing
-      → (agent' ≡ agent → (set : Settings) (h : List Beat) → IsAgentOf host.past agent set h → IsStill h (takes_by set id h message v) (Some id) result a b) → ParentTakes honest host agent taking result middle agent' (Some id) a b
+      → (agent' ≡ agent → (set : Settings) (h : List Beat) → IsAgentOf host.past agent set h → IsStill h (takes_by set id h message v) (Some id) result a b) → ParentTakes honest host agent 1 taking result middle agent' (Some id) a b
   data-left v reply takes other result a b ready refusing still =
       let same = takes.left (ap is_stored (sym takes.verdict) ∙ other) in
-      subst (λ (x : AgentState). ParentTakes honest host agent taking result middle x (Some id) a b) (sym same.0)
-      (subst (λ (x : Seen). ParentTakes honest host agent taking result x agent (Some id) a b) (sym same.1)
-      (takes-still honest host agent taking (Some id) result a b ready refusing
+      subst (λ (x : AgentState). ParentTakes honest host agent 1 taking result middle x (Some id) a b) (sym same.0)
+      (subst (λ (x : Seen). ParentTakes honest host agent 1 taking result x agent (Some id) a b) (sym same.1)
+      (takes-still honest host agent 1 taking (Some id) result a b ready refusing
       (λ set h is_of. subst (λ (w : Verdict). IsStill h (takes_by set id h message w) (Some id) result a b) (takes.verdict ∙ verdict-is host.past agent set h is_of message) (still same.0 set h is_of))))
 
   -- ---- it is stored
@@ -374,9 +424,17 @@ module _ (honest : Type 0) (host : Seen) (agent : AgentState) (message : Data) (
           (have-copies (subst (λ (n : ℕ). SaysHave honest course.told n result middle.past new.past a b) at-middle.agent_of.last_is
           (subst (λ (text : List ℕ). SaysHave honest text agent'.last result middle.past new.past a b) text-is says)))
 
-    pub data-stored : HasCause middle.tell_faults new.tell_faults (IsErrOf result TellFault) → new.disk_faults ≡ middle.disk_faults → ParentTakes honest host agent taking result new agent' (Some id) a b
-    data-stored tells disk = record {
+    have-for : IsData message → (set : Settings) (h : List Beat) → IsAgentOf host.past agent set h → OnlyFor h (taking set h) (result_of result) host.past new.past
+    have-for form set h is_of =
+        storing-for form set h (sym (takes.verdict ∙ verdict-is host.past agent set h is_of message)) (sym (refusal-is host.past agent set h is_of message) ∙ takes.refused is_of.going)
+        result host.past new.past (λ spent. absurd (have-apart (spent-own result spent)))
+
+    pub data-stored : IsData message → HasCause middle.tell_faults new.tell_faults (IsErrOf result TellFault) → new.disk_faults ≡ middle.disk_faults → ParentTakes honest host agent 1 taking result new agent' (Some id) a b
+    data-stored form tells disk = record {
       does = λ hon set h0 h start made at. stored-copies hon set h0 h start made at;
+      only_for = λ _ set h is_of. have-for form set h is_of;
       stores = have-stores tells disk;
       faults = have-receives;
+      bound = runs-both honest 1 0 host middle new agent agent' agent' (take-runs honest host middle agent agent' message (Ok (verdict.Stored, reply)) takes)
+          (have-runs honest middle agent' new (reply_text reply) agent'.last result a b says);
     }

@@ -1,8 +1,9 @@
 -- How a session goes on from frame to frame, and ends.
-use Rattle.std.proofs.Common.{◌≡◌, ℕ, List, [], ◌∷◌, ◌++◌, Option, Some, None, Result, Ok, Err, OnOk, refl, sym, ap, subst, ◌∙◌, append_assoc, append-nil, arith}
+use Rattle.std.proofs.Common.{◌≡◌, ℕ, ◌<◌, ◌≤◌, List, [], ◌∷◌, ◌++◌, length, take, length-append, Option, Some, None, Result, Ok, Err, OnOk, refl, sym, ap, subst, ◌∙◌, append_assoc, append-nil, arith}
 use Rattle.std.specs.List.{flat_map, AllByRecursion}
 use Rattle.std.specs.Option.{option_map_or}
 use Rattle.std.proofs.lemmas.Grind.{flat_map-append}
+use Rattle.std.proofs.lemmas.List.{take-append-le}
 use Rattle.std.proofs.lemmas.List.Sums.{fold-append}
 use Rattle.host_model.specs.Link.{Sends}
 use Rattle.link_frames.specs.declared.frame.Frame.{Frame}
@@ -16,7 +17,8 @@ use Rattle.link_session.specs.declared.flow.Flow.TheVariants.{GoesOn, Done}
 use Rattle.link_session.specs.declared.incoming.Incoming.{Incoming}
 use Rattle.link_session.specs.Exchange.{both, broken_by, exchange, refuses, then_does, Course, SessionResult}
 use Rattle.link_session.specs.Incoming.{waiting, HasGiven}
-use Rattle.link_session.specs.Session.{bye_for, result_of, says_all, ClosesSo, DoesSo, Exchanges, HearsNoMore, IsEndFor, IsSilentFor, LinkSeen, SaysPrefix, Talks}
+use Rattle.link_session.specs.Session.{bye_for, result_of, says_all, ClosesSo, DoesSo, Exchanges, HearsNoMore, IsEndFor, IsSilentFor, LinkSeen, SaysPrefix, SendsAtLeast, Talks}
+use Rattle.link_session.proofs.GrowLemmas.{said-first}
 use Rattle.link_session.proofs.LinkLemmas.{all-said, joined-prefix, sends-both}
 
 -- ---- the frames that were given
@@ -46,7 +48,7 @@ ends-for (Err TellFault) ended taken rest left over closes = tt
 ends-for (Err Memory) ended taken rest left over closes = tt
 
 module _ {S : Type 0} where
-  then-goes : (course : Course S) (next : S → Course S) → course.ended ≡ None → then_does course next ≡ both course (next course.now)
+  pub then-goes : (course : Course S) (next : S → Course S) → course.ended ≡ None → then_does course next ≡ both course (next course.now)
   then-goes course next going = ap (λ (e : Option SessionResult). option_map_or (λ _. course) e (both course (next course.now))) going
 
   module _ (does : S → Frame → Course S) (begin : Course S) where
@@ -74,6 +76,13 @@ module _ {S : Type 0} where
               (all-said (says_all (result_of result)) (does now f).sent b c so.says (ap (λ (r : Result Flow SessionFault). says_all (result_of r)) going)));
         }
 
+        -- all frames before it were answered
+        pub frame-turn : (c : Option (List ℕ)) → DoesSo (does now f) now' result b c → (n : ℕ) → n < length (frames ++ f ∷ []) → SendsAtLeast link.sent (flat_map frame_bytes (done_by (take n (frames ++ f ∷ []))).sent) c
+        frame-turn c so n less =
+            let within : n ≤ length frames = omega (arith, less, length-append frames (f ∷ [])) in
+            subst (λ (fs : List Frame). SendsAtLeast link.sent (flat_map frame_bytes (done_by fs).sent) c) (sym (take-append-le n frames (f ∷ []) within))
+            (said-first does begin frames n link.sent b c so.says.said talks.sends so.says.sends)
+
         abbrev pub frame-ends : (incoming : Incoming) (link' : LinkSeen) → DoesSo (does now f) now' result b link'.sent → HasGiven incoming link.left link'.left (frames ++ f ∷ []) → (result ≡ Ok GoesOn → ⊥)
             → Exchanges does begin (result_of result) link link'
         frame-ends incoming link' so given over =
@@ -92,6 +101,7 @@ module _ {S : Type 0} where
                   (joined-prefix (says_all (result_of result)) (done_by frames).sent (does now f).sent link.sent b link'.sent talks.sends so.says);
               why = subst (λ (ended : Option SessionResult). IsEndFor (result_of result) ended given.taken rest link'.left) (sym (ap (λ (course : Course S). course.ended) (done-next f)))
                   (ends-for result (does now f).ended given.taken rest link'.left over so.closes);
+              in_turn = frame-turn link'.sent so;
             }
 
       -- no frame is heard
@@ -126,4 +136,5 @@ module _ {S : Type 0} where
             (joined-prefix (says_all (Err fault)) (done_by frames).sent (bye_for hears.broken) link.sent b link'.sent talks.sends
             (subst (λ (sent : Option (List ℕ)). SaysPrefix (says_all (Err fault)) (bye_for hears.broken) sent link'.sent) from hears.says));
         why = silence-for fault hears.broken hears.taken hears.rest link'.left hears.why;
+        in_turn = λ n less. said-first does begin frames n link.sent b link'.sent hears.says.said talks.sends (subst (λ (sent : Option (List ℕ)). Sends sent hears.says.said link'.sent) from hears.says.sends);
       }

@@ -1,13 +1,18 @@
 pub mod ExchangeLemmas
+pub mod GrowLemmas
 pub mod HearLemmas
 pub mod IncomingLemmas
 pub mod LinkLemmas
+pub mod LeavesLemmas
+pub mod OnlyForLemmas
+pub mod LastLemmas
 pub mod SpellingLemmas
 pub mod SendingLemmas
 pub mod StepLemmas
 pub mod ChildLemmas
 pub mod SendLemmas
 pub mod AckLemmas
+pub mod BoundLemmas
 pub mod EventLemmas
 pub mod ExtendsLemmas
 pub mod StoreLemmas
@@ -17,3 +22,4 @@ pub mod ParentLemmas
 pub mod ReadyLemmas
 pub mod DataLemmas
 pub mod CopyLemmas
+pub mod StepLaw

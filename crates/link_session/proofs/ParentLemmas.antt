@@ -21,9 +21,12 @@ use Rattle.link_session.specs.declared.flow.Flow.TheVariants.{GoesOn, Done}
 use Rattle.link_session.specs.Exchange.{ends, leaves, refuses, Course}
 use Rattle.link_session.specs.Keeps.{Keeps}
 use Rattle.link_session.specs.Parent.{asks, copies, copies_other, hears_first, hears_next, waits, Parent}
-use Rattle.link_session.specs.Receiving.{keeps_all, CopiesSo, GoesSo, HasGoneOn, IsReceiving, ParentTakes, StoresAt, StoresOnly, TellsPrefix}
+use Rattle.link_session.specs.Receiving.{keeps_all, CopiesSo, GoesSo, HasGoneOn, IsReceiving, OnlyFor, ParentTakes, StoresAt, StoresOnly, TellsPrefix}
 use Rattle.link_session.specs.Sending.{IsAgents}
 use Rattle.link_session.specs.Session.{result_of, DoesSo, IsRefusing, Leaves, SaysThen}
+use Rattle.link_session.proofs.BoundLemmas.{idle-runs}
+use Rattle.link_session.proofs.LeavesLemmas.{leaves-nothing}
+use Rattle.link_session.proofs.OnlyForLemmas.{refusing-spares}
 use Rattle.link_session.proofs.SendingLemmas.{spent-none}
 use Rattle.link_session.proofs.StepLemmas.{leaves-does, leaves-refusing, leaves-unsaid, said-does, said-unsaid, silent-does}
 use Rattle.link_session.proofs.StoreLemmas.{all-stored, gone-on, tells-all}
@@ -92,12 +95,21 @@ module _ (honest : Type 0) (host : Seen) (agent : AgentState) where
         goes_on = subst (λ (g : List Beat). HasGoneOn (keeps_all (result_of result)) host.past agent set h0 g) (sym same) (gone-on host.past agent set h0 h at.since at.agent_of (keeps_all (result_of result)));
       }
 
-  pub takes-still : (course : Settings → List Beat → Course Parent) (peer' : Option ℕ) (result : Result Flow SessionFault) (a b : Option (List ℕ)) → AgentIsReady honest host.past agent → IfErr result IsRefusing
-      → ((set : Settings) (h : List Beat) → IsAgentOf host.past agent set h → IsStill h (course set h) peer' result a b) → ParentTakes honest host agent course result host agent peer' a b
-  takes-still course peer' result a b ready refusing still = record {
+  still-for : (h : List Beat) (course : Course Parent) (result : Result Flow SessionFault) → IfErr result IsRefusing → OnlyFor h course (result_of result) host.past host.past
+  still-for h course result refusing = record {
+    stores = λ failed. absurd (refusing-spares result refusing failed);
+    silent = λ _. refl;
+    quiet = λ _. leaves-nothing host.past;
+  }
+
+  pub takes-still : (added : ℕ) (course : Settings → List Beat → Course Parent) (peer' : Option ℕ) (result : Result Flow SessionFault) (a b : Option (List ℕ)) → AgentIsReady honest host.past agent → IfErr result IsRefusing
+      → ((set : Settings) (h : List Beat) → IsAgentOf host.past agent set h → IsStill h (course set h) peer' result a b) → ParentTakes honest host agent added course result host agent peer' a b
+  takes-still added course peer' result a b ready refusing still = record {
     does = λ _ set h0 h start made at. let is = still set h at.agent_of in still-copies set h0 h start made at (course set h) peer' result a b is.same is.silent is.does is.unsaid;
+    only_for = λ _ set h is_of. still-for h (course set h) result refusing;
     stores = still-stores result refusing ready;
     faults = refusing-receives result refusing;
+    bound = idle-runs honest host agent added;
   }
 
   -- it asks

@@ -1,9 +1,10 @@
 -- How a parent's session goes on, and ends.
-use Rattle.std.proofs.Common.{◌≡◌, ℕ, ◌≤◌, Bool, true, false, List, [], ◌∷◌, ◌++◌, length, drop, append-nil, Option, Some, None, IfSome, IsSome, OnOk, Result, Ok, Err, arith, IfErr, IsErrOf, refl, sym, ap, subst, ◌∙◌}
+use Rattle.std.proofs.Common.{◌≡◌, ℕ, ◌<◌, ◌≤◌, Bool, true, false, true≢false, List, [], ◌∷◌, ◌++◌, length, take, drop, length-append, append-nil, Option, Some, None, IfSome, IsSome, OnOk, Result, Ok, Err, arith, IfErr, IsErrOf, refl, sym, ap, subst, ◌∙◌}
 use Rattle.link_frames.proofs.StreamLaw.{all-spelt}
 use Rattle.host_model.specs.Cause.{HasCause}
 use Rattle.std.specs.List.{flat_map, AllByRecursion}
 use Rattle.std.proofs.Math.Seq.{take-append_seam, take-length}
+use Rattle.std.proofs.lemmas.List.{take-append-le}
 use Rattle.host_model.specs.Link.{Sends, SendsPrefix}
 use Rattle.host_model.specs.Moments.{begins, EveryCrash, Throughout}
 use Rattle.host_model.specs.Past.{told, Event, IsText}
@@ -15,6 +16,8 @@ use Rattle.tier_settings.specs.declared.settings.Settings.{Settings}
 use Rattle.store_core.specs.declared.fault.Why.{Why}
 use Rattle.agent_core.specs.declared.fault.AgentFault.TheVariants as agent_fault
 use Rattle.agent_core.specs.Agent.{AgentIsReady, AgentState, IsAgentOf}
+use Rattle.agent_core.specs.Bound.{RunsWithin}
+use Rattle.agent_core.proofs.RunLemmas.{runs-none}
 use Rattle.link_session.specs.declared.fault.PeerFault.{PeerFault}
 use Rattle.link_session.specs.declared.fault.SessionFault.{SessionFault}
 use Rattle.link_session.specs.declared.fault.SessionFault.TheVariants.{LinkFault, Agent, PeerRefused, Ended, InputLimit, TellFault, Memory}
@@ -23,16 +26,21 @@ use Rattle.link_session.specs.declared.flow.Flow.TheVariants.{GoesOn}
 use Rattle.link_session.specs.declared.incoming.Incoming.{Incoming}
 use Rattle.link_session.specs.Exchange.{both, broken_by, exchange, Course, SessionResult}
 use Rattle.link_session.specs.Incoming.{waiting, HasGiven}
-use Rattle.link_session.specs.Keeps.{no_more, IsAckedUpTo, Keeps}
-use Rattle.link_session.specs.Parent.{parent_begins, parent_does, Parent}
-use Rattle.link_session.specs.Receiving.{keeps_all, AnswersStored, Copies, CopiesSo, HasGoneOn, HasStored, IsReceiving, ParentTakes, ReceivesHistory, StoresAt, StoresOnly, TellsPrefix}
+use Rattle.link_session.specs.Keeps.{no_more, Extends, IsAckedUpTo, Keeps, LeavesFiles}
+use Rattle.link_session.specs.Parent.{parent_begins, parent_does, IsToStore, Parent, StoresAtLast}
+use Rattle.link_session.specs.Receiving.{is_for_data, is_spent_by, keeps_all, AnswersStored, Copies, CopiesSo, HasGoneOn, HasStored, IsReceiving, OnlyFor, ParentTakes, ReceivesHistory, StoresAt, StoresOnly, TellsPrefix}
 use Rattle.link_session.specs.Sending.{spent_by, IsAgents}
 use Rattle.link_session.specs.Session.{result_of, says_all, HearsNoMore, IsSilentFor, LinkSeen, SaysPrefix, Talks}
+use Rattle.link_session.specs.Steps.{data_in}
 use Rattle.link_session.specs.Taking.{EndsOnlyAt, ParentEndsAt, ParentEndsBy}
 use Rattle.link_session.proofs.AckLemmas.{acked-nothing, acked-since, text-prefix}
-use Rattle.link_session.proofs.CopyLemmas.{crashes-copy}
+use Rattle.link_session.proofs.BoundLemmas.{frame-runs}
+use Rattle.link_session.proofs.CopyLemmas.{crashes-copy, same-history, step-extends}
 use Rattle.link_session.proofs.ExchangeLemmas.{all-prefix, done-next, frame-ends, silence-ends, talks-first, talks-next}
+use Rattle.link_session.proofs.GrowLemmas.{stored-first}
+use Rattle.link_session.proofs.LeavesLemmas.{leaves-further, leaves-nothing}
 use Rattle.link_session.proofs.LinkLemmas.{all-sends, prefix-sends, sends-nothing}
+use Rattle.link_session.proofs.OnlyForLemmas.{has-stores, spent-for}
 use Rattle.link_session.proofs.ParentLemmas.{no-cause}
 use Rattle.link_session.proofs.SendingLemmas.{spent-none}
 use Rattle.link_session.proofs.SendLemmas.{all_well, cause-alike, silent-outside}
@@ -50,6 +58,7 @@ parent_at set h0 frames peer = record { history = (done_by set h0 frames).now.hi
 pub record GoesOnWith (set : Settings) (h0 : List Beat) (frames : List Frame) (peer : Option ℕ) (start now : List Event) (agent : AgentState) (sent sent' : Option (List ℕ)) : Type 0 where
   pub talks : Talks (parent_does set) (parent_begins h0) frames (parent_at set h0 frames peer) sent sent'
   pub at : StoresAt now agent set h0 (done_by set h0 frames).now.history start (done_by set h0 frames).told
+  pub quiet : (done_by set h0 frames).now.history ≡ h0 → LeavesFiles start now
 
 pub record IsUnderWay (honest : Type 0) (host : Seen) (agent : AgentState) (link : LinkSeen) (incoming : Incoming) (peer : Option ℕ) (host' : Seen) (agent' : AgentState) (link' : LinkSeen) : Type 0 where
   pub frames : List Frame
@@ -57,10 +66,14 @@ pub record IsUnderWay (honest : Type 0) (host : Seen) (agent : AgentState) (link
   pub goes : honest → (set : Settings) (h : List Beat) → IsAgentOf host.past agent set h → GoesOnWith set h frames peer host.past host'.past agent' link.sent link'.sent
   pub knows : KnowsSince peer frames
   pub stores : StoresOnly honest host agent all_well host' agent'
+  pub bound : RunsWithin honest (length (data_in frames)) host agent host' agent'
   pub faults : link'.faults ≡ link.faults
 
 abbrev pub failing_with : SessionFault → SessionResult
 failing_with fault = Err fault
+
+same-fault : (fault other : SessionFault) → failing_with fault ≡ failing_with other → fault ≡ other
+same-fault fault other is = cc
 
 -- ---- one result behind the other
 module _ (honest : Type 0) (host : Seen) (agent : AgentState) where
@@ -98,15 +111,12 @@ module _ (honest : Type 0) (host : Seen) (agent : AgentState) where
     stores-silent fault apart untold = record {
       only_here = before.only_here;
       disk = subst (λ (n : ℕ). HasCause host.disk_faults n (IsErrOf (failing_with fault) (Agent agent_fault.DiskFault))) (sym disk-same) (no-cause host.disk_faults _ (λ is. apart (subst (λ (r : SessionResult). IsAgents r) (sym is) tt)));
-      tells = subst (λ (n : ℕ). HasCause host.tell_faults n (IsErrOf (failing_with fault) TellFault)) (sym tells-same) (no-cause host.tell_faults _ (λ is. untold (same fault is)));
+      tells = subst (λ (n : ℕ). HasCause host.tell_faults n (IsErrOf (failing_with fault) TellFault)) (sym tells-same) (no-cause host.tell_faults _ (λ is. untold (same-fault fault TellFault is)));
       fault = before.fault ∙ sym (spent-none agent.fault (failing_with fault) apart);
       reopens = λ cause is. absurd (apart (subst (λ (r : SessionResult). IsAgents r) (sym is) tt));
       id = before.id;
       ready = before.ready;
     }
-      where
-        same : (fault : SessionFault) → failing_with fault ≡ failing_with TellFault → fault ≡ TellFault
-        same fault is = cc
 
   -- the result of a session is that of its last frame
   pub stores-result : (result : Result Flow SessionFault) (host' : Seen) (agent' : AgentState) → StoresOnly honest host agent result host' agent' → StoresOnly honest host agent (result_of result) host' agent'
@@ -149,14 +159,14 @@ receives-of : (result : Result Flow SessionFault) → IfErr result IsReceiving �
 receives-of (Ok flow) is = tt
 receives-of (Err fault) is = is
 
-silent-keeps : (fault : SessionFault) (broken : Option PeerFault) (taken rest : List ℕ) (left : Option (List ℕ)) → IsSilentFor fault broken taken rest left → IsReceiving fault × (fault ≡ TellFault → ⊥)
+silent-keeps : (fault : SessionFault) (broken : Option PeerFault) (taken rest : List ℕ) (left : Option (List ℕ)) → IsSilentFor fault broken taken rest left → IsReceiving fault × (fault ≡ TellFault → ⊥) × (is_spent_by (failing_with fault) ≡ false)
 silent-keeps (Agent fault) broken taken rest left silent = absurd silent
-silent-keeps LinkFault broken taken rest left silent = (tt, λ e. cc)
-silent-keeps (PeerRefused fault) broken taken rest left silent = (tt, λ e. cc)
-silent-keeps Ended broken taken rest left silent = (tt, λ e. cc)
-silent-keeps InputLimit broken taken rest left silent = (tt, λ e. cc)
+silent-keeps LinkFault broken taken rest left silent = (tt, (λ e. cc), refl)
+silent-keeps (PeerRefused fault) broken taken rest left silent = (tt, (λ e. cc), refl)
+silent-keeps Ended broken taken rest left silent = (tt, (λ e. cc), refl)
+silent-keeps InputLimit broken taken rest left silent = (tt, (λ e. cc), refl)
 silent-keeps TellFault broken taken rest left silent = absurd silent
-silent-keeps Memory broken taken rest left silent = (tt, λ e. cc)
+silent-keeps Memory broken taken rest left silent = (tt, (λ e. cc), refl)
 
 module _ (honest : Type 0) (host : Seen) (agent : AgentState) (link : LinkSeen) where
   -- ---- it begins
@@ -180,9 +190,11 @@ module _ (honest : Type 0) (host : Seen) (agent : AgentState) (link : LinkSeen) 
           acked = acked-first (length h) host.past text by_then;
         });
       };
+      quiet = λ _. leaves-nothing host.past;
     };
     knows = not_yet;
     stores = only-start honest host agent ready;
+    bound = runs-none honest host agent;
     faults = refl;
   }
     where
@@ -214,19 +226,24 @@ module _ (honest : Type 0) (host : Seen) (agent : AgentState) (link : LinkSeen) 
                 ends = λ _. stands-all host'.past agent' set (done_by set h on.frames).now.history goes.at.agent_of;
                 output = tells-all host'.past agent' set h (done_by set h on.frames).now.history host.past (done_by set h on.frames).told goes.at (keeps_all (failing_with fault));
                 closed = λ _. goes.at.closed;
+                in_turn = λ n less. stored-first set h on.frames n host.past host'.past (all-stored host'.past agent' set h (done_by set h on.frames).now.history host.past (done_by set h on.frames).told goes.at);
+                stored_for = λ spent. absurd (true≢false (sym spent ∙ keeps.2));
+                told_for = λ is. absurd (keeps.1 (same-fault fault TellFault is));
+                quiet = goes.quiet;
                 copy = λ floors child rises copy truth. crashes-copy set floors child rises h on.frames host.past host'.past (all-spelt hears.taken hears.rest on.frames hears.cut) truth copy goes.at.crashes;
               };
           agent_is = λ hon set h is_of. gone-on host'.past agent' set h (done_by set h on.frames).now.history (on.goes hon set h is_of).at.since (on.goes hon set h is_of).at.agent_of (keeps_all (failing_with fault));
           stores = stores-silent honest host agent host' agent' on.stores fault (silent-outside fault hears.broken hears.taken hears.rest link'.left hears.why) keeps.1;
           faults = keeps.0;
           taking = silence-taken ParentEndsAt link fault on.frames between link' hears;
+          bound = on.bound;
           cause = subst (λ (n : ℕ). HasCause n link'.faults (IsErrOf (failing_with fault) LinkFault)) on.faults cause;
         }
 
     -- ---- a frame is heard
     module _ (f : Frame) (incoming' : Incoming) (heard : LinkSeen) (given : HasGiven incoming' link.left heard.left (on.frames ++ f ∷ [])) (same : heard.sent ≡ between.sent) (unfailed : heard.faults ≡ between.faults)
         (result : Result Flow SessionFault) (host'' : Seen) (agent'' : AgentState) (peer' : Option ℕ) (link' : LinkSeen)
-        (takes : ParentTakes honest host' agent' (λ set h. parent_does set (record { history = h; peer = peer }) f) result host'' agent'' peer' heard.sent link'.sent)
+        (takes : ParentTakes honest host' agent' (length (data_in (f ∷ []))) (λ set h. parent_does set (record { history = h; peer = peer }) f) result host'' agent'' peer' heard.sent link'.sent)
         (only : EndsOnlyAt (λ (ended : SessionResult). ParentEndsBy peer ended f) result) (known : OnOk result (IsSome peer'))
         (left : link'.left ≡ heard.left) (cause : HasCause heard.faults link'.faults (IsErrOf result LinkFault)) where
       given-then : HasGiven incoming' link.left link'.left (on.frames ++ f ∷ [])
@@ -234,6 +251,9 @@ module _ (honest : Type 0) (host : Seen) (agent : AgentState) (link : LinkSeen) 
 
       cause-then : HasCause link.faults link'.faults (IsErrOf result LinkFault)
       cause-then = subst (λ (n : ℕ). HasCause n link'.faults (IsErrOf result LinkFault)) (unfailed ∙ on.faults) cause
+
+      bound-then : RunsWithin honest (length (data_in (on.frames ++ f ∷ []))) host agent host'' agent''
+      bound-then = frame-runs honest host agent on.frames f host' host'' agent' agent'' on.bound takes.bound
 
       module _ (hon : honest) (set : Settings) (h : List Beat) (is_of : IsAgentOf host.past agent set h) where
         abbrev now : Parent
@@ -263,11 +283,31 @@ module _ (honest : Type 0) (host : Seen) (agent : AgentState) (link : LinkSeen) 
             subst (λ (g : List Beat). StoresAt host''.past agent'' set h g host.past (done_by set h (on.frames ++ f ∷ [])).told) (sym history-is)
             (subst (λ (t : List ℕ). StoresAt host''.past agent'' set h course.now.history host.past t) (sym told-is) (so.stored all))
 
+        for-that : OnlyFor (done_by set h on.frames).now.history course (result_of result) host'.past host''.past
+        for-that = takes.only_for hon set (done_by set h on.frames).now.history goes.at.agent_of
+
+        -- where nothing is added in all, nothing was before and nothing is at this frame
+        quiet-then : (done_by set h (on.frames ++ f ∷ [])).now.history ≡ h → LeavesFiles host.past host''.past
+        quiet-then same =
+            let begin-is : (done_by set h on.frames).now.history ≡ h =
+            sym (same-history h (done_by set h on.frames).now.history goes.at.since (subst (Extends (done_by set h on.frames).now.history) (sym history-is ∙ same) (step-extends set now f))) in
+            leaves-further host.past host'.past host''.past (goes.quiet begin-is) (for-that.quiet (sym history-is ∙ same ∙ sym begin-is))
+
+        abbrev stores-last : is_for_data (result_of result) ≡ true → StoresAtLast set h (on.frames ++ f ∷ [])
+        stores-last failed = record {
+          before = on.frames;
+          final = f;
+          whole = refl;
+          goes_on = goes.talks.goes_on;
+          stores = subst (λ (p : Parent). IsToStore p f) (sym goes.talks.now_is) (has-stores set now f (for-that.stores failed));
+        }
+
         goes-then : result ≡ Ok GoesOn → GoesOnWith set h (on.frames ++ f ∷ []) peer' host.past host''.past agent'' link.sent link'.sent
         goes-then is = record {
           talks = subst (λ (g : List Beat). Talks (parent_does set) (parent_begins h) (on.frames ++ f ∷ []) (record { history = g; peer = peer' }) link.sent link'.sent) (sym history-is)
               (talks-next (parent_does set) (parent_begins h) link on.frames now between.sent goes.talks f (record { history = course.now.history; peer = peer' }) result link'.sent so.does is);
           at = at-then (ap (λ (r : Result Flow SessionFault). keeps_all (result_of r)) is);
+          quiet = quiet-then;
         }
 
         -- all frames are answered, or the last is not
@@ -290,6 +330,18 @@ module _ (honest : Type 0) (host : Seen) (agent : AgentState) (link : LinkSeen) 
           stored = subst (λ (fs : List Frame). HasStored set (done_by set h fs).now.history host.past (done_by set h fs).told host''.past) (sym (take-append_seam on.frames (f ∷ []))) (so.unsaid short).1;
         }
 
+        -- all that the frames before it were to store and tell was
+        turn-then : (n : ℕ) → n < length (on.frames ++ f ∷ []) → HasStored set (done_by set h (take n (on.frames ++ f ∷ []))).now.history host.past (done_by set h (take n (on.frames ++ f ∷ []))).told host''.past
+        turn-then n less = by (keeps_all (result_of result)) refl
+          where
+            by : (all : Bool) → keeps_all (result_of result) ≡ all → HasStored set (done_by set h (take n (on.frames ++ f ∷ []))).now.history host.past (done_by set h (take n (on.frames ++ f ∷ []))).told host''.past
+            by true all =
+                stored-first set h (on.frames ++ f ∷ []) n host.past host''.past
+                (all-stored host''.past agent'' set h (done_by set h (on.frames ++ f ∷ [])).now.history host.past (done_by set h (on.frames ++ f ∷ [])).told (at-then all))
+            by false short =
+                subst (λ (fs : List Frame). HasStored set (done_by set h fs).now.history host.past (done_by set h fs).told host''.past) (sym (take-append-le n on.frames (f ∷ []) (omega (arith, less, length-append on.frames (f ∷ [])))))
+                (stored-first set h on.frames n host.past host''.past (so.unsaid short).1)
+
         abbrev copies-then : (result ≡ Ok GoesOn → ⊥) → Copies set h (result_of result) host.past host''.past link link'
         copies-then over = record {
           exchanges = frame-ends (parent_does set) (parent_begins h) link on.frames now between.sent goes.talks f (record { history = course.now.history; peer = peer' }) result incoming' link' so.does given-then over;
@@ -299,6 +351,10 @@ module _ (honest : Type 0) (host : Seen) (agent : AgentState) (link : LinkSeen) 
           ends = λ all. stands-all host''.past agent'' set (done_by set h (on.frames ++ f ∷ [])).now.history (at-then all).agent_of;
           output = subst (λ (t : List ℕ). TellsPrefix (keeps_all (result_of result)) t host.past host''.past) (sym told-is) so.output;
           closed = λ all. (at-then all).closed;
+          in_turn = turn-then;
+          stored_for = λ spent. record { at = stores-last (spent-for (result_of result) spent); tells = for-that.silent spent ∙ goes.at.tells };
+          told_for = λ is. stores-last (ap is_for_data is);
+          quiet = quiet-then;
           copy = λ floors child rises copy truth.
               crashes-copy set floors child rises h (on.frames ++ f ∷ []) host.past host''.past (all-prefix (on.frames ++ f ∷ []) (waiting incoming') (subst (AllByRecursion HasSpelling) (sym given-then.cut.handed) given-then.cut.frames)) truth copy
               (subst (λ (g : List Beat). Throughout (EveryCrash (Keeps set h g (told host.past))) host.past host''.past) (sym history-is) so.crashes);
@@ -312,6 +368,7 @@ module _ (honest : Type 0) (host : Seen) (agent : AgentState) (link : LinkSeen) 
         knows = knows-some peer' on.frames f (subst (λ (r : Result Flow SessionFault). OnOk r (IsSome peer')) is known);
         stores = subst (λ (r : Result Flow SessionFault). StoresOnly honest host agent (result_of r) host'' agent'') is
             (stores-result honest host agent result host'' agent'' (stores-joined honest host agent host' agent' on.stores result host'' agent'' takes.stores));
+        bound = bound-then;
         faults = cause-then.stays (λ e. cc);
       }
 
@@ -323,6 +380,7 @@ module _ (honest : Type 0) (host : Seen) (agent : AgentState) (link : LinkSeen) 
         stores = stores-result honest host agent result host'' agent'' (stores-joined honest host agent host' agent' on.stores result host'' agent'' takes.stores);
         faults = receives-of result takes.faults;
         taking = frame-taken ParentEndsAt link on.frames f incoming' link' given-then result over (parent-only peer on.frames on.knows f result only);
+        bound = bound-then;
         cause = cause-alike link.faults link'.faults result cause-then;
       }
 

@@ -84,6 +84,7 @@ module _ (honest : Type 0) (host : Seen) (agent : AgentState) (host' : Seen) (ag
     id = reads.id;
     registry = reads.registry;
     ready = reads.ready;
+    bound = reads.bound;
   }
     where
       back : (fault : SessionFault) → IsAgents {T = Flow} (Err fault) → IsAgents {T = Unit {0}} (Err fault)
@@ -145,6 +146,7 @@ module _ (honest : Type 0) (host : Seen) (agent : AgentState) (link : LinkSeen) 
       breaks = tt;
       says = subst (λ (n : ℕ). SaysPrefix (says_all (Err fault)) (frame.Hello n ∷ []) link.sent link'.sent) (sym (id-is host.past agent set h is_of)) (says-prefix (frame.Hello (id_of agent)) (Err fault) link.sent link'.sent said);
       why = unsaid-why fault link.sent link'.sent said;
+      in_turn = λ n less. absurd (omega (arith, less));
     };
     reads = only-nothing honest host agent (Err fault) (unsaid-outside fault link.sent link'.sent said) ready;
     faults = unsaid-sends fault link.sent link'.sent said;

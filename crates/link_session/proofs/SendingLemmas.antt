@@ -8,8 +8,10 @@ use Rattle.store_core.specs.declared.fault.Why.{Why}
 use Rattle.agent_core.specs.declared.fault.AgentFault.{AgentFault}
 use Rattle.agent_core.specs.declared.fault.AgentFault.TheVariants as agent_fault
 use Rattle.agent_core.specs.Agent.{AgentIsReady, AgentState, IsAgentOf}
+use Rattle.agent_core.specs.Bound.{RunsWithin}
 use Rattle.agent_core.specs.Calls.{Reads}
 use Rattle.agent_core.specs.Faults.{fault_after, IsReading, ReopensWith}
+use Rattle.agent_core.proofs.RunLemmas.{runs-both, runs-none}
 use Rattle.link_session.specs.declared.fault.SessionFault.{SessionFault}
 use Rattle.link_session.specs.declared.fault.SessionFault.TheVariants.{LinkFault, Agent, PeerRefused, Ended, InputLimit, TellFault, Memory}
 use Rattle.link_session.specs.declared.flow.Flow.{Flow}
@@ -70,6 +72,7 @@ module _ (honest : Type 0) (host : Seen) (agent : AgentState) where
     id = refl;
     registry = refl;
     ready = ready;
+    bound = runs-none honest host agent;
   }
 
   module _ (host' : Seen) (agent' : AgentState) where
@@ -86,6 +89,7 @@ module _ (honest : Type 0) (host : Seen) (agent : AgentState) where
       id = reads.id;
       registry = reads.registry;
       ready = reads.ready;
+      bound = reads.bound;
     }
 
     -- one behind the other
@@ -104,11 +108,12 @@ module _ (honest : Type 0) (host : Seen) (agent : AgentState) where
           id = after.id ∙ before.id;
           registry = after.registry ∙ before.registry;
           ready = after.ready;
+          bound = runs-both honest 0 0 host middle host' agent between agent' before.bound after.bound;
         }
 
     -- a call that reads
-    pub reads-well : {T U : Type 0} (value : T) (result : Result U SessionFault) → (IsAgents result → ⊥) → Reads honest host agent (Ok value) host' agent' → OnlyReads honest host agent result host' agent'
-    reads-well {T} {U} value result other reads = record {
+    pub reads-well : {T U : Type 0} (value : T) (result : Result U SessionFault) → (IsAgents result → ⊥) → Reads honest host agent (Ok value) host' agent' → RunsWithin honest 0 host agent host' agent' → OnlyReads honest host agent result host' agent'
+    reads-well {T} {U} value result other reads runs = record {
       quiet = reads.quiet;
       disk = reads.cause.stays (λ e. cc);
       tells = reads.tells;
@@ -119,10 +124,11 @@ module _ (honest : Type 0) (host : Seen) (agent : AgentState) where
       id = reads.id;
       registry = reads.registry;
       ready = reads.ready;
+      bound = runs;
     }
 
-    pub reads-badly : {T U : Type 0} (fault : AgentFault) → Reads {T = T} honest host agent (Err fault) host' agent' → OnlyReads {T = U} honest host agent (Err (Agent fault)) host' agent'
-    reads-badly {T} {U} fault reads = record {
+    pub reads-badly : {T U : Type 0} (fault : AgentFault) → Reads {T = T} honest host agent (Err fault) host' agent' → RunsWithin honest 0 host agent host' agent' → OnlyReads {T = U} honest host agent (Err (Agent fault)) host' agent'
+    reads-badly {T} {U} fault reads runs = record {
       quiet = reads.quiet;
       disk = reads.cause.stays (λ is. asked (inside is) reads.faults);
       tells = reads.tells;
@@ -133,6 +139,7 @@ module _ (honest : Type 0) (host : Seen) (agent : AgentState) where
       id = reads.id;
       registry = reads.registry;
       ready = reads.ready;
+      bound = runs;
     }
       where
         inside : failing T fault ≡ failing T agent_fault.DiskFault → fault ≡ agent_fault.DiskFault

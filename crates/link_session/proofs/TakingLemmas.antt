@@ -141,7 +141,16 @@ module _ (EndsAt : SessionResult → List Frame → Frame → Type 0) (link : Li
   }
 
   -- no frame is heard behind these
-  pub silence-taken : (fault : SessionFault) (frames : List Frame) (middle link' : LinkSeen) → HearsNoMore fault frames link.left middle link' → TakesLink EndsAt (Err fault) link link'
+  pub silence-over : (fault : SessionFault) (frames : List Frame) (taken rest : List ℕ) (left : Option (List ℕ)) (broken : Option PeerFault) → IsSilentFor fault broken taken rest left → IsBrokenBy broken rest → IsEndOver EndsAt (Err fault) frames taken rest left
+  silence-over LinkFault frames taken rest left broken silent breaks = tt
+  silence-over (Agent other) frames taken rest left broken silent breaks = tt
+  silence-over (PeerRefused other) frames taken rest left broken silent breaks = inr (subst (λ (b : Option PeerFault). IsBrokenBy b rest) silent breaks)
+  silence-over Ended frames taken rest left broken silent breaks = (silent.1, silent.2, silent.3)
+  silence-over InputLimit frames taken rest left broken silent breaks = (silent.1, silent.2)
+  silence-over TellFault frames taken rest left broken silent breaks = tt
+  silence-over Memory frames taken rest left broken silent breaks = tt
+
+  abbrev pub silence-taken : (fault : SessionFault) (frames : List Frame) (middle link' : LinkSeen) → HearsNoMore fault frames link.left middle link' → TakesLink EndsAt (Err fault) link link'
   silence-taken fault frames middle link' hears = record {
     taken = hears.taken;
     takes = hears.takes;
@@ -149,20 +158,22 @@ module _ (EndsAt : SessionResult → List Frame → Frame → Type 0) (link : Li
     frames = frames;
     rest = hears.rest;
     cut = hears.cut;
-    why = by fault hears.broken hears.why hears.breaks;
+    why = silence-over fault frames hears.taken hears.rest link'.left hears.broken hears.why hears.breaks;
   }
-    where
-      by : (fault : SessionFault) (broken : Option PeerFault) → IsSilentFor fault broken hears.taken hears.rest link'.left → IsBrokenBy broken hears.rest → IsEndOver EndsAt (Err fault) frames hears.taken hears.rest link'.left
-      by LinkFault broken silent breaks = tt
-      by (Agent other) broken silent breaks = tt
-      by (PeerRefused other) broken silent breaks = inr (subst (λ (b : Option PeerFault). IsBrokenBy b hears.rest) silent breaks)
-      by Ended broken silent breaks = (silent.1, silent.2, silent.3)
-      by InputLimit broken silent breaks = (silent.1, silent.2)
-      by TellFault broken silent breaks = tt
-      by Memory broken silent breaks = tt
 
   -- it ends at a frame behind these
-  pub frame-taken : (before : List Frame) (f : Frame) (incoming : Incoming) (link' : LinkSeen) → HasGiven incoming link.left link'.left (before ++ f ∷ []) → (result : Result Flow SessionFault) → (result ≡ Ok GoesOn → ⊥) → EndsOnlyAt (λ (r : SessionResult). EndsAt r before f) result
+  pub frame-over : (before : List Frame) (f : Frame) (taken rest : List ℕ) (left : Option (List ℕ)) (result : Result Flow SessionFault) → (result ≡ Ok GoesOn → ⊥) → EndsOnlyAt (λ (r : SessionResult). EndsAt r before f) result → IsEndOver EndsAt (result_of result) (before ++ f ∷ []) taken rest left
+  frame-over before f taken rest left (Ok GoesOn) over only = absurd (over refl)
+  frame-over before f taken rest left (Ok Done) over only = record { before = before; final = f; whole = refl; ends = only }
+  frame-over before f taken rest left (Err LinkFault) over only = tt
+  frame-over before f taken rest left (Err (Agent other)) over only = tt
+  frame-over before f taken rest left (Err (PeerRefused other)) over only = inl (record { before = before; final = f; whole = refl; ends = only })
+  frame-over before f taken rest left (Err Ended) over only = absurd only
+  frame-over before f taken rest left (Err InputLimit) over only = absurd only
+  frame-over before f taken rest left (Err TellFault) over only = tt
+  frame-over before f taken rest left (Err Memory) over only = tt
+
+  abbrev pub frame-taken : (before : List Frame) (f : Frame) (incoming : Incoming) (link' : LinkSeen) → HasGiven incoming link.left link'.left (before ++ f ∷ []) → (result : Result Flow SessionFault) → (result ≡ Ok GoesOn → ⊥) → EndsOnlyAt (λ (r : SessionResult). EndsAt r before f) result
       → TakesLink EndsAt (result_of result) link link'
   frame-taken before f incoming link' given result over only =
       let rest = flat_map frame_bytes (waiting incoming) ++ given.rest in
@@ -173,16 +184,5 @@ module _ (EndsAt : SessionResult → List Frame → Frame → Type 0) (link : Li
         frames = before ++ f ∷ [];
         rest = rest;
         cut = prefix-handed given.taken given.rest (before ++ f ∷ []) (waiting incoming) given.cut;
-        why = by result over only rest;
+        why = frame-over before f given.taken rest link'.left result over only;
       }
-    where
-      by : (result : Result Flow SessionFault) → (result ≡ Ok GoesOn → ⊥) → EndsOnlyAt (λ (r : SessionResult). EndsAt r before f) result → (rest : List ℕ) → IsEndOver EndsAt (result_of result) (before ++ f ∷ []) given.taken rest link'.left
-      by (Ok GoesOn) over only rest = absurd (over refl)
-      by (Ok Done) over only rest = record { before = before; final = f; whole = refl; ends = only }
-      by (Err LinkFault) over only rest = tt
-      by (Err (Agent other)) over only rest = tt
-      by (Err (PeerRefused other)) over only rest = inl (record { before = before; final = f; whole = refl; ends = only })
-      by (Err Ended) over only rest = absurd only
-      by (Err InputLimit) over only rest = absurd only
-      by (Err TellFault) over only rest = tt
-      by (Err Memory) over only rest = tt

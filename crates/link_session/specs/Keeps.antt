@@ -1,6 +1,8 @@
--- What a crash leaves of a history that goes on, and what was told of it by then.
+-- What a crash leaves of a history that goes on, what was told of it by then, and a disk on which nothing happens.
 use Rattle.std.specs.Prelude.{◌≡◌, ℕ, ◌^◌, ◌<◌, ◌≤◌, List, ◌∷◌, ◌++◌, length, drop, All, codes, decimal}
 use Rattle.host_model.specs.declared.file.File.{File}
+use Rattle.host_model.specs.Moments.{Throughout}
+use Rattle.host_model.specs.Past.{of, Event}
 use Rattle.history.specs.History.{Beat}
 use Rattle.plugin_text.specs.Lines.{lines}
 use Rattle.tier_settings.specs.declared.settings.Settings.{Settings}
@@ -18,6 +20,10 @@ stored_line n = codes "STORED " ++ decimal n
 -- no whole line of what was told acknowledges a beat behind the first n; a number that is told is below 2^64
 abbrev pub IsAckedUpTo : ℕ → List ℕ → Type 0
 IsAckedUpTo n text = All (λ (said : List ℕ). (m : ℕ) → m < 2 ^ 64 → said ≡ stored_line m → m ≤ n) (lines text)
+
+-- at every moment nothing has happened to any file
+abbrev pub LeavesFiles : (old new : List Event) → Type 0
+LeavesFiles old new = Throughout (λ past. (file : File) → of file past ≡ of file old) old new
 
 -- The disk holds this history with a prefix of the new beats, and every beat that was acknowledged since. `before` is
 -- what had been told before.

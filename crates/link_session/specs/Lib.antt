@@ -4,6 +4,7 @@ pub mod Incoming
 pub mod Keeps
 pub mod Parent
 pub mod Session
+pub mod Steps
 pub mod Taking
 pub mod Sending
 pub mod Receiving

@@ -1,5 +1,5 @@
 -- What a parent does with the frames of its child.
-use Rattle.std.specs.Prelude.{ℕ, ◌==◌, Bool, false, not, List, [], ◌∷◌, length, Option, Some, None, Ok, Err, if◌then◌else◌}
+use Rattle.std.specs.Prelude.{◌≡◌, ℕ, ◌==◌, Bool, false, not, List, [], ◌∷◌, ◌++◌, length, Option, Some, None, Ok, Err, if◌then◌else◌}
 use Rattle.std.specs.Option.{option_map_or}
 use Rattle.history.specs.declared.fault.BlockFault.{BlockFault}
 use Rattle.history.specs.History.{Beat, child, last, registry_of}
@@ -18,7 +18,7 @@ use Rattle.agent_core.specs.Replies.{reply_text}
 use Rattle.agent_core.specs.Roles.{role_of}
 use Rattle.link_session.specs.declared.fault.PeerFault.TheVariants.{BadFrame, WrongChild}
 use Rattle.link_session.specs.declared.fault.SessionFault.TheVariants.{Agent, PeerRefused}
-use Rattle.link_session.specs.Exchange.{Course, ends, leaves, nothing, refuses, says}
+use Rattle.link_session.specs.Exchange.{exchange, Course, ends, leaves, nothing, refuses, says}
 
 -- what a parent knows: its history, and the id that the child told, once it has
 pub record Parent : Type 0 where
@@ -75,3 +75,24 @@ hears_next set id h f = refuses BadFrame (copies id h)
 
 abbrev pub parent_does : Settings → Parent → Frame → Course Parent
 parent_does set parent f = option_map_or (λ id. hears_next set id parent.history f) parent.peer (hears_first parent.history f)
+
+-- what a parent with this history does with these frames
+abbrev pub done_with : Settings → List Beat → List Frame → Course Parent
+done_with set h0 frames = exchange (parent_does set) (parent_begins h0) frames
+
+-- a parent that knows this is to store the frame: it is a Data that begins where the history ends, and nothing refuses it
+pub record IsToStore (parent : Parent) (f : Frame) : Type 0 where
+  pub id : ℕ
+  pub peer : parent.peer ≡ Some id
+  pub message : Data
+  pub is : f ≡ frame.Data message
+  pub stored : verdict_of parent.history message ≡ verdict.Stored
+  pub free : copy_refusal (registry_of parent.history) (role_of parent.history) message ≡ None
+
+-- the last of these frames is a Data that the parent is to store, whose session goes on behind those before it
+pub record StoresAtLast (set : Settings) (h0 : List Beat) (frames : List Frame) : Type 0 where
+  pub before : List Frame
+  pub final : Frame
+  pub whole : frames ≡ before ++ final ∷ []
+  pub goes_on : (done_with set h0 before).ended ≡ None
+  pub stores : IsToStore (done_with set h0 before).now final

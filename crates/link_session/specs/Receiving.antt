@@ -1,5 +1,5 @@
 -- What `receive` promises.
-use Rattle.std.specs.Prelude.{◌≡◌, ◌⊎◌, ℕ, Bool, true, false, List, [], ◌∷◌, ◌++◌, length, Option, Some, Result, Ok, Err, IfSome, IfErr, IsErrOf, take, ◌≤◌}
+use Rattle.std.specs.Prelude.{◌≡◌, ◌⊎◌, ℕ, ◌<◌, Bool, true, false, List, [], ◌∷◌, ◌++◌, length, Option, Some, Result, Ok, Err, IfSome, IfErr, IsErrOf, take, ◌≤◌}
 use Rattle.std.specs.List.{flat_map, AllByRecursion}
 use Rattle.host_model.specs.declared.file.File.{File}
 use Rattle.host_model.specs.Cause.{HasCause}
@@ -20,6 +20,7 @@ use Rattle.store_core.specs.disk.Holds.{IsForeign}
 use Rattle.agent_core.specs.declared.fault.AgentFault.{AgentFault}
 use Rattle.agent_core.specs.declared.fault.AgentFault.TheVariants as agent_fault
 use Rattle.agent_core.specs.Agent.{id_of, AgentIsReady, AgentState, IsAgentOf, IsSoundBy}
+use Rattle.agent_core.specs.Bound.{RunsWithin}
 use Rattle.agent_core.specs.Copies.{seen_moment, IsCopyOfChild, IsTrueOfChild, SeenBeat}
 use Rattle.agent_core.specs.Kept.{onto}
 use Rattle.agent_core.specs.Stands.{StandsForHistory}
@@ -30,10 +31,11 @@ use Rattle.link_session.specs.declared.fault.PeerFault.TheVariants.{BadFrame}
 use Rattle.link_session.specs.declared.flow.Flow.{Flow}
 use Rattle.link_session.specs.declared.flow.Flow.TheVariants.{GoesOn, Done}
 use Rattle.link_session.specs.Exchange.{broken_by, exchange, Course, SessionResult}
-use Rattle.link_session.specs.Keeps.{Extends, IsAckedUpTo, Keeps}
-use Rattle.link_session.specs.Parent.{parent_begins, parent_does, Parent}
+use Rattle.link_session.specs.Keeps.{Extends, IsAckedUpTo, Keeps, LeavesFiles}
+use Rattle.link_session.specs.Parent.{done_with, parent_begins, parent_does, Parent, StoresAtLast}
 use Rattle.link_session.specs.Sending.{spent_by}
 use Rattle.link_session.specs.Session.{is_refusal, result_of, DoesSo, Exchanges, Leaves, LinkSeen, SaysThen}
+use Rattle.link_session.specs.Steps.{data_in}
 use Rattle.link_session.specs.Taking.{ParentEndsAt, TakesLink}
 
 -- ---- what was told and stored
@@ -44,6 +46,17 @@ keeps_all (Err (Agent fault)) = is_refusal fault
 keeps_all (Err TellFault) = false
 keeps_all (Err Memory) = false
 keeps_all result = true
+
+-- the disk or memory failed the agent while it did what it was asked
+abbrev pub is_spent_by : SessionResult → Bool
+is_spent_by (Err (Agent agent_fault.DiskFault)) = true
+is_spent_by (Err (Agent agent_fault.Memory)) = true
+is_spent_by result = false
+
+-- a Data was not stored and told to its end: the agent was spent on it, or the output failed
+abbrev pub is_for_data : SessionResult → Bool
+is_for_data (Err TellFault) = true
+is_for_data result = is_spent_by result
 
 -- a prefix of this was told since, and all of it where `all` says so
 pub record TellsPrefix (all : Bool) (text : List ℕ) (old new : List Event) : Type 0 where
@@ -66,6 +79,11 @@ pub record AnswersStored (set : Settings) (h0 : List Beat) (frames : List Frame)
   pub all : IfSome broken (λ _. length frames ≤ n)
   pub says : SendsPrefix sent (flat_map frame_bytes (broken_by broken (exchange (parent_does set) (parent_begins h0) (take n frames))).sent) sent'
   pub stored : HasStored set (exchange (parent_does set) (parent_begins h0) (take n frames)).now.history old (exchange (parent_does set) (parent_begins h0) (take n frames)).told new
+
+-- the agent was spent on a Data that it was to store: all that was told is what came of the frames before it
+pub record FailsAtData (set : Settings) (h0 : List Beat) (frames : List Frame) (old new : List Event) : Type 0 where
+  pub at : StoresAtLast set h0 frames
+  pub tells : told new ≡ told old ++ (done_with set h0 at.before).told
 
 -- ---- an agent that stores, and a host that is told
 
@@ -127,12 +145,27 @@ pub record CopiesSo (set : Settings) (h0 h : List Beat) (start : List Event) (ma
   pub unsaid : keeps_all (result_of result) ≡ false → (sent' ≡ sent) × HasStored set h start made new
   pub goes_on : HasGoneOn (keeps_all (result_of result)) new agent' set h0 course.now.history
 
--- a parent did this at a frame, which depends on the history that its agent is of
-pub record ParentTakes (honest : Type 0) (host : Seen) (agent : AgentState) (course : Settings → List Beat → Course Parent) (result : Result Flow SessionFault) (host' : Seen) (agent' : AgentState) (peer' : Option ℕ) (sent sent' : Option (List ℕ)) : Type 0 where
+-- what a parent does at a frame is to store beats, to tell of them and to say Have
+abbrev pub SaysHas : Course Parent → Type 0
+SaysHas course = (last : ℕ) × (course.sent ≡ frame.Have last ∷ [])
+
+-- what failed at a frame, and what was told and written, was for what a parent with history `h` does there
+pub record OnlyFor (h : List Beat) (course : Course Parent) (result : SessionResult) (old new : List Event) : Type 0 where
+  -- the disk and memory fail the agent, and the output fails, only where beats are stored and told
+  pub stores : is_for_data result ≡ true → SaysHas course
+  -- where the agent is spent nothing is told
+  pub silent : is_spent_by result ≡ true → told new ≡ told old
+  -- where nothing is added to the history, nothing happens to any file
+  pub quiet : course.now.history ≡ h → LeavesFiles old new
+
+-- a parent did this at a frame, which depends on the history that its agent is of, and added at most so many gaps
+pub record ParentTakes (honest : Type 0) (host : Seen) (agent : AgentState) (added : ℕ) (course : Settings → List Beat → Course Parent) (result : Result Flow SessionFault) (host' : Seen) (agent' : AgentState) (peer' : Option ℕ) (sent sent' : Option (List ℕ)) : Type 0 where
   pub does : honest → (set : Settings) (h0 h : List Beat) (start : List Event) (made : List ℕ) → StoresAt host.past agent set h0 h start made
       → CopiesSo set h0 h start made (course set h) peer' result agent' host'.past sent sent'
+  pub only_for : honest → (set : Settings) (h : List Beat) → IsAgentOf host.past agent set h → OnlyFor h (course set h) (result_of result) host.past host'.past
   pub stores : StoresOnly honest host agent result host' agent'
   pub faults : IfErr result IsReceiving
+  pub bound : RunsWithin honest added host agent host' agent'
 
 -- what a child says is true of one that is these beats and had these floors
 abbrev pub IsTrueFrame : (floors : List ℕ) (child : List SeenBeat) → Frame → Type 0
@@ -153,6 +186,14 @@ pub record Copies (set : Settings) (h0 : List Beat) (result : SessionResult) (ol
   pub output : TellsPrefix (keeps_all result) (exchange (parent_does set) (parent_begins h0) exchanges.frames).told old new
   -- what is told is whole lines
   pub closed : keeps_all result ≡ true → rest (exchange (parent_does set) (parent_begins h0) exchanges.frames).told ≡ []
+  -- where more frames than these were looked at, all that these were to store and tell was stored and told
+  pub in_turn : (n : ℕ) → n < length exchanges.frames → HasStored set (done_with set h0 (take n exchanges.frames)).now.history old (done_with set h0 (take n exchanges.frames)).told new
+  -- the disk and memory fail the agent only at a Data that it is to store: all before that was stored and told
+  pub stored_for : is_spent_by result ≡ true → FailsAtData set h0 exchanges.frames old new
+  -- the output fails only while a Data that was stored is told
+  pub told_for : result ≡ Err TellFault → StoresAtLast set h0 exchanges.frames
+  -- where nothing is added to the history, nothing happens to any file
+  pub quiet : (done_with set h0 exchanges.frames).now.history ≡ h0 → LeavesFiles old new
   -- a history that was a copy of a child is one at every moment, where each Data that came is true of the child
   pub copy : (floors : List ℕ) (child : List SeenBeat) → RisesFrom seen_moment 0 child → IsCopyOfChild floors child h0 → AreTrueOf floors child exchanges.frames
       → Throughout (EveryDisk (λ disk. (h : List Beat) × StandsForHistory set h disk × IsCopyOfChild floors child h)) old new
@@ -167,6 +208,9 @@ pub record ReceivesHistory (honest : Type 0) (host : Seen) (agent : AgentState) 
   pub faults : IfErr result IsReceiving
   -- whatever the host tells, no more is taken of the link than may be, and its bytes say why it ended
   pub taking : TakesLink ParentEndsAt result link link'
+  -- each file of the database stays within its share, where a side with the agent's gaps, and with one more for each Data that
+  -- was taken, has at most so many bytes
+  pub bound : RunsWithin honest (length (data_in taking.frames)) host agent host' agent'
   -- the link fails exactly where it counted a failure
   pub cause : HasCause link.faults link'.faults (IsErrOf result LinkFault)
 

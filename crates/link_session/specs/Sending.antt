@@ -7,6 +7,7 @@ use Rattle.tier_settings.specs.declared.settings.Settings.{Settings}
 use Rattle.store_core.specs.declared.fault.Why.{Why}
 use Rattle.agent_core.specs.declared.fault.AgentFault.TheVariants as agent_fault
 use Rattle.agent_core.specs.Agent.{id_of, AgentIsReady, AgentState, IsAgentOf}
+use Rattle.agent_core.specs.Bound.{RunsWithin}
 use Rattle.agent_core.specs.Copies.{data_of_history}
 use Rattle.agent_core.specs.Faults.{fault_after, IsReading}
 use Rattle.link_session.specs.declared.fault.SessionFault.{SessionFault}
@@ -46,6 +47,8 @@ pub record OnlyReads {T : Type 0} (honest : Type 0) (host : Seen) (agent : Agent
   pub registry : agent'.registry ≡ agent.registry
   -- what a later call requires
   pub ready : AgentIsReady honest host'.past agent'
+  -- each file of the database stays within its share, where a side with the agent's gaps has at most so many bytes
+  pub bound : RunsWithin honest 0 host agent host' agent'
 
 -- the faults of `send`
 abbrev pub IsSending : SessionFault → Type 0

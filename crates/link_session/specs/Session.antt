@@ -1,5 +1,5 @@
 -- What a session over a link comes to, whichever end it is of.
-use Rattle.std.specs.Prelude.{◌≡◌, ℕ, ◌<◌, ◌≤◌, Bool, true, false, List, [], ◌∷◌, ◌++◌, length, Option, Some, None, IfSome, OnOk, Result, Ok, Err}
+use Rattle.std.specs.Prelude.{◌≡◌, ℕ, ◌<◌, ◌≤◌, Bool, true, false, List, [], ◌∷◌, ◌++◌, length, take, Option, Some, None, IfSome, OnOk, Result, Ok, Err}
 use Rattle.std.specs.List.{flat_map}
 use Rattle.host_model.specs.Link.{Sends, SendsPrefix}
 use Rattle.host_model.specs.Source.{Takes}
@@ -50,6 +50,10 @@ pub record SaysPrefix (all : Bool) (frames : List Frame) (sent sent' : Option (L
   pub sends : Sends sent said sent'
   pub complete : all ≡ true → unsaid ≡ []
 
+-- at least these bytes were sent
+abbrev pub SendsAtLeast : Option (List ℕ) → List ℕ → Option (List ℕ) → Type 0
+SendsAtLeast sent bytes sent' = (more : List ℕ) × Sends sent (bytes ++ more) sent'
+
 -- such a fault stands behind the frames
 abbrev pub IsBrokenBy : Option PeerFault → List ℕ → Type 0
 IsBrokenBy None rest = Unit {0}
@@ -89,6 +93,8 @@ pub record Exchanges {S : Type 0} (does : S → Frame → Course S) (begin : Cou
   pub breaks : IsBrokenBy broken rest
   pub says : SaysPrefix (says_all result) (broken_by broken (exchange does begin frames)).sent link.sent link'.sent
   pub why : IsEndFor result (broken_by broken (exchange does begin frames)).ended taken rest link'.left
+  -- where more frames than these were looked at, what was said answers at least these: none waits for a later one
+  pub in_turn : (n : ℕ) → n < length frames → SendsAtLeast link.sent (flat_map frame_bytes (exchange does begin (take n frames)).sent) link'.sent
 
 -- ---- a session under way
 

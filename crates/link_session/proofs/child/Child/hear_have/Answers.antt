@@ -1,4 +1,4 @@
-use Rattle.std.proofs.Common.{◌≡◌, ℕ, Option, subst}
+use Rattle.std.proofs.Common.{ℕ, subst}
 use Rattle.agent_core.specs.Copies.{data_of_history}
 use Rattle.link_session.specs.Child.{answers, hears_have}
 use Rattle.link_session.specs.Sending.{ChildTakes}

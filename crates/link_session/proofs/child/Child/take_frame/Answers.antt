@@ -2,7 +2,9 @@ use Rattle.std.proofs.Common.{ap}
 use Rattle.link_frames.specs.declared.frame.Frame.{Frame}
 use Rattle.agent_core.specs.Copies.{data_of_history}
 use Rattle.link_session.specs.Child.{child_does}
-use Rattle.link_session.proofs.ChildLemmas.{takes-refused}
+use Rattle.link_session.specs.Session.{DoesSo}
+use Rattle.link_session.proofs.ChildLemmas.{takes-nothing, takes-refused}
+use Rattle.link_session.proofs.SendingLemmas.{refusing-outside, refusing-sends}
 use Rattle.std.proofs.Common.{subst, sym, Err}
 use Rattle.agent_core.specs.Agent.{id_of}
 use Rattle.link_session.specs.Exchange.{SessionResult}
@@ -39,3 +41,11 @@ returns-in-Hello-clause-ends g c =
 pub returns-in-Data-clause-ends : goal.returns-in-Data-clause-ends
 returns-in-Data-clause-ends g c =
     bad-only (id_of c.args.agent.now) c.args.frame.now c.refuse-in-Data.result _ _ (subst (IsBadToChild (id_of c.args.agent.now)) (sym c.in-Data.is) tt) c.refuse-in-Data.ensures.leaves
+
+pub returns-in-Bye-clause-takes : goal.returns-in-Bye-clause-takes
+returns-in-Bye-clause-takes g c =
+    let last = c.args.self.now.last in
+    let ended = c.hear_bye.result in
+    takes-nothing g.H.Host.honest (g.H.Host.seen c.args.host.now) c.args.agent.now (λ set h. child_does set.id (data_of_history set h) last c.args.frame.now) last (Err ended) _ _
+    (refusing-outside ended c.hear_bye.ensures.faults) (refusing-sends ended c.hear_bye.ensures.faults) c.requires
+    (λ set h is_of. subst (λ (f : Frame). DoesSo (child_does set.id (data_of_history set h) last f) last (Err ended) (g.L.Link.sent c.args.link.now) (g.L.Link.sent c.hear_bye.new.link)) (sym c.in-Bye.is) c.hear_bye.ensures.does)

@@ -24,7 +24,7 @@ returns-in-Err-clause-takes g c =
     let host = g.H.Host.seen c.args.host.now in
     let middle = g.H.Host.seen c.take.new.host in
     data-badly g.H.Host.honest host c.args.agent.now c.args.message.now middle c.take.new.self c.args.id c.in-Err.fault
-    (subst (λ (r : Result (Verdict × Reply) AgentFault). TakesData g.H.Host.honest host c.args.agent.now c.args.message.now r middle c.take.new.self) c.in-Err.is c.take.ensures) _
+    (subst (λ (r : Result (Verdict × Reply) AgentFault). TakesData g.H.Host.honest host c.args.agent.now c.args.message.now r middle c.take.new.self) c.in-Err.is c.take.ensures) c.requires.form _
 
 pub returns-in-Stored-clause-takes : goal.returns-in-Stored-clause-takes
 returns-in-Stored-clause-takes g c =
@@ -34,7 +34,7 @@ returns-in-Stored-clause-takes g c =
     data-stored g.H.Host.honest host c.args.agent.now c.args.message.now middle c.take.new.self c.args.id reply
     (subst (λ (v : Verdict). TakesData g.H.Host.honest host c.args.agent.now c.args.message.now (Ok (v, reply)) middle c.take.new.self) c.in-Stored.is
     (subst (λ (r : Result (Verdict × Reply) AgentFault). TakesData g.H.Host.honest host c.args.agent.now c.args.message.now r middle c.take.new.self) c.in-Ok.is c.take.ensures))
-    c.have.result (g.H.Host.seen c.have.new.host) _ _ c.have.ensures.says c.have.ensures.tells c.have.ensures.disk
+    c.have.result (g.H.Host.seen c.have.new.host) _ _ c.have.ensures.says c.requires.form c.have.ensures.tells c.have.ensures.disk
 
 pub returns-in-Old-clause-takes : goal.returns-in-Old-clause-takes
 returns-in-Old-clause-takes g c =
