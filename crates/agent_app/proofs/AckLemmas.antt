@@ -7,21 +7,11 @@ use Rattle.point_lines.specs.declared.refusal.Refusal.{Refusal}
 use Rattle.point_lines.specs.declared.refusal.Refusal.TheVariants as refusal
 use Rattle.point_lines.specs.Judged.{refusal_number}
 use Rattle.query_text.proofs.ReplyLemmas.{free-append, IsFree}
-use Rattle.agent_core.specs.declared.reply.Reply.{Reply}
-use Rattle.agent_core.specs.Replies.{reply_text}
 use Rattle.link_session.specs.Keeps.{IsAckedUpTo}
-use Rattle.link_session.proofs.AckLemmas.{acked-one, decimal-free}
+use Rattle.link_session.proofs.AckLemmas.{acked-one, decimal-free, has-first}
 use Rattle.agent_app.specs.Convert.{is_limit, refusal_line, refusal_tail}
 
 -- ---- what is told
--- a text that is not empty
-abbrev pub has-first : List ℕ → Bool
-has-first [] = false
-has-first (byte ∷ text) = true
-
-pub stored-some : (reply : Reply) → reply_text reply ≡ [] → ⊥
-stored-some reply none = true≢false (ap has-first none)
-
 -- what stands between two texts that are none together
 pub middle-none : (first middle last : List ℕ) → first ++ (middle ++ last) ≡ [] → middle ≡ []
 middle-none [] [] last none = refl

@@ -33,6 +33,7 @@ use Rattle.agent_app.specs.Collect.{ends_a_collect, halt_status, Collects, Colle
 use Rattle.agent_app.specs.Reading.{Ending}
 use Rattle.agent_app.specs.Run.{ends_a_run, finds_none, is_whole, run_reading, HasRunCause, Stores}
 use Rattle.agent_app.specs.Running.{opening_status, run_acts, DiskRose, TellRose}
+use Rattle.agent_app.proofs.BoundLemmas.{unopened-grows}
 use Rattle.agent_app.proofs.CauseLemmas.{cause-as, stayed}
 use Rattle.agent_app.proofs.ChildrenLemmas.{ends-as-children}
 use Rattle.agent_app.proofs.MadeLemmas.{made-all}
@@ -113,6 +114,7 @@ module _ (honest : Type 0) (host host' : Seen) (first : honest → IsDisk host.p
     leaves = λ _. (refl, unopened-host honest host host' first why opens);
     untaken = λ h none. (refl, unopened-host honest host host' first why opens);
     others = λ h. (opens.only_here h).others;
+    bound = unopened-grows honest host host' why 0 opens;
     spawns = omega arith;
     spawn_cause = λ is. absurd (unstarted why is);
     tell_cause = stayed host.tell_faults host'.tell_faults (opening_status why ≡ status.TellFault) opens.tells (untold-yet honest host host' first why);
@@ -292,6 +294,7 @@ module _ {H : Type 0} (honest : Type 0) (seen : H → Seen) (host : Seen) (agent
         leaves = λ none. absurd (found-collect s ends_as.ends none);
         untaken = λ h none. absurd (none (opens.notes h));
         others = since.others;
+        bound = since.bound;
         spawns = later;
         spawn_cause = ends_as.spawned;
         tell_cause = cause-as host.tell_faults (seen host').tell_faults (s0 ≡ status.TellFault) (s ≡ status.TellFault) ends_as.told ends_as.told_back since.counts.tells;

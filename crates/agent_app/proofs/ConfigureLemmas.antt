@@ -25,16 +25,17 @@ use Rattle.agent_core.specs.Health.{health_refusal}
 use Rattle.agent_core.specs.Stands.{StandsForHistory}
 use Rattle.link_session.specs.Keeps.{Extends, no_more, one_more, Keeps}
 use Rattle.link_session.proofs.StoreLemmas.{keeps-more, stands-all}
+use Rattle.link_session.proofs.LeavesLemmas.{leaves-nothing}
 use Rattle.agent_app.specs.Health.{ends_health, fault_text, health_output, health_status, history_by, history_with_health, is_over, status_of, told_by, Configures, ConfiguresAll, ConfiguresOn, Handled, HasHealthCause, StopsAt, StoresHealth, TellsFault}
 use Rattle.agent_app.specs.declared.health_text.HealthEnd.{HealthEnd}
 use Rattle.agent_app.specs.declared.health_text.HealthEnd.TheVariants.{ReadFault, TooLong, Memory as WantMemory}
 use Rattle.agent_app.specs.HealthText.{TakesText}
 use Rattle.agent_app.specs.Run.{ends_a_run, finds_none, is_whole}
 use Rattle.agent_app.specs.Running.{opening_status, Counts, DiskRose, IsTakers, TellRose}
+use Rattle.agent_app.proofs.BoundLemmas.{grows-before, idle-grows, opened-grows, unopened-grows}
 use Rattle.agent_app.proofs.CauseLemmas.{both-counts, cause-as, same-counts, stayed}
 use Rattle.agent_app.proofs.OpeningLemmas.{by-fault, complete-by, disk-failed, failed_by, fault-is, opened-finds, opened_with, opening-crashes, some-each, unopened-finds, unopened-leaves, unread, untold-yet}
 use Rattle.agent_app.proofs.HealthLemmas.{fault-ends, fault-stays, fault-told-files, fault-told-leaves, fault-told-never, fault-told-takers, refused-by}
-use Rattle.agent_app.proofs.LeavesLemmas.{leaves-nothing}
 use Rattle.agent_app.proofs.RunLemmas.{both-others}
 
 abbrev taken_as : List ℕ → Result (List ℕ) HealthEnd
@@ -187,6 +188,7 @@ module _ (honest : Type 0) (agent : AgentState) (host : Seen) (left left' : Opti
     ends = takers-end s stores.statuses;
     counts = stores.counts;
     others = stores.others;
+    bound = stores.bound;
     read_cause = cause-as faults faults' (taken_as text ≡ untaken_for ReadFault) (s ≡ status.ReadFault) (λ is. absurd (no-takers s stores.statuses is)) (λ e. absurd (no-read text e)) cause;
   }
     where
@@ -214,6 +216,7 @@ module _ (honest : Type 0) (agent : AgentState) (host : Seen) (left left' : Opti
           ends = takers-end s (fault-told-takers s honest TextTooLong host.past host'.past (TellRose host host') telling);
           counts = record { tells = tells; disk = stayed host.disk_faults host'.disk_faults (s ≡ status.DiskFault) stays (fault-told-never s honest TextTooLong host.past host'.past (TellRose host host') telling) };
           others = λ h file other. fault-told-files s honest TextTooLong host.past host'.past (TellRose host host') telling h file;
+          bound = λ h. grows-before agent 0 host.past host.past host'.past (idle-grows agent host.past) (fault-told-leaves s honest TextTooLong host.past host'.past (TellRose host host') telling h);
           read_cause =
               cause-as faults faults' (untaken_for end ≡ untaken_for ReadFault) (s ≡ status.ReadFault) (λ e. absurd (fault-stays s honest TextTooLong host.past host'.past (TellRose host host') telling e))
               (λ e. absurd (not-read is e)) cause;
@@ -243,6 +246,7 @@ module _ (honest : Type 0) (agent : AgentState) (host : Seen) (left left' : Opti
           ends = refl;
           counts = same-counts host (status.ReadFault ≡ status.TellFault) (status.ReadFault ≡ status.DiskFault) (λ e. cc) (λ e. cc);
           others = λ h file other. refl;
+          bound = λ h. idle-grows agent host.past;
           read_cause = cause-as faults faults' (untaken_for end ≡ untaken_for ReadFault) (status.ReadFault ≡ status.ReadFault) (λ e. ap untaken_for is) (λ e. refl) cause;
         }
       where
@@ -264,6 +268,7 @@ module _ (honest : Type 0) (agent : AgentState) (host : Seen) (left left' : Opti
       ends = refl;
       counts = same-counts host (status.Memory ≡ status.TellFault) (status.Memory ≡ status.DiskFault) (λ e. cc) (λ e. cc);
       others = λ h file other. refl;
+      bound = λ h. idle-grows agent host.past;
       read_cause =
           cause-as faults faults' (untaken_for end ≡ untaken_for ReadFault) (status.Memory ≡ status.ReadFault) (λ e. absurd (apart e)) (λ e. absurd (other (end-is end ReadFault e))) cause;
     }
@@ -362,6 +367,7 @@ module _ (honest : Type 0) (host : Seen) (agent : AgentState) (middle : Seen) (o
     leaves = λ none. absurd (found s none handled.ends);
     untaken = λ h none. absurd (none (opens.notes h));
     others = both-others honest host middle host' (λ h. (opens.only_here h).others) handled.others;
+    bound = λ h. opened-grows honest host middle agent 0 host'.past opens h (handled.bound h);
     read_cause = handled.read_cause;
     tell_cause = all-counts.tells;
     disk_cause = all-counts.disk;
@@ -421,6 +427,7 @@ module _ (honest : Type 0) (host host' : Seen) (first : honest → IsDisk host.p
     leaves = λ none. unopened-leaves honest host host' first why opens left faults;
     untaken = λ h none. unopened-leaves honest host host' first why opens left faults;
     others = λ h. (opens.only_here h).others;
+    bound = unopened-grows honest host host' why 0 opens;
     read_cause = stayed faults faults (opening_status why ≡ status.ReadFault) refl (unread honest host host' first why);
     tell_cause = stayed host.tell_faults host'.tell_faults (opening_status why ≡ status.TellFault) opens.tells (untold-yet honest host host' first why);
     disk_cause =

@@ -24,7 +24,7 @@ use Rattle.agent_core.specs.Calls.{ReadsAsBefore}
 use Rattle.agent_core.specs.Notes.{NotesGo}
 use Rattle.link_session.specs.declared.fault.SessionFault.TheVariants.{Memory}
 use Rattle.link_session.specs.Keeps.{no_more, IsAckedUpTo, Keeps}
-use Rattle.link_session.specs.Parent.{parent_begins, parent_does}
+use Rattle.link_session.specs.Parent.{done_with, parent_begins, parent_does}
 use Rattle.link_session.specs.Session.{Exchanges, LinkSeen}
 use Rattle.link_session.proofs.AckLemmas.{acked-nothing, acked-since, acked-weaker, text-prefix, IsPrefix}
 use Rattle.link_session.proofs.ExtendsLemmas.{extends-further, extends-length}
@@ -35,7 +35,7 @@ use Rattle.agent_app.specs.Course.{asked, begun, collected, configured, converte
 use Rattle.agent_app.specs.Health.{history_with_health, ConfiguresAll, ConfiguresFrom}
 use Rattle.agent_app.specs.New.{Makes}
 use Rattle.agent_app.specs.Query.{Asks}
-use Rattle.agent_app.specs.Receive.{done_with, ReceivesAll, ReceivesOn}
+use Rattle.agent_app.specs.Receive.{ReceivesAll, ReceivesOn}
 use Rattle.agent_app.specs.Run.{history_with_text, is_opened, is_whole, run_every, IsHostAsFound, OnceRead, RunsAll, RunsOn}
 use Rattle.agent_app.specs.Send.{SendsAll}
 use Rattle.agent_app.proofs.CollectLemmas.{heard-nothing}
@@ -95,6 +95,7 @@ unheard set h link = record {
   breaks = tt;
   says = record { said = []; unsaid = []; whole = refl; sends = sends-nothing link.sent; complete = λ all. refl };
   why = tt;
+  in_turn = λ n less. absurd (omega (arith, less));
 }
 
 link-nothing : (link link' : LinkSeen) → link' ≡ link → GivesNothing (OfLink link link')

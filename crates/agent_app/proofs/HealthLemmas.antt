@@ -30,18 +30,20 @@ use Rattle.agent_core.specs.Faults.{HealthRefusedBy, IsHealthRefusal, LeavesAll}
 use Rattle.agent_core.specs.Health.{health_refusal}
 use Rattle.agent_core.specs.Stands.{StandsForHealth, StandsForHistory}
 use Rattle.agent_core.specs.Replies.{reply_text}
+use Rattle.agent_core.proofs.RunLemmas.{health-runs}
 use Rattle.agent_core.proofs.StoredLemmas.{were_kept}
-use Rattle.link_session.specs.Keeps.{Extends, no_more, one_more, IsAckedUpTo, Keeps}
-use Rattle.link_session.proofs.AckLemmas.{acked-nothing, acked-one, acked-since, decimal-free, text-prefix}
+use Rattle.link_session.specs.Keeps.{no_more, one_more, Extends, IsAckedUpTo, Keeps, LeavesFiles}
+use Rattle.link_session.proofs.AckLemmas.{acked-nothing, acked-one, acked-since, decimal-free, stored-some, text-prefix}
 use Rattle.link_session.proofs.StoreLemmas.{stands-all}
-use Rattle.agent_app.specs.Convert.{LeavesFiles}
+use Rattle.link_session.proofs.LeavesLemmas.{leaves-nothing, may-told, one-told}
+use Rattle.agent_app.specs.Bound.{AgentGrows}
 use Rattle.agent_app.specs.Health.{fault_status, fault_text, health_output, history_by, history_with_health, is_limit, is_over, line_by, status_by, told_by, HasHealthCause, StopsAt, StoresHealth, TellsFault}
 use Rattle.agent_app.specs.Run.{is_whole, LeavesOthers}
 use Rattle.agent_app.specs.Running.{DiskRose, IsCutShort, IsTakers, TellRose}
-use Rattle.agent_app.proofs.AckLemmas.{first-free, first_word, no-stored, stored-some}
+use Rattle.agent_app.proofs.AckLemmas.{first-free, first_word, no-stored}
+use Rattle.agent_app.proofs.BoundLemmas.{cut-written, grows-before, idle-grows, runs-grow}
 use Rattle.agent_app.proofs.CauseLemmas.{apart, cause-as, ended-as, ended_so, is_outside, stayed, stayed-before, stayed-behind}
 use Rattle.agent_app.proofs.EventLemmas.{acked-told}
-use Rattle.agent_app.proofs.LeavesLemmas.{leaves-nothing, may-told, one-told}
 
 -- ---- the line of a refusal
 
@@ -373,6 +375,9 @@ module _ (honest : Type 0) (agent : AgentState) (text : List ℕ) (host : Seen) 
       → Throughout (EveryCrash (Keeps set h0 (history_by h0 text (health_refusal text)) (told host.past))) host.past middle.past
   kept h set h0 is_of = stores-moments set h0 text host.past middle.past (sets.any_moment h set h0 is_of) (silent h)
 
+  sets-grow : honest → AgentGrows agent 0 host.past middle.past
+  sets-grow h = runs-grow honest 0 host middle agent agent' (health-runs honest host middle agent agent' text result sets) h
+
   others-by : (host' : Seen) → (honest → (file : File) → of file host'.past ≡ of file middle.past) → LeavesOthers honest host host'
   others-by host' same h file other = same h file ∙ (sets.only_here h).others file other
 
@@ -395,6 +400,7 @@ module _ (honest : Type 0) (agent : AgentState) (text : List ℕ) (host : Seen) 
     statuses = tt;
     counts = record { tells = stayed host.tell_faults middle.tell_faults (DiskFault ≡ TellFault) sets.tells (λ e. cc); disk = disk-by DiskFault middle refl (λ e. is) (λ e. refl) };
     others = others-by middle (λ h file. refl);
+    bound = sets-grow;
   }
     where
       disk-apart : DiskFault ≡ TellFault → ⊥
@@ -415,6 +421,7 @@ module _ (honest : Type 0) (agent : AgentState) (text : List ℕ) (host : Seen) 
       disk = disk-by Memory middle refl (λ e. cc) (λ failed. absurd (short-fault (sym is ∙ failed)));
     };
     others = others-by middle (λ h file. refl);
+    bound = sets-grow;
   }
     where
       memory-apart : Memory ≡ DiskFault → ⊥
@@ -455,6 +462,7 @@ module _ (honest : Type 0) (agent : AgentState) (text : List ℕ) (host : Seen) 
         disk = disk-by s host' stays (λ e. absurd (fault-told-never s honest why host.past host'.past (TellRose host host') telling-here e)) (λ failed. absurd (other-fault why (sym err ∙ failed)));
       };
       others = λ h file other. fault-told-files s honest why host.past host'.past (TellRose host host') telling-here h file;
+      bound = λ h. grows-before agent 0 host.past host.past host'.past (idle-grows agent host.past) (fault-told-leaves s honest why host.past host'.past (TellRose host host') telling-here h);
     }
 
   -- it is stored
@@ -506,6 +514,7 @@ module _ (honest : Type 0) (agent : AgentState) (text : List ℕ) (host : Seen) 
       statuses = tt;
       counts = record { tells = tells-by Done host' cause; disk = disk-by Done host' stays (λ e. cc) (λ failed. absurd (no-fault reply (sym ok ∙ failed))) };
       others = others-by host' (λ h file. ap (of file) (done h));
+      bound = λ h. grows-before agent 0 host.past middle.past host'.past (sets-grow h) (subst (LeavesFiles middle.past) (sym (done h)) (one-told middle.past (reply_text reply)));
     }
 
     pub cut-storing : (s : Status) → IsCutShort s honest (reply_text reply) middle.past host'.past (Rose middle.tell_faults host'.tell_faults)
@@ -523,6 +532,7 @@ module _ (honest : Type 0) (agent : AgentState) (text : List ℕ) (host : Seen) 
         disk = disk-by s host' stays (λ e. absurd (cut-stored s honest (reply_text reply) middle.past host'.past (Rose middle.tell_faults host'.tell_faults) cut e)) (λ failed. absurd (no-fault reply (sym ok ∙ failed)));
       };
       others = others-by host' (cut-leaves s honest (reply_text reply) middle.past host'.past (Rose middle.tell_faults host'.tell_faults) cut);
+      bound = λ h. grows-before agent 0 host.past middle.past host'.past (sets-grow h) (cut-written s honest (reply_text reply) middle.past host'.past (Rose middle.tell_faults host'.tell_faults) cut h);
     }
 
 -- ---- what telling that it is stored counted

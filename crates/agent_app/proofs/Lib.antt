@@ -1,5 +1,6 @@
 mod AckLemmas
 mod AskLemmas
+mod BoundLemmas
 mod CauseLemmas
 mod ChildrenLemmas
 mod CollectLemmas

@@ -39,6 +39,7 @@ made-new honest set host host' agent creates = record {
   made_moment = creates.made_moment;
   statuses = inl refl;
   disk_cause = cause-as host.disk_faults host'.disk_faults _ (status.Ok ≡ status.DiskFault) (λ is. absurd (failed is)) (λ is. cc) creates.cause;
+  bound = creates.bound;
   only_here = creates.only_here;
   tells = creates.tells;
 }
@@ -60,6 +61,7 @@ want-new honest set host host' why creates known stored = by why creates.faults 
       statuses = inr (inr (inr refl));
       disk_cause =
           cause-as host.disk_faults host'.disk_faults (refused why ≡ refused fault.DiskFault) (status.Memory ≡ status.DiskFault) (λ e. absurd (torn e)) (λ e. absurd (stored (fault-is why fault.DiskFault e))) creates.cause;
+      bound = creates.bound;
       only_here = creates.only_here;
       tells = creates.tells;
     }
@@ -78,3 +80,60 @@ want-new honest set host host' why creates known stored = by why creates.faults 
     by fault.Exists is e = absurd (known e)
     by fault.Memory is e = is-short e
     by other is e = absurd is
+
+-- there is a database
+pub exists-new : (honest : Type 0) (set : Settings) (host host' : Seen) → Creates honest host set (refused fault.Exists) host' → Makes honest set status.Exists host host'
+exists-new honest set host host' creates = record {
+  any_moment = creates.any_moment;
+  created = λ e. absurd (other e);
+  none = λ e. absurd (other e);
+  memory = λ e. absurd (short-of e);
+  memory_moment = λ e. absurd (short-of e);
+  exists = λ _ h. creates.exists refl h;
+  made = λ h made. (inl refl, (creates.made h made).1);
+  made_moment = creates.made_moment;
+  statuses = inr (inl refl);
+  disk_cause = cause-as host.disk_faults host'.disk_faults (refused fault.Exists ≡ refused fault.DiskFault) (status.Exists ≡ status.DiskFault) (λ e. absurd (torn e)) (λ e. absurd (apart (fault-is fault.Exists fault.DiskFault e))) creates.cause;
+  bound = creates.bound;
+  only_here = creates.only_here;
+  tells = creates.tells;
+}
+  where
+    other : status.Exists ≡ status.Ok → ⊥
+    other e = cc
+
+    short-of : status.Exists ≡ status.Memory → ⊥
+    short-of e = cc
+
+    torn : status.Exists ≡ status.DiskFault → ⊥
+    torn e = cc
+
+    apart : fault.Exists ≡ fault.DiskFault → ⊥
+    apart e = cc
+
+-- the disk failed
+pub failed-new : (honest : Type 0) (set : Settings) (host host' : Seen) → Creates honest host set (refused fault.DiskFault) host' → Makes honest set status.DiskFault host host'
+failed-new honest set host host' creates = record {
+  any_moment = creates.any_moment;
+  created = λ e. absurd (other e);
+  none = λ e. absurd (other e);
+  memory = λ e. absurd (short-of e);
+  memory_moment = λ e. absurd (short-of e);
+  exists = λ e. absurd (found e);
+  made = λ h made. (inr (inl refl), (creates.made h made).1);
+  made_moment = creates.made_moment;
+  statuses = inr (inr (inl refl));
+  disk_cause = cause-as host.disk_faults host'.disk_faults (refused fault.DiskFault ≡ refused fault.DiskFault) (status.DiskFault ≡ status.DiskFault) (λ e. refl) (λ e. refl) creates.cause;
+  bound = creates.bound;
+  only_here = creates.only_here;
+  tells = creates.tells;
+}
+  where
+    other : status.DiskFault ≡ status.Ok → ⊥
+    other e = cc
+
+    short-of : status.DiskFault ≡ status.Memory → ⊥
+    short-of e = cc
+
+    found : status.DiskFault ≡ status.Exists → ⊥
+    found e = cc

@@ -15,6 +15,7 @@ use Rattle.collect_block.specs.Feed.{CountsFor, IsFeedOf}
 use Rattle.tier_settings.specs.declared.settings.Settings.{Settings}
 use Rattle.line_stream.specs.Run.{input_limit, Ended, Ran}
 use Rattle.line_stream.proofs.RunLemmas.{rose-later, Takes-none}
+use Rattle.store_core.specs.disk.Shares.{share}
 use Rattle.store_core.specs.Stands.{is_made}
 use Rattle.agent_core.specs.declared.fault.AgentFault.{AgentFault}
 use Rattle.agent_core.specs.declared.fault.AgentFault.TheVariants as fault
@@ -23,13 +24,14 @@ use Rattle.agent_core.specs.Calls.{Opens}
 use Rattle.host_model.specs.Seen.{Seen}
 use Rattle.agent_core.specs.Faults.{IsOpening}
 use Rattle.agent_core.specs.Stands.{StandsForHistory}
-use Rattle.link_session.specs.Keeps.{Keeps, no_more}
+use Rattle.link_session.specs.Keeps.{no_more, Keeps, LeavesFiles}
 use Rattle.link_session.proofs.AckLemmas.{acked-nothing, acked-since, text-prefix}
 use Rattle.link_session.proofs.StoreLemmas.{stands-all}
 use Rattle.agent_app.specs.declared.running.Running.{Running}
-use Rattle.agent_app.specs.Convert.{LeavesFiles}
+use Rattle.agent_app.specs.Bound.{GrowsBy}
 use Rattle.agent_app.specs.Run.{ends_a_run, finds_none, history_with_text, is_opened, Finds, is_whole, IsAsFound, IsHostAsFound, LeavesOthers, run_every, run_output, run_reading, run_rules, run_status, HasRunCause, Resumes, Runs, RunsAll, Stores}
 use Rattle.agent_app.specs.Running.{opening_status, run_acts, Counts, DiskRose, IsRunning, TellRose}
+use Rattle.agent_app.proofs.BoundLemmas.{ends-behind, run-grows, unopened-grows}
 use Rattle.agent_app.proofs.CauseLemmas.{both-counts, cause-as, stayed}
 use Rattle.agent_core.proofs.StoredLemmas.{were_kept}
 use Rattle.agent_core.proofs.Within.{within-of}
@@ -262,6 +264,7 @@ module _ (honest : Type 0) (host host' : Seen) (first : honest → IsDisk host.p
     leaves = λ _. unopened-leaves why opens left faults;
     untaken = λ h none. unopened-leaves why opens left faults;
     others = λ h. (opens.only_here h).others;
+    bound = unopened-grows honest host host' why 0 opens;
     read_cause = stayed faults faults (opening_status why ≡ status.ReadFault) refl (unread why);
     tell_cause = stayed host.tell_faults host'.tell_faults (opening_status why ≡ status.TellFault) opens.tells (untold-yet why);
     disk_cause =
@@ -306,6 +309,7 @@ pub record Since {H : Type 0} (honest : Type 0) (seen : H → Seen) (s : Status)
   pub ends : EndsFor honest s text source_rose (seen middle) (seen host')
   pub counts : Counts host (seen host') (s ≡ status.TellFault) (s ≡ status.DiskFault)
   pub others : LeavesOthers honest host (seen host')
+  pub bound : honest → GrowsBy 0 host.past (seen host').past
   pub stops : (h : honest) (set : Settings) (h0 : List Beat) → EveryDisk (StandsForHistory set h0) host.past
       → Over honest seen h every set h0 host.past s ended text left (seen host').past source_rose (TellRose host (seen host')) (DiskRose host (seen host'))
   -- once the database was read a crash leaves the history that the disk reads as
@@ -389,6 +393,10 @@ module _ {H : Type 0} (honest : Type 0) (seen : H → Seen) (host : Seen) (agent
         ends = for-all;
         counts = both-counts host (seen middle) (seen host') (s ≡ status.TellFault) (s ≡ status.DiskFault) opening for-all.counts;
         others = both-others honest host (seen middle) (seen host') (λ h. (opens.only_here h).others) for-all.others;
+        bound = λ h set h0 here limit fits.
+            ends-behind set limit host.past (seen middle).past (seen host').past (opens.bound (share set limit) h)
+            (run-grows honest seen h every set h0 (seen middle).past s running middle (begins-read h set h0 here) text left source_rose running' host' how set h0
+            (subst (λ (a : AgentState). IsAgentOf (seen middle).past a set h0) (sym agent-is) (opens.opened h set h0 here)) limit fits);
         stops = λ h set h0 stands. over-since h set h0 host.past (begins-so h set h0 stands);
         stands = stands-now;
         resumes = λ h set h0 here. over-since h set h0 (seen middle).past (begins-read h set h0 here);
@@ -442,6 +450,7 @@ module _ {H : Type 0} (honest : Type 0) (seen : H → Seen) (host : Seen) (agent
       leaves = λ none. absurd (found-one s none since.ends.ends);
       untaken = λ h none. absurd (none (opens.notes h));
       others = since.others;
+      bound = since.bound;
       read_cause = record { later = up; failed = λ is. (since.ends.read is).0; stays = still };
       tell_cause = since.counts.tells;
       disk_cause = since.counts.disk;

@@ -1,5 +1,5 @@
 -- What `receive` promises: where the database was opened, and where it was not.
-use Rattle.std.proofs.Common.{◌≡◌, ◌⊎◌, inl, inr, ℕ, Bool, true, false, List, [], ◌∷◌, ◌++◌, length, take, drop, None, Ok, Err, Some, IfSome, IsErrOf, refl, sym, ap, subst, ◌∙◌, append_assoc, append-nil, true≢false, arith, if◌then◌else◌}
+use Rattle.std.proofs.Common.{◌≡◌, ◌⊎◌, inl, inr, ℕ, ◌<◌, Bool, true, false, List, [], ◌∷◌, ◌++◌, length, take, drop, None, Ok, Err, Some, IfSome, IsErrOf, refl, sym, ap, subst, ◌∙◌, append_assoc, append-nil, true≢false, arith, if◌then◌else◌}
 use Rattle.std.specs.List.{AllByRecursion}
 use Rattle.std.proofs.Math.Seq.{drop-append_seam}
 use Rattle.std.proofs.lemmas.List.{take-append-drop}
@@ -31,21 +31,26 @@ use Rattle.agent_core.specs.Stands.{StandsForHistory}
 use Rattle.link_session.specs.declared.fault.SessionFault.{SessionFault}
 use Rattle.link_session.specs.declared.fault.SessionFault.TheVariants as session
 use Rattle.link_session.specs.Exchange.{SessionResult}
-use Rattle.link_session.specs.Keeps.{Extends, IsAckedUpTo, Keeps, no_more}
-use Rattle.link_session.specs.Parent.{parent_begins, parent_does}
-use Rattle.link_session.specs.Receiving.{keeps_all, AnswersStored, AreTrueOf, Copies, ReceivesHistory}
+use Rattle.link_session.specs.Keeps.{Extends, IsAckedUpTo, Keeps, LeavesFiles, no_more}
+use Rattle.link_session.specs.Parent.{done_with, parent_begins, parent_does}
+use Rattle.link_session.specs.Receiving.{is_spent_by, keeps_all, AnswersStored, AreTrueOf, Copies, FailsAtData, HasStored, ReceivesHistory}
 use Rattle.link_session.specs.Session.{says_all, IsEndFor, LinkSeen}
+use Rattle.link_session.specs.Steps.{data_in}
 use Rattle.link_session.proofs.AckLemmas.{acked-more, acked-since, acked-weaker}
 use Rattle.link_session.proofs.LinkLemmas.{all-sends, sends-nothing}
 use Rattle.link_session.proofs.ExtendsLemmas.{extends-further, extends-length}
 use Rattle.link_session.proofs.CopyLemmas.{crashes-copy}
+use Rattle.link_session.proofs.LeavesLemmas.{leaves-further, leaves-nothing, may-told, one-told}
+use Rattle.link_session.proofs.LastLemmas.{told-some}
 use Rattle.link_session.proofs.StoreLemmas.{keeps-more, stands-all}
+use Rattle.agent_app.specs.Bound.{GrowsByData}
 use Rattle.agent_app.specs.Convert.{is_limit, refusal_line, refusal_status}
-use Rattle.agent_app.specs.Receive.{done_with, ends_a_receive, last_line, Closes, EndsAs, HoldsCopy, Receives, ReceivesAll, ReceivesOn, TellsWhy}
+use Rattle.agent_app.specs.Receive.{ends_a_receive, last_line, Closes, EndsAs, HoldsCopy, Receives, ReceivesAll, ReceivesOn, TellsWhy}
 use Rattle.agent_app.specs.Run.{finds_none, is_whole, LeavesOthers, OnceRead}
 use Rattle.agent_app.specs.Running.{opening_status, TellRose, TellsRefusal}
 use Rattle.agent_app.specs.Sessions.{session_status, EndsAsBytes}
-use Rattle.agent_app.proofs.AckLemmas.{acked-refusal}
+use Rattle.agent_app.proofs.AckLemmas.{acked-refusal, middle-none, refusal-some}
+use Rattle.agent_app.proofs.BoundLemmas.{grows-before, opened-grows, refusal-written, runs-grow, unopened-grows}
 use Rattle.agent_app.proofs.CauseLemmas.{apart, cause-as, refusal-inside, stayed, stayed-before}
 use Rattle.agent_app.proofs.OpeningLemmas.{by-fault, complete-by, disk-failed, failed_by, fault-is, found-finds, opened-disk, opening-crashes, some-each, unopened-finds, unopened-host, untold-yet}
 use Rattle.agent_app.proofs.SendLemmas.{ended_with, opening-none, unlinked}
@@ -133,6 +138,9 @@ no-tell e = cc
 
 no-disk : status.Memory ≡ status.DiskFault → ⊥
 no-disk e = cc
+
+stored-told : status.DiskFault ≡ status.TellFault → ⊥
+stored-told e = cc
 
 -- a part of the outside failed exactly where the status says so
 link-failed : (r : SessionResult) → is_refused r ≡ false → session_status r ≡ status.LinkFault → r ≡ ended_with session.LinkFault
@@ -272,6 +280,12 @@ module _ (s : Status) (set : Settings) (h0 : List Beat) (link link' : LinkSeen) 
       by (inr (inr no_memory, same, untaken)) = some-each link.left Whole (λ bytes is none_link none_told none_disk. inr no_memory)
 
 -- ---- the database was opened
+-- a session over this history since some moment ended so: what was written since its database was read, and why
+record EndsSo (s : Status) (set : Settings) (h0 : List Beat) (link link' : LinkSeen) (start read new : List Event) : Type 0 where
+  pub receives : Receives s set h0 link link' start new
+  pub quiet : (done_with set h0 receives.exchanges.frames).now.history ≡ h0 → LeavesFiles read new
+  pub stored_for : s ≡ status.DiskFault → FailsAtData set h0 receives.exchanges.frames start new
+
 module _ (honest : Type 0) (host : Seen) (agent : AgentState) (middle : Seen) (opens : Opens honest host (Ok agent) middle) (first : honest → IsDisk host.past (reads_as host.past))
     (link : LinkSeen) (result : SessionResult) (late : Seen) (agent' : AgentState) (link' : LinkSeen) (receives : ReceivesHistory honest middle agent link result late agent' link')
     (then_reads : honest → IsDisk middle.past (reads_as middle.past)) (late_reads : honest → IsDisk late.past (reads_as late.past)) where
@@ -315,24 +329,30 @@ module _ (honest : Type 0) (host : Seen) (agent : AgentState) (middle : Seen) (o
 
     -- what was said answers frames of which all was stored and told, also where more was told behind
     abbrev Heard : List Event → Type 0
-    Heard new = AnswersStored set h0 taken (receives.copies h set h0 is-of).exchanges.broken start new link.sent link'.sent
+    Heard new =
+        AnswersStored set h0 taken (receives.copies h set h0 is-of).exchanges.broken start new link.sent link'.sent
+        × ((n : ℕ) → n < length taken → HasStored set (done_with set h0 (take n taken)).now.history start (done_with set h0 (take n taken)).told new)
+
+    stored-behind : (g : List Beat) (answered : List ℕ) → HasStored set g middle.past answered late.past → (new : List Event) (text : List ℕ) → told new ≡ told late.past ++ text → EveryDisk (IsDisk late.past) new → HasStored set g start answered new
+    stored-behind g answered stored new text says disks = record {
+      more = stored.more ++ text;
+      tells =
+          says ∙ ap (λ (t : List ℕ). t ++ text) (stored.tells ∙ ap (λ (t : List ℕ). t ++ (answered ++ stored.more)) silent)
+          ∙ append_assoc (told start) (answered ++ stored.more) text ∙ ap (λ (t : List ℕ). told start ++ t) (append_assoc answered stored.more text);
+      stands = λ disk images. stored.stands disk (disks disk images);
+    }
 
     heard-behind : (new : List Event) (text : List ℕ) → told new ≡ told late.past ++ text → EveryDisk (IsDisk late.past) new → Heard new
     heard-behind new text says disks =
-        let heard = (receives.copies h set h0 is-of).heard in
-        let answered = (done_with set h0 (take heard.n taken)).told in
-        record {
-          n = heard.n;
-          all = heard.all;
-          says = heard.says;
-          stored = record {
-            more = heard.stored.more ++ text;
-            tells =
-                says ∙ ap (λ (t : List ℕ). t ++ text) (heard.stored.tells ∙ ap (λ (t : List ℕ). t ++ (answered ++ heard.stored.more)) silent)
-                ∙ append_assoc (told start) (answered ++ heard.stored.more) text ∙ ap (λ (t : List ℕ). told start ++ t) (append_assoc answered heard.stored.more text);
-            stands = λ disk images. heard.stored.stands disk (disks disk images);
-          };
-        }
+        let copies = receives.copies h set h0 is-of in (
+          record {
+            n = copies.heard.n;
+            all = copies.heard.all;
+            says = copies.heard.says;
+            stored = stored-behind (done_with set h0 (take copies.heard.n taken)).now.history (done_with set h0 (take copies.heard.n taken)).told copies.heard.stored new text says disks;
+          },
+          λ n less. stored-behind (done_with set h0 (take n taken)).now.history (done_with set h0 (take n taken)).told (copies.in_turn n less) new text says disks,
+        )
 
     heard-same : (new : List Event) → new ≡ late.past → Heard new
     heard-same new same = heard-behind new [] (ap told same ∙ sym (append-nil (told late.past))) (λ disk images. subst (λ (p : List Event). IsDisk p disk) same images)
@@ -341,24 +361,39 @@ module _ (honest : Type 0) (host : Seen) (agent : AgentState) (middle : Seen) (o
     heard-told new text added = heard-behind new text (ap told added) (λ disk images. subst (λ (p : List Event). IsDisk p disk) added images)
 
     -- nothing was told behind
-    quiet-receives : is_refused result ≡ false → Receives (session_status result) set h0 link link' start late.past
+    -- the output failed only while a Data was told
+    told-for : is_refused result ≡ false → session_status result ≡ status.TellFault → made ++ last_line result ≡ [] → ⊥
+    told-for other failed none = told-some set h0 taken ((receives.copies h set h0 is-of).told_for (tell-failed result other failed)) (middle-none [] made (last_line result) none)
+
+    stored-for : is_refused result ≡ false → session_status result ≡ status.DiskFault → FailsAtData set h0 taken start late.past
+    stored-for other failed =
+        let fails = (receives.copies h set h0 is-of).stored_for (ap is_spent_by (store-failed result other failed)) in
+        record { at = fails.at; tells = fails.tells ∙ ap (λ (t : List ℕ). t ++ (done_with set h0 fails.at.before).told) silent }
+
+    quiet-receives : is_refused result ≡ false → EndsSo (session_status result) set h0 link link' start middle.past late.past
     quiet-receives other =
         let copies = receives.copies h set h0 is-of in
         record {
-          result = result;
-          ends_as = quiet-ends result other;
-          exchanges = copies.exchanges;
-          heard = heard-same late.past refl;
-          crashes = crashes;
-          ends = λ all. copies.ends (whole-keeps result all);
-          output = record {
-            sent = copies.output.said;
-            unsent = copies.output.unsaid;
-            whole = ap (λ (t : List ℕ). made ++ t) (quiet-line result other) ∙ append-nil made ∙ copies.output.whole;
-            tells = tells;
-            all = λ all. copies.output.complete (whole-keeps result all);
+          receives = record {
+            result = result;
+            ends_as = quiet-ends result other;
+            exchanges = copies.exchanges;
+            heard = (heard-same late.past refl).0;
+            in_turn = (heard-same late.past refl).1;
+            crashes = crashes;
+            ends = λ all. copies.ends (whole-keeps result all);
+            output = record {
+              sent = copies.output.said;
+              unsent = copies.output.unsaid;
+              whole = ap (λ (t : List ℕ). made ++ t) (quiet-line result other) ∙ append-nil made ∙ copies.output.whole;
+              tells = tells;
+              all = λ all. copies.output.complete (whole-keeps result all);
+            };
+            told_for = told-for other;
+            copy = stays-copy late.past crashes;
           };
-          copy = stays-copy late.past crashes;
+          quiet = copies.quiet;
+          stored_for = stored-for other;
         }
 
     -- the refusal was told, or that was cut short
@@ -411,53 +446,66 @@ module _ (honest : Type 0) (host : Seen) (agent : AgentState) (middle : Seen) (o
       output-is : made ++ last_line result ≡ made ++ last
       output-is = ap (λ (r : SessionResult). made ++ last_line r) is
 
+      -- it is to be told why
+      last-some : made ++ last_line result ≡ [] → ⊥
+      last-some none = refusal-some 0 (refusal.Block why) (middle-none made last [] (ap (λ (t : List ℕ). made ++ t) (append-nil last) ∙ sym output-is ∙ none))
+
       -- of a session that ended so
       ended-so : (s : Status) (new : List Event) → (s ≡ refusal_status 0 (refusal.Block why)) ⊎ (s ≡ status.TellFault) ⊎ (s ≡ status.Memory) → Throughout Kept start new → (is_whole s ≡ true → EveryDisk (StandsForHistory set whole) new)
-          → Heard new → (sent unsent : List ℕ) → made ++ last ≡ sent ++ unsent → told new ≡ told start ++ sent → (is_whole s ≡ true → unsent ≡ []) → Receives s set h0 link link' start new
-      ended-so s new which held all heard sent unsent output says complete = record {
-        result = result;
-        ends_as = subst (λ (r : SessionResult). EndsAs r s) (sym is) which;
-        exchanges = (receives.copies h set h0 is-of).exchanges;
-        heard = heard;
-        crashes = held;
-        ends = all;
-        output = record { sent = sent; unsent = unsent; whole = output-is ∙ output; tells = says; all = complete };
-        copy = stays-copy new held;
+          → Heard new → LeavesFiles late.past new → (s ≡ status.DiskFault → ⊥) → (sent unsent : List ℕ) → made ++ last ≡ sent ++ unsent → told new ≡ told start ++ sent → (is_whole s ≡ true → unsent ≡ []) → EndsSo s set h0 link link' start middle.past new
+      ended-so s new which held all heard leaves stored sent unsent output says complete = record {
+        receives = record {
+          result = result;
+          ends_as = subst (λ (r : SessionResult). EndsAs r s) (sym is) which;
+          exchanges = (receives.copies h set h0 is-of).exchanges;
+          heard = heard.0;
+          in_turn = heard.1;
+          crashes = held;
+          ends = all;
+          output = record { sent = sent; unsent = unsent; whole = output-is ∙ output; tells = says; all = complete };
+          told_for = λ _ none. last-some none;
+          copy = stays-copy new held;
+        };
+        quiet = λ same. leaves-further middle.past late.past new ((receives.copies h set h0 is-of).quiet same) leaves;
+        stored_for = λ failed. absurd (stored failed);
       }
 
       cut : {A : Type 0} (s : Status) → is_whole s ≡ false → is_whole s ≡ true → A
       cut s short all = absurd (true≢false (sym all ∙ short))
 
-      refused-receives : (s : Status) (host' : Seen) → TellsWhy honest why s late host' → Receives s set h0 link link' start host'.past
+      refused-receives : (s : Status) (host' : Seen) → TellsWhy honest why s late host' → EndsSo s set h0 link link' start middle.past host'.past
       refused-receives s host' tells = by tells.tells
         where
           which : (s ≡ refusal_status 0 (refusal.Block why)) ⊎ (s ≡ status.TellFault) ⊎ (s ≡ status.Memory)
           which = refused-as honest why s late host' tells
 
-          torn-by : s ≡ status.TellFault → MayAdd (λ (n : ℕ). Told (take n last)) late.past host'.past → Receives s set h0 link link' start host'.past
+          unstored : s ≡ status.DiskFault → ⊥
+          unstored = refused-stored honest why s late host' tells
+
+          torn-by : s ≡ status.TellFault → MayAdd (λ (n : ℕ). Told (take n last)) late.past host'.past → EndsSo s set h0 link link' start middle.past host'.past
           torn-by told-not (inl same) =
-              ended-so s host'.past which (torn-crashes host'.past (inl same)) (cut s (ap is_whole told-not)) (heard-same host'.past same) made last refl (ap told same ∙ told-all) (cut s (ap is_whole told-not))
+              ended-so s host'.past which (torn-crashes host'.past (inl same)) (cut s (ap is_whole told-not)) (heard-same host'.past same) (may-told late.past host'.past last (inl same)) unstored made last refl (ap told same ∙ told-all) (cut s (ap is_whole told-not))
           torn-by told-not (inr (n, added)) =
-              ended-so s host'.past which (torn-crashes host'.past (inr (n, added))) (cut s (ap is_whole told-not)) (heard-told host'.past (take n last) added) (made ++ take n last) (drop n last)
+              ended-so s host'.past which (torn-crashes host'.past (inr (n, added))) (cut s (ap is_whole told-not)) (heard-told host'.past (take n last) added) (may-told late.past host'.past last (inr (n, added))) unstored (made ++ take n last) (drop n last)
               (ap (λ (t : List ℕ). made ++ t) (sym (take-append-drop n last)) ∙ sym (append_assoc made (take n last) (drop n last)))
               (ap told added ∙ ap (λ (t : List ℕ). t ++ take n last) told-all ∙ append_assoc (told start) made (take n last)) (cut s (ap is_whole told-not))
 
-          by : TellsRefusal s honest 0 (refusal.Block why) late.past host'.past (TellRose late host') → Receives s set h0 link link' start host'.past
+          by : TellsRefusal s honest 0 (refusal.Block why) late.past host'.past (TellRose late host') → EndsSo s set h0 link link' start middle.past host'.past
           by (inl (is-status, done)) =
-              ended-so s host'.past which (told-crashes host'.past (done h)) (λ all. subst (λ (p : List Event). EveryDisk (StandsForHistory set whole) p) (sym (done h)) stands) (heard-told host'.past last (done h)) (made ++ last) [] (sym (append-nil (made ++ last)))
+              ended-so s host'.past which (told-crashes host'.past (done h)) (λ all. subst (λ (p : List Event). EveryDisk (StandsForHistory set whole) p) (sym (done h)) stands) (heard-told host'.past last (done h)) (subst (LeavesFiles late.past) (sym (done h)) (one-told late.past last)) unstored (made ++ last) [] (sym (append-nil (made ++ last)))
               (ap told (done h) ∙ ap (λ (t : List ℕ). t ++ last) told-all ∙ append_assoc (told start) made last) (λ all. refl)
           by (inr (inl (told-not, rose, torn))) = torn-by told-not (torn h)
           by (inr (inr (no-memory, same))) =
-              ended-so s host'.past which (torn-crashes host'.past (inl same)) (cut s (ap is_whole no-memory)) (heard-same host'.past same) made last refl (ap told same ∙ told-all) (cut s (ap is_whole no-memory))
+              ended-so s host'.past which (torn-crashes host'.past (inl same)) (cut s (ap is_whole no-memory)) (heard-same host'.past same) (subst (LeavesFiles late.past) (sym same) (leaves-nothing late.past)) unstored made last refl (ap told same ∙ told-all) (cut s (ap is_whole no-memory))
 
-    since : (s : Status) (host' : Seen) → Closes honest result s late host' → Receives s set h0 link link' start host'.past
+    since : (s : Status) (host' : Seen) → Closes honest result s late host' → EndsSo s set h0 link link' start middle.past host'.past
     since s host' closed = by (ends-so result)
       where
-        by : (is_refused result ≡ false) ⊎ ((why : BlockFault) × (result ≡ ended_with (session.Agent (fault.Refused why)))) → Receives s set h0 link link' start host'.past
+        by : (is_refused result ≡ false) ⊎ ((why : BlockFault) × (result ≡ ended_with (session.Agent (fault.Refused why)))) → EndsSo s set h0 link link' start middle.past host'.past
         by (inl other) =
             let how = closed-quiet honest result s late host' other closed in
-            subst (λ (t : Status). Receives t set h0 link link' start host'.past) (sym how.0)
-            (subst (λ (p : Seen). Receives (session_status result) set h0 link link' start p.past) (sym how.1) (quiet-receives other))
+            subst (λ (t : Status). EndsSo t set h0 link link' start middle.past host'.past) (sym how.0)
+            (subst (λ (p : Seen). EndsSo (session_status result) set h0 link link' start middle.past p.past) (sym how.1) (quiet-receives other))
         by (inr (why, is)) = refused-receives why is s host' (subst (λ (r : SessionResult). Closes honest r s late host') is closed)
 
   module _ (s : Status) (host' : Seen) (closed : Closes honest result s late host') where
@@ -547,17 +595,38 @@ module _ (honest : Type 0) (host : Seen) (agent : AgentState) (middle : Seen) (o
           read = middle.past;
           before = opens.any_moment h;
           silent = (opens.only_here h).output;
-          after = inl (record {
-            stands = stands-now;
-            receives = since h set h0 is-of middle.past refl (opening-crashes set h0 middle.past middle.past stands-now refl (begins (λ disk images. images))) s host' closed;
-          });
+          after =
+              let so = since h set h0 is-of middle.past refl (opening-crashes set h0 middle.past middle.past stands-now refl (begins (λ disk images. images))) s host' closed in
+              inl (record { stands = stands-now; receives = so.receives; quiet = so.quiet; stored_for = so.stored_for });
+        }
+
+    -- how it was closed touched no file
+    closed-leaves : honest → LeavesFiles late.past host'.past
+    closed-leaves h = by how
+      where
+        by : ((is_refused result ≡ false) × (s ≡ session_status result) × (host' ≡ late)) ⊎ ((why : BlockFault) × Refusal-by why) → LeavesFiles late.past host'.past
+        by (inl (other, is, same)) = subst (λ (p : Seen). LeavesFiles late.past p.past) (sym same) (leaves-nothing late.past)
+        by (inr (why, (is, tells))) = refusal-written s honest 0 (refusal.Block why) late.past host'.past (TellRose late host') tells.tells h
+
+    grows-so : honest → GrowsByData link link' host.past host'.past
+    grows-so h =
+        let taking = receives.taking in
+        let added = length (data_in taking.frames) in
+        record {
+          taken = taking.taken;
+          takes = taking.takes;
+          within = taking.within;
+          frames = taking.frames;
+          rest = taking.rest;
+          cut = taking.cut;
+          grows = opened-grows honest host middle agent added host'.past opens h (grows-before agent added middle.past late.past host'.past (runs-grow honest added middle late agent agent' receives.bound h) (closed-leaves h));
         }
 
     pub opened-receives : ReceivesAll honest s link link' host host'
     opened-receives = record {
       receives = λ h set h0 stands.
-          since h set h0 (opens.opened h set h0 (stands (reads_as host.past) (first h))) host.past (opens.only_here h).output
-          (opening-crashes set h0 host.past middle.past stands (opens.only_here h).output (opens.any_moment h)) s host' closed;
+          (since h set h0 (opens.opened h set h0 (stands (reads_as host.past) (first h))) host.past (opens.only_here h).output
+          (opening-crashes set h0 host.past middle.past stands (opens.only_here h).output (opens.any_moment h)) s host' closed).receives;
       resumes = resumes-so;
       complete = λ h set h0 here. read-whole s set h0 link link' host host' link-cause tell-cause disk-cause host.past host'.past (resumes-so h set h0 here);
       finds = found-finds honest host agent middle opens s found;
@@ -566,6 +635,7 @@ module _ (honest : Type 0) (host : Seen) (agent : AgentState) (middle : Seen) (o
       leaves = λ none. absurd (found none);
       untaken = λ h none. absurd (none (opens.notes h));
       others = others;
+      bound = grows-so;
       link_cause = link-cause;
       tell_cause = tell-cause;
       disk_cause = disk-cause;
@@ -580,9 +650,9 @@ opening-ends other = inl refl
 
 module _ (honest : Type 0) (host host' : Seen) (first : honest → IsDisk host.past (reads_as host.past)) (why : AgentFault) (opens : Opens honest host (Err why) host') (link : LinkSeen) where
   -- nothing was heard, said, stored or told
-  unheard : honest → (set : Settings) (h0 : List Beat) → EveryDisk (StandsForHistory set h0) host.past → (r : SessionResult) (s : Status) → EndsAs r s → says_all r ≡ false → IsEndFor r None [] [] link.left → is_whole s ≡ false
+  unheard : honest → (set : Settings) (h0 : List Beat) → EveryDisk (StandsForHistory set h0) host.past → (r : SessionResult) (s : Status) → EndsAs r s → says_all r ≡ false → IsEndFor r None [] [] link.left → is_whole s ≡ false → (s ≡ status.TellFault → ⊥)
       → Receives s set h0 link link host.past host'.past
-  unheard h set h0 stands r s which unsaid end short = record {
+  unheard h set h0 stands r s which unsaid end short untold = record {
     result = r;
     ends_as = which;
     exchanges = record {
@@ -596,6 +666,7 @@ module _ (honest : Type 0) (host host' : Seen) (first : honest → IsDisk host.p
       breaks = tt;
       says = record { said = []; unsaid = []; whole = refl; sends = sends-nothing link.sent; complete = λ all. refl };
       why = end;
+      in_turn = λ n less. absurd (omega (arith, less));
     };
     heard = record {
       n = 0;
@@ -607,6 +678,7 @@ module _ (honest : Type 0) (host host' : Seen) (first : honest → IsDisk host.p
         stands = λ disk images. (h0, no_more, stands disk (at_end (opens.any_moment h) disk images));
       };
     };
+    in_turn = λ n less. absurd (omega (arith, less));
     crashes = opening-crashes set h0 host.past host'.past stands (opens.only_here h).output (opens.any_moment h);
     ends = λ all. absurd (true≢false (sym all ∙ short));
     output = record {
@@ -616,6 +688,7 @@ module _ (honest : Type 0) (host host' : Seen) (first : honest → IsDisk host.p
       tells = (opens.only_here h).output ∙ sym (append-nil (told host.past));
       all = λ all. absurd (true≢false (sym all ∙ short));
     };
+    told_for = λ is. absurd (untold is);
     copy = λ floors child rises copy truth. crashes-copy set floors child rises h0 [] host.past host'.past tt truth copy (opening-crashes set h0 host.past host'.past stands (opens.only_here h).output (opens.any_moment h));
   }
 
@@ -643,7 +716,7 @@ module _ (honest : Type 0) (host host' : Seen) (first : honest → IsDisk host.p
   unopened-receives = record {
     receives = λ h set h0 stands.
         by-fault honest host host' first (λ (f : AgentFault). Receives (opening_status f) set h0 link link host.past host'.past) why (opens.stands h set h0 (stands (reads_as host.past) (first h)))
-        (unheard h set h0 stands (Err (session.Agent fault.DiskFault)) status.DiskFault refl refl tt refl) (unheard h set h0 stands (Err session.Memory) status.Memory refl refl tt refl);
+        (unheard h set h0 stands (Err (session.Agent fault.DiskFault)) status.DiskFault refl refl tt refl stored-told) (unheard h set h0 stands (Err session.Memory) status.Memory refl refl tt refl no-tell);
     resumes = unheard-since;
     complete = λ h set h0 here. read-whole (opening_status why) set h0 link link host host' unheard-link unheard-tell unheard-disk host.past host'.past (unheard-since h set h0 here);
     finds = unopened-finds honest host host' first why opens;
@@ -652,6 +725,15 @@ module _ (honest : Type 0) (host host' : Seen) (first : honest → IsDisk host.p
     leaves = λ none. (refl, unopened-host honest host host' first why opens);
     untaken = λ h none. (refl, unopened-host honest host host' first why opens);
     others = λ h. (opens.only_here h).others;
+    bound = λ h. record {
+      taken = [];
+      takes = Takes-none link.left;
+      within = omega arith;
+      frames = [];
+      rest = [];
+      cut = record { found = []; handed = refl; frames = tt; spelt = refl };
+      grows = unopened-grows honest host host' why 0 opens h;
+    };
     link_cause = unheard-link;
     tell_cause = unheard-tell;
     disk_cause = unheard-disk;

@@ -32,7 +32,7 @@ use Rattle.store_core.specs.declared.beats.beat.Beat.{Beat as StoreBeat}
 use Rattle.agent_core.specs.Answers.{reply_of, reply_to}
 use Rattle.agent_core.specs.Kept.{AreBeatsOf}
 use Rattle.link_session.specs.Keeps.{stored_line, IsAckedUpTo}
-use Rattle.agent_app.proofs.AckLemmas.{has-first}
+use Rattle.link_session.proofs.AckLemmas.{has-first}
 
 -- ---- the ids of a history
 abbrev HasLineId : OpenDim → Type 0

@@ -18,15 +18,16 @@ use Rattle.line_stream.specs.Chain.{Acts, Chain, begins, goes_on, pauses}
 use Rattle.line_stream.specs.Run.{input_limit, Ended, at_line, at_pause, at_long_line, at_end, at_fault, at_limit, at_want}
 use Rattle.line_stream.proofs.RunLemmas.{rose-later}
 use Rattle.host_model.specs.Seen.{Seen}
+use Rattle.link_session.specs.Keeps.{LeavesFiles}
+use Rattle.link_session.proofs.LeavesLemmas.{leaves-further, leaves-nothing}
 use Rattle.agent_app.specs.declared.running.Running.{Running}
-use Rattle.agent_app.specs.Convert.{all_told, ending_status, LeavesFiles}
+use Rattle.agent_app.specs.Convert.{all_told, ending_status}
 use Rattle.agent_app.specs.Reading.{Ending, GoesOn, Reading}
 use Rattle.agent_app.specs.Run.{ends_a_run, history_with_text, run_reading, run_rules, run_status, HasRunCause, LeavesOthers}
 use Rattle.agent_app.specs.Running.{run_acts, Counts, DiskRose, IsRunning, IsTakers, StopsIn, TellRose}
 use Rattle.agent_app.proofs.CauseLemmas.{both-counts, counts-none, gone-counts, same-counts, status-counts}
 use Rattle.agent_app.proofs.ExtendsLemmas.{extends-text}
 use Rattle.agent_app.proofs.HasReadLemmas.{line-onward, read-open, says-all, take-append_past}
-use Rattle.agent_app.proofs.LeavesLemmas.{leaves-further, leaves-nothing}
 use Rattle.agent_app.proofs.StopsLemmas.{output-behind, want-stop, whole-stop}
 
 -- ---- failures

@@ -37,6 +37,7 @@ use Rattle.agent_core.specs.declared.reply.Said.TheVariants.{Nothing, Stored, Ta
 use Rattle.agent_core.specs.Agent.{AgentState, IsAgentOf}
 use Rattle.agent_core.specs.Alarms.{events_at}
 use Rattle.agent_core.specs.Answers.{reply_of}
+use Rattle.agent_core.specs.Bound.{RunsWithin}
 use Rattle.agent_core.specs.Calls.{ClosesBeat, Lines}
 use Rattle.host_model.specs.Seen.{Seen}
 use Rattle.agent_core.specs.Faults.{LeavesAll, RefusedBy}
@@ -47,22 +48,24 @@ use Rattle.agent_core.specs.Roles.{copies}
 use Rattle.agent_core.specs.Rules.{history_with, line_refusal}
 use Rattle.agent_core.specs.Said.{Answers, IsSaid, TellsEvents}
 use Rattle.store_core.specs.Counts.{counted}
-use Rattle.link_session.specs.Keeps.{Extends, IsAckedUpTo}
+use Rattle.link_session.specs.Keeps.{Extends, IsAckedUpTo, LeavesFiles}
 use Rattle.link_session.proofs.ExtendsLemmas.{extends-length}
+use Rattle.link_session.proofs.LeavesLemmas.{leaves-nothing, may-told, one-told}
+use Rattle.link_session.proofs.AckLemmas.{stored-some}
 use Rattle.agent_app.specs.declared.running.Running.{Running}
-use Rattle.agent_app.specs.Convert.{all_told, is_limit, refusal_line, LeavesFiles}
+use Rattle.agent_app.specs.Convert.{all_told, is_limit, refusal_line}
 use Rattle.agent_app.specs.Reading.{Ending, HasRead, RefusedAt, Reading, lines_read, reading}
 use Rattle.agent_app.specs.Run.{history_with_text, is_whole, judged_after, line_rules, run_output, run_reading, run_rules, told_of, FailsAtMoment, HasRunCause, LeavesOthers}
 use Rattle.agent_app.specs.Running.{Counts, DiskRose, EndsRun, IsCutShort, IsRunning, IsTakers, Overflows, RunsAt, TakesLine, TellRose, TellsRefusal}
-use Rattle.agent_app.proofs.AckLemmas.{stored-some}
 use Rattle.agent_app.proofs.CauseLemmas.{apart, both-counts, cause-as, counts-none, ended-as, ended-counts, ended_so, going-counts, is_outside, refusal-inside, same-counts, stayed, went_on}
 use Rattle.agent_core.proofs.ClosedLemmas.{text-line}
 use Rattle.agent_core.proofs.KeptLemmas.{copies-child}
+use Rattle.agent_core.proofs.RunLemmas.{line-runs, runs-both, runs-none, runs-told}
 use Rattle.agent_core.proofs.StoredLemmas.{were_kept}
+use Rattle.agent_app.proofs.BoundLemmas.{cut-runs, refusal-runs}
 use Rattle.agent_app.proofs.EventLemmas.{acked-told, closed-told}
 use Rattle.agent_app.proofs.ExtendsLemmas.{extends-start, extends-text, lines-after}
 use Rattle.agent_app.proofs.HasReadLemmas.{read-ended, read-long, read-next, read-over, read-refused, read-unfinished, says-all, says-long, says-over, says-refused}
-use Rattle.agent_app.proofs.LeavesLemmas.{leaves-nothing, may-told, one-told}
 use Rattle.agent_app.proofs.ReplyLemmas.{acked-reply, closed-reply, reply-some}
 use Rattle.agent_app.proofs.RunningLemmas.{line-taken, text-told}
 use Rattle.agent_app.proofs.StopsLemmas.{Behind, cut-stop, line-stop, output-behind, refusal-stop, want-stop, whole-stop}
@@ -159,11 +162,11 @@ refused-leaves (Err other) fault P refused left = absurd refused
 
 -- ---- a line
 module _ (honest : Type 0) (running : Running) (host : Seen) (number : ℕ) (bytes : List ℕ) (short : fits bytes ≡ true) where
-  refused-line : (running' : Running) (status : Status) (host' : Seen) (why : Refusal)
+  refused-line : (running' : Running) → running'.agent ≡ running.agent → (status : Status) (host' : Seen) (why : Refusal)
       → (honest → (every : ℕ) (set : Settings) (h0 : List Beat) (start : List Event) (read : List Line) (made : List ℕ) → RunsAt host.past running every set h0 start read made → judged_after every h0 read (line_of bytes) ≡ Err why)
       → TellsRefusal status honest number why host.past host'.past (TellRose host host') → HasCause host.tell_faults host'.tell_faults (status ≡ TellFault) → host'.disk_faults ≡ host.disk_faults
       → TakesLine honest running host number bytes (Err status) running' host'
-  refused-line running' status host' why judged telling cause same = record {
+  refused-line running' same-agent status host' why judged telling cause same = record {
     run = λ h every set h0 prefix start going number_is ended text next more whole.
         let judge = judged h every set h0 start going.read going.made going.at in
         refusal-stop host.past running every set h0 start going.read going.made going.at ended text ⊥ (TellRose host host') (DiskRose host host') status honest number why host'.past h telling
@@ -173,6 +176,8 @@ module _ (honest : Type 0) (running : Running) (host : Seen) (number : ℕ) (byt
     statuses = refusal-takers status honest number why host.past host'.past (TellRose host host') telling;
     counts = ended-counts host host' status (told-counts host host' (status ≡ TellFault) (status ≡ DiskFault) cause same (refusal-stored status honest number why host.past host'.past (TellRose host host') telling));
     others = λ h file other. at_end (refusal-leaves status honest number why host.past host'.past (TellRose host host') telling h) file;
+    bound = λ h every set h0 prefix start going.
+        subst (λ (a : AgentState). RunsWithin honest 0 host running.agent host' a) (sym same-agent) (refusal-runs honest host host' running.agent status number why (TellRose host host') telling);
   }
 
   -- there was no memory to read it
@@ -185,6 +190,7 @@ module _ (honest : Type 0) (running : Running) (host : Seen) (number : ℕ) (byt
     statuses = tt;
     counts = ended-counts host host Memory (same-counts host (Memory ≡ TellFault) (Memory ≡ DiskFault) (λ e. cc) (λ e. cc));
     others = λ h file other. refl;
+    bound = λ h every set h0 prefix start going. runs-none honest host running.agent;
   }
 
   -- it says nothing
@@ -192,7 +198,7 @@ module _ (honest : Type 0) (running : Running) (host : Seen) (number : ℕ) (byt
       → HasCause host.tell_faults host'.tell_faults (status ≡ TellFault) → host'.disk_faults ≡ host.disk_faults
       → TakesLine honest running host number bytes (Err status) running host'
   bad-line status host' fault is telling cause same =
-      refused-line running status host' (refusal.Line fault) (λ h every set h0 start read made at. ap (judged_after every h0 read) is) telling cause same
+      refused-line running refl status host' (refusal.Line fault) (λ h every set h0 start read made at. ap (judged_after every h0 read) is) telling cause same
 
   -- ---- a line that says this was handed to the agent
   module _ (said : Line) (is : line_of bytes ≡ Ok said) (result : Result Said AgentFault) (middle : Seen) (agent : AgentState) (feed : Feed)
@@ -212,6 +218,10 @@ module _ (honest : Type 0) (running : Running) (host : Seen) (number : ℕ) (byt
     -- where the agent did as it was asked nothing failed
     lined-ok : (reply : Said) → result ≡ Ok reply → Counts host middle ⊥ ⊥
     lined-ok reply ok = record { tells = lined-tell ⊥ (λ never. never); disk = lined-disk ⊥ (λ never. absurd never) (λ failed. cc) }
+
+    lined-runs : honest → (every : ℕ) (set : Settings) (h0 : List Beat) (prefix : List (List ℕ)) (start : List Event) → IsRunning host.past running every set h0 prefix start → RunsWithin honest 0 host running.agent middle agent
+    lined-runs h every set h0 prefix start going =
+        line-runs honest host middle running.agent agent running.feed feed said result every going.read going.at.feed (counts-at running.feed running.agent.registry said going.at.counts) lined
 
     lined-others : LeavesOthers honest host middle
     lined-others h file other = (lined.only_here h).others file other
@@ -337,6 +347,7 @@ module _ (honest : Type 0) (running : Running) (host : Seen) (number : ℕ) (byt
       statuses = takers;
       counts = ended-counts host middle status (record { tells = lined-tell (status ≡ TellFault) untold; disk = lined-disk (status ≡ DiskFault) back on });
       others = lined-others;
+      bound = lined-runs;
     }
 
     -- it was taken, and nothing is told of it
@@ -356,6 +367,7 @@ module _ (honest : Type 0) (running : Running) (host : Seen) (number : ℕ) (byt
       statuses = tt;
       counts = going-counts host middle (lined-ok reply ok);
       others = lined-others;
+      bound = lined-runs;
     }
 
     -- it ends the text
@@ -374,6 +386,7 @@ module _ (honest : Type 0) (running : Running) (host : Seen) (number : ℕ) (byt
       statuses = tt;
       counts = ended-counts host middle Done (counts-none host middle (Done ≡ TellFault) (Done ≡ DiskFault) (λ e. cc) (λ e. cc) (lined-ok reply ok));
       others = lined-others;
+      bound = lined-runs;
     }
 
     -- it is refused
@@ -381,8 +394,9 @@ module _ (honest : Type 0) (running : Running) (host : Seen) (number : ℕ) (byt
         → TellsRefusal status honest number (refusal.Block fault) middle.past host'.past (Rose middle.tell_faults host'.tell_faults)
         → HasCause middle.tell_faults host'.tell_faults (status ≡ TellFault) → host'.disk_faults ≡ middle.disk_faults → TakesLine honest running host number bytes (Err status) now host'
     block-line fault err status host' telling cause stays =
-        let same : middle ≡ host = (subst (λ (r : Result Said AgentFault). IfErr r (λ (f : AgentFault). LeavesAll f → (agent ≡ running.agent) × (middle ≡ host))) err lined.unchanged tt).1 in
-        refused-line now status host' (refusal.Block fault)
+        let left = subst (λ (r : Result Said AgentFault). IfErr r (λ (f : AgentFault). LeavesAll f → (agent ≡ running.agent) × (middle ≡ host))) err lined.unchanged tt in
+        let same : middle ≡ host = left.1 in
+        refused-line now left.0 status host' (refusal.Block fault)
         (λ h every set h0 start read made at. judged-refused every h0 read bytes said is fault
         (sym (reason-is h every set h0 start read made at) ∙ subst (λ (r : Result Said AgentFault). RefusedBy (reason every read) r) err (refused-by h every set h0 start read made at)))
         (subst (λ (s : Seen). TellsRefusal status honest number (refusal.Block fault) s.past host'.past (Rose s.tell_faults host'.tell_faults)) same telling)
@@ -411,6 +425,7 @@ module _ (honest : Type 0) (running : Running) (host : Seen) (number : ℕ) (byt
         statuses = tt;
         counts = both-counts host middle host' (went_on ≡ ended_so TellFault) (went_on ≡ ended_so DiskFault) (lined-ok reply ok) counts;
         others = λ h file other. ap (of file) (telling h) ∙ lined-others h file other;
+        bound = λ h every set h0 prefix start going. runs-both honest 0 0 host middle host' running.agent agent agent (lined-runs h every set h0 prefix start going) (runs-told honest middle host' agent next telling);
       }
 
       told-err : (status : Status) (host' : Seen) → IsCutShort status honest next middle.past host'.past (Rose middle.tell_faults host'.tell_faults)
@@ -434,6 +449,8 @@ module _ (honest : Type 0) (running : Running) (host : Seen) (number : ℕ) (byt
             statuses = cut-takers status honest next middle.past host'.past (TellRose host host') cut';
             counts = both-counts host middle host' (ended_so status ≡ ended_so TellFault) (ended_so status ≡ ended_so DiskFault) (lined-ok reply ok) counts;
             others = λ h file other. at_end (cut-leaves status honest next middle.past host'.past (TellRose host host') cut' h) file ∙ lined-others h file other;
+            bound = λ h every set h0 prefix start going.
+                runs-both honest 0 0 host middle host' running.agent agent agent (lined-runs h every set h0 prefix start going) (cut-runs honest middle host' agent status next (TellRose host host') cut');
           }
 
       pub told-line : (answered : Result (Unit {0}) Status) (host' : Seen) → OnOk answered (honest → host'.past ≡ Told next ∷ middle.past)

@@ -77,6 +77,7 @@ module _ (honest : Type 0) (host : Seen) (first : honest → IsDisk host.past (r
     damaged_notes = λ e h. absurd (no-part 5 (fault-is fault.Memory (fault.Damaged 5) e));
     faults = tt;
     cause = stayed host.disk_faults host.disk_faults (failed_by fault.Memory ≡ failed_by fault.DiskFault) refl (λ e. no-disk (fault-is fault.Memory fault.DiskFault e));
+    bound = λ shares h within. begins within;
     only_here = λ h. record { others = λ other apart. refl; output = refl };
     tells = refl;
   }
@@ -105,6 +106,7 @@ module _ (honest : Type 0) (host : Seen) (first : honest → IsDisk host.past (r
     made_moment = λ h made. begins (λ disk is. is);
     statuses = inr (inr (inr refl));
     disk_cause = stayed host.disk_faults host.disk_faults (status.Memory ≡ status.DiskFault) refl no-failed;
+    bound = λ limit fits h within. begins within;
     only_here = λ h. record { others = λ other apart. refl; output = refl };
     tells = refl;
   }

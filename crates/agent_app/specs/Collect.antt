@@ -26,8 +26,10 @@ use Rattle.plugin_runner.specs.Runner.{IsFault}
 use Rattle.plugin_runner.specs.Text.{Heard, Text, text}
 use Rattle.agent_core.specs.Stands.{StandsForHistory}
 use Rattle.agent_core.specs.Notes.{NotesGo}
+use Rattle.link_session.specs.Keeps.{LeavesFiles}
 use Rattle.agent_app.specs.declared.collect.Collector.{Collector}
-use Rattle.agent_app.specs.Convert.{ending_status, refusal_status, HasStatusCause, LeavesFiles}
+use Rattle.agent_app.specs.Bound.{GrowsBy}
+use Rattle.agent_app.specs.Convert.{ending_status, refusal_status, HasStatusCause}
 use Rattle.agent_app.specs.Reading.{Ending, Ends, GoesOn, RefusedAt}
 use Rattle.agent_app.specs.Run.{finds_none, history_with_text, run_reading, FailsAtBeat, Finds, IsHostAsFound, LeavesOthers, OnceRead, Stores}
 use Rattle.agent_app.specs.Running.{DiskRose, TellRose}
@@ -185,6 +187,8 @@ pub record CollectsAll (honest : Type 0) (asked : Collector) (status : Status) (
   pub leaves : finds_none status ≡ true → IsUncollected honest outside outside' host host'
   pub untaken : honest → (NotesGo true (reads_as host.past) → ⊥) → IsUncollected honest outside outside' host host'
   pub others : LeavesOthers honest host host'
+  -- each file of the database stays within its share
+  pub bound : honest → GrowsBy 0 host.past host'.past
   -- each part of the outside counts a failure where that is why it ended
   pub spawns : outside.spawn_faults ≤ outside'.spawn_faults
   pub spawn_cause : status ≡ SpawnFault → Rose outside.spawn_faults outside'.spawn_faults

@@ -1,9 +1,7 @@
 use Rattle.std.specs.Prelude.{◌≡◌, ℕ, ◌<◌, ◌≤◌, Bool, true, false, nat_lt, List, [], ◌++◌, length, take, ◌⊎◌, Option, IfSome, codes, if◌then◌else◌}
 use Rattle.std.specs.Fmt.{decimal}
 use Rattle.host_model.specs.Cause.{HasCause, Rose}
-use Rattle.host_model.specs.declared.file.File.{File}
-use Rattle.host_model.specs.Moments.{Throughout}
-use Rattle.host_model.specs.Past.{Event, of, told}
+use Rattle.host_model.specs.Past.{Event, told}
 use Rattle.host_model.specs.Source.{Takes}
 use Rattle.host_model.specs.declared.status.Status.{Status}
 use Rattle.host_model.specs.declared.status.Status.TheVariants.{Ok as Done, Refused, Limit, ReadFault, TellFault, InputLimit, Memory}
@@ -18,6 +16,7 @@ use Rattle.point_lines.specs.Judged.{every, judge, refusal_number}
 use Rattle.point_lines.specs.Told.{told_at, told_at_end}
 use Rattle.line_stream.specs.Run.{input_limit}
 use Rattle.host_model.specs.Seen.{Seen}
+use Rattle.link_session.specs.Keeps.{LeavesFiles}
 use Rattle.agent_app.specs.Reading.{Rules, Reading, Ending, GoesOn, Ends, RefusedAt, reading_of}
 
 -- the rules of a text whose points are told
@@ -96,10 +95,6 @@ HasStatusCause _ ended ending taken source_rose host_rose = ⊥
 -- the host was not asked: what it has been through and its count of failures are as before
 abbrev pub IsUnasked : (past past' : List Event) → (tell_faults tell_faults' : ℕ) → Type 0
 IsUnasked past past' tell_faults tell_faults' = (past' ≡ past) × (tell_faults' ≡ tell_faults)
-
--- at every moment nothing has happened to any file
-abbrev pub LeavesFiles : (old new : List Event) → Type 0
-LeavesFiles old new = Throughout (λ past. (file : File) → of file past ≡ of file old) old new
 
 -- nothing happens to any file, and no call on the disk was counted as failed
 pub record LeavesDisk (honest : Type 0) (host host' : Seen) : Type 0 where

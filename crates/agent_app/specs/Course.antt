@@ -13,7 +13,7 @@ use Rattle.store_core.specs.Stands.{is_made}
 use Rattle.agent_core.specs.Stands.{StandsForHistory}
 use Rattle.link_session.specs.Exchange.{SessionResult}
 use Rattle.link_session.specs.Keeps.{Extends, IsAckedUpTo}
-use Rattle.link_session.specs.Parent.{parent_begins, parent_does}
+use Rattle.link_session.specs.Parent.{done_with, parent_begins, parent_does}
 use Rattle.link_session.specs.Session.{Exchanges, LinkSeen}
 use Rattle.agent_app.specs.declared.collect.Collector.{Collector}
 use Rattle.agent_app.specs.Collect.{CollectsAll, HasHeard, Outside}
@@ -21,7 +21,7 @@ use Rattle.agent_app.specs.Convert.{LeavesDisk}
 use Rattle.agent_app.specs.Health.{history_with_health, ConfiguresAll}
 use Rattle.agent_app.specs.New.{Makes}
 use Rattle.agent_app.specs.Query.{Asks}
-use Rattle.agent_app.specs.Receive.{done_with, ReceivesAll}
+use Rattle.agent_app.specs.Receive.{ReceivesAll}
 use Rattle.agent_app.specs.Run.{history_with_text, is_opened, is_whole, run_every, RunsAll}
 use Rattle.agent_app.specs.Send.{SendsAll}
 

@@ -22,8 +22,8 @@ use Rattle.agent_core.specs.Health.{health_refusal}
 use Rattle.agent_core.specs.Stands.{StandsForHistory}
 use Rattle.agent_core.specs.Notes.{NotesGo}
 use Rattle.agent_core.specs.Replies.{reply_text}
-use Rattle.link_session.specs.Keeps.{Keeps}
-use Rattle.agent_app.specs.Convert.{LeavesFiles}
+use Rattle.link_session.specs.Keeps.{Keeps, LeavesFiles}
+use Rattle.agent_app.specs.Bound.{AgentGrows, GrowsBy}
 use Rattle.agent_app.specs.Run.{finds_none, is_whole, Finds, IsAsFound, LeavesOthers, OnceRead, TellsRun}
 use Rattle.agent_app.specs.Running.{Counts, DiskRose, IsCutShort, IsTakers, TellRose}
 
@@ -168,6 +168,8 @@ pub record ConfiguresAll (honest : Type 0) (status : Status) (left left' : Optio
   pub leaves : finds_none status ≡ true → IsAsFound honest left left' source_faults source_faults' host host'
   pub untaken : honest → (NotesGo true (reads_as host.past) → ⊥) → IsAsFound honest left left' source_faults source_faults' host host'
   pub others : LeavesOthers honest host host'
+  -- each file of the database stays within its share
+  pub bound : honest → GrowsBy 0 host.past host'.past
   -- each part of the outside counts a failure exactly where that is why it ended
   pub read_cause : HasCause source_faults source_faults' (status ≡ ReadFault)
   pub tell_cause : HasCause host.tell_faults host'.tell_faults (status ≡ TellFault)
@@ -189,6 +191,7 @@ pub record StoresHealth (honest : Type 0) (agent : AgentState) (text : List ℕ)
   pub statuses : IsTakers status
   pub counts : Counts host host' (status ≡ TellFault) (status ≡ DiskFault)
   pub others : LeavesOthers honest host host'
+  pub bound : honest → AgentGrows agent 0 host.past host'.past
 
 -- an agent was handed the text of a source
 pub record Handled (honest : Type 0) (agent : AgentState) (status : Status) (left left' : Option (List ℕ)) (source_faults source_faults' : ℕ) (host host' : Seen) : Type 0 where
@@ -205,4 +208,5 @@ pub record Handled (honest : Type 0) (agent : AgentState) (status : Status) (lef
   pub ends : ends_health status ≡ true
   pub counts : Counts host host' (status ≡ TellFault) (status ≡ DiskFault)
   pub others : LeavesOthers honest host host'
+  pub bound : honest → AgentGrows agent 0 host.past host'.past
   pub read_cause : HasCause source_faults source_faults' (status ≡ ReadFault)

@@ -1,3 +1,4 @@
+pub mod Bound
 pub mod Collect
 pub mod Command
 pub mod Convert

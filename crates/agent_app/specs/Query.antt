@@ -15,7 +15,7 @@ use Rattle.agent_core.specs.Agent.{AgentState, IsAgentOf}
 use Rattle.agent_core.specs.Answers.{reply_of}
 use Rattle.agent_core.specs.Stands.{StandsForHistory}
 use Rattle.agent_core.specs.Notes.{NotesGo}
-use Rattle.agent_app.specs.Convert.{LeavesFiles}
+use Rattle.link_session.specs.Keeps.{LeavesFiles}
 use Rattle.agent_app.specs.Run.{Finds, LeavesOthers, TellsRun}
 
 -- words with a blank between two

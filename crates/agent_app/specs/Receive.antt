@@ -1,5 +1,5 @@
 -- What `receive` promises.
-use Rattle.std.specs.Prelude.{◌≡◌, ◌⊎◌, ℕ, Bool, true, false, List, [], ◌++◌, Err, IfSome}
+use Rattle.std.specs.Prelude.{◌≡◌, ◌⊎◌, ℕ, ◌<◌, Bool, true, false, List, [], ◌++◌, length, take, Err, IfSome}
 use Rattle.host_model.specs.declared.file.File.{File}
 use Rattle.host_model.specs.declared.status.Status.{Status}
 use Rattle.host_model.specs.declared.status.Status.TheVariants.{Ok as Done, Refused, Limit, TellFault, DiskFault, LinkFault, PeerRefused, LinkEnded, InputLimit, Memory}
@@ -12,19 +12,19 @@ use Rattle.history.specs.declared.fault.BlockFault.{BlockFault}
 use Rattle.history.specs.History.{Beat}
 use Rattle.point_lines.specs.declared.refusal.Refusal.TheVariants as refusal
 use Rattle.replication.specs.Copies.{RisesFrom}
-use Rattle.link_frames.specs.declared.frame.Frame.{Frame}
 use Rattle.tier_settings.specs.declared.settings.Settings.{Settings}
 use Rattle.agent_core.specs.declared.fault.AgentFault.TheVariants as agent
 use Rattle.agent_core.specs.Copies.{seen_moment, IsCopyOfChild, SeenBeat}
 use Rattle.agent_core.specs.Stands.{StandsForHistory}
 use Rattle.agent_core.specs.Notes.{NotesGo}
 use Rattle.link_session.specs.declared.fault.SessionFault.TheVariants as session
-use Rattle.link_session.specs.Exchange.{exchange, Course, SessionResult}
-use Rattle.link_session.specs.Keeps.{Keeps}
-use Rattle.link_session.specs.Parent.{parent_begins, parent_does, Parent}
-use Rattle.link_session.specs.Receiving.{AnswersStored, AreTrueOf}
+use Rattle.link_session.specs.Exchange.{SessionResult}
+use Rattle.link_session.specs.Keeps.{Keeps, LeavesFiles}
+use Rattle.link_session.specs.Parent.{done_with, parent_begins, parent_does}
+use Rattle.link_session.specs.Receiving.{AnswersStored, AreTrueOf, FailsAtData, HasStored}
 use Rattle.link_session.specs.Session.{Exchanges, LinkSeen}
 use Rattle.link_session.specs.Taking.{ParentEndsAt}
+use Rattle.agent_app.specs.Bound.{GrowsByData}
 use Rattle.agent_app.specs.Convert.{refusal_line, refusal_status}
 use Rattle.agent_app.specs.Run.{finds_none, is_whole, Finds, IsHostAsFound, LeavesOthers, OnceRead, TellsRun}
 use Rattle.agent_app.specs.Running.{TellRose, TellsRefusal}
@@ -69,10 +69,6 @@ ends_a_receive InputLimit = true
 ends_a_receive Memory = true
 ends_a_receive status = false
 
--- what a parent with this history does with these frames
-abbrev pub done_with : Settings → List Beat → List Frame → Course Parent
-done_with set h0 frames = exchange (parent_does set) (parent_begins h0) frames
-
 -- the disk holds a copy of this child, which had these floors
 abbrev pub HoldsCopy : Settings → (floors : List ℕ) → (child : List SeenBeat) → (File → List ℕ) → Type 0
 HoldsCopy set floors child disk = (h : List Beat) × StandsForHistory set h disk × IsCopyOfChild floors child h
@@ -86,11 +82,15 @@ pub record Receives (status : Status) (set : Settings) (h0 : List Beat) (link li
   pub exchanges : Exchanges (parent_does set) (parent_begins h0) result link link'
   -- what was said answers frames of which all was stored and told: no Have stands for beats that are not on the disk
   pub heard : AnswersStored set h0 exchanges.frames exchanges.broken old new link.sent link'.sent
+  -- where more frames than these were looked at, all that these were to store and tell was stored and told
+  pub in_turn : (n : ℕ) → n < length exchanges.frames → HasStored set (done_with set h0 (take n exchanges.frames)).now.history old (done_with set h0 (take n exchanges.frames)).told new
   -- at every moment a crash leaves the history with a prefix of the beats, and with every beat that was acknowledged
   pub crashes : Throughout (EveryCrash (Keeps set h0 (done_with set h0 exchanges.frames).now.history (told old))) old new
   -- at the end all of them, unless the output, the disk or memory failed
   pub ends : is_whole status ≡ true → EveryDisk (StandsForHistory set (done_with set h0 exchanges.frames).now.history) new
   pub output : TellsRun status ((done_with set h0 exchanges.frames).told ++ last_line result) old new
+  -- no failure of the output ends a session of which nothing is to be told
+  pub told_for : status ≡ TellFault → (done_with set h0 exchanges.frames).told ++ last_line result ≡ [] → ⊥
   -- a history that was a copy of a child is one at every moment, where each Data that came is true of the child
   pub copy : (floors : List ℕ) (child : List SeenBeat) → RisesFrom seen_moment 0 child → IsCopyOfChild floors child h0 → AreTrueOf floors child exchanges.frames → Throughout (EveryDisk (HoldsCopy set floors child)) old new
 
@@ -98,6 +98,10 @@ pub record Receives (status : Status) (set : Settings) (h0 : List Beat) (link li
 pub record ReceivesOn (status : Status) (set : Settings) (h0 : List Beat) (link link' : LinkSeen) (read new : List Event) : Type 0 where
   pub stands : EveryDisk (StandsForHistory set h0) read
   pub receives : Receives status set h0 link link' read new
+  -- a session that adds nothing to the history writes nothing
+  pub quiet : (done_with set h0 receives.exchanges.frames).now.history ≡ h0 → LeavesFiles read new
+  -- the disk fails only at a Data that is to be stored: all before it was stored, and all that was told is of that
+  pub stored_for : status ≡ DiskFault → FailsAtData set h0 receives.exchanges.frames read new
 
 -- `receive` ended with this status, and left the link and the host so
 pub record ReceivesAll (honest : Type 0) (status : Status) (link link' : LinkSeen) (host host' : Seen) : Type 0 where
@@ -118,6 +122,8 @@ pub record ReceivesAll (honest : Type 0) (status : Status) (link link' : LinkSee
   pub leaves : finds_none status ≡ true → (link' ≡ link) × IsHostAsFound honest host host'
   pub untaken : honest → (NotesGo true (reads_as host.past) → ⊥) → (link' ≡ link) × IsHostAsFound honest host host'
   pub others : LeavesOthers honest host host'
+  -- each file of the database stays within its share
+  pub bound : honest → GrowsByData link link' host.past host'.past
   -- each part of the outside counts a failure exactly where that is why it ended
   pub link_cause : HasCause link.faults link'.faults (status ≡ LinkFault)
   pub tell_cause : HasCause host.tell_faults host'.tell_faults (status ≡ TellFault)

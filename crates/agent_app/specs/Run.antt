@@ -36,8 +36,9 @@ use Rattle.agent_core.specs.Stands.{StandsForHistory}
 use Rattle.agent_core.specs.Notes.{NotesGo}
 use Rattle.agent_core.specs.Replies.{reply_text}
 use Rattle.line_stream.specs.Run.{input_limit}
-use Rattle.link_session.specs.Keeps.{Keeps}
-use Rattle.agent_app.specs.Convert.{all_told, ending_status, HasStatusCause, LeavesFiles}
+use Rattle.link_session.specs.Keeps.{Keeps, LeavesFiles}
+use Rattle.agent_app.specs.Bound.{GrowsBy}
+use Rattle.agent_app.specs.Convert.{all_told, ending_status, HasStatusCause}
 use Rattle.agent_app.specs.Reading.{Ending, LineRules, Reading, Rules, lines_read, reading_of}
 
 -- ---- what a text says behind a history; `every` is the update_every of the charts whose line leaves it open
@@ -263,6 +264,8 @@ pub record RunsAll (honest : Type 0) (status : Status) (left left' : Option (Lis
   pub untaken : honest → (NotesGo true (reads_as host.past) → ⊥) → IsAsFound honest left left' source_faults source_faults' host host'
   -- whatever status it ended with
   pub others : LeavesOthers honest host host'
+  -- each file of the database stays within its share
+  pub bound : honest → GrowsBy 0 host.past host'.past
   -- each part of the outside counts a failure exactly where that is why the run ended
   pub read_cause : HasCause source_faults source_faults' (status ≡ ReadFault)
   pub tell_cause : HasCause host.tell_faults host'.tell_faults (status ≡ TellFault)

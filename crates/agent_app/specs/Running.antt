@@ -16,12 +16,13 @@ use Rattle.tier_settings.specs.declared.settings.Settings.{Settings}
 use Rattle.agent_core.specs.declared.fault.AgentFault.{AgentFault}
 use Rattle.agent_core.specs.declared.fault.AgentFault.TheVariants as agent_fault
 use Rattle.agent_core.specs.Agent.{IsAgentOf, AgentIsReady}
+use Rattle.agent_core.specs.Bound.{RunsWithin}
 use Rattle.host_model.specs.Seen.{Seen}
 use Rattle.agent_core.specs.Fed.{IsFed}
 use Rattle.line_stream.specs.Chain.{Acts}
-use Rattle.link_session.specs.Keeps.{IsAckedUpTo, Keeps}
+use Rattle.link_session.specs.Keeps.{IsAckedUpTo, Keeps, LeavesFiles}
 use Rattle.agent_app.specs.declared.running.Running.{Running}
-use Rattle.agent_app.specs.Convert.{refusal_line, refusal_status, LeavesFiles}
+use Rattle.agent_app.specs.Convert.{refusal_line, refusal_status}
 use Rattle.agent_app.specs.Reading.{HasRead}
 use Rattle.agent_app.specs.Run.{history_with_text, run_reading, run_rules, FailsAtBeat, HasRunCause, LeavesOthers, Stores}
 
@@ -103,6 +104,8 @@ pub record TakesLine (honest : Type 0) (running : Running) (host : Seen) (number
   pub statuses : IfErr result IsTakers
   pub counts : Counts host host' (IsErrOf result TellFault) (IsErrOf result DiskFault)
   pub others : LeavesOthers honest host host'
+  -- it adds no gap, and each file of the database stays within its share
+  pub bound : honest → (every : ℕ) (set : Settings) (h0 : List Beat) (prefix : List (List ℕ)) (start : List Event) → IsRunning host.past running every set h0 prefix start → RunsWithin honest 0 host running.agent host' running'.agent
 
 -- nothing is done where the lines of a piece are over
 abbrev pub Pauses : {T H : Type 0} → T → H → Result (Unit {0}) Status → T → H → Type 0

@@ -4,7 +4,8 @@
 //! fails: what is told is a prefix of a stated function of the bytes taken, and all of it unless the
 //! output, the disk or memory failed. It says what a crash may leave of the database at any moment, and
 //! why the run ended with the status that it answers. Of `run`, `collect`, `query`, `health`, `log`, `send` and
-//! `receive` it says so where the disk reads as a database of a history.
+//! `receive` it says so where the disk reads as a database of a history. Whatever the command, each file of the
+//! database stays within its share at every moment.
 //!
 //! It stands on `line_stream` for the lines of a stream, on `plugin_runner` for those of a program that is run as a
 //! collector, on `point_lines` for what the lines of a text tell, on `link_session` for what two agents say to each
@@ -12,6 +13,7 @@
 #![tactic(auto)]
 
 ghost use Rattle.std.specs.Prelude.{◌≡◌, ◌⊎◌, ℕ, None, Some};
+ghost use Rattle.agent_app.specs.Bound.{StaysBy};
 ghost use Rattle.agent_app.specs.Collect.{collector_of, outside_of, CollectsAll};
 ghost use Rattle.agent_app.specs.Command.{command_of, settings_for};
 ghost use Rattle.agent_app.specs.Convert.{Converts, EndsAsText, LeavesDisk};
@@ -209,6 +211,12 @@ pub fn agent_main<S: Source, H: Host, L: Link, P: Spawner, C: Clock>(
         Asks H.honest (log_for form) result (H.seen host.old) (H.seen host.new) }
     ensures log_takes_nothing { (form : AForm) → command_of words.now ≡ Some (Command.Log form) →
         source.new ≡ source.old }
+
+    // Where each file was within its share, it is so at every moment.
+    ensures bound { H.honest → StaysBy (command_of words.now)
+        (link_seen (L.sent link.old) (L.left link.old) (L.faults link.old))
+        (link_seen (L.sent link.new) (L.left link.new) (L.faults link.new))
+        (H.seen host.old).past (H.seen host.new).past }
 {
     match Command::read(alloc, words) {
         Err(_) => Status::Memory,
