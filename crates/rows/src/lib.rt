@@ -23,6 +23,8 @@ mod health_examples;
 #[cfg(test)]
 mod health_sizes;
 #[cfg(test)]
+mod histories;
+#[cfg(test)]
 mod logs;
 #[cfg(test)]
 mod random;
@@ -30,6 +32,8 @@ mod random;
 mod replaced_crashes;
 #[cfg(test)]
 mod run;
+#[cfg(test)]
+mod script;
 #[cfg(test)]
 mod steps;
 #[cfg(test)]

@@ -8,13 +8,13 @@ use std::test::Fail;
 
 /// A row of numbers without order.
 #[derive(Clone, Copy)]
-struct Random {
-    state: u64,
+pub struct Random {
+    pub state: u64,
 }
 
 impl Random {
     /// A number below `bound`, or 0 where that is 0.
-    fn below(&mut self, bound: u64) -> u64 {
+    pub fn below(&mut self, bound: u64) -> u64 {
         self.state = self
             .state
             .wrapping_mul(6_364_136_223_846_793_005)
@@ -25,10 +25,10 @@ impl Random {
 
 /// A point of the one dimension.
 #[derive(Clone, Copy, Debug)]
-struct Point {
-    moment: u64,
-    value: u64,
-    is_anomalous: bool,
+pub struct Point {
+    pub moment: u64,
+    pub value: u64,
+    pub is_anomalous: bool,
 }
 
 /// A question over the one chart, by the place of its group in `GROUPS`.
@@ -54,20 +54,20 @@ struct Case {
 
 /// What the points of a window come to.
 #[derive(Clone, Copy, Debug)]
-struct Summed {
-    count: u64,
+pub struct Summed {
+    pub count: u64,
     sum: u64,
     least: u64,
     most: u64,
     anomalies: u64,
 }
 
-fn group_name(group: u64) -> &'static str {
+pub fn group_name(group: u64) -> &'static str {
     GROUPS.get(group as usize).copied().unwrap_or("sum")
 }
 
 /// The points from one moment to before another.
-fn sum_up(points: &[Point], from: u64, to: u64) -> Summed {
+pub fn sum_up(points: &[Point], from: u64, to: u64) -> Summed {
     let mut all = Summed {
         count: 0,
         sum: 0,
@@ -95,7 +95,7 @@ impl Summed {
     }
 
     /// The group's number in ten-millionths.
-    fn units(&self, group: u64) -> u64 {
+    pub fn units(&self, group: u64) -> u64 {
         const ONE: u64 = 10_000_000;
         match group_name(group) {
             "sum" => self.sum.saturating_mul(ONE),
@@ -138,7 +138,7 @@ fn write_decimals(out: &mut String, part: u64) -> Result<(), AllocError> {
 }
 
 /// Writes a cell of ten-millionths.
-fn write_cell(out: &mut String, units: u64) -> Result<(), AllocError> {
+pub fn write_cell(out: &mut String, units: u64) -> Result<(), AllocError> {
     let whole = units / 10_000_000;
     let part = units % 10_000_000;
     write!(out, " {whole}")?;

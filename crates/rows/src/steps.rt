@@ -27,13 +27,22 @@ pub fn step(alloc: Global, host: &mut MemoryHost, step: &Step) -> Result<(Status
     Ok((end.status, end.told.as_str() == *told))
 }
 
-/// The first of the commands that does not end as it should.
-pub fn first_wrong(alloc: Global, steps: &[Step]) -> Result<Option<usize>, Fail> {
-    let mut host = host_of(alloc, &[])?;
+/// The first of the commands over this host that does not end as it should.
+pub fn first_wrong_over(
+    alloc: Global,
+    host: &mut MemoryHost,
+    steps: &[Step],
+) -> Result<Option<usize>, Fail> {
     for (index, row) in steps.iter().enumerate() {
-        if step(alloc, &mut host, row)? != (row.3, true) {
+        if step(alloc, host, row)? != (row.3, true) {
             return Ok(Some(index));
         }
     }
     Ok(None)
+}
+
+/// The same over a new host.
+pub fn first_wrong(alloc: Global, steps: &[Step]) -> Result<Option<usize>, Fail> {
+    let mut host = host_of(alloc, &[])?;
+    first_wrong_over(alloc, &mut host, steps)
 }
