@@ -28,7 +28,8 @@ pub struct Ending {
     pub sent: Vec<u8>,
 }
 
-fn words_of(alloc: Global, words: &[&str]) -> Result<WordsList, AllocError> {
+/// The words of a command line.
+pub fn words_of(alloc: Global, words: &[&str]) -> Result<WordsList, AllocError> {
     let mut list = WordsList::new(alloc);
     for word in words {
         list.push(Text::from_str(alloc, word)?)?;
