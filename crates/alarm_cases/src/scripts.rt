@@ -2,7 +2,7 @@
 
 use crate::charts::two_charts;
 use crate::points::{latest, source};
-use alarm_core::{Alarms, Event, EventList, Latest, write_event};
+use alarm_core::{Alarms, Event, EventList, Latest, MOST_PAIRS, write_event};
 use chart_registry::Registry;
 use health_config::Config;
 use query_engine::ListPoints;
@@ -217,4 +217,10 @@ fn beats_tell_events_and_the_log_shows_them(rt: HostRuntime) -> Result<(), Fail>
         assert_eq!(rt; log.as_str(), *want);
     }
     Ok(())
+}
+
+/// The definitions name the constant: this says which number it is.
+#[test]
+fn so_many_alarms_are_computed(rt: HostRuntime) {
+    assert_eq!(rt; MOST_PAIRS, 65_536);
 }
