@@ -7,6 +7,7 @@ use Rattle.tier_settings.specs.declared.tier.Tier.{Tier}
 use Rattle.beat_tiers.specs.Beats.{TierBeat, last}
 use Rattle.beat_tiers.specs.Floors.{Cuts, cut_after, cuts_of, floor_of, items_added}
 use Rattle.beat_tiers.proofs.GivenLemmas.{IsLater, above_last, beat_of}
+use Rattle.beat_tiers.proofs.MoreLaws.{Falls, falls_to}
 
 -- each moment is above those before it
 abbrev pub AreLater : List TierBeat → Type 0
@@ -14,14 +15,6 @@ AreLater [] = Unit {0}
 AreLater (beat ∷ beats) = IsLater beat.moment beats × AreLater beats
 
 -- ---- the moments of the beats that sealed a segment fall, from below a limit
-abbrev Falls : ℕ → List ℕ → Type 0
-Falls limit [] = Unit {0}
-Falls limit (moment ∷ moments) = (moment < limit) × Falls moment moments
-
-falls-to : (low high : ℕ) (moments : List ℕ) → Falls low moments → low ≤ high → Falls high moments
-falls-to low high [] falls le = tt
-falls-to low high (moment ∷ moments) falls le = (omega (arith, falls.0), falls.1)
-
 cuts-fall : (tier : Tier) (beats : List TierBeat) → AreLater beats → Falls (last beats + 1) (cuts_of 0 tier beats).sealed
 cuts-fall tier [] are = tt
 cuts-fall tier (beat ∷ beats) are = by beat.moment are.0 (items_added 0 tier beat beats) (cuts-fall tier beats are.1)
@@ -33,8 +26,8 @@ cuts-fall tier (beat ∷ beats) are = by beat.moment are.0 (items_added 0 tier b
         let above = above_last moment beats later in
         let cuts = cuts_of 0 tier beats in
         cond_both (nat_lt (cuts.since + count) tier.items) (record cuts { since = cuts.since + count }) (record { sealed = moment ∷ cuts.sealed; since = 0 }) (λ (cuts : Cuts). Falls (moment + 1) cuts.sealed)
-        (λ e. falls-to (last beats + 1) (moment + 1) cuts.sealed rest (omega (arith, above)))
-        (λ e. (omega arith, falls-to (last beats + 1) moment cuts.sealed rest (omega (arith, above))))
+        (λ e. falls_to (last beats + 1) (moment + 1) cuts.sealed rest (omega (arith, above)))
+        (λ e. (omega arith, falls_to (last beats + 1) moment cuts.sealed rest (omega (arith, above))))
 
 -- ---- the floor that they leave
 abbrev floor-left : List ℕ → ℕ → ℕ
@@ -67,7 +60,7 @@ floor-climbs tier beat beats are = by beat.moment are.0 (items_added 0 tier beat
         cond_both (nat_lt (cuts.since + count) tier.items) (record cuts { since = cuts.since + count }) (record { sealed = moment ∷ cuts.sealed; since = 0 })
         (λ (new : Cuts). floor-left cuts.sealed tier.extents ≤ floor-left new.sealed tier.extents)
         (λ e. omega arith)
-        (λ e. left-rises cuts.sealed tier.extents moment (falls-to (last beats + 1) moment cuts.sealed (cuts-fall tier beats are.1) (omega (arith, above))))
+        (λ e. left-rises cuts.sealed tier.extents moment (falls_to (last beats + 1) moment cuts.sealed (cuts-fall tier beats are.1) (omega (arith, above))))
 
 -- where a segment is kept, it lies at most at the last moment
 pub floor-below : (tier : Tier) (beats : List TierBeat) → 1 ≤ tier.extents → AreLater beats → floor_of 0 tier beats ≤ last beats

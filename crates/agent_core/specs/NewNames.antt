@@ -3,6 +3,7 @@ use Rattle.std.specs.Prelude.{◌≡◌, ℕ, ◌+◌, ◌<◌, ◌≤◌, ◌==
 use Rattle.std.specs.Option.{option_map_or}
 use Rattle.history.specs.Refusal.{is_new_dimension}
 use Rattle.history.specs.Registry.{Registry, is_of}
+use Rattle.history.specs.declared.limits.TheConstants.{MOST_DIMENSIONS_OF_CHART}
 use Rattle.replication.specs.declared.names.ChartName.{ChartName}
 use Rattle.replication.specs.declared.names.DimName.{DimName}
 use Rattle.replication.specs.declared.names.Names.{Names}
@@ -30,10 +31,10 @@ CountsMore registry names dimension before after =
 abbrev pub HaveRoom : Registry → Names → List ℕ → Type 0
 HaveRoom registry names counts =
     (place : ℕ) (chart : ChartName) → slice_get names.charts place ≡ Some chart → 0 < slice_index counts place
-    → count_by (is_of chart.id) registry.dimensions + slice_index counts place ≤ 1024
+    → count_by (is_of chart.id) registry.dimensions + slice_index counts place ≤ MOST_DIMENSIONS_OF_CHART
 
 -- the dimension is new, and its chart has more than 1,024 with it and those that are counted
 pub record IsOneTooMany (registry : Registry) (names : Names) (counts : List ℕ) (dimension : DimName) : Type 0 where
   pub new : is_new registry names dimension ≡ true
   pub full : (chart : ChartName) → slice_get names.charts dimension.chart ≡ Some chart
-      → 1024 < count_by (is_of chart.id) registry.dimensions + slice_index counts dimension.chart + 1
+      → MOST_DIMENSIONS_OF_CHART < count_by (is_of chart.id) registry.dimensions + slice_index counts dimension.chart + 1

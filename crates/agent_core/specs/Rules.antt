@@ -14,6 +14,7 @@ use Rattle.history.specs.Limits.{chart_keeps_limits, dimension_keeps_limits}
 use Rattle.history.specs.Looking.{beat as open_beat}
 use Rattle.history.specs.Refusal.{refusal}
 use Rattle.history.specs.Registry.{Registry}
+use Rattle.history.specs.declared.limits.TheConstants.{MOST_CHARTS, MOST_DIMENSIONS, UPDATE_EVERY_LIMIT}
 use Rattle.store_core.specs.Counts.{raised}
 
 -- ---- what a line does
@@ -48,8 +49,8 @@ last_with last line = last
 -- Each chart has an update_every of 1 to 86,400 seconds, each definition keeps its limits, and there are no more of
 -- them than there may be.
 pub record HasLimits (registry : Registry) : Type 0 where
-  pub grids : All (λ (def : ChartDef). (0 < def.update_every) × (def.update_every ≤ 86400)) registry.charts
+  pub grids : All (λ (def : ChartDef). (0 < def.update_every) × (def.update_every ≤ UPDATE_EVERY_LIMIT)) registry.charts
   pub charts : All (λ (def : ChartDef). chart_keeps_limits def ≡ true) registry.charts
   pub dimensions : All (λ (dimension : OpenDim). dimension_keeps_limits dimension.def ≡ true) registry.dimensions
-  pub few_charts : length registry.charts ≤ 4096
-  pub few : length registry.dimensions ≤ 65536
+  pub few_charts : length registry.charts ≤ MOST_CHARTS
+  pub few : length registry.dimensions ≤ MOST_DIMENSIONS

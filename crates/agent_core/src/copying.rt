@@ -37,8 +37,8 @@ use entry_codec::{
 };
 use fixed_num::Text;
 use history::{
-    ChartDef, ChartDefList, NumberedBeat, NumberedChart, NumberedDimension, OpenBeat, OpenDim,
-    OpenDimList, OpenRowList,
+    ChartDef, ChartDefList, MOST_DIMENSIONS, NumberedBeat, NumberedChart, NumberedDimension,
+    OpenBeat, OpenDim, OpenDimList, OpenRowList,
 };
 use replication::{
     Beat as SentBeat, ChartName, Data, DimName, Names, SeriesWord as SentWord, Verdict,
@@ -217,7 +217,7 @@ fn numbered_words(
     beat: &SentBeat,
 ) -> Result<Vec<SeriesWord>, AllocError>
     requires own { AreApart same_dimension registry.now.dimensions }
-    requires few { length registry.now.dimensions ≤ 65536 }
+    requires few { length registry.now.dimensions ≤ MOST_DIMENSIONS }
     requires names { AreNamesApart names.now }
     requires places { has_rising_places beat.now ≡ true }
     requires stored { has_storage_numbers beat.now ≡ true }
@@ -225,7 +225,7 @@ fn numbered_words(
         ≡ map point_word (numbered_words registry.now (named_beat names.now beat.now).points)) }
     ensures there { IfOk result (λ words. ArePointsIn registry.now words.items) }
     ensures rising { IfOk result (λ words. AreRising words.items) }
-    ensures few { IfOk result (λ words. length words.items ≤ 65536) }
+    ensures few { IfOk result (λ words. length words.items ≤ MOST_DIMENSIONS) }
 {
     sort_words(gather_words(alloc, registry, names, beat.words.as_slice())?)
 }
@@ -328,7 +328,7 @@ fn copied_entry(
     requires canonical { is_collected_canonical defines.now ≡ true }
     requires rising { AreRising words.now }
     requires stored { All (λ word. is_word word.word ≡ true) words.now }
-    requires few { length words.now ≤ 65536 }
+    requires few { length words.now ≤ MOST_DIMENSIONS }
     ensures entry { IfOk result (λ made. made ≡ entry.Copied (record {
       child = child;
       moment = moment;

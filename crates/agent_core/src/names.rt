@@ -11,11 +11,8 @@ ghost use Rattle.agent_core.specs.NewNames.{CountsMore, HaveRoom, IsOneTooMany};
 ghost use Rattle.agent_core.specs.Rules.{changes_grid, changes_grid_of, fills_chart, too_many_charts, too_many_dimensions};
 
 use crate::left::Role;
-use chart_registry::{
-    MOST_CHARTS, MOST_DIMENSIONS, MOST_DIMENSIONS_OF_CHART, Registry, is_known_dimension,
-    known_dimensions_of, known_update_every,
-};
-use history::BlockFault;
+use chart_registry::{Registry, is_known_dimension, known_dimensions_of, known_update_every};
+use history::{BlockFault, MOST_CHARTS, MOST_DIMENSIONS, MOST_DIMENSIONS_OF_CHART};
 use replication::{ChartName, Data, DimName, Names};
 
 /// How many charts a message may name that is not refused for them.
@@ -104,9 +101,9 @@ fn new_dimensions(registry: &Registry, names: &Names) -> usize
 /// Counts one more dimension of the chart at this place, where there is room for it beside those that the registry
 /// has. Whether there is none.
 fn fills(counts: &mut [u16; PLACES], place: usize, known: u32) -> bool
-    requires within { place < 4096 }
-    requires few { known ≤ 1024 }
-    ensures full { result ≡ nat_lt 1024 (known + slice_index counts.old place + 1) }
+    requires within { place < MOST_CHARTS }
+    requires few { known ≤ MOST_DIMENSIONS_OF_CHART }
+    ensures full { result ≡ nat_lt MOST_DIMENSIONS_OF_CHART (known + slice_index counts.old place + 1) }
     ensures counted { result ≡ false
         → counts.new ≡ set counts.old place (slice_index counts.old place + 1) }
 {
@@ -124,7 +121,7 @@ fn fills_chart(
     dimension: &DimName,
     counts: &mut [u16; PLACES],
 ) -> bool
-    requires { length names.now.charts ≤ 4096 }
+    requires { length names.now.charts ≤ MOST_CHARTS }
     ensures full { result ≡ true
         → IsOneTooMany registry.now names.now counts.old dimension.now }
     ensures counted { result ≡ false
@@ -144,7 +141,7 @@ fn fills_chart(
 /// Whether a dimension is new to a chart that then has too many. Each dimension is looked for once.
 fn fill_a_chart(registry: &Registry, names: &Names) -> bool
     requires apart { AreApart names.now }
-    requires few { length names.now.charts ≤ 4096 }
+    requires few { length names.now.charts ≤ MOST_CHARTS }
     ensures { result ≡ list_any (λ dimension. option_map_or
         (fills_chart registry.now (definitions_in names.now))
         (defined_dimension names.now dimension) false) names.now.dimensions }
@@ -161,7 +158,7 @@ fn fill_a_chart(registry: &Registry, names: &Names) -> bool
 
 #[tactic(auto, using(crate::proofs::Lists::few_made))]
 fn fill_the_registry(registry: &Registry, names: &Names) -> bool
-    ensures { result ≡ nat_lt 65536 (length registry.now.dimensions
+    ensures { result ≡ nat_lt MOST_DIMENSIONS (length registry.now.dimensions
         + count_by (is_new_dimension registry.now) (definitions_in names.now).dimensions) }
 {
     let room = (MOST_DIMENSIONS - registry.dimensions()) as usize;
@@ -170,7 +167,7 @@ fn fill_the_registry(registry: &Registry, names: &Names) -> bool
 
 fn too_many_dimensions(registry: &Registry, names: &Names) -> bool
     requires apart { AreApart names.now }
-    requires few { length names.now.charts ≤ 4096 }
+    requires few { length names.now.charts ≤ MOST_CHARTS }
     ensures { result ≡ too_many_dimensions registry.now (definitions_in names.now) }
 {
     fill_the_registry(registry, names) || fill_a_chart(registry, names)

@@ -1,6 +1,7 @@
 use Rattle.std.specs.Prelude.{◌≤◌, length, IsSome}
 use Rattle.history.specs.Registry.{same_chart, same_dimension}
 use Rattle.history.specs.Regular.{AreApart}
+use Rattle.history.specs.declared.limits.TheConstants.{MOST_CHARTS, MOST_DIMENSIONS}
 use Rattle.beat_entries.specs.declared.coming.Coming.{Coming}
 use Rattle.beat_entries.specs.Rules.{with_beat}
 
@@ -11,5 +12,5 @@ pub record CanNumber (coming : Coming) : Type 0 where
   pub apart_charts : AreApart same_chart coming.beat.now.charts
   pub apart_dimensions : AreApart same_dimension coming.beat.now.dimensions
   pub fresh : IsSome coming.fresh
-  pub charts : length (with_beat coming.registry.now coming.beat.now).charts ≤ 4096
-  pub dimensions : length (with_beat coming.registry.now coming.beat.now).dimensions ≤ 65536
+  pub charts : length (with_beat coming.registry.now coming.beat.now).charts ≤ MOST_CHARTS
+  pub dimensions : length (with_beat coming.registry.now coming.beat.now).dimensions ≤ MOST_DIMENSIONS

@@ -13,6 +13,7 @@ use Rattle.history.specs.declared.chart.ChartDef.{ChartDef}
 use Rattle.history.specs.Limits.{chart_keeps_limits, dimension_keeps_limits}
 use Rattle.history.specs.Refusal.{chart_refusal, dimension_refusal}
 use Rattle.history.specs.Registry.{Registry, chart_of, series_of, with_definitions}
+use Rattle.history.specs.declared.limits.TheConstants.{MOST_DIMENSIONS_OF_CHART}
 
 -- each thing in turn is taken, where what is there has taken those before it
 abbrev pub all_taken : {S X : Type 0} → (S → X → Bool) → (S → X → S) → S → List X → Bool
@@ -62,7 +63,7 @@ is_of_chart registry chart value = is_number chart (owner_of registry value.seri
 -- a row of a chart that is there, with values of its dimensions, and no longer than a chart can be
 abbrev pub takes_row : Registry → Row → Bool
 takes_row registry row =
-    nat_lt row.chart (length registry.charts) && nat_le (length row.values) 1024 && list_all (is_of_chart registry row.chart) row.values
+    nat_lt row.chart (length registry.charts) && nat_le (length row.values) MOST_DIMENSIONS_OF_CHART && list_all (is_of_chart registry row.chart) row.values
 
 -- ---- beats
 -- the registry once it has taken the beat's definitions

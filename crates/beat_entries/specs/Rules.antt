@@ -14,6 +14,7 @@ use Rattle.history.specs.Looking.{same_value}
 use Rattle.history.specs.Refusal.{has_chart, has_dimension, is_new_chart, is_new_dimension, is_new_of, is_off_grid}
 use Rattle.history.specs.Registry.{Registry, is_chart, is_of, same_chart, same_dimension, with_definitions}
 use Rattle.history.specs.Regular.{AreApart, same_row}
+use Rattle.history.specs.declared.limits.TheConstants.{MOST_CHARTS, MOST_DIMENSIONS, MOST_DIMENSIONS_OF_CHART}
 
 -- ---- what a caller may hand in
 
@@ -52,7 +53,7 @@ changes_grid registry beat = list_any (changes_grid_of registry) beat.charts
 
 -- with the beat there would be more than 4,096 charts
 abbrev pub too_many_charts : Registry → OpenBeat → Bool
-too_many_charts registry beat = nat_lt 4096 (length registry.charts + count_by (is_new_chart registry) beat.charts)
+too_many_charts registry beat = nat_lt MOST_CHARTS (length registry.charts + count_by (is_new_chart registry) beat.charts)
 
 -- how many dimensions of a chart there would be with the beat
 abbrev pub dimensions_with : Registry → OpenBeat → List ℕ → ℕ
@@ -60,16 +61,16 @@ dimensions_with registry beat chart = count_by (is_of chart) registry.dimensions
 
 -- the dimension is new, and with the beat there would be more than 1,024 of its chart
 abbrev pub fills_chart : Registry → OpenBeat → OpenDim → Bool
-fills_chart registry beat dimension = is_new_dimension registry dimension && nat_lt 1024 (dimensions_with registry beat dimension.chart)
+fills_chart registry beat dimension = is_new_dimension registry dimension && nat_lt MOST_DIMENSIONS_OF_CHART (dimensions_with registry beat dimension.chart)
 
 -- the row sets more dimensions than a chart may have
 abbrev pub is_too_long : OpenRow → Bool
-is_too_long row = nat_lt 1024 (length row.values)
+is_too_long row = nat_lt MOST_DIMENSIONS_OF_CHART (length row.values)
 
 -- with the beat there would be more than 1,024 dimensions of a chart, or more than 65,536 in all
 abbrev pub too_many_dimensions : Registry → OpenBeat → Bool
 too_many_dimensions registry beat =
-    nat_lt 65536 (length registry.dimensions + count_by (is_new_dimension registry) beat.dimensions)
+    nat_lt MOST_DIMENSIONS (length registry.dimensions + count_by (is_new_dimension registry) beat.dimensions)
     || (list_any (fills_chart registry beat) beat.dimensions || list_any is_too_long beat.rows)
 
 -- why what a beat defines and sets may not come to this registry, if it may not: the first of these reasons

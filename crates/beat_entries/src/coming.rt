@@ -13,7 +13,7 @@ ghost use Rattle.beat_entries.specs.Rules.{changes_grid, with_beat};
 use crate::fresh::Fresh;
 use crate::near::series_near;
 use chart_registry::Registry;
-use history::{ChartDef, OpenBeat, OpenDim};
+use history::{ChartDef, MOST_DIMENSIONS, OpenBeat, OpenDim};
 use std::alloc::Global;
 
 /// A beat, and the registry that is to take its definitions.
@@ -56,9 +56,9 @@ fn is_defined_dimension(dimensions: &[OpenDim], chart: &str, id: &str) -> bool
 
 /// The number behind so many numbers at a place.
 fn number_behind(count: u32, place: usize) -> u32
-    ensures { count + place ≤ 65536 → result ≡ count + place }
+    ensures { count + place ≤ MOST_DIMENSIONS → result ≡ count + place }
 {
-    if place <= 65_536 {
+    if place <= MOST_DIMENSIONS as usize {
         count.saturating_add(place as u32)
     } else {
         count

@@ -6,10 +6,10 @@ ghost use Rattle.beat_entries.specs.declared.refusal.EntryRefusal.TheVariants.{N
 
 use crate::refusal::EntryRefusal;
 use chart_registry::{Registry, RegistryFault};
-use history::{NumberedChart, NumberedDimension, Row, Value};
+use history::{MOST_DIMENSIONS_OF_CHART, NumberedChart, NumberedDimension, Row, Value};
 
 /// The most values of one row.
-const MOST_VALUES: usize = 1_024;
+const MOST_VALUES: usize = MOST_DIMENSIONS_OF_CHART as usize;
 
 /// Defines a chart by its number. After an `Err` it may be defined.
 fn take_chart(registry: &mut Registry, chart: &NumberedChart) -> Result<(), EntryRefusal>

@@ -2,6 +2,7 @@ ghost use Rattle.std.specs.Prelude.{◌≡◌, ◌≤◌, ℕ, true, List, ◌�
 ghost use Rattle.entry_codec.specs.Entries.{IsWithinLimits};
 ghost use Rattle.history.specs.declared.beat.OpenBeat.{OpenBeat};
 ghost use Rattle.history.specs.History.{Beat, collected, registry_of};
+ghost use Rattle.history.specs.declared.limits.TheConstants.{MOST_CHARTS, MOST_DIMENSIONS};
 ghost use Rattle.history.specs.declared.beat.OpenDim.{OpenDim};
 ghost use Rattle.history.specs.declared.chart.ChartDef.{ChartDef};
 ghost use Rattle.history.specs.Limits.{chart_keeps_limits, dimension_keeps_limits};
@@ -43,6 +44,6 @@ pub fn numbered_beat_keeps_limits()
     ensures { (registry : Registry) (moment : ℕ) (beat : OpenBeat) → IsDefinedIn registry beat
         → All (λ (def : ChartDef). chart_keeps_limits def ≡ true) beat.charts
         → All (λ (dimension : OpenDim). dimension_keeps_limits dimension.def ≡ true) beat.dimensions
-        → length registry.charts ≤ 4096 → length registry.dimensions ≤ 65536
+        → length registry.charts ≤ MOST_CHARTS → length registry.dimensions ≤ MOST_DIMENSIONS
         → IsWithinLimits (numbered_beat registry moment beat) }
 {}

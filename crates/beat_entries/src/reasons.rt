@@ -10,10 +10,12 @@ ghost use Rattle.beat_entries.specs.Rules.{changes_grid, changes_grid_of, conten
 use crate::coming::Coming;
 use crate::rows::FoundRows;
 use chart_registry::{
-    MOST_CHARTS, MOST_DIMENSIONS, MOST_DIMENSIONS_OF_CHART, Registry, is_new_dimension,
-    known_dimensions_of, known_update_every, new_charts,
+    Registry, is_new_dimension, known_dimensions_of, known_update_every, new_charts,
 };
-use history::{BlockFault, ChartDef, OpenBeat, OpenDim, OpenRow};
+use history::{
+    BlockFault, ChartDef, MOST_CHARTS, MOST_DIMENSIONS, MOST_DIMENSIONS_OF_CHART, OpenBeat,
+    OpenDim, OpenRow,
+};
 
 fn dimensions_lack_chart(coming: &Coming) -> bool
     ensures { result ≡ list_any (λ (dimension : ADim). not
@@ -76,7 +78,7 @@ fn fill_a_chart(coming: &Coming) -> bool
 }
 
 fn fill_the_registry(coming: &Coming) -> bool
-    ensures { result ≡ nat_lt 65536
+    ensures { result ≡ nat_lt MOST_DIMENSIONS
         (length coming.now.registry.now.dimensions + count_by
         (is_new_dimension coming.now.registry.now) coming.now.beat.now.dimensions) }
 {

@@ -14,11 +14,11 @@ use Rattle.beat_tiers.proofs.GivenLemmas.{IsLater, above_last, beat_of, bucket_r
 -- ---- floors
 
 -- the moments fall, from below a limit
-abbrev Falls : ℕ → List ℕ → Type 0
+abbrev pub Falls : ℕ → List ℕ → Type 0
 Falls limit [] = Unit {0}
 Falls limit (moment ∷ moments) = (moment < limit) × Falls moment moments
 
-falls_to : (low high : ℕ) (moments : List ℕ) → Falls low moments → low ≤ high → Falls high moments
+pub falls_to : (low high : ℕ) (moments : List ℕ) → Falls low moments → low ≤ high → Falls high moments
 falls_to low high [] falls le = tt
 falls_to low high (moment ∷ moments) falls le = (omega (arith, falls.0), falls.1)
 

@@ -48,7 +48,7 @@ is_closed width bucket beats = nat_le ((bucket + 1) * width) (last beats)
 
 -- the numbers of series are below this
 unfoldable pub series_limit : ℕ
-series_limit = 65536
+series_limit = MOST_SERIES
 
 -- every number that a series may have
 abbrev pub all_series : List ℕ

@@ -3,6 +3,7 @@ use Rattle.std.specs.Prelude.{ℕ, ◌+◌, ◌/◌, ◌==◌, ◌&&◌, ◌||�
 use Rattle.std.specs.BTreeMap.{insert_entry}
 use Rattle.std.specs.Ordering.{nat_cmp}
 use Rattle.fixed_num.specs.declared.units.Record.{Record}
+use Rattle.tier_settings.specs.declared.limits.TheConstants.{MOST_SERIES}
 use Rattle.tier_settings.specs.declared.tier.Tier.{Tier}
 use Rattle.beat_tiers.specs.declared.item.Item.{Item}
 use Rattle.beat_tiers.specs.declared.item.Stepped.{Stepped}
@@ -46,7 +47,7 @@ module _ {T : Type 0} where
 -- the records have the order of their series, each once, from a number on and below 65,536
 abbrev pub are_open : ℕ → List (ℕ × Record) → Bool
 are_open least [] = true
-are_open least (one ∷ records) = nat_le least one.0 && nat_lt one.0 65536 && are_open (one.0 + 1) records
+are_open least (one ∷ records) = nat_le least one.0 && nat_lt one.0 MOST_SERIES && are_open (one.0 + 1) records
 
 -- closed records lie in buckets before that of the last moment, and no beats are counted of records
 abbrev pub is_record_tier : ℕ → Tier → KeptRecords → Bool

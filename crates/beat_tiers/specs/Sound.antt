@@ -4,6 +4,7 @@ use Rattle.std.specs.List.{AllByRecursion}
 use Rattle.std.specs.Option.{option_map_or}
 use Rattle.fixed_num.specs.declared.units.Record.{Record}
 use Rattle.storage_number.specs.Word.{is_word}
+use Rattle.tier_settings.specs.declared.limits.TheConstants.{LONGEST_STEP, MOST_SERIES}
 use Rattle.tier_settings.specs.declared.tier.Tier.{Tier}
 use Rattle.beat_tiers.specs.declared.item.BeatPoint.{BeatPoint}
 use Rattle.beat_tiers.specs.declared.item.Item.{Item}
@@ -22,14 +23,14 @@ use Rattle.beat_tiers.specs.Tiers.{IsTier}
 
 -- the point of a beat, as a tier keeps it
 pub record IsPointItem (item : Item Stepped) : Type 0 where
-  pub series : item.series < 65536
+  pub series : item.series < MOST_SERIES
   pub least : 1 ≤ item.value.step
-  pub most : item.value.step ≤ 86400
+  pub most : item.value.step ≤ LONGEST_STEP
   pub word : is_word item.value.word ≡ true
 
 -- the series of a record is below 65,536
 abbrev pub IsRecordOfSeries : Item Record → Type 0
-IsRecordOfSeries item = item.series < 65536
+IsRecordOfSeries item = item.series < MOST_SERIES
 
 -- the settings of a tier of records
 abbrev pub tier_of : RecordTierState → Tier
@@ -49,7 +50,7 @@ pub record AreSound (state : TiersState) : Type 0 where
 -- the step of a point is 1 to 86,400 seconds, and its word is a storage number
 pub record IsBeatPoint (point : BeatPoint) : Type 0 where
   pub least : 1 ≤ point.step
-  pub most : point.step ≤ 86400
+  pub most : point.step ≤ LONGEST_STEP
   pub word : is_word point.word ≡ true
 
 -- A beat may follow one of this moment: its own, if it has one, lies above it, and its points have the order of their series,
@@ -78,7 +79,7 @@ module _ {T : Type 0} where
 
   -- the segment has fewer than 65,536 items beyond those at which the tier seals one
   abbrev pub IsShort : Tier → Segment T → Type 0
-  IsShort tier segment = length segment.items < tier.items + 65536
+  IsShort tier segment = length segment.items < tier.items + MOST_SERIES
 
   abbrev pub IsSealedBy : Tier → ℕ → Segment T → Type 0
   IsSealedBy tier moment segment = (segment.sealed_at ≡ moment) × IsShort tier segment

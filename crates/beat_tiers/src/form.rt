@@ -7,7 +7,7 @@ ghost use Rattle.beat_tiers.specs.Tiers.{IsTier};
 use crate::item::{Item, Stepped};
 use crate::parts::{KeptItems, KeptRecords, Segment};
 use fixed_num::Record;
-use tier_settings::Tier;
+use tier_settings::{MOST_SERIES, Tier};
 
 /// Whether an item comes behind the one before, if there is one.
 fn is_behind<T: Copy + Drop>(before: Option<Item<T>>, item: Item<T>) -> bool
@@ -96,7 +96,7 @@ fn are_open(records: &[(u32, Record)]) -> bool
 {
     let mut least: u32 = 0;
     for record in records {
-        if record.0 < least || 65_536 <= record.0 {
+        if record.0 < least || MOST_SERIES <= record.0 {
             return false;
         }
         least = record.0 + 1;

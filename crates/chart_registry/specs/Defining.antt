@@ -8,6 +8,7 @@ use Rattle.history.specs.declared.fault.BlockFault.{BlockFault}
 use Rattle.history.specs.declared.fault.BlockFault.TheVariants as block
 use Rattle.history.specs.Refusal.{chart_refusal, dimension_refusal}
 use Rattle.history.specs.Registry.{Registry, is_of, same_chart, with_definitions}
+use Rattle.history.specs.declared.limits.TheConstants.{MOST_CHARTS, MOST_DIMENSIONS, MOST_DIMENSIONS_OF_CHART}
 use Rattle.chart_registry.specs.declared.fault.RegistryFault.{RegistryFault}
 use Rattle.chart_registry.specs.declared.fault.RegistryFault.TheVariants.{GridChanged, TooManyCharts, TooManyDimensions, Memory}
 
@@ -41,10 +42,10 @@ changes_grids registry beat =
 -- Memory needs no reason.
 abbrev pub IsReasonOf : Registry → OpenBeat → RegistryFault → Type 0
 IsReasonOf registry beat GridChanged = changes_grids registry beat ≡ true
-IsReasonOf registry beat TooManyCharts = 4096 < length (with_definitions registry beat.charts beat.dimensions).charts
+IsReasonOf registry beat TooManyCharts = MOST_CHARTS < length (with_definitions registry beat.charts beat.dimensions).charts
 IsReasonOf registry beat TooManyDimensions =
-    (65536 < length (with_definitions registry beat.charts beat.dimensions).dimensions)
-    ⊎ ((chart : List ℕ) × (1024 < count_by (is_of chart) (with_definitions registry beat.charts beat.dimensions).dimensions))
+    (MOST_DIMENSIONS < length (with_definitions registry beat.charts beat.dimensions).dimensions)
+    ⊎ ((chart : List ℕ) × (MOST_DIMENSIONS_OF_CHART < count_by (is_of chart) (with_definitions registry beat.charts beat.dimensions).dimensions))
 IsReasonOf registry beat Memory = Unit {0}
 
 -- why the chart at this place may not be defined behind those before it; nothing past the last

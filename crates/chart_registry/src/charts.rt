@@ -5,7 +5,7 @@ ghost use Rattle.chart_registry.specs.Leaving.{RemovesSeries, LeavesSeries};
 ghost use Rattle.indexmap.specs.IndexMap.{values};
 ghost use Rattle.chart_registry.specs.declared.charts.Chart.{Chart as Kept};
 
-use history::ChartDef;
+use history::{ChartDef, MOST_CHARTS};
 use indexmap::IndexMap;
 use std::alloc::{AllocError, Global};
 use std::mem::replace;
@@ -20,7 +20,7 @@ pub(crate) struct Chart {
 // The number of the chart with this id.
 pub(crate) fn number_of(charts: &IndexMap<String, Chart>, id: &str) -> Option<u32>
     requires by_id { AreById charts.now }
-    requires few { length (chart_defs charts.now) ≤ 4096 }
+    requires few { length (chart_defs charts.now) ≤ MOST_CHARTS }
     ensures { result ≡ position (bytes_eq id.now) (ids (rows charts.now)) }
 {
     match charts.get_index_of(id) {

@@ -5,7 +5,7 @@ ghost use Rattle.chart_registry.specs.Leaving.{LeavesSeries};
 ghost use Rattle.chart_registry.specs.declared.dimensions.Dimension.{Dimension as Kept};
 
 use crate::charts::{self, Chart};
-use history::{DimDef, OpenDim};
+use history::{DimDef, MOST_DIMENSIONS, OpenDim};
 use indexmap::IndexMap;
 use std::alloc::AllocError;
 use std::mem::replace;
@@ -73,7 +73,7 @@ pub(crate) fn add(
     def: &DimDef,
 ) -> Result<u32, AllocError>
     requires there { number < length (chart_defs charts.old) }
-    requires few { length dimensions.old.items < 65536 }
+    requires few { length dimensions.old.items < MOST_DIMENSIONS }
     requires absent { series_in (row_at (rows charts.old) number).series def.now.id ≡ None }
     ensures by_id { AreById charts.old → AreById charts.new }
     ensures defs { chart_defs charts.new ≡ chart_defs charts.old }

@@ -7,8 +7,8 @@ ghost use Rattle.std.specs.Option.{option_map, option_map_or};
 ghost use Rattle.history.specs.Refusal.{is_new_chart, is_new_dimension, is_new_of};
 ghost use Rattle.history.specs.Registry.{is_chart, is_of, is_dimension};
 
-use crate::registry::{MOST_DIMENSIONS_OF_CHART, Registry};
-use history::{ChartDef, OpenDim};
+use crate::registry::Registry;
+use history::{ChartDef, MOST_DIMENSIONS_OF_CHART, OpenDim};
 
 /// Whether a moment is no multiple of the update_every of a chart, which is in seconds; no chart has none.
 pub fn is_off(update_every: Option<u32>, moment: u32) -> bool

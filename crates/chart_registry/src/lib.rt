@@ -29,4 +29,4 @@ pub use known::{
     is_known_dimension, is_known_dimension_at, is_new_chart, is_new_dimension, is_off,
     known_dimensions_of, known_update_every, new_charts, new_dimensions, new_dimensions_of,
 };
-pub use registry::{MOST_CHARTS, MOST_DIMENSIONS, MOST_DIMENSIONS_OF_CHART, Registry};
+pub use registry::Registry;

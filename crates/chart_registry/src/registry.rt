@@ -13,19 +13,10 @@ use crate::charts::{self, Chart};
 use crate::defining;
 use crate::dimensions::{self, Dimension};
 use crate::fault::RegistryFault;
-use history::{ChartDef, DimDef, OpenBeat};
+use history::{ChartDef, DimDef, MOST_CHARTS, MOST_DIMENSIONS, MOST_DIMENSIONS_OF_CHART, OpenBeat};
 use indexmap::IndexMap;
 use std::alloc::Global;
 use std::marker::Model;
-
-/// The most charts of a registry.
-pub const MOST_CHARTS: u32 = 4_096;
-
-/// The most dimensions of one chart.
-pub const MOST_DIMENSIONS_OF_CHART: u32 = 1_024;
-
-/// The most dimensions of a registry.
-pub const MOST_DIMENSIONS: u32 = 65_536;
 
 /// The charts and dimensions of a history, which contracts see as their last definitions in the order
 /// of their numbers.

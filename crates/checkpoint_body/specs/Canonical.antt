@@ -2,6 +2,7 @@
 use Rattle.std.specs.Prelude.{ℕ, zero, suc, ◌+◌, ◌-◌, ◌*◌, ◌%◌, ◌^◌, Bool, true, not, ◌&&◌, ◌||◌, ◌==◌, nat_lt, nat_le, List, [], ◌∷◌, length, map, sum_by, count_by}
 use Rattle.std.specs.List.{list_all, list_any}
 use Rattle.storage_number.specs.Word.{is_word}
+use Rattle.tier_settings.specs.declared.limits.TheConstants.{MOST_SERIES}
 use Rattle.tier_settings.specs.declared.tier.Tier.{Tier}
 use Rattle.checkpoint_body.specs.declared.body.Extent.{Extent}
 use Rattle.checkpoint_body.specs.declared.body.OpenRecord.{OpenRecord}
@@ -33,7 +34,7 @@ is_ascending (one ∷ []) = true
 is_ascending (one ∷ next ∷ others) = nat_lt one next && is_ascending (next ∷ others)
 
 abbrev pub is_series : OpenRecord → Bool
-is_series one = nat_lt one.series 65536
+is_series one = nat_lt one.series MOST_SERIES
 
 -- one for a series at most, by series
 abbrev pub are_open : List OpenRecord → Bool

@@ -13,7 +13,7 @@ use crate::page::{RecordPage, SlotPage};
 use crate::records::MOST_RECORDS;
 use crate::slots::MOST_SLOTS;
 use crate::span::Span;
-use tier_settings::{Tier, are_tiers};
+use tier_settings::{MOST_SERIES, Tier, are_tiers};
 
 fn has_slot(extents: &[Extent], slot: u32) -> bool
     ensures { result ≡ list_any (λ other. other.slot == slot) extents.now }
@@ -75,7 +75,7 @@ fn are_ascending(records: &[OpenRecord]) -> bool
 fn are_of_series(records: &[OpenRecord]) -> bool
     ensures { result ≡ list_all is_series records.now }
 {
-    records.iter().all(|record| record.series < 65_536)
+    records.iter().all(|record| record.series < MOST_SERIES)
 }
 
 fn are_open(records: &[OpenRecord]) -> bool

@@ -2,6 +2,7 @@ use Rattle.std.specs.Prelude.{ℕ, ◌+◌, ◌≤◌, Bool, List, length, nat_l
 use Rattle.history.specs.declared.beat.OpenBeat.{OpenBeat}
 use Rattle.history.specs.Refusal.{is_new_chart, is_new_dimension, is_new_of}
 use Rattle.history.specs.Registry.{Registry, is_of}
+use Rattle.history.specs.declared.limits.TheConstants.{MOST_DIMENSIONS, MOST_DIMENSIONS_OF_CHART}
 use Rattle.collect_block.specs.declared.beat_tables.BeatTables.{BeatTables}
 use Rattle.chart_registry.specs.Places.{count_in}
 
@@ -12,11 +13,11 @@ beat_of beat = record { charts = beat.charts; dimensions = beat.dimensions; rows
 -- there is no room for one more dimension of this chart
 abbrev pub chart_full : Registry → OpenBeat → List ℕ → Bool
 chart_full registry open_beat chart =
-    nat_le 1024 (count_by (is_of chart) registry.dimensions + count_by (is_new_of registry chart) open_beat.dimensions)
+    nat_le MOST_DIMENSIONS_OF_CHART (count_by (is_of chart) registry.dimensions + count_by (is_new_of registry chart) open_beat.dimensions)
 
 -- there is no room for one more dimension of any chart
 abbrev pub all_full : Registry → OpenBeat → Bool
-all_full registry open_beat = nat_le 65536 (length registry.dimensions + count_by (is_new_dimension registry) open_beat.dimensions)
+all_full registry open_beat = nat_le MOST_DIMENSIONS (length registry.dimensions + count_by (is_new_dimension registry) open_beat.dimensions)
 
 -- The tables count at least the definitions of their beat that this registry does not have: the charts, the
 -- dimensions, and those of each chart.

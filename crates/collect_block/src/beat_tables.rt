@@ -12,11 +12,13 @@ ghost use Rattle.collect_block.specs.BeatTables.{beat_of, chart_full, all_full, 
 use crate::count_table::{CountTable, raised};
 use crate::row_table::RowTable;
 use chart_registry::{
-    ChartTable, DimensionTable, MOST_CHARTS, MOST_DIMENSIONS, MOST_DIMENSIONS_OF_CHART, Registry,
-    is_known_dimension_at, is_off, known_dimensions_of, known_update_every, new_charts,
-    new_dimensions, new_dimensions_of,
+    ChartTable, DimensionTable, Registry, is_known_dimension_at, is_off, known_dimensions_of,
+    known_update_every, new_charts, new_dimensions, new_dimensions_of,
 };
-use history::{BlockFault, ChartDef, OpenBeat, OpenDim, OpenRow};
+use history::{
+    BlockFault, ChartDef, MOST_CHARTS, MOST_DIMENSIONS, MOST_DIMENSIONS_OF_CHART, OpenBeat,
+    OpenDim, OpenRow,
+};
 use std::alloc::{AllocError, Global};
 
 /// The open beat of a text. It counts those of its definitions that the registry did not have: of the

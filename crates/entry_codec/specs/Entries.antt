@@ -23,6 +23,7 @@ use Rattle.entry_codec.specs.declared.entry.Gap.{Gap}
 use Rattle.entry_codec.specs.declared.fault.EntryFault.{EntryFault}
 use Rattle.entry_codec.specs.declared.fault.EntryFault.TheVariants as faults
 use Rattle.history.specs.Limits.{chart_keeps_limits, dimension_keeps_limits}
+use Rattle.history.specs.declared.limits.TheConstants.{MOST_CHARTS, MOST_DIMENSIONS}
 use Rattle.history.specs.declared.row.Row.{Row}
 use Rattle.history.specs.declared.row.Value.{Value}
 use Rattle.entry_codec.specs.declared.words.CopiedWord.{CopiedWord}
@@ -90,10 +91,10 @@ pub record IsShortCollected (c : NumberedBeat) : Type 0 where
 pub record IsWithinLimits (c : NumberedBeat) : Type 0 where
   pub chart_limits : All (λ (chart : NumberedChart). chart_keeps_limits chart.def ≡ true) c.charts
   pub dimension_limits : All (λ (dimension : NumberedDimension). dimension_keeps_limits dimension.def ≡ true) c.dimensions
-  pub charts : length c.charts ≤ 4096
-  pub dimensions : length c.dimensions ≤ 65536
-  pub rows : length c.rows ≤ 4096
-  pub values : sum_by (λ (row : Row). length row.values) c.rows ≤ 65536
+  pub charts : length c.charts ≤ MOST_CHARTS
+  pub dimensions : length c.dimensions ≤ MOST_DIMENSIONS
+  pub rows : length c.rows ≤ MOST_CHARTS
+  pub values : sum_by (λ (row : Row). length row.values) c.rows ≤ MOST_DIMENSIONS
 
 pub record IsCollected (c : NumberedBeat) : Type 0 where
   pub moment : c.moment < 2 ^ 32

@@ -21,7 +21,7 @@ pub(crate) const ENTRY_SIZE: usize = 24;
 const WORD_SIZE: usize = 4;
 
 /// The most items that a segment has above those at which it is sealed.
-const MORE_ITEMS: u64 = 65_536;
+pub(crate) const MORE_ITEMS: u64 = 65_536;
 
 /// The tier whose extents lie in a file.
 pub(crate) fn tier_of(file: File) -> u32

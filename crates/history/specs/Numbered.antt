@@ -15,6 +15,7 @@ use Rattle.history.specs.declared.beat.OpenValue.{OpenValue}
 use Rattle.history.specs.declared.chart.ChartDef.{ChartDef}
 use Rattle.history.specs.Looking.{is_value}
 use Rattle.history.specs.Registry.{Registry, is_chart, is_dimension, chart_of}
+use Rattle.history.specs.declared.limits.TheConstants.{MOST_DIMENSIONS_OF_CHART}
 
 -- the charts that the beat defines
 abbrev pub numbered_charts : Registry → OpenBeat → List NumberedChart
@@ -64,4 +65,4 @@ numbered_beat registry moment beat = record {
 pub record IsThere (registry : Registry) (beat : NumberedBeat) : Type 0 where
   pub charts : All (λ (row : Row). row.chart < length registry.charts) beat.rows
   pub dimensions : All (λ (row : Row). All (λ (value : Value). value.series < length registry.dimensions) row.values) beat.rows
-  pub limit : All (λ (row : Row). length row.values ≤ 1024) beat.rows
+  pub limit : All (λ (row : Row). length row.values ≤ MOST_DIMENSIONS_OF_CHART) beat.rows

@@ -13,6 +13,7 @@ use Rattle.history.specs.declared.line.Line.{Line}
 use Rattle.history.specs.declared.line.Line.TheVariants.{Chart, Dimension, Begin, Set, End, Flush, Disable, Moment, Query, Skipped}
 use Rattle.history.specs.Looking.{open_block, last_chart, with_grid, beat}
 use Rattle.history.specs.Registry.{Registry, is_chart, is_of, is_dimension}
+use Rattle.history.specs.declared.limits.TheConstants.{MOST_CHARTS, MOST_DIMENSIONS, MOST_DIMENSIONS_OF_CHART}
 
 -- The tests of a line stand over the registry of the history so far and the open beat.
 
@@ -42,13 +43,13 @@ is_new_of registry chart dimension = is_of chart dimension && is_new_dimension r
 
 -- there is no room for one more chart
 abbrev pub charts_full : Registry → OpenBeat → Bool
-charts_full registry open_beat = nat_le 4096 (length registry.charts + count_by (is_new_chart registry) open_beat.charts)
+charts_full registry open_beat = nat_le MOST_CHARTS (length registry.charts + count_by (is_new_chart registry) open_beat.charts)
 
 -- there is no room for one more dimension, of this chart or at all
 abbrev pub dimensions_full : Registry → OpenBeat → List ℕ → Bool
 dimensions_full registry open_beat chart =
-    nat_le 1024 (count_by (is_of chart) registry.dimensions + count_by (is_new_of registry chart) open_beat.dimensions)
-    || nat_le 65536 (length registry.dimensions + count_by (is_new_dimension registry) open_beat.dimensions)
+    nat_le MOST_DIMENSIONS_OF_CHART (count_by (is_of chart) registry.dimensions + count_by (is_new_of registry chart) open_beat.dimensions)
+    || nat_le MOST_DIMENSIONS (length registry.dimensions + count_by (is_new_dimension registry) open_beat.dimensions)
 
 -- why a chart may not be defined so
 abbrev pub chart_refusal : Registry → OpenBeat → ChartDef → Option BlockFault

@@ -6,6 +6,7 @@ use Rattle.history.specs.declared.beat.OpenRow.{OpenRow}
 use Rattle.history.specs.declared.beat.OpenValue.{OpenValue}
 use Rattle.history.specs.Looking.{same_value}
 use Rattle.history.specs.Registry.{Registry, chart_of, series_of}
+use Rattle.history.specs.declared.limits.TheConstants.{MOST_DIMENSIONS_OF_CHART}
 
 -- no thing of the list is the same as a later one
 abbrev pub AreApart : {A : Type 0} → (A → A → Bool) → List A → Type 0
@@ -23,4 +24,4 @@ pub record IsRegular (registry : Registry) (beat : OpenBeat) : Type 0 where
   pub values : All (λ (row : OpenRow). AreApart same_value row.values) beat.rows
   pub charts : All (λ (row : OpenRow). IsSome (chart_of registry row.chart)) beat.rows
   pub dimensions : All (λ (row : OpenRow). All (λ (value : OpenValue). IsSome (series_of registry row.chart value.id)) row.values) beat.rows
-  pub limit : All (λ (row : OpenRow). length row.values ≤ 1024) beat.rows
+  pub limit : All (λ (row : OpenRow). length row.values ≤ MOST_DIMENSIONS_OF_CHART) beat.rows

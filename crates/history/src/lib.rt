@@ -23,7 +23,10 @@ pub use beat::{
 pub use chart::{ChartDef, ChartKind, USUAL_PRIORITY, USUAL_UPDATE_EVERY};
 pub use dimension::{Algorithm, DimDef};
 pub use fault::BlockFault;
-pub use limits::{FACTOR_LIMIT, ID_LIMIT, TEXT_LIMIT, UPDATE_EVERY_LIMIT, is_chart_id, is_id};
+pub use limits::{
+    FACTOR_LIMIT, ID_LIMIT, MOST_CHARTS, MOST_DIMENSIONS, MOST_DIMENSIONS_OF_CHART, TEXT_LIMIT,
+    UPDATE_EVERY_LIMIT, is_chart_id, is_id,
+};
 pub use line::Line;
 pub use numbered::{ChartList, DimensionList, NumberedBeat, NumberedChart, NumberedDimension};
 pub use row::{Row, RowList, Value, ValueList};

@@ -15,6 +15,15 @@ pub const TEXT_LIMIT: usize = 200;
 /// The most seconds that may lie between two values of a chart.
 pub const UPDATE_EVERY_LIMIT: u32 = 86_400;
 
+/// The most charts of a history.
+pub const MOST_CHARTS: u32 = 4_096;
+
+/// The most dimensions of one chart.
+pub const MOST_DIMENSIONS_OF_CHART: u32 = 1_024;
+
+/// The most dimensions of a history.
+pub const MOST_DIMENSIONS: u32 = 65_536;
+
 /// The largest size of a multiplier or a divisor.
 pub const FACTOR_LIMIT: i32 = 2_147_483_647;
 

@@ -2,7 +2,7 @@ pub mod CallLemmas
 pub mod DiskLemmas
 pub mod FileLemmas
 mod HostLemmas
-mod LeftLemmas
+pub mod LeftLemmas
 pub mod MomentLemmas
 mod Rows
 pub mod RunLemmas

@@ -1,6 +1,7 @@
 -- From which names and beats a child may answer, so that each answer is a frame.
 use Rattle.std.specs.Prelude.{◌≡◌, ◌≤◌, true, List, length}
 use Rattle.std.specs.List.{list_all, AllByRecursion}
+use Rattle.history.specs.declared.limits.TheConstants.{MOST_CHARTS, MOST_DIMENSIONS}
 use Rattle.replication.specs.declared.beats.Beat.{Beat}
 use Rattle.replication.specs.declared.names.Names.{Names}
 use Rattle.replication.specs.Answer.{AreNames, AreBeatsOf, HaveWords}
@@ -16,8 +17,8 @@ pub record KeepsRules (names : Names) (beats : List Beat) : Type 0 where
   pub charts : list_all is_chart names.charts ≡ true
   pub ids : list_all has_id names.dimensions ≡ true
   pub apart : AreApart names
-  pub few_charts : length names.charts ≤ 4096
-  pub few_dimensions : length names.dimensions ≤ 65536
+  pub few_charts : length names.charts ≤ MOST_CHARTS
+  pub few_dimensions : length names.dimensions ≤ MOST_DIMENSIONS
   pub whole : AreNames names
   pub fits : AllByRecursion FitsBeat beats
   pub rises : RisesFrom beat_moment 0 beats

@@ -1,5 +1,6 @@
 ghost use Rattle.std.specs.Prelude.{◌≡◌, ℕ, ◌+◌, ◌<◌, ◌≤◌, ◌^◌, List, [], ◌++◌, length, Some};
 ghost use Rattle.std.specs.List.{concat};
+ghost use Rattle.history.specs.declared.limits.TheConstants.{MOST_CHARTS, MOST_DIMENSIONS};
 ghost use Rattle.replication.specs.declared.ask.Ask.{Ask as AnAsk};
 ghost use Rattle.replication.specs.declared.beats.Beat.{Beat};
 ghost use Rattle.replication.specs.declared.message.Data.{Data};
@@ -81,6 +82,6 @@ pub fn answers_are_frames()
 /// body has at most 2^24 bytes. It does nothing.
 pub fn one_beat()
     ensures { (message : Data) → IsData message → length message.beats ≡ 1
-        → length message.names.charts ≤ 4096 → length message.names.dimensions ≤ 65536
+        → length message.names.charts ≤ MOST_CHARTS → length message.names.dimensions ≤ MOST_DIMENSIONS
         → length (body_bytes (frame.Data message)) ≤ body_limit }
 {}

@@ -5,10 +5,11 @@ use Rattle.page_buffer.specs.declared.fault.PageFault.{PageFault}
 use Rattle.page_buffer.specs.declared.fault.PageFault.TheVariants.{PageFull, TooFar, BadPage, Memory}
 use Rattle.page_buffer.specs.Items.{records_of, IsRecords}
 use Rattle.page_buffer.specs.Page.{Page, page_of, moment_at, EndsInTime}
+use Rattle.page_buffer.specs.declared.record_page.TheConstants.{MOST_RECORDS}
 
 -- the records of one page
 abbrev pub AreRecords : ℕ → ℕ → List Record → Type 0
-AreRecords first step items = (length items ≤ 73) × EndsInTime first step items
+AreRecords first step items = (length items ≤ MOST_RECORDS) × EndsInTime first step items
 
 -- the bytes are a page's
 abbrev pub IsRecordPage : ℕ → ℕ → List ℕ → Type 0
@@ -20,8 +21,8 @@ IsNext page moment = moment ≡ moment_at page (length page.items)
 
 -- why a record at the moment is refused
 abbrev pub IsRefused : Page Record → ℕ → PageFault → Type 0
-IsRefused page moment PageFull = length page.items ≡ 73
-IsRefused page moment TooFar = (length page.items < 73) × (¬ IsNext page moment)
+IsRefused page moment PageFull = length page.items ≡ MOST_RECORDS
+IsRefused page moment TooFar = (length page.items < MOST_RECORDS) × (¬ IsNext page moment)
 IsRefused page moment BadPage = ⊥
 IsRefused page moment Memory = ⊥
 
@@ -29,5 +30,5 @@ IsRefused page moment Memory = ⊥
 pub data IsPushed (series first step : ℕ) : List Record → Type 0 where
   none : IsPushed series first step []
   more : (items : List Record) (moment : ℕ) (item : Record) → IsPushed series first step items → moment < 2 ^ 32
-      → IsNext (page_of series first step items) moment → length items < 73
+      → IsNext (page_of series first step items) moment → length items < MOST_RECORDS
       → IsPushed series first step (items ++ item ∷ [])

@@ -4,6 +4,7 @@ use Rattle.page_buffer.specs.declared.fault.PageFault.{PageFault}
 use Rattle.page_buffer.specs.declared.fault.PageFault.TheVariants.{PageFull, TooFar, BadPage, Memory}
 use Rattle.page_buffer.specs.Items.{words_of, IsWords}
 use Rattle.page_buffer.specs.Page.{Page, page_of, moment_at, with_more, EndsInTime}
+use Rattle.page_buffer.specs.declared.slot_page.TheConstants.{MOST_SLOTS}
 
 -- after so many empty slots: at most six in a row are empty, and the last is not
 abbrev pub spaced : ℕ → List ℕ → Bool
@@ -14,7 +15,7 @@ spaced empty (suc _ ∷ words) = spaced 0 words
 -- the slots of one page, of which the first is not empty
 abbrev pub AreSlots : ℕ → ℕ → List ℕ → Type 0
 AreSlots first step words =
-    (length words ≤ 1024) × (0 < length words → spaced 6 words ≡ true) × EndsInTime first step words
+    (length words ≤ MOST_SLOTS) × (0 < length words → spaced 6 words ≡ true) × EndsInTime first step words
 
 -- the bytes are a page's
 abbrev pub IsSlotPage : ℕ → ℕ → List ℕ → Type 0
@@ -31,7 +32,7 @@ Skips page moment empty = (empty < reach (length page.items)) × (moment ≡ mom
 
 -- the page has room for them and the point
 abbrev pub HasRoom : Page ℕ → ℕ → Type 0
-HasRoom page empty = length page.items + empty < 1024
+HasRoom page empty = length page.items + empty < MOST_SLOTS
 
 -- the page after the empty slots and the word
 abbrev pub with_point : Page ℕ → ℕ → ℕ → Page ℕ
@@ -39,8 +40,8 @@ with_point page empty word = with_more page (replicate empty 0 ++ word ∷ [])
 
 -- why a point at the moment is refused
 abbrev pub IsRefused : Page ℕ → ℕ → PageFault → Type 0
-IsRefused page moment PageFull = (length page.items ≡ 1024) ⊎ (empty : ℕ) × Skips page moment empty × (¬ HasRoom page empty)
-IsRefused page moment TooFar = (length page.items < 1024) × ((empty : ℕ) → ¬ Skips page moment empty)
+IsRefused page moment PageFull = (length page.items ≡ MOST_SLOTS) ⊎ (empty : ℕ) × Skips page moment empty × (¬ HasRoom page empty)
+IsRefused page moment TooFar = (length page.items < MOST_SLOTS) × ((empty : ℕ) → ¬ Skips page moment empty)
 IsRefused page moment BadPage = ⊥
 IsRefused page moment Memory = ⊥
 

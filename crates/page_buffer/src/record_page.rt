@@ -13,7 +13,7 @@ use page_pool::RawPage;
 use std::marker::Model;
 
 /// The most records of a page.
-const MOST: usize = 73;
+pub(crate) const MOST_RECORDS: usize = 73;
 
 /// The records of a series, one for each step.
 #[derive(Drop)]
@@ -65,14 +65,14 @@ impl RecordPage {
     /// `moment` is not its first, or the page is not empty and `moment` is not one step past its last. A
     /// refused record changes nothing.
     pub fn push(&mut self, moment: u32, item: Record) -> Result<(), PageFault>
-        ensures ok { OnOk result (IsNext self.old moment × (length self.old.items < 73)
+        ensures ok { OnOk result (IsNext self.old moment × (length self.old.items < MOST_RECORDS)
             × (self.new ≡ with_more self.old (item ∷ []))) }
         ensures refused { IfErr result (IsRefused self.old moment) }
         ensures err { OnErr result (self.new ≡ self.old) }
-        ensures succeeds { IsNext self.old moment → length self.old.items < 73 → IsOk result }
+        ensures succeeds { IsNext self.old moment → length self.old.items < MOST_RECORDS → IsOk result }
     {
         let len = self.records.len();
-        if len == MOST {
+        if len == MOST_RECORDS {
             return Err(PageFault::PageFull);
         }
         if moment_of(self.first, self.step, len) != u64::from(moment) {

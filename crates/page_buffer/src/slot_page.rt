@@ -12,7 +12,7 @@ use page_pool::RawPage;
 use std::marker::Model;
 
 /// The most slots of a page.
-const MOST: usize = 1_024;
+pub(crate) const MOST_SLOTS: usize = 1_024;
 
 /// The points of a series, a word in the slot of each step, with 0 in a slot that is empty.
 #[derive(Drop)]
@@ -115,14 +115,14 @@ impl SlotPage {
             → IsOk result }
     {
         let len = self.words.len();
-        if len == MOST {
+        if len == MOST_SLOTS {
             return Err(PageFault::PageFull);
         }
         let empty = match self.empty_before(moment) {
             Some(empty) => empty,
             None => return Err(PageFault::TooFar),
         };
-        if len + empty >= MOST {
+        if len + empty >= MOST_SLOTS {
             return Err(PageFault::PageFull);
         }
         self.words.push_after(empty, word);

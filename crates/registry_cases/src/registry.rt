@@ -2,11 +2,12 @@
 
 ghost use Rattle.std.specs.Prelude.{◌≡◌, ◌<◌, IfOk};
 
-use chart_registry::{
-    MOST_CHARTS, MOST_DIMENSIONS, MOST_DIMENSIONS_OF_CHART, Registry, RegistryFault,
-};
+use chart_registry::{Registry, RegistryFault};
 use fixed_num::{ListOf, Text};
-use history::{Algorithm, ChartDef, ChartKind, DimDef, OpenBeat};
+use history::{
+    Algorithm, ChartDef, ChartKind, DimDef, MOST_CHARTS, MOST_DIMENSIONS, MOST_DIMENSIONS_OF_CHART,
+    OpenBeat,
+};
 use std::alloc::{AllocError, Global};
 use std::process::Abort;
 use std::test::Fail;

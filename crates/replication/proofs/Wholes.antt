@@ -25,7 +25,7 @@ all-of-map P f [] all = tt
 all-of-map P f (x ∷ xs) all = (all.0, all-of-map P f xs all.1)
 
 -- what stays has its place among what stays
-place-within : {X : Type 0} (test : ℕ → Bool) (k : ℕ) (xs : List X) → test k ≡ true → k < length xs → place test k < length (select test 0 xs)
+pub place-within : {X : Type 0} (test : ℕ → Bool) (k : ℕ) (xs : List X) → test k ≡ true → k < length xs → place test k < length (select test 0 xs)
 place-within {X = X} test k xs passes lt =
     let from_0 : k ≡ 0 + k = omega arith in
     let same : slice_get (select test 0 xs) (place test k) ≡ slice_get xs k = select-place test 0 k xs (ap test (sym from_0) ∙ passes) in

@@ -12,7 +12,7 @@ use Rattle.entry_codec.specs.Charts.{IsShortChart}
 use Rattle.entry_codec.specs.Dimensions.{IsShortDimension}
 use Rattle.entry_codec.specs.Entries.{IsWithinLimits}
 use Rattle.entry_codec.proofs.Lengths.{short-collected}
-use Rattle.side_codec.specs.declared.definitions.TheConstants.{MOST_CHARTS, MOST_DIMENSIONS}
+use Rattle.history.specs.declared.limits.TheConstants.{MOST_CHARTS, MOST_DIMENSIONS}
 use Rattle.side_codec.specs.Definitions.{are_charts_numbered, are_few, are_registered, are_series_numbered, is_of_chart, keep_chart_limits, keep_dimension_limits}
 
 record Parts (charts : List NumberedChart) (dimensions : List NumberedDimension) : Type 0 where

@@ -3,7 +3,7 @@ use Rattle.std.proofs.Common.{◌≡◌, ℕ, ℤ, ◌+◌, ◌*◌, ◌≤◌, 
 use Rattle.std.specs.List.{AllByRecursion}
 use Rattle.std.proofs.lemmas.Bool.{and_parts, leb-true}
 use Rattle.field_codec.specs.Spelling.{flag_bytes, i128_bytes, list_bytes, sized_bytes, u32_bytes, u64_bytes, u8_bytes}
-use Rattle.field_codec.proofs.Lengths.{length-u8_bytes, length-u32_bytes, length-u64_bytes, length-i64_bytes, length-flag_bytes, length-text_bytes, items-length, length-list_bytes}
+use Rattle.field_codec.proofs.Lengths.{length-u8_bytes, length-u32_bytes, length-u64_bytes, length-i64_bytes, length-i128_bytes, length-flag_bytes, length-sized_bytes, length-text_bytes, items-length, length-list_bytes}
 use Rattle.algorithms.specs.declared.last.Last.{Last}
 use Rattle.health_expr.specs.declared.value.Value.{Value}
 use Rattle.health_expr.specs.declared.value.Value.TheVariants.{Nan, Inf, Fixed}
@@ -55,14 +55,6 @@ flat-each : {X : Type 0} (bytes : X → List ℕ) (size : ℕ) → ((x : X) → 
 flat-each bytes size each items = items-length bytes size items (sized bytes size each items)
 
 -- ---- single fields
-
-length-i128_bytes : (z : ℤ) → length (i128_bytes z) ≡ 16
-unfolding i128_bytes
-length-i128_bytes z = refl
-
-length-sized_bytes : (bytes : List ℕ) → length (sized_bytes bytes) ≡ 4 + length bytes
-unfolding sized_bytes
-length-sized_bytes bytes = omega (arith, length-append (u32_bytes (length bytes)) bytes, length-u32_bytes (length bytes))
 
 length-role_bytes : (role : SideRole) → length (role_bytes role) ≡ 9
 unfolding role_bytes

@@ -12,7 +12,7 @@ use Rattle.entry_codec.specs.Charts.{chart_bytes, read_chart, IsChart}
 use Rattle.entry_codec.specs.Dimensions.{dimension_bytes, read_dimension, IsDimension}
 use Rattle.side_codec.specs.declared.definitions.Definitions.{Definitions}
 use Rattle.side_codec.specs.declared.side.Side.{Side}
-use Rattle.side_codec.specs.declared.definitions.TheConstants.{MOST_CHARTS, MOST_DIMENSIONS}
+use Rattle.history.specs.declared.limits.TheConstants.{MOST_CHARTS, MOST_DIMENSIONS}
 
 -- no more charts and dimensions than a registry may have
 abbrev pub are_few : List NumberedChart → List NumberedDimension → Bool

@@ -8,14 +8,10 @@ use crate::side::Side;
 use entry_codec::EntryFormat;
 use field_codec::list::{put_list, take_list};
 use field_codec::{FieldFault, Reader, Writer};
-use history::{ChartList, DimensionList, NumberedChart, NumberedDimension};
+use history::{
+    ChartList, DimensionList, MOST_CHARTS, MOST_DIMENSIONS, NumberedChart, NumberedDimension,
+};
 use std::alloc::Global;
-
-/// The most charts of a history.
-pub(crate) const MOST_CHARTS: usize = 4_096;
-
-/// The most dimensions of a history.
-pub(crate) const MOST_DIMENSIONS: usize = 65_536;
 
 /// The charts and dimensions of a side.
 #[derive(Drop)]
@@ -27,7 +23,7 @@ pub(crate) struct Definitions {
 fn are_few(charts: &[NumberedChart], dimensions: &[NumberedDimension]) -> bool
     ensures { result ≡ are_few charts.now dimensions.now }
 {
-    charts.len() <= MOST_CHARTS && dimensions.len() <= MOST_DIMENSIONS
+    charts.len() <= MOST_CHARTS as usize && dimensions.len() <= MOST_DIMENSIONS as usize
 }
 
 fn are_charts_numbered(charts: &[NumberedChart]) -> bool

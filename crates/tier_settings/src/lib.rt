@@ -16,6 +16,9 @@ mod limits;
 mod settings;
 mod tier;
 
-pub use limits::{MOST_EXTENTS, MOST_ITEMS, WIDTHS, are_tiers, has_widths, is_in_limits, widths};
+pub use limits::{
+    LONGEST_STEP, MOST_EXTENTS, MOST_ITEMS, MOST_SERIES, WIDTHS, are_tiers, has_widths,
+    is_in_limits, widths,
+};
 pub use settings::Settings;
 pub use tier::{Tier, TierList};

@@ -13,6 +13,12 @@ pub const MOST_ITEMS: u32 = 262_144;
 /// The most full segments that a tier keeps.
 pub const MOST_EXTENTS: u32 = 1_024;
 
+/// The most series of a database.
+pub const MOST_SERIES: u32 = 65_536;
+
+/// The most seconds that a point may stand for.
+pub const LONGEST_STEP: u32 = 86_400;
+
 /// The seconds of a bucket of each tier: a second, a minute and an hour.
 pub const WIDTHS: [u32; 3] = [1, 60, 3_600];
 

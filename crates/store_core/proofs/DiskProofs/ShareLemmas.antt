@@ -4,10 +4,11 @@ use Rattle.std.proofs.Math.Nat.{mul-le-mul_right}
 use Rattle.std.proofs.lemmas.List.{get_or-take, get_or_append_left, length-append, length-replicate, length-take}
 use Rattle.host_model.specs.declared.file.File.{File}
 use Rattle.host_model.specs.declared.file.File.TheVariants.{CheckA, CheckB, JournalA, JournalB}
-use Rattle.host_model.specs.Images.{Change, Wrote, Cut, Synced, synced, least, greatest, IsImage}
+use Rattle.host_model.specs.Images.{Change, synced, greatest, IsImage}
 use Rattle.host_model.specs.Past.{Event, of, IsDisk}
 use Rattle.host_model.specs.Disks.{EveryDisk}
 use Rattle.host_model.specs.Moments.{Throughout, OnlyOn}
+use Rattle.host_model.proofs.LeftLemmas.{least-greatest}
 use Rattle.host_model.proofs.MomentLemmas.{only_on_each, strengthened, weakened}
 use Rattle.extent_file.specs.Slot.{slot_size}
 use Rattle.checkpoint.specs.Files.{slot_file}
@@ -37,12 +38,6 @@ within_on shares file old new only before moments =
     (λ other apart. subst (λ (changes : List Change). greatest changes ≤ shares other) (sym (still.others other apart)) (before other))) moments
 
 -- ---- the longest image
-
-least-greatest : (past : List Change) → least past ≤ greatest past
-least-greatest [] = omega arith
-least-greatest (Wrote at size now ∷ past) = omega (arith, least-greatest past)
-least-greatest (Cut len now ∷ past) = omega (arith, least-greatest past)
-least-greatest (Synced ∷ past) = omega arith
 
 longest : List Change → List ℕ
 longest past = take (greatest past) (synced past ++ replicate (greatest past) 0)

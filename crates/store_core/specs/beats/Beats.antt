@@ -1,6 +1,7 @@
 -- Beats as the records of a journal: which of them are in form, how they are spelt, and what bytes read as.
 use Rattle.std.specs.Prelude.{◌≡◌, ℕ, zero, suc, ◌<◌, ◌^◌, Bool, true, false, ◌&&◌, nat_le, nat_lt, List, [], ◌∷◌, ◌++◌, length, map, Option, Some, None, Ok, Err, if◌then◌else◌}
 use Rattle.std.specs.List.{list_all}
+use Rattle.tier_settings.specs.declared.limits.TheConstants.{LONGEST_STEP, MOST_SERIES}
 use Rattle.storage_number.specs.Word.{is_word}
 use Rattle.field_codec.specs.Reading.{ReadOf, read_as, read_u32, read_bytes}
 use Rattle.field_codec.specs.Spelling.{u32_bytes, sized_bytes, list_bytes}
@@ -50,7 +51,7 @@ pub record IsPoint (p : BeatPoint) : Type 0 where
 
 -- a series is below 65,536, a step is 1 to 86,400, and a word is a storage number
 abbrev pub is_point : BeatPoint → Bool
-is_point p = nat_lt p.series 65536 && nat_le 1 p.step && nat_le p.step 86400 && is_word p.word
+is_point p = nat_lt p.series MOST_SERIES && nat_le 1 p.step && nat_le p.step LONGEST_STEP && is_word p.word
 
 abbrev pub series_of : BeatPoint → ℕ
 series_of p = p.series

@@ -1,5 +1,6 @@
 -- The items of a tier, as the pages of its segments have them.
 use Rattle.std.specs.Prelude.{ℕ, ◌*◌, ◌^◌, ◌<◌, List, map, IsPermutation}
+use Rattle.tier_settings.specs.declared.limits.TheConstants.{MOST_SERIES}
 use Rattle.fixed_num.specs.declared.units.Record.{Record}
 use Rattle.beat_tiers.specs.declared.item.Item.{Item}
 use Rattle.beat_tiers.specs.declared.item.Stepped.{Stepped}
@@ -36,5 +37,5 @@ HaveRecords pages items = IsPermutation (map item_of_bucket_record (records_of p
 
 -- the record of a bucket of this width, which begins below 2^32
 pub record IsRecordItem (width : ℕ) (item : Item Record) : Type 0 where
-  pub series : item.series < 65536
+  pub series : item.series < MOST_SERIES
   pub begins : item.place * width < 2 ^ 32

@@ -7,6 +7,7 @@ ghost use Rattle.entry_codec.specs.Lists.{is_ascending};
 ghost use Rattle.store_core.specs.beats.Beats.{has_form, is_point, is_timed, series_of, IsMoment, IsPoint, IsShort};
 
 use crate::beats::beat::{Beat, BeatPoint};
+use tier_settings::{LONGEST_STEP, MOST_SERIES};
 
 /// Whether a series may follow the last one.
 fn is_above(last: Option<u32>, series: u32) -> bool
@@ -37,9 +38,9 @@ fn is_point(point: BeatPoint) -> bool
     ensures form { result ≡ is_point point }
     ensures range { IsTrue result → IsPoint point }
 {
-    point.series < 65536
+    point.series < MOST_SERIES
         && 1 <= point.step
-        && point.step <= 86400
+        && point.step <= LONGEST_STEP
         && storage_number::is_word(point.word)
 }
 

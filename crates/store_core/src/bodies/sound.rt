@@ -6,13 +6,14 @@ ghost use Rattle.beat_tiers.specs.Sound.{IsPointItem, IsRecordOfSeries};
 use beat_tiers::{Item, Stepped};
 use fixed_num::Record;
 use storage_number::is_word;
+use tier_settings::{LONGEST_STEP, MOST_SERIES};
 
 /// Whether the item is a point of a beat.
 fn is_point(item: &Item<Stepped>) -> bool
     ensures { IsTrue result ↔ IsPointItem item.now }
 {
     let step = item.value.step;
-    item.series < 65_536 && 1 <= step && step <= 86_400 && is_word(item.value.word)
+    item.series < MOST_SERIES && 1 <= step && step <= LONGEST_STEP && is_word(item.value.word)
 }
 
 /// Whether each item is a point of a beat.
@@ -32,7 +33,7 @@ pub(crate) fn are_records(items: &[Item<Record>]) -> bool
     ensures { IsTrue result ↔ AllByRecursion IsRecordOfSeries items.now }
 {
     for item in items {
-        if 65_536 <= item.series {
+        if MOST_SERIES <= item.series {
             return false;
         }
     }

@@ -1,6 +1,7 @@
 ghost use Rattle.std.specs.Prelude.{◌≡◌, ℕ, ◌+◌, ◌<◌, ◌≤◌, true, All, List, length, map};
 ghost use Rattle.std.specs.List.{list_all};
 ghost use Rattle.fixed_num.specs.declared.units.Record.{Record as ARecord};
+ghost use Rattle.tier_settings.specs.declared.limits.TheConstants.{MOST_SERIES};
 ghost use Rattle.beat_tiers.specs.declared.item.Item.{Item as AnItem};
 ghost use Rattle.beat_tiers.specs.declared.item.Stepped.{Stepped as AStepped};
 ghost use Rattle.beat_tiers.specs.Tiers.{AreOrdered};
@@ -27,11 +28,11 @@ pub fn pages_determine_their_items()
         → AreOrdered one → AreOrdered other → HaveRecords pages one → HaveRecords pages other
         → one ≡ other }
     ensures writable { (most slot : ℕ) (items : List (AnItem AStepped)) (pages : List ASlotPage)
-        → AreSlotPagesOf items pages → length items < most + 65536 → slot ≤ MOST_SLOTS
+        → AreSlotPagesOf items pages → length items < most + MOST_SERIES → slot ≤ MOST_SLOTS
         → IsWritable 0 most (record { slot = slot; pages = map page_of_slots pages }) }
     ensures writable_records { (tier width most slot : ℕ) (items : List (AnItem ARecord))
         (pages : List ARecordPage) → 0 < tier → AreRecordPagesOf tier width items pages
-        → length items < most + 65536 → slot ≤ MOST_SLOTS
+        → length items < most + MOST_SERIES → slot ≤ MOST_SLOTS
         → IsWritable tier most (record { slot = slot; pages = map page_of_records pages }) }
     ensures ends_in_time { (pages : List ASlotPage) → list_all is_slot_page pages ≡ true
         → All SlotsEndInTime pages }
