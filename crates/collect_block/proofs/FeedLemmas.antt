@@ -1,6 +1,6 @@
 -- What a feed knows of the lines that it has taken.
-use Rattle.std.proofs.Common.{◌≡◌, ℕ, Bool, false, List, Option, Some, None, is_some, refl, sym, ap, ◌∙◌, if◌then◌else◌}
-use Rattle.std.specs.Option.{option_map, option_map_or}
+use Rattle.std.proofs.Common.{◌≡◌, ℕ, Bool, false, List, Some, is_some, sym, ap, ◌∙◌, if◌then◌else◌}
+use Rattle.std.specs.Option.{option_map_or}
 use Rattle.list_lemmas.proofs.Searches.{some-map}
 use Rattle.history.specs.declared.beat.OpenBeat.{OpenBeat}
 use Rattle.history.specs.declared.dimension.DimDef.{DimDef}

@@ -3,7 +3,7 @@ use Rattle.history.specs.declared.beat.OpenValue.{OpenValue}
 use Rattle.history.specs.Looking.{is_value}
 use Rattle.chart_registry.proofs.Places.{first-from_position, nowhere-from_position}
 use Rattle.chart_registry.proofs.Lists.{filter-remove, filter-nowhere}
-use Rattle.collect_block.proofs.MarksLemmas.{marks-removed}
+use Rattle.collect_block.proofs.MarksLemmas.{marks-removed, seen-removed}
 use Rattle.collect_block.proofs.block_values.drop_value.Goals as goal
 
 pub loop-place-preserved : goal.loop-place-preserved
@@ -14,6 +14,7 @@ loop-place-preserved c =
     record {
       marked = marks-removed c.loop-place.marks.items values c.loop-place.invariant.marked c.in-Some.place
           c.remove.new.self.items c.remove-in-Some.new.self.items c.remove.ensures.items c.remove-in-Some.ensures.items;
+      seen = seen-removed c.args.seen.now c.loop-place.marks.items c.loop-place.invariant.seen c.in-Some.place c.remove.new.self.items c.remove.ensures.items;
       others = ap (filter (λ (value : OpenValue). not (own value))) c.remove-in-Some.ensures.items
           ∙ filter-remove own values c.in-Some.place (first-from_position own values c.in-Some.place found) ∙ c.loop-place.invariant.others;
     }

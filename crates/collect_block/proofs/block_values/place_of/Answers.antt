@@ -2,10 +2,17 @@ use Rattle.std.proofs.Common.{arith, ◌<◌, length, below_more, sym, ap, ◌�
 use Rattle.std.specs.Str.{bytes_eq}
 use Rattle.std.proofs.lemmas.List.{get_or_default}
 use Rattle.history.specs.Looking.{is_value}
+use Rattle.collect_block.specs.Marks.{has_bit}
 use Rattle.chart_registry.proofs.Lists.{position-reached, position-missed}
-use Rattle.collect_block.proofs.MarksLemmas.{length-marks, mark-apart}
+use Rattle.collect_block.proofs.MarksLemmas.{length-marks, mark-apart, values-unseen}
 use Rattle.collect_block.proofs.block_values.place_of.Goals as goal
 use Rattle.collect_block.proofs.block_values.place_of.Goals.{else-mark-other-via-then-mark-other+else-eq, else-mark-other-via-else-mark-other}
+
+pub returns-then-not-may_have : goal.returns-then-not-may_have
+returns-then-not-may_have c =
+    let seen = c.args.seen.now in
+    sym (values-unseen c.args.marks.now c.args.values.now c.requires.marked seen c.args.id.now c.requires.seen
+    (ap (has_bit seen) (sym c.requires.mark) ∙ sym c.may_have.ensures ∙ c.if-not-may_have.true))
 
 pub loop-place-preserved : goal.loop-place-preserved
 loop-place-preserved c =
