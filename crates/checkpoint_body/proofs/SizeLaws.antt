@@ -14,7 +14,7 @@ use Rattle.tier_settings.specs.declared.tier.Tier.{Tier}
 use Rattle.tier_settings.specs.Limits.{HasWidths}
 use Rattle.tier_settings.specs.Settings.{tier_with}
 use Rattle.field_codec.specs.Spelling.{i128_bytes, list_bytes, sized_bytes, u32_bytes, u64_bytes, u8_bytes}
-use Rattle.field_codec.proofs.Lengths.{length-list_bytes, length-u32_bytes, length-u64_bytes, length-u8_bytes}
+use Rattle.field_codec.proofs.Lengths.{length-i128_bytes, length-list_bytes, length-sized_bytes, length-u32_bytes, length-u64_bytes, length-u8_bytes}
 use Rattle.checkpoint_body.specs.declared.body.Body.{Body}
 use Rattle.checkpoint_body.specs.declared.body.Extent.{Extent}
 use Rattle.checkpoint_body.specs.declared.body.OpenRecord.{OpenRecord}
@@ -24,7 +24,7 @@ use Rattle.checkpoint_body.specs.declared.of_tiers.OfTiers.{OfTiers}
 use Rattle.checkpoint_body.specs.declared.page.RecordPage.{RecordPage}
 use Rattle.checkpoint_body.specs.declared.page.SlotPage.{SlotPage}
 use Rattle.checkpoint_body.specs.Body.{body_bytes, extents_of, floors_of, sealed_of, HasSpelling}
-use Rattle.checkpoint_body.specs.Canonical.{are_apart, are_extents, are_in_order, are_open, ends_in_time, is_ascending, is_point_tier, is_record_page, is_record_tier, is_series, is_slot, is_slot_page, point_count, record_count, record_span, slot_span, spaced}
+use Rattle.checkpoint_body.specs.Canonical.{are_few, are_in_order, are_open, ends_in_time, is_ascending, is_point_tier, is_record_page, is_record_tier, is_series, is_slot, is_slot_page, point_count, record_count, record_span, slot_span, spaced}
 use Rattle.checkpoint_body.specs.Fields.{each_bytes, extent_bytes, open_record_bytes, quota_bytes, record_bytes, record_page_bytes, settings_bytes, slot_page_bytes}
 use Rattle.checkpoint_body.specs.Size.{body_limit, point_tier_limit, record_tier_limit}
 
@@ -51,10 +51,6 @@ flat-within bytes test weight most each (x ∷ items) all =
     omega (arith, rest, more, each x parts.0, ap length (flat_map-cons bytes x items), length-append (bytes x) (flat_map bytes items))
 
 -- ---- the parts
-
-length-i128_bytes : (z : ℤ) → length (i128_bytes z) ≡ 16
-unfolding i128_bytes
-length-i128_bytes z = refl
 
 length-each_bytes : {X : Type 0} (spelling : X → List ℕ) (t : OfTiers X)
     → length (each_bytes spelling t) ≡ length (spelling t.points) + length (spelling t.minutes) + length (spelling t.hours)
@@ -92,10 +88,6 @@ length-record_bytes r = simp (length-append, length-u32_bytes, length-i128_bytes
 length-open_record_bytes : (one : OpenRecord) → length (open_record_bytes one) ≡ 64
 unfolding open_record_bytes
 length-open_record_bytes one = simp (length-append, length-u32_bytes, length-record_bytes) refl
-
-length-sized_bytes : (bytes : List ℕ) → length (sized_bytes bytes) ≡ 4 + length bytes
-unfolding sized_bytes
-length-sized_bytes bytes = omega (arith, length-append (u32_bytes (length bytes)) bytes, length-u32_bytes (length bytes))
 
 -- ---- pages
 
@@ -162,12 +154,9 @@ record_page-within width page is =
 
 -- ---- lists
 
-extents-within : (tier : Tier) (extents : List Extent) → are_extents tier extents ≡ true → length (list_bytes extent_bytes extents) ≤ 4 + 32 * tier.extents
-extents-within tier extents are =
-    let few : Bool = leb (length extents) tier.extents in
-    let slots : Bool = list_all (λ (extent : Extent). leb extent.slot tier.extents) extents in
-    let prefix = and_parts few slots (and_parts (few && slots) (are_apart extents) are).0 in
-    omega (arith, length-list_bytes extent_bytes extents, flat-each extent_bytes 32 length-extent_bytes extents, leb-true (length extents) tier.extents prefix.0)
+extents-within : (tier : Tier) (extents : List Extent) → are_few tier extents ≡ true → length (list_bytes extent_bytes extents) ≤ 4 + 32 * tier.extents
+extents-within tier extents few =
+    omega (arith, length-list_bytes extent_bytes extents, flat-each extent_bytes 32 length-extent_bytes extents, leb-true (length extents) tier.extents few)
 
 -- numbers that rise and are below a limit are at most so many
 rising-count : (limit one : ℕ) (others : List ℕ) → list_all (λ n. ltb n limit) (one ∷ others) ≡ true → is_ascending (one ∷ others) ≡ true → one + length others < limit
@@ -194,7 +183,7 @@ open_records-within records are =
 points-within : (tier : Tier) (kept : PointTier) → is_point_tier tier kept ≡ true
     → length (list_bytes extent_bytes kept.extents) + length (list_bytes slot_page_bytes kept.pages) ≤ 8 + point_tier_limit tier
 points-within tier kept is =
-    let a : Bool = are_extents tier kept.extents in
+    let a : Bool = are_few tier kept.extents in
     let b : Bool = list_all is_slot_page kept.pages in
     let c : Bool = are_in_order (map slot_span kept.pages) in
     let three = and_parts (a && b && c) (ltb (point_count kept.pages) tier.items) is in
@@ -208,7 +197,7 @@ points-within tier kept is =
 records-within : (tier : Tier) (kept : RecordTier) → is_record_tier tier kept ≡ true
     → length (list_bytes extent_bytes kept.extents) + length (list_bytes open_record_bytes kept.open_records) + length (list_bytes record_page_bytes kept.pages) ≤ 12 + record_tier_limit tier
 records-within tier kept is =
-    let a : Bool = are_extents tier kept.extents in
+    let a : Bool = are_few tier kept.extents in
     let b : Bool = are_open kept.open_records in
     let c : Bool = list_all (is_record_page tier.width) kept.pages in
     let d : Bool = are_in_order (map record_span kept.pages) in

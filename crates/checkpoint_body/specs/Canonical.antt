@@ -1,6 +1,6 @@
 -- What is tested of a body, beside that its numbers fit their fields.
 use Rattle.std.specs.Prelude.{ℕ, zero, suc, ◌+◌, ◌-◌, ◌*◌, ◌%◌, ◌^◌, Bool, true, not, ◌&&◌, ◌||◌, ◌==◌, nat_lt, nat_le, List, [], ◌∷◌, length, map, sum_by, count_by}
-use Rattle.std.specs.List.{list_all, list_any}
+use Rattle.std.specs.List.{list_all}
 use Rattle.storage_number.specs.Word.{is_word}
 use Rattle.tier_settings.specs.declared.limits.TheConstants.{MOST_SERIES}
 use Rattle.tier_settings.specs.declared.tier.Tier.{Tier}
@@ -16,15 +16,9 @@ use Rattle.checkpoint_body.specs.declared.span.Span.{Span}
 
 -- ---- extents
 
--- no extent has the slot of another
-abbrev pub are_apart : List Extent → Bool
-are_apart [] = true
-are_apart (extent ∷ extents) = not (list_any (λ other. other.slot == extent.slot) extents) && are_apart extents
-
--- at most as many as the tier keeps, the slots up to this number, and each slot once
-abbrev pub are_extents : Tier → List Extent → Bool
-are_extents tier extents =
-    nat_le (length extents) tier.extents && list_all (λ extent. nat_le extent.slot tier.extents) extents && are_apart extents
+-- at most as many as the tier keeps
+abbrev pub are_few : Tier → List Extent → Bool
+are_few tier extents = nat_le (length extents) tier.extents
 
 -- ---- open records
 
@@ -94,10 +88,10 @@ record_count pages = sum_by (λ page. length page.records) pages
 
 abbrev pub is_point_tier : Tier → PointTier → Bool
 is_point_tier tier kept =
-    are_extents tier kept.extents && list_all is_slot_page kept.pages && are_in_order (map slot_span kept.pages)
+    are_few tier kept.extents && list_all is_slot_page kept.pages && are_in_order (map slot_span kept.pages)
     && nat_lt (point_count kept.pages) tier.items
 
 abbrev pub is_record_tier : Tier → RecordTier → Bool
 is_record_tier tier kept =
-    are_extents tier kept.extents && are_open kept.open_records && list_all (is_record_page tier.width) kept.pages
+    are_few tier kept.extents && are_open kept.open_records && list_all (is_record_page tier.width) kept.pages
     && are_in_order (map record_span kept.pages) && nat_lt (record_count kept.pages) tier.items

@@ -3,9 +3,9 @@ ghost use Rattle.std.specs.Prelude.{◌≡◌, ◌==◌, [], ◌∷◌, ◌++◌
 ghost use Rattle.std.specs.Option.{option_to_list};
 ghost use Rattle.checkpoint_body.specs.declared.body.OpenRecord.{OpenRecord as AnOpenRecord};
 ghost use Rattle.tier_settings.specs.Limits.{HasWidths};
-ghost use Rattle.std.specs.List.{list_all, list_any};
+ghost use Rattle.std.specs.List.{list_all};
 ghost use Rattle.checkpoint_body.specs.Body.{is_canonical};
-ghost use Rattle.checkpoint_body.specs.Canonical.{are_apart, are_extents, are_in_order, are_open, is_ascending, is_before, is_point_tier, is_record_page, is_record_tier, is_series, is_slot, is_slot_page, point_count, record_count, record_span, slot_span, spaced};
+ghost use Rattle.checkpoint_body.specs.Canonical.{are_few, are_in_order, are_open, is_ascending, is_before, is_point_tier, is_record_page, is_record_tier, is_series, is_slot, is_slot_page, point_count, record_count, record_span, slot_span, spaced};
 
 use crate::body::{Body, Extent, OpenRecord, PointTier, RecordTier};
 use crate::grid::moment_of;
@@ -15,37 +15,11 @@ use crate::slots::MOST_SLOTS;
 use crate::span::Span;
 use tier_settings::{MOST_SERIES, Tier, are_tiers};
 
-fn has_slot(extents: &[Extent], slot: u32) -> bool
-    ensures { result ≡ list_any (λ other. other.slot == slot) extents.now }
+/// Whether a tier keeps as many extents.
+fn are_few(tier: &Tier, extents: &[Extent]) -> bool
+    ensures { result ≡ are_few tier.now extents.now }
 {
-    extents.iter().any(|other| other.slot == slot)
-}
-
-/// Whether no extent has the slot of another.
-fn are_apart(extents: &[Extent]) -> bool
-    ensures { result ≡ are_apart extents.now }
-{
-    let mut ahead = extents;
-    while let Some((extent, others)) = ahead.split_first() {
-        if has_slot(others, extent.slot) {
-            return false;
-        }
-        ahead = others;
-    }
-    true
-}
-
-fn have_slots(tier: &Tier, extents: &[Extent]) -> bool
-    ensures { result ≡ list_all (λ extent. nat_le extent.slot tier.now.extents) extents.now }
-{
-    extents.iter().all(|extent| extent.slot <= tier.extents)
-}
-
-/// Whether a tier may keep these extents.
-fn are_extents(tier: &Tier, extents: &[Extent]) -> bool
-    ensures { result ≡ are_extents tier.now extents.now }
-{
-    extents.len() <= tier.extents as usize && have_slots(tier, extents) && are_apart(extents)
+    extents.len() <= tier.extents as usize
 }
 
 /// Whether a number may follow the last one.
@@ -255,7 +229,7 @@ fn is_point_tier(tier: &Tier, kept: &PointTier) -> bool
     ensures { result ≡ is_point_tier tier.now kept.now }
 {
     let pages = kept.pages.as_slice();
-    are_extents(tier, kept.extents.as_slice())
+    are_few(tier, kept.extents.as_slice())
         && are_slot_pages(pages)
         && are_slots_in_order(pages)
         && has_fewer_points(pages, tier.items)
@@ -265,7 +239,7 @@ fn is_record_tier(tier: &Tier, kept: &RecordTier) -> bool
     ensures { result ≡ is_record_tier tier.now kept.now }
 {
     let pages = kept.pages.as_slice();
-    are_extents(tier, kept.extents.as_slice())
+    are_few(tier, kept.extents.as_slice())
         && are_open(kept.open_records.as_slice())
         && are_record_pages(tier.width, pages)
         && are_records_in_order(pages)

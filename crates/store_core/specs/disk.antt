@@ -10,4 +10,5 @@ pub mod Opened
 pub mod Opening
 pub mod Reading
 pub mod Shares
+pub mod Slots
 pub mod Standing

@@ -25,6 +25,7 @@ mod pages;
 mod reading;
 mod sealed;
 mod segment;
+mod slots;
 mod tier;
 mod writing;
 

@@ -1,8 +1,8 @@
 -- The extents that the next body names: they are those of a tier, and each is kept or new.
-use Rattle.std.proofs.Common.{◌≡◌, ℕ, zero, suc, ◌+◌, ◌-◌, ◌≤◌, ◌==◌, ◌&&◌, inl, inr, Bool, not, true, false, nat_le, List, [], ◌∷◌, ◌++◌, length, drop, map, Option, Some, None, arith, sym, ap, refl, ◌∙◌, subst, append-nil}
-use Rattle.std.specs.List.{All, AllByRecursion, list_all, list_any, zip}
+use Rattle.std.proofs.Common.{◌≡◌, ℕ, zero, suc, ◌+◌, ◌-◌, ◌≤◌, ◌==◌, inl, inr, Bool, not, true, false, nat_le, List, [], ◌∷◌, ◌++◌, length, drop, map, Option, Some, None, arith, sym, ap, refl, ◌∙◌, subst, append-nil}
+use Rattle.std.specs.List.{All, AllByRecursion, list_all, zip}
 use Rattle.std.specs.Option.{IfSome}
-use Rattle.std.proofs.lemmas.Bool.{and_from, and_parts, le-leb, leb-true, ne_eqb, not-true, not_from_false, or_from}
+use Rattle.std.proofs.lemmas.Bool.{and_from, and_parts, le-leb, ne_eqb, not-true, not_from_false, or_from}
 use Rattle.std.proofs.lemmas.List.{length-append, length-drop, length-map, map-append}
 use Rattle.std.proofs.lemmas.List.Elements.{All-append, All-cons, All-drop, All-head, All-nil, All-tail, Contains-get_or}
 use Rattle.std.proofs.lemmas.List.Folds.{list_all-append, list_any-append}
@@ -11,9 +11,10 @@ use Rattle.beat_tiers.specs.declared.item.Item.{Item}
 use Rattle.beat_tiers.specs.declared.parts.KeptItems.{KeptItems}
 use Rattle.beat_tiers.specs.declared.parts.Segment.{Segment}
 use Rattle.checkpoint_body.specs.declared.body.Extent.{Extent}
-use Rattle.checkpoint_body.specs.Canonical.{are_apart, are_extents}
+use Rattle.checkpoint_body.specs.Canonical.{are_few}
 use Rattle.checkpoint_body.specs.Fields.{FitsExtent}
-use Rattle.store_core.specs.disk.Next.{AreApart, AreFree, GoesOn, IsKeptOrNew, IsUnused, Written}
+use Rattle.store_core.specs.disk.Next.{AreApart, AreFree, GoesOn, IsKeptOrNew, Written}
+use Rattle.store_core.specs.disk.Slots.{are_apart, are_placed, is_used, IsUnused}
 use Rattle.extent_file.specs.declared.page.Page.{Page}
 use Rattle.tier_settings.specs.declared.tier.Tier.{Tier}
 use Rattle.store_core.specs.bodies.Next.{count_found, pages_after, sealed_after, AreNew, AreNext, IsNew}
@@ -31,17 +32,17 @@ low-drop limit (suc n) (extent ∷ extents) low = low-drop limit n extents (and_
 apart-drop : (n : ℕ) (extents : List Extent) → are_apart extents ≡ true → are_apart (drop n extents) ≡ true
 apart-drop zero extents apart = apart
 apart-drop (suc n) [] apart = refl
-apart-drop (suc n) (extent ∷ extents) apart = apart-drop n extents (and_parts (not (list_any (λ (other : Extent). other.slot == extent.slot) extents)) _ apart).1
+apart-drop (suc n) (extent ∷ extents) apart = apart-drop n extents (and_parts (not (is_used extents extent.slot)) _ apart).1
 
 apart-push : (extents : List Extent) (extent : Extent) → are_apart extents ≡ true → IsUnused extents extent.slot → are_apart (extents ++ extent ∷ []) ≡ true
 apart-push [] extent apart unused = refl
 apart-push (one ∷ extents) extent apart unused =
-    let parts = and_parts (not (list_any (λ (other : Extent). other.slot == one.slot) extents)) _ apart in
-    let others : list_any (λ (other : Extent). other.slot == one.slot) extents ≡ false = not-true _ parts.0 in
+    let parts = and_parts (not (is_used extents one.slot)) _ apart in
+    let others : is_used extents one.slot ≡ false = not-true _ parts.0 in
     let free = All-head (λ (other : Extent). other.slot ≡ extent.slot → ⊥) one extents unused in
-    let apart_too : (extent.slot == one.slot) ≡ false = ne_eqb extent.slot one.slot (λ same. free (sym same)) in
+    let apart_too : (one.slot == extent.slot) ≡ false = ne_eqb one.slot extent.slot free in
     and_from _ _
-    (not_from_false _ (list_any-append (λ (other : Extent). other.slot == one.slot) extents (extent ∷ []) ∙ or_from _ _ others (or_from _ _ apart_too refl)))
+    (not_from_false _ (list_any-append (λ (other : Extent). one.slot == other.slot) extents (extent ∷ []) ∙ or_from _ _ others (or_from _ _ apart_too refl)))
     (apart-push extents extent parts.1 (All-tail (λ (other : Extent). other.slot ≡ extent.slot → ⊥) one extents unused))
 
 zip-drop : {X Y : Type 0} (n : ℕ) (xs : List X) (ys : List Y) → length xs ≡ length ys → zip (drop n xs) (drop n ys) ≡ drop n (zip xs ys)
@@ -172,14 +173,14 @@ module _ {T Paged W : Type 0} (tier : ℕ) (written : W → Written) (pages_of :
         ∙ by-these (λ found added fresh. are_apart (drop gone old ++ added) ≡ true) (ap are_apart (append-nil (drop gone old)) ∙ apart-drop gone old apart)
         (λ segment extent one is. apart-push (drop gone old) extent (apart-drop gone old apart) (All-drop (λ (other : Extent). other.slot ≡ extent.slot → ⊥) gone old is.unused))
 
-    -- they are extents of their tier
-    pub next-extents : (settings : Tier) → length now.sealed ≤ settings.extents → are_extents settings old ≡ true → are_extents settings next ≡ true
-    next-extents settings most extents =
-        let prefix = and_parts (nat_le (length old) settings.extents && list_all (is_low settings.extents) old) (are_apart old) extents in
-        let few = and_parts (nat_le (length old) settings.extents) (list_all (is_low settings.extents) old) prefix.0 in
-        and_from _ _
-        (and_from _ _ (le-leb (length next) settings.extents (omega (arith, next-few, most))) (next-low settings.extents (leb-true (length old) settings.extents few.0) few.1))
-        (next-apart prefix.1)
+    -- they are as many as their tier keeps
+    pub next-counted : (settings : Tier) → length now.sealed ≤ settings.extents → are_few settings next ≡ true
+    next-counted settings most = le-leb (length next) settings.extents (omega (arith, next-few, most))
+
+    -- each has a slot of its own
+    pub next-placed : (limit : ℕ) → length old ≤ limit → are_placed limit old ≡ true → are_placed limit next ≡ true
+    next-placed limit few placed =
+        let parts = and_parts (list_all (is_low limit) old) (are_apart old) placed in and_from _ _ (next-low limit few parts.0) (next-apart parts.1)
 
     pub next-fit : AllByRecursion FitsExtent old → AllByRecursion FitsExtent next
     next-fit fit =

@@ -29,11 +29,11 @@ quota-is tier is =
     record { items = omega (arith, items); extents = omega (arith, extents) }
 
 points-form : (tier : Tier) → IsTier tier → is_point_tier tier no_points ≡ true
-points-form tier is = and_from _ _ (and_from _ _ (and_from _ _ (and_from _ _ (and_from _ _ (le-leb 0 tier.extents (omega arith)) refl) refl) refl) refl) (lt-ltb 0 tier.items (omega (arith, is.items)))
+points-form tier is = and_from _ _ (and_from _ _ (and_from _ _ (le-leb 0 tier.extents (omega arith)) refl) refl) (lt-ltb 0 tier.items (omega (arith, is.items)))
 
 records-form : (tier : Tier) → IsTier tier → is_record_tier tier no_records ≡ true
 records-form tier is =
-    and_from _ _ (and_from _ _ (and_from _ _ (and_from _ _ (and_from _ _ (and_from _ _ (le-leb 0 tier.extents (omega arith)) refl) refl) refl) refl) refl) (lt-ltb 0 tier.items (omega (arith, is.items)))
+    and_from _ _ (and_from _ _ (and_from _ _ (and_from _ _ (le-leb 0 tier.extents (omega arith)) refl) refl) refl) (lt-ltb 0 tier.items (omega (arith, is.items)))
 
 -- what is shown of the first body
 pub record IsBegun (settings : Settings) (side : List ℕ) : Type 0 where

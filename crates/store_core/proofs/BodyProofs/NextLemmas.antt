@@ -2,7 +2,7 @@
 use Rattle.std.proofs.Common.{◌≡◌, ℕ, ◌+◌, ◌/◌, ◌^◌, ◌<◌, ◌≤◌, ◌==◌, ◌&&◌, true, nat_le, List, [], ◌∷◌, drop, length, map, slice_get, Option, Some, arith, sym, ap, refl, ◌∙◌, subst}
 use Rattle.std.specs.List.{All, list_all}
 use Rattle.std.specs.Option.{option_map_or}
-use Rattle.std.proofs.lemmas.Bool.{and_parts, eqb-true, leb-true}
+use Rattle.std.proofs.lemmas.Bool.{and_from, and_parts, eqb-true, leb-true}
 use Rattle.std.proofs.lemmas.List.Elements.{recursion_from_All}
 use Rattle.std.proofs.lemmas.List.Sums.{AllPass-from_list_all}
 use Rattle.list_lemmas.proofs.Every.{all-at}
@@ -24,6 +24,7 @@ use Rattle.store_core.specs.disk.Holds.{page_of_records, page_of_slots}
 use Rattle.store_core.specs.disk.Kept.{HasPagesOfEach}
 use Rattle.store_core.specs.disk.Next.{written_records, written_slots, AreWritable, GoesOn, IsNext, IsWritable}
 use Rattle.store_core.specs.disk.Shares.{AreSlotsOf, HasOwnSlots}
+use Rattle.store_core.specs.disk.Slots.{are_placed, extents_of, is_placed}
 use Rattle.tier_settings.specs.declared.limits.TheConstants.{MOST_EXTENTS, MOST_ITEMS}
 use Rattle.tier_settings.specs.declared.settings.Settings.{Settings}
 use Rattle.tier_settings.specs.declared.tier.Tier.{Tier}
@@ -35,9 +36,9 @@ use Rattle.store_core.specs.bodies.Next.{beats_before, next_pages, no_beats_befo
 use Rattle.store_core.specs.bodies.Reading.{no_beats_in}
 use Rattle.store_core.specs.bodies.Segments.{beats_in}
 use Rattle.store_core.specs.bodies.Tiers.{AreTiersOfBody}
-use Rattle.store_core.proofs.BodyProofs.ExtentLemmas.{all-apart, all-slots, next-kept}
+use Rattle.store_core.proofs.BodyProofs.ExtentLemmas.{all-apart, all-slots, next-kept, next-placed}
 use Rattle.store_core.proofs.BodyProofs.GoingTier.{can-name, outcome-of, sealed-below, still-counted, IsGoing}
-use Rattle.store_core.proofs.BodyProofs.NextTier.{extents-few, open-fit, point-extents, point-fit, point-form, point-tier, point-writable, record-extents, record-fit, record-form, record-items, record-tier, record-writable}
+use Rattle.store_core.proofs.BodyProofs.NextTier.{open-fit, point-extents, point-fit, point-form, point-tier, point-writable, record-extents, record-fit, record-form, record-items, record-tier, record-writable}
 use Rattle.store_core.proofs.BodyProofs.WholeLemmas.{two_tiers}
 
 -- with other tiers of records
@@ -180,7 +181,7 @@ module _ (body : Body) (kept : KeptPages) (spelt : HasSpelling body) (were_last 
       (let limits = first-limits in let same = first-same in record {
         items = let items = limits.items in let e = ap (λ (tier : Tier). tier.items) same in omega (arith, items, e);
         kept = let extents = limits.extents in let e = ap (λ (tier : Tier). tier.extents) same in omega (arith, extents, e);
-        named = let few = extents-few first body.points.extents (point-extents first body.points points-form) in let e = ap (λ (tier : Tier). tier.extents) same in omega (arith, few, e);
+        named = let few = point-extents first body.points points-form in let e = ap (λ (tier : Tier). tier.extents) same in omega (arith, few, e);
         most = let most = is.most in let e = ap (λ (tier : Tier). tier.extents) same in omega (arith, most, e);
         few = let few = is.few in let e = ap (λ (tier : Tier). tier.items) same in omega (arith, few, e);
         ordered = is.ordered;
@@ -200,7 +201,7 @@ module _ (body : Body) (kept : KeptPages) (spelt : HasSpelling body) (were_last 
       (let limits = minutes-limits in let same = minutes-same in record {
         items = let items = limits.items in let e = ap (λ (tier : Tier). tier.items) same in omega (arith, items, e);
         kept = let extents = limits.extents in let e = ap (λ (tier : Tier). tier.extents) same in omega (arith, extents, e);
-        named = let few = extents-few minutes.tier body.minutes.extents (record-extents minutes.tier body.minutes minutes-form) in let e = ap (λ (tier : Tier). tier.extents) same in omega (arith, few, e);
+        named = let few = record-extents minutes.tier body.minutes minutes-form in let e = ap (λ (tier : Tier). tier.extents) same in omega (arith, few, e);
         most = let most = minutes-now.kept.most in let e = ap (λ (tier : Tier). tier.extents) same in omega (arith, most, e);
         few = let few = minutes-now.kept.few in let e = ap (λ (tier : Tier). tier.items) same in omega (arith, few, e);
         ordered = minutes-now.kept.ordered;
@@ -220,7 +221,7 @@ module _ (body : Body) (kept : KeptPages) (spelt : HasSpelling body) (were_last 
       (let limits = hours-limits in let same = hours-same in record {
         items = let items = limits.items in let e = ap (λ (tier : Tier). tier.items) same in omega (arith, items, e);
         kept = let extents = limits.extents in let e = ap (λ (tier : Tier). tier.extents) same in omega (arith, extents, e);
-        named = let few = extents-few hours.tier body.hours.extents (record-extents hours.tier body.hours hours-form) in let e = ap (λ (tier : Tier). tier.extents) same in omega (arith, few, e);
+        named = let few = record-extents hours.tier body.hours hours-form in let e = ap (λ (tier : Tier). tier.extents) same in omega (arith, few, e);
         most = let most = hours-now.kept.most in let e = ap (λ (tier : Tier). tier.extents) same in omega (arith, most, e);
         few = let few = hours-now.kept.few in let e = ap (λ (tier : Tier). tier.items) same in omega (arith, few, e);
         ordered = hours-now.kept.ordered;
@@ -337,16 +338,13 @@ module _ (body : Body) (kept : KeptPages) (spelt : HasSpelling body) (were_last 
     settings = subst InLimits (sym is.settings) spelt.settings;
     points =
         subst (λ (tier : Tier). is_point_tier tier next.points ≡ true) first-next
-        (point-form first body.last body.points were_points points going-points next.points new.points is.points
-        (points-form body kept spelt were_last last were_first first were_points points were_minutes were_hours minutes hours on));
+        (point-form first body.last body.points were_points points going-points next.points new.points is.points);
     minutes =
         subst (λ (tier : Tier). is_body_tier tier next.minutes ≡ true) minutes-next
-        (record-form 1 body.last last (omega arith) body.minutes were_minutes minutes going-minutes next.minutes new.minutes is.records.0 open-minutes.opened
-        (minutes-form body kept spelt were_last last were_first first were_points points were_minutes were_hours minutes hours on));
+        (record-form 1 body.last last (omega arith) body.minutes were_minutes minutes going-minutes next.minutes new.minutes is.records.0 open-minutes.opened);
     hours =
         subst (λ (tier : Tier). is_body_tier tier next.hours ≡ true) hours-next
-        (record-form 2 body.last last (omega arith) body.hours were_hours hours going-hours next.hours new.hours is.records.1 open-hours.opened
-        (hours-form body kept spelt were_last last were_first first were_points points were_minutes were_hours minutes hours on));
+        (record-form 2 body.last last (omega arith) body.hours were_hours hours going-hours next.hours new.hours is.records.1 open-hours.opened);
   }
 
   next-writable : AreWritable next new
@@ -383,12 +381,34 @@ module _ (body : Body) (kept : KeptPages) (spelt : HasSpelling body) (were_last 
         is.records.1.extents hours.tier.extents going-hours.named);
   }
 
+  next-own_slots : is_placed body ≡ true → is_placed next ≡ true
+  next-own_slots placed =
+      let both = and_parts (are_placed (extents_of body 0) body.points.extents && are_placed (extents_of body 1) body.minutes.extents) (are_placed (extents_of body 2) body.hours.extents) placed in
+      let one = and_parts (are_placed (extents_of body 0) body.points.extents) (are_placed (extents_of body 1) body.minutes.extents) both.0 in
+      let is_first = first-is body kept spelt were_last last were_first first were_points points were_minutes were_hours minutes hours on in
+      let is_minutes = minutes-is body kept spelt were_last last were_first first were_points points were_minutes were_hours minutes hours on in
+      let is_hours = hours-is body kept spelt were_last last were_first first were_points points were_minutes were_hours minutes hours on in
+      and_from _ _
+      (and_from _ _
+      (subst (λ (tier : Tier). are_placed tier.extents next.points.extents ≡ true) first-next
+      (next-placed 0 written_slots pages_of_slots AreSlotPagesOf beats_in beats_before body.last body.points.extents points next.points.extents new.points is.points.extents first.extents going-points.named
+      (subst (λ (tier : Tier). are_placed tier.extents body.points.extents ≡ true) is_first one.0)))
+      (subst (λ (tier : Tier). are_placed tier.extents next.minutes.extents ≡ true) minutes-next
+      (next-placed 1 written_records pages_of_records (AreRecordPagesOf 1 minutes.tier.width) no_beats_in no_beats_before body.last body.minutes.extents minutes.segments next.minutes.extents new.minutes
+      is.records.0.extents minutes.tier.extents going-minutes.named
+      (subst (λ (tier : Tier). are_placed tier.extents body.minutes.extents ≡ true) is_minutes one.1))))
+      (subst (λ (tier : Tier). are_placed tier.extents next.hours.extents ≡ true) hours-next
+      (next-placed 2 written_records pages_of_records (AreRecordPagesOf 2 hours.tier.width) no_beats_in no_beats_before body.last body.hours.extents hours.segments next.hours.extents new.hours
+      is.records.1.extents hours.tier.extents going-hours.named
+      (subst (λ (tier : Tier). are_placed tier.extents body.hours.extents ≡ true) is_hours both.1)))
+
   next-follows : (contents : Contents) → contents.body ≡ body → HasPagesOfEach body contents.kept → IsNext contents new next (next_pages body next new contents.kept)
   next-follows contents same each =
       let back = sym same in
       let pages = next_pages body next new contents.kept in
       record {
         settings = is.settings ∙ ap (λ (one : Body). one.settings) back;
+        slots = subst (λ (one : Body). is_placed one ≡ true → is_placed next ≡ true) back next-own_slots;
         points =
             subst (λ (one : Body). GoesOn 0 one.points.extents (map (map page_of_slots) contents.kept.points) (map written_slots new.points) next.points.extents (map (map page_of_slots) pages.points)) back
             (next-kept 0 written_slots pages_of_slots AreSlotPagesOf beats_in beats_before body.last body.points.extents points next.points.extents new.points is.points.extents

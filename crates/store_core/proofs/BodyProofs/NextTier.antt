@@ -18,13 +18,12 @@ use Rattle.beat_tiers.specs.Sound.{IsPointItem, IsRecordOfSeries}
 use Rattle.beat_tiers.specs.State.{RecordTierState}
 use Rattle.beat_tiers.proofs.GivenLemmas.{AreBelow}
 use Rattle.beat_tiers.proofs.Halves.{all_left}
-use Rattle.checkpoint_body.specs.declared.body.Extent.{Extent}
 use Rattle.checkpoint_body.specs.declared.body.OpenRecord.{OpenRecord}
 use Rattle.checkpoint_body.specs.declared.body.PointTier.{PointTier}
 use Rattle.checkpoint_body.specs.declared.body.RecordTier.{RecordTier}
 use Rattle.checkpoint_body.specs.declared.page.RecordPage.{RecordPage}
 use Rattle.checkpoint_body.specs.declared.page.SlotPage.{SlotPage}
-use Rattle.checkpoint_body.specs.Canonical.{are_extents, are_in_order, are_open as are_open_records, is_ascending, is_point_tier, is_record_page, is_record_tier, is_series, is_slot_page, point_count, record_count, record_span, slot_span}
+use Rattle.checkpoint_body.specs.Canonical.{are_few, are_in_order, are_open as are_open_records, is_ascending, is_point_tier, is_record_page, is_record_tier, is_series, is_slot_page, point_count, record_count, record_span, slot_span}
 use Rattle.checkpoint_body.specs.Fields.{FitsExtent, FitsOpenRecord}
 use Rattle.store_core.specs.declared.disk.sealed.RecordExtent.{RecordExtent}
 use Rattle.store_core.specs.declared.disk.sealed.SlotExtent.{SlotExtent}
@@ -37,30 +36,25 @@ use Rattle.store_core.specs.bodies.Next.{beats_before, no_beats_before, pages_af
 use Rattle.store_core.specs.bodies.Reading.{no_beats_in, ArePointSegmentsIn, ArePointsOf, AreRecordSegmentsIn, AreRecordsOf, AreSegmentsIn}
 use Rattle.store_core.specs.bodies.Segments.{beats_in, first_number}
 use Rattle.store_core.specs.bodies.Tiers.{open_record_of, IsPointTier, IsRecordTier}
-use Rattle.store_core.proofs.BodyProofs.ExtentLemmas.{all-written, next-extents, next-few, next-fit}
+use Rattle.store_core.proofs.BodyProofs.ExtentLemmas.{all-written, next-counted, next-few, next-fit}
 use Rattle.store_core.proofs.BodyProofs.GoingLemmas.{beats_after, last-beats}
 use Rattle.store_core.proofs.BodyProofs.GoingTier.{found-each, found-short, next-are, IsGoing}
 use Rattle.store_core.proofs.BodyProofs.TierLemmas.{points-are, points-back, points-formed, records-are, records-back, records-formed, AreFormedRecords}
 
 -- ---- extents
 
-pub point-extents : (tier : Tier) (kept : PointTier) → is_point_tier tier kept ≡ true → are_extents tier kept.extents ≡ true
+pub point-extents : (tier : Tier) (kept : PointTier) → is_point_tier tier kept ≡ true → length kept.extents ≤ tier.extents
 point-extents tier kept is =
-    let most = and_parts (are_extents tier kept.extents && list_all is_slot_page kept.pages && are_in_order (map slot_span kept.pages)) _ is in
-    let order = and_parts (are_extents tier kept.extents && list_all is_slot_page kept.pages) _ most.0 in
-    (and_parts (are_extents tier kept.extents) _ order.0).0
+    let most = and_parts (are_few tier kept.extents && list_all is_slot_page kept.pages && are_in_order (map slot_span kept.pages)) _ is in
+    let order = and_parts (are_few tier kept.extents && list_all is_slot_page kept.pages) _ most.0 in
+    leb-true (length kept.extents) tier.extents (and_parts (are_few tier kept.extents) _ order.0).0
 
-pub record-extents : (tier : Tier) (kept : RecordTier) → is_record_tier tier kept ≡ true → are_extents tier kept.extents ≡ true
+pub record-extents : (tier : Tier) (kept : RecordTier) → is_record_tier tier kept ≡ true → length kept.extents ≤ tier.extents
 record-extents tier kept is =
-    let most = and_parts (are_extents tier kept.extents && are_open_records kept.open_records && list_all (is_record_page tier.width) kept.pages && are_in_order (map record_span kept.pages)) _ is in
-    let order = and_parts (are_extents tier kept.extents && are_open_records kept.open_records && list_all (is_record_page tier.width) kept.pages) _ most.0 in
-    let pages = and_parts (are_extents tier kept.extents && are_open_records kept.open_records) _ order.0 in
-    (and_parts (are_extents tier kept.extents) _ pages.0).0
-
-pub extents-few : (tier : Tier) (extents : List Extent) → are_extents tier extents ≡ true → length extents ≤ tier.extents
-extents-few tier extents are =
-    let prefix = and_parts (nat_le (length extents) tier.extents && list_all (λ (extent : Extent). nat_le extent.slot tier.extents) extents) _ are in
-    leb-true (length extents) tier.extents (and_parts (nat_le (length extents) tier.extents) _ prefix.0).0
+    let most = and_parts (are_few tier kept.extents && are_open_records kept.open_records && list_all (is_record_page tier.width) kept.pages && are_in_order (map record_span kept.pages)) _ is in
+    let order = and_parts (are_few tier kept.extents && are_open_records kept.open_records && list_all (is_record_page tier.width) kept.pages) _ most.0 in
+    let pages = and_parts (are_few tier kept.extents && are_open_records kept.open_records) _ order.0 in
+    leb-true (length kept.extents) tier.extents (and_parts (are_few tier kept.extents) _ pages.0).0
 
 -- ---- open records
 
@@ -112,14 +106,14 @@ record-items width last (item ∷ items) high some each below = (
 
 module _ (tier : Tier) (moment : ℕ) (old : PointTier) (was now : KeptItems Stepped) (going : IsGoing IsPointItem beats_in tier moment old.extents was now)
     (next : PointTier) (new : List SlotExtent) (is : IsNextPointTier moment old now next new) where
-  pub point-form : is_point_tier tier old ≡ true → is_point_tier tier next ≡ true
-  point-form before =
+  pub point-form : is_point_tier tier next ≡ true
+  point-form =
       let few = going.few in
       let count = is.pages.count in
       and_from _ _
       (and_from _ _
       (and_from _ _
-      (next-extents 0 written_slots pages_of_slots AreSlotPagesOf beats_in beats_before moment old.extents now next.extents new is.extents tier going.most (point-extents tier old before)) is.pages.form)
+      (next-counted 0 written_slots pages_of_slots AreSlotPagesOf beats_in beats_before moment old.extents now next.extents new is.extents tier going.most) is.pages.form)
       is.pages.order)
       (lt-ltb (point_count next.pages) tier.items (omega (arith, few, count)))
 
@@ -164,8 +158,8 @@ none-counted (segment ∷ segments) = none-counted segments
 module _ (number moment last : ℕ) (above : 0 < number) (old : RecordTier) (was now : RecordTierState)
     (going : IsGoing (IsRecordItem now.tier.width) no_beats_in now.tier moment old.extents was.segments now.segments)
     (next : RecordTier) (new : List RecordExtent) (is : IsNextRecordTier number moment last old now next new) where
-  pub record-form : are_open 0 now.current ≡ true → is_record_tier now.tier old ≡ true → is_record_tier now.tier next ≡ true
-  record-form is_open before =
+  pub record-form : are_open 0 now.current ≡ true → is_record_tier now.tier next ≡ true
+  record-form is_open =
       let few = going.few in
       let count = is.pages.count in
       let opens : are_open_records next.open_records ≡ true =
@@ -175,8 +169,7 @@ module _ (number moment last : ℕ) (above : 0 < number) (old : RecordTier) (was
       (and_from _ _
       (and_from _ _
       (and_from _ _
-      (next-extents number written_records pages_of_records (AreRecordPagesOf number now.tier.width) no_beats_in no_beats_before moment old.extents now.segments next.extents new is.extents now.tier going.most
-      (record-extents now.tier old before))
+      (next-counted number written_records pages_of_records (AreRecordPagesOf number now.tier.width) no_beats_in no_beats_before moment old.extents now.segments next.extents new is.extents now.tier going.most)
       opens)
       is.pages.form)
       is.pages.order)

@@ -15,7 +15,7 @@ use Rattle.beat_tiers.specs.Tiers.{AreOrdered, IsTier}
 use Rattle.beat_tiers.proofs.RestoreLemmas.{back-each-ordered, back-ordered, tiers-again}
 use Rattle.checkpoint_body.specs.declared.body.Body.{Body}
 use Rattle.checkpoint_body.specs.Body.{HasSpelling}
-use Rattle.checkpoint_body.specs.Canonical.{are_extents, are_in_order, are_open as are_open_records, is_record_page, is_record_tier as is_body_tier, record_span}
+use Rattle.checkpoint_body.specs.Canonical.{are_few, are_in_order, are_open as are_open_records, is_record_page, is_record_tier as is_body_tier, record_span}
 use Rattle.store_core.specs.disk.Contents.{KeptPages}
 use Rattle.tier_settings.specs.declared.limits.TheConstants.{MOST_ITEMS}
 use Rattle.tier_settings.specs.declared.tier.Tier.{Tier}
@@ -289,9 +289,9 @@ module _ (body : Body) (kept : KeptPages) (spelt : HasSpelling body) (tiers : Li
   read-hours_form =
       let tier : tier_with body.settings 2 ≡ hours_of = ap (λ (ts : List Tier). option_map_or (λ (one : Tier). one) (slice_get ts 2) no_tier) three.whole in
       let is = subst (λ (one : Tier). is_body_tier one body.hours ≡ true) tier spelt.hours in
-      let parts = and_parts (are_extents hours_of body.hours.extents && are_open_records body.hours.open_records && list_all (is_record_page hours_of.width) body.hours.pages && are_in_order (map record_span body.hours.pages)) _ is in
-      let before = and_parts (are_extents hours_of body.hours.extents && are_open_records body.hours.open_records && list_all (is_record_page hours_of.width) body.hours.pages) _ parts.0 in
-      (and_parts (are_extents hours_of body.hours.extents && are_open_records body.hours.open_records) _ before.0).1
+      let parts = and_parts (are_few hours_of body.hours.extents && are_open_records body.hours.open_records && list_all (is_record_page hours_of.width) body.hours.pages && are_in_order (map record_span body.hours.pages)) _ is in
+      let before = and_parts (are_few hours_of body.hours.extents && are_open_records body.hours.open_records && list_all (is_record_page hours_of.width) body.hours.pages) _ parts.0 in
+      (and_parts (are_few hours_of body.hours.extents && are_open_records body.hours.open_records) _ before.0).1
 
   parts-of : (state : TiersState) → AreTiersOfBody body kept state → AreParts body kept spelt first_of minutes_of hours_of three.whole state
   parts-of state are = whole-parts body kept spelt first_of minutes_of hours_of three.whole state are

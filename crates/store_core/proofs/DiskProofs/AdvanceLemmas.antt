@@ -1,6 +1,6 @@
 -- From a checkpoint to the next, at each moment and in the end.
-use Rattle.std.proofs.Common.{◌≡◌, ◌⊎◌, ℕ, ◌+◌, List, [], refl, sym, ap, ◌∙◌, subst, inl, inr, ⊎_elim, None, arith}
-use Rattle.std.proofs.lemmas.Bool.{ne_eqb}
+use Rattle.std.proofs.Common.{◌≡◌, ◌⊎◌, ℕ, ◌+◌, true, List, [], refl, sym, ap, ◌∙◌, subst, inl, inr, ⊎_elim, None, arith}
+use Rattle.std.proofs.lemmas.Bool.{and_from, ne_eqb}
 use Rattle.host_model.specs.declared.file.File.{File}
 use Rattle.host_model.specs.declared.file.File.TheVariants.{CheckA, CheckB, JournalA, JournalB, Tier0, Tier1, Tier2}
 use Rattle.host_model.specs.Images.{contents, IsImage}
@@ -20,6 +20,7 @@ use Rattle.store_core.specs.disk.Beginning.{empty_journal, Begins, OnlyBoth}
 use Rattle.store_core.specs.disk.Contents.{new_contents, next_contents, Contents, KeptPages}
 use Rattle.store_core.specs.disk.Files.{FilesState, IsOpenOf}
 use Rattle.store_core.specs.disk.Holds.{items_of, journal_file, AreKept, Holds, HoldsEither, HoldsIfMade, Lie, OnlyOwn}
+use Rattle.store_core.specs.disk.Slots.{are_placed, extents_of}
 use Rattle.store_core.proofs.DiskProofs.BeginLemmas.{by_journal, journal_beside_check}
 use Rattle.store_core.proofs.DiskProofs.HoldLemmas.{disk_but_two, journal_beside_next, kept_same, tiers_beside_check, tiers_beside_journal, SameTiers}
 use Rattle.store_core.proofs.DiskProofs.MomentLemmas.{both_throughout}
@@ -104,6 +105,11 @@ module _ (body : Body) (bytes : List ℕ) (spelling : bytes ≡ body_bytes body)
       spelt = spelt;
     };
     kept = record {
+      slots =
+          and_from _ _
+          (and_from _ _ (subst (λ (l : List Extent). are_placed (extents_of body 0) l ≡ true) (sym none.points) refl)
+          (subst (λ (l : List Extent). are_placed (extents_of body 1) l ≡ true) (sym none.minutes) refl))
+          (subst (λ (l : List Extent). are_placed (extents_of body 2) l ≡ true) (sym none.hours) refl);
       points = subst (λ (l : List Extent). Lie 0 (items_of body 0) (disk Tier0) l []) (sym none.points) tt;
       minutes = subst (λ (l : List Extent). Lie 1 (items_of body 1) (disk Tier1) l []) (sym none.minutes) tt;
       hours = subst (λ (l : List Extent). Lie 2 (items_of body 2) (disk Tier2) l []) (sym none.hours) tt;

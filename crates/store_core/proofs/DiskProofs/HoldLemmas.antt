@@ -24,6 +24,7 @@ pub record SameTiers (disk other : File → List ℕ) : Type 0 where
 
 pub kept_same : (body : Body) (kept : KeptPages) (disk other : File → List ℕ) → SameTiers disk other → AreKept body kept disk → AreKept body kept other
 kept_same body kept disk other same are = record {
+  slots = are.slots;
   points = subst (λ (l : List ℕ). Lie 0 (items_of body 0) l body.points.extents (map (map page_of_slots) kept.points)) same.points are.points;
   minutes = subst (λ (l : List ℕ). Lie 1 (items_of body 1) l body.minutes.extents (map (map page_of_records) kept.minutes)) same.minutes are.minutes;
   hours = subst (λ (l : List ℕ). Lie 2 (items_of body 2) l body.hours.extents (map (map page_of_records) kept.hours)) same.hours are.hours;

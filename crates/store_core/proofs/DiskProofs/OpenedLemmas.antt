@@ -39,6 +39,7 @@ holds_too contents disk other same holds =
         spelt = holds.checkpoint.spelt;
       };
       kept = record {
+        slots = holds.kept.slots;
         points = subst (λ (l : List ℕ). Lie 0 (items_of body 0) l body.points.extents (map (map page_of_slots) contents.kept.points)) same.points holds.kept.points;
         minutes = subst (λ (l : List ℕ). Lie 1 (items_of body 1) l body.minutes.extents (map (map page_of_records) contents.kept.minutes)) same.minutes holds.kept.minutes;
         hours = subst (λ (l : List ℕ). Lie 2 (items_of body 2) l body.hours.extents (map (map page_of_records) contents.kept.hours)) same.hours holds.kept.hours;

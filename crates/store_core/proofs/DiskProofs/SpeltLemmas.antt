@@ -1,21 +1,18 @@
 -- What is known of the settings and the extents of a body that has a spelling.
-use Rattle.std.proofs.Common.{◌≡◌, ℕ, ◌<◌, ◌≤◌, List, [], ◌∷◌, true, leb, arith}
+use Rattle.std.proofs.Common.{◌≡◌, ℕ, ◌<◌, ◌≤◌, ◌&&◌, List, [], ◌∷◌, true, leb, arith}
 use Rattle.std.specs.List.{list_all, AllByRecursion}
 use Rattle.std.proofs.lemmas.Bool.{and_parts, leb-true}
 use Rattle.list_lemmas.proofs.Every.{all-at}
 use Rattle.tier_settings.specs.declared.settings.Settings.{Settings}
-use Rattle.tier_settings.specs.declared.tier.Tier.{Tier}
 use Rattle.tier_settings.specs.Limits.{InLimits}
 use Rattle.tier_settings.specs.Settings.{tier_with}
 use Rattle.tier_settings.proofs.TierLemmas.{each_tier, tier_there, IsWithin}
 use Rattle.checkpoint_body.specs.declared.body.Body.{Body}
 use Rattle.checkpoint_body.specs.declared.body.Extent.{Extent}
-use Rattle.checkpoint_body.specs.declared.body.PointTier.{PointTier}
-use Rattle.checkpoint_body.specs.declared.body.RecordTier.{RecordTier}
 use Rattle.checkpoint_body.specs.Body.{HasSpelling}
-use Rattle.checkpoint_body.specs.Canonical.{are_extents, is_point_tier, is_record_tier}
 use Rattle.store_core.specs.disk.Holds.{items_of}
 use Rattle.store_core.specs.disk.Reading.{HasSlot}
+use Rattle.store_core.specs.disk.Slots.{are_apart, are_placed, extents_of, is_placed}
 
 -- a tier is in the limits
 tier_within : (set : Settings) → InLimits set → (number : ℕ) → number < 3 → IsWithin (tier_with set number)
@@ -33,23 +30,24 @@ slots_low most (extent ∷ extents) small all =
     let low = leb-true extent.slot most parts.0 in
     (omega (arith, low, small), slots_low most extents small parts.1)
 
-slots_of : (tier : Tier) (extents : List Extent) → tier.extents ≤ 1024 → are_extents tier extents ≡ true → AllByRecursion HasSlot extents
-slots_of tier extents small are =
-    let apart = and_parts _ _ are in let slots = and_parts _ _ apart.0 in slots_low tier.extents extents small slots.1
+slots_of : (body : Body) → HasSpelling body → (number : ℕ) → number < 3 → (extents : List Extent) → are_placed (extents_of body number) extents ≡ true → AllByRecursion HasSlot extents
+slots_of body spelt number few extents placed =
+    slots_low (extents_of body number) extents (tier_within body.settings spelt.settings number few).most_extents
+    (and_parts (list_all (λ (extent : Extent). leb extent.slot (extents_of body number)) extents) (are_apart extents) placed).0
 
-of_points : (tier : Tier) (kept : PointTier) → tier.extents ≤ 1024 → is_point_tier tier kept ≡ true → AllByRecursion HasSlot kept.extents
-of_points tier kept small is =
-    let a = and_parts _ _ is in let b = and_parts _ _ a.0 in let c = and_parts _ _ b.0 in slots_of tier kept.extents small c.0
+module _ (body : Body) (spelt : HasSpelling body) (placed : is_placed body ≡ true) where
+  records_placed : ((are_placed (extents_of body 0) body.points.extents && are_placed (extents_of body 1) body.minutes.extents) ≡ true) × (are_placed (extents_of body 2) body.hours.extents ≡ true)
+  records_placed =
+      and_parts (are_placed (extents_of body 0) body.points.extents && are_placed (extents_of body 1) body.minutes.extents) (are_placed (extents_of body 2) body.hours.extents) placed
 
-of_records : (tier : Tier) (kept : RecordTier) → tier.extents ≤ 1024 → is_record_tier tier kept ≡ true → AllByRecursion HasSlot kept.extents
-of_records tier kept small is =
-    let a = and_parts _ _ is in let b = and_parts _ _ a.0 in let c = and_parts _ _ b.0 in let d = and_parts _ _ c.0 in slots_of tier kept.extents small d.0
+  both_placed : (are_placed (extents_of body 0) body.points.extents ≡ true) × (are_placed (extents_of body 1) body.minutes.extents ≡ true)
+  both_placed = and_parts (are_placed (extents_of body 0) body.points.extents) (are_placed (extents_of body 1) body.minutes.extents) records_placed.0
 
-pub point_slots : (body : Body) → HasSpelling body → AllByRecursion HasSlot body.points.extents
-point_slots body spelt = of_points (tier_with body.settings 0) body.points (tier_within body.settings spelt.settings 0 (omega arith)).most_extents spelt.points
+  pub point_slots : AllByRecursion HasSlot body.points.extents
+  point_slots = slots_of body spelt 0 (omega arith) body.points.extents both_placed.0
 
-pub minute_slots : (body : Body) → HasSpelling body → AllByRecursion HasSlot body.minutes.extents
-minute_slots body spelt = of_records (tier_with body.settings 1) body.minutes (tier_within body.settings spelt.settings 1 (omega arith)).most_extents spelt.minutes
+  pub minute_slots : AllByRecursion HasSlot body.minutes.extents
+  minute_slots = slots_of body spelt 1 (omega arith) body.minutes.extents both_placed.1
 
-pub hour_slots : (body : Body) → HasSpelling body → AllByRecursion HasSlot body.hours.extents
-hour_slots body spelt = of_records (tier_with body.settings 2) body.hours (tier_within body.settings spelt.settings 2 (omega arith)).most_extents spelt.hours
+  pub hour_slots : AllByRecursion HasSlot body.hours.extents
+  hour_slots = slots_of body spelt 2 (omega arith) body.hours.extents records_placed.1

@@ -74,6 +74,7 @@ module _ (what : Contents) (sealed : Sealed) (body : Body) (kept : KeptPages) (n
       (λ disk bytes held lie. record {
         checkpoint = record { checkpoint = sym (check_beside bytes disk).0 ∙ held.checkpoint.checkpoint; spelt = held.checkpoint.spelt };
         kept = record {
+          slots = held.kept.slots;
           points = subst (λ (n : ℕ). Lie 0 n (disk Tier0) what.body.points.extents pages) same lie;
           minutes = held.kept.minutes;
           hours = held.kept.hours;
@@ -93,6 +94,7 @@ module _ (what : Contents) (sealed : Sealed) (body : Body) (kept : KeptPages) (n
       (λ disk bytes held lie. record {
         checkpoint = record { checkpoint = sym (check_beside bytes disk).1 ∙ held.checkpoint.checkpoint; spelt = held.checkpoint.spelt };
         kept = record {
+          slots = held.kept.slots;
           points = held.kept.points;
           minutes = subst (λ (n : ℕ). Lie 1 n (disk Tier1) what.body.minutes.extents pages) same lie;
           hours = held.kept.hours;
@@ -112,6 +114,7 @@ module _ (what : Contents) (sealed : Sealed) (body : Body) (kept : KeptPages) (n
       (λ disk bytes held lie. record {
         checkpoint = record { checkpoint = sym (check_beside bytes disk).2 ∙ held.checkpoint.checkpoint; spelt = held.checkpoint.spelt };
         kept = record {
+          slots = held.kept.slots;
           points = held.kept.points;
           minutes = held.kept.minutes;
           hours = subst (λ (n : ℕ). Lie 2 n (disk Tier2) what.body.hours.extents pages) same lie;
@@ -136,6 +139,7 @@ kept_next what sealed body kept points minutes hours past next is_points is_minu
     let held = holds disk images in
     let same : (tier : ℕ) → items_of what.body tier ≡ items_of body tier = (λ tier. ap (λ (settings : Settings). (tier_with settings tier).items) (sym next.settings)) in
     record {
+      slots = next.slots held.kept.slots;
       points = lie_next 0 (items_of body 0) (disk Tier0) what.body.points.extents (map (map page_of_slots) what.kept.points) (map written_slots sealed.points) body.points.extents (map (map page_of_slots) kept.points) next.points
           (subst (λ (n : ℕ). Lie 0 n (disk Tier0) what.body.points.extents (map (map page_of_slots) what.kept.points)) (same 0) held.kept.points)
           (subst (λ (n : ℕ). AllStand 0 n (map written_slots sealed.points) (disk Tier0)) is_points (zero (disk Tier0) (images Tier0)));

@@ -7,7 +7,7 @@ use Rattle.std.proofs.lemmas.List.Folds.{list_any_none}
 use Rattle.std.proofs.lemmas.Map.Steps.{le-length_from_below}
 use Rattle.std.specs.List.{list_any}
 use Rattle.checkpoint_body.specs.declared.body.Extent.{Extent}
-use Rattle.store_core.specs.disk.Next.{is_used, IsUnused}
+use Rattle.store_core.specs.disk.Slots.{is_used, IsUnused}
 
 used_slots : (extents : List Extent) (slot : ℕ) → list_any (eqb slot) (map (λ (extent : Extent). extent.slot) extents) ≡ is_used extents slot
 used_slots [] slot = refl

@@ -21,7 +21,8 @@ use Rattle.store_core.specs.declared.disk.sealed.RecordExtent.{RecordExtent}
 use Rattle.store_core.specs.declared.disk.sealed.Sealed.{Sealed}
 use Rattle.store_core.specs.declared.disk.sealed.SlotExtent.{SlotExtent}
 use Rattle.store_core.specs.disk.Contents.{KeptPages}
-use Rattle.store_core.specs.disk.Next.{written_records, written_slots, IsUnused, Written}
+use Rattle.store_core.specs.disk.Next.{written_records, written_slots, Written}
+use Rattle.store_core.specs.disk.Slots.{IsUnused}
 use Rattle.extent_file.specs.declared.sizes.TheConstants.{MOST_SLOTS}
 use Rattle.extent_file.specs.Pages.{extent_size}
 use Rattle.store_core.specs.pages.Pages.{AreRecordPagesOf, AreSlotPagesOf}

@@ -1,6 +1,6 @@
 -- What the next checkpoint may say: each extent that it names is kept from the one before, or new.
-use Rattle.std.specs.Prelude.{◌≡◌, ◌≢◌, ◌⊎◌, ◌==◌, Bool, ℕ, ◌<◌, ◌≤◌, All, List, [], ◌∷◌, length, map, zip}
-use Rattle.std.specs.List.{list_any, Contains}
+use Rattle.std.specs.Prelude.{◌≡◌, ◌≢◌, ◌⊎◌, true, ℕ, ◌<◌, ◌≤◌, All, List, [], ◌∷◌, length, map, zip}
+use Rattle.std.specs.List.{Contains}
 use Rattle.page_buffer.specs.Records.{AreRecords}
 use Rattle.page_buffer.specs.Slots.{AreSlots}
 use Rattle.extent_file.specs.declared.page.Page.{Page}
@@ -16,6 +16,7 @@ use Rattle.store_core.specs.declared.disk.sealed.Sealed.{Sealed}
 use Rattle.store_core.specs.declared.disk.sealed.SlotExtent.{SlotExtent}
 use Rattle.store_core.specs.disk.Contents.{Contents, KeptPages}
 use Rattle.store_core.specs.disk.Holds.{items_of, page_of_records, page_of_slots}
+use Rattle.store_core.specs.disk.Slots.{is_placed, IsUnused}
 
 -- the slots of the page, or its records, are those of one page
 abbrev pub IsFormed : Page → Type 0
@@ -45,14 +46,6 @@ abbrev pub AreApart : List Written → Type 0
 AreApart [] = Unit {0}
 AreApart (one ∷ others) = All (λ (other : Written). other.slot ≢ one.slot) others × AreApart others
 
--- whether one of the extents has this slot
-abbrev pub is_used : List Extent → ℕ → Bool
-is_used extents slot = list_any (λ (extent : Extent). slot == extent.slot) extents
-
--- none of the extents has this slot
-abbrev pub IsUnused : List Extent → ℕ → Type 0
-IsUnused extents slot = All (λ (extent : Extent). extent.slot ≢ slot) extents
-
 -- no extent that is kept has the slot of a new one
 abbrev pub AreFree : List Extent → List Written → Type 0
 AreFree extents new = All (λ (one : Written). IsUnused extents one.slot) new
@@ -72,6 +65,7 @@ pub record GoesOn (tier : ℕ) (old : List Extent) (old_pages : List (List Page)
 -- the next checkpoint has this body and keeps these pages
 pub record IsNext (contents : Contents) (new : Sealed) (body : Body) (kept : KeptPages) : Type 0 where
   pub settings : body.settings ≡ contents.body.settings
+  pub slots : is_placed contents.body ≡ true → is_placed body ≡ true
   pub points : GoesOn 0 contents.body.points.extents (map (map page_of_slots) contents.kept.points) (map written_slots new.points) body.points.extents (map (map page_of_slots) kept.points)
   pub minutes : GoesOn 1 contents.body.minutes.extents (map (map page_of_records) contents.kept.minutes) (map written_records new.minutes) body.minutes.extents (map (map page_of_records) kept.minutes)
   pub hours : GoesOn 2 contents.body.hours.extents (map (map page_of_records) contents.kept.hours) (map written_records new.hours) body.hours.extents (map (map page_of_records) kept.hours)

@@ -1,10 +1,11 @@
 ghost use Rattle.std.specs.Prelude.{◌≡◌, ◌<◌, ◌≤◌, ℕ, length};
 ghost use Rattle.extent_file.specs.declared.sizes.TheConstants.{MOST_SLOTS};
-ghost use Rattle.store_core.specs.disk.Next.{is_used, IsUnused};
+ghost use Rattle.store_core.specs.disk.Slots.{is_used, IsUnused};
 
 use checkpoint_body::Extent;
 
-fn is_used(extents: &[Extent], slot: u32) -> bool
+/// Whether one of these extents has this slot.
+pub(crate) fn is_used(extents: &[Extent], slot: u32) -> bool
     ensures { result ≡ is_used extents.now slot }
 {
     extents.iter().any(|extent| slot == extent.slot)

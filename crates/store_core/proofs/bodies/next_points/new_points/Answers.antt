@@ -4,7 +4,7 @@ use Rattle.beat_tiers.specs.declared.item.Item.{Item}
 use Rattle.checkpoint_body.specs.declared.body.Extent.{Extent}
 use Rattle.checkpoint_body.specs.declared.page.SlotPage.{SlotPage}
 use Rattle.store_core.specs.disk.Holds.{page_of_slots}
-use Rattle.store_core.specs.disk.Next.{IsUnused}
+use Rattle.store_core.specs.disk.Slots.{IsUnused}
 use Rattle.extent_file.specs.Pages.{items_of}
 use Rattle.extent_file.specs.Slot.{item_size}
 use Rattle.store_core.specs.pages.Pages.{AreSlotPagesOf}

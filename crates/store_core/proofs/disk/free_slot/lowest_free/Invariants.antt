@@ -1,5 +1,5 @@
 use Rattle.std.proofs.Common.{◌≡◌, ℕ, ◌<◌, ◌-◌, true, length}
-use Rattle.store_core.specs.disk.Next.{is_used}
+use Rattle.store_core.specs.disk.Slots.{is_used}
 use Rattle.store_core.proofs.disk.free_slot.lowest_free.Given as goal
 
 -- each slot so far is used

@@ -1,6 +1,6 @@
 use Rattle.std.proofs.Common.{◌≡◌, length}
-use Rattle.checkpoint_body.specs.Canonical.{are_apart}
-use Rattle.checkpoint_body.proofs.canonical.are_apart.Given as goal
+use Rattle.store_core.specs.disk.Slots.{are_apart}
+use Rattle.store_core.proofs.disk.slots.are_apart.Given as goal
 
 abbrev pub invariant-loop-extent : goal.invariant-loop-extent
 invariant-loop-extent l = are_apart l.ahead ≡ are_apart l.fn.extents
