@@ -2,14 +2,13 @@
 use Rattle.std.proofs.Common.{◌≡◌, ℕ, ◌==◌, ◌<◌, ◌≤◌, ◌^◌, Bool, true, not, ◌&&◌, nat_le, List, [], ◌∷◌, length, map, reverse, take, Option, Some, None, IfSome, refl, sym, ap, subst, ◌∙◌, arith}
 use Rattle.std.specs.List.{filter, list_all, AllByRecursion}
 use Rattle.std.proofs.lemmas.Bool.{and_parts, cond-false, cond_both, ne_eqb}
-use Rattle.std.proofs.lemmas.List.{length-map, reverse-append, take-map}
+use Rattle.std.proofs.lemmas.List.{reverse-append, take-map}
 use Rattle.std.proofs.lemmas.List.Elements.{recursion_from_All}
 use Rattle.list_lemmas.proofs.Every.{all-filter, all-take, all-append}
 use Rattle.storage_number.specs.Word.{is_word}
 use Rattle.host_model.specs.Past.{Event}
 use Rattle.history.specs.History.{Beat, collected, copied, health, missing, registry_of, Word}
-use Rattle.history.specs.Registry.{Registry, same_chart, same_dimension}
-use Rattle.history.specs.Regular.{AreApart}
+use Rattle.history.specs.Registry.{Registry}
 use Rattle.beat_points.specs.declared.series_word.SeriesWord.{SeriesWord as PointWord}
 use Rattle.beat_points.specs.Points.{beat_points}
 use Rattle.beat_tiers.specs.declared.item.BeatPoint.{BeatPoint}
@@ -23,10 +22,9 @@ use Rattle.replication.specs.declared.beats.Beat.{Beat as SentBeat}
 use Rattle.replication.specs.declared.beats.SeriesWord.{SeriesWord}
 use Rattle.replication.specs.declared.message.Data.{Data}
 use Rattle.replication.specs.declared.names.Names.{Names}
-use Rattle.replication.specs.Answer.{data_of, from_of, AreBeatsOf as AreSentOf, AreOfSeries}
-use Rattle.replication.specs.Copies.{above, RisesFrom}
+use Rattle.replication.specs.Answer.{data_of, from_of, AreOfSeries}
+use Rattle.replication.specs.Copies.{above}
 use Rattle.replication.specs.Names.{beat_moment}
-use Rattle.replication.proofs.Copies.{all-map}
 use Rattle.replication.proofs.PrefixLaws.{data_of-take}
 use Rattle.replication.proofs.NamesLaws.{above-map}
 use Rattle.replication.proofs.Wholes.{all-of-map}
@@ -34,59 +32,26 @@ use Rattle.tier_settings.specs.declared.settings.Settings.{Settings}
 use Rattle.entry_codec.specs.Lists.{is_ascending}
 use Rattle.link_frames.specs.declared.frame.Frame.TheVariants as frame
 use Rattle.link_frames.specs.Children.{KeepsRules}
-use Rattle.link_frames.specs.DataForm.{has_rising_places, has_storage_numbers, is_storage_number, place_of}
-use Rattle.link_frames.specs.Fields.{FitsBeat}
+use Rattle.link_frames.specs.DataForm.{is_storage_number, place_of}
 use Rattle.link_frames.specs.Frames.{HasSpelling}
 use Rattle.link_frames.proofs.AnswerLaw.{answer-spells}
-use Rattle.link_frames.proofs.PlacesLaw.{of-all}
 use Rattle.store_core.specs.declared.beats.beat.Beat.{Beat as StoreBeat}
 use Rattle.store_core.specs.beats.Beats.{series_of}
 use Rattle.store_core.specs.Store.{StoreState}
 use Rattle.store_core.specs.Tiers.{floor_at, kept_of, seen}
 use Rattle.tier_settings.specs.Settings.{first_tier}
 use Rattle.agent_core.specs.Answers.{floor_of_history, kept_of_history, tier_beats}
-use Rattle.agent_core.specs.Asking.{AreInUtf8, HaveCharts, IsSendable}
+use Rattle.agent_core.specs.Asking.{IsSendable}
 use Rattle.agent_core.specs.Copies.{data_of_history, names_of, sent_beat, word_of_point}
 use Rattle.agent_core.specs.Kept.{copied_point, point_of, AreBeatsOf}
 use Rattle.agent_core.specs.Stands.{HoldsHistory}
-use Rattle.agent_core.specs.Rules.{HasLimits}
 use Rattle.agent_core.proofs.AnswerLemmas.{floor-is, kept-is, seen-beats}
 use Rattle.agent_core.proofs.AnswerTruth.{points-below, sent-rises}
 use Rattle.agent_core.proofs.KeptWords.{all-words, HaveWords}
 use Rattle.agent_core.proofs.NamedLemmas.{grows-same, grows-with}
-use Rattle.agent_core.proofs.SentNames.{names-sent}
 use Rattle.agent_core.proofs.StoredLemmas.{settings-of, were_kept}
 
 -- ---- a frame
-module _ (registry : Registry) (apart_charts : AreApart same_chart registry.charts) (apart_dimensions : AreApart same_dimension registry.dimensions) (limits : HasLimits registry)
-    (names : Names) (names_are : names ≡ names_of registry) (owned : HaveCharts registry) (utf8 : AreInUtf8 names)
-    (beats : List SentBeat) (rises : RisesFrom beat_moment 0 beats) (fits : AllByRecursion FitsBeat beats) (sendable : AllByRecursion (IsSendable (length registry.dimensions)) beats) where
-  series-are : length registry.dimensions ≡ length (names_of registry).dimensions
-  unfolding names_of
-  series-are = sym (length-map registry.dimensions _)
-
-  -- the names and the beats keep the rules
-  pub keeps-rules : KeepsRules names beats
-  keeps-rules =
-      subst (λ (names : Names). KeepsRules names beats) (sym names_are)
-      (let may = names-sent registry apart_charts apart_dimensions limits owned (subst AreInUtf8 names_are utf8) in
-      let series = length registry.dimensions in
-      record {
-        fields = may.fields;
-        charts = may.charts;
-        ids = may.ids;
-        apart = may.apart;
-        few_charts = may.few_charts;
-        few_dimensions = may.few_dimensions;
-        whole = may.whole;
-        fits = fits;
-        rises = rises;
-        series = subst (λ (n : ℕ). AreSentOf n beats) series-are (all-map (IsSendable series) (λ beat. AreOfSeries series beat.words) beats (λ beat may. may.words.of) sendable);
-        some = all-map (IsSendable series) (λ beat. 0 < length beat.words) beats (λ beat may. may.some) sendable;
-        places = of-all has_rising_places beats (all-map (IsSendable series) (λ beat. has_rising_places beat ≡ true) beats (λ beat may. may.words.rise) sendable);
-        words = of-all has_storage_numbers beats (all-map (IsSendable series) (λ beat. has_storage_numbers beat ≡ true) beats (λ beat may. may.words.numbers) sendable);
-      })
-
 pub answer-form : (names : Names) (beats : List SentBeat) → KeepsRules names beats → (child floor : ℕ) (ask : Ask) (answer : Option Data) → child < 2 ^ 64 → floor < 2 ^ 32 → ask.last < 2 ^ 32
     → answer ≡ data_of child floor names beats ask → IfSome answer (λ message. HasSpelling (frame.Data message))
 answer-form names beats rules child floor ask None small_child small_floor small_last is = tt

@@ -55,5 +55,10 @@ pub mod StoredNotes
 pub mod StoringLemmas
 pub mod TakenLemmas
 pub mod UnseenLemmas
+pub mod UsedBeats
+pub mod UsedNames
+pub mod UsedNumbers
+pub mod UsedRegistry
+pub mod UsedRules
 pub mod Within
 pub mod WordLemmas

@@ -1,12 +1,11 @@
--- What is told of the charts and dimensions of a registry: each in its place, and so that a frame may have it.
-use Rattle.std.proofs.Common.{◌≡◌, ℕ, ◌==◌, ◌+◌, ◌<◌, ◌≤◌, Bool, true, false, ◌&&◌, nat_le, List, [], ◌∷◌, ◌++◌, length, map, take, slice_get, Option, Some, None, is_some, IfSome, inl, inr, refl, sym, ap, subst, ◌∙◌, arith, true≢false, bytes_eq}
+-- What is told of some charts and dimensions of a registry is such that a frame may have it.
+use Rattle.std.proofs.Common.{◌≡◌, ℕ, ◌==◌, ◌<◌, ◌≤◌, Bool, true, false, ◌&&◌, nat_le, List, [], ◌∷◌, length, map, slice_get, Option, Some, None, is_some, IfSome, inl, inr, refl, sym, ap, ◌∙◌, arith, true≢false, bytes_eq}
 use Rattle.std.specs.List.{list_all, list_any, position_or_len, AllByRecursion, IsDistinct}
 use Rattle.std.specs.Str.{IsUtf8}
 use Rattle.std.proofs.lemmas.Bool.{cases_Bool, and_from, and_parts, eq-eqb, le-leb, leb-true, ne_eqb}
-use Rattle.std.proofs.lemmas.List.{length-map, take_more}
+use Rattle.std.proofs.lemmas.List.{length-map}
 use Rattle.std.proofs.lemmas.List.Elements.{recursion_from_All}
-use Rattle.std.proofs.lemmas.Option.{get_or_from_slice_get, same_Some, slice_get_within}
-use Rattle.list_lemmas.proofs.Every.{all-append}
+use Rattle.std.proofs.lemmas.Option.{same_Some}
 use Rattle.history.specs.declared.beat.OpenDim.{OpenDim}
 use Rattle.history.specs.declared.chart.ChartDef.{ChartDef}
 use Rattle.history.specs.declared.dimension.DimDef.{DimDef}
@@ -19,42 +18,29 @@ use Rattle.chart_registry.proofs.RowsLemmas.{bytes_eq_same, same_text}
 use Rattle.replication.specs.declared.names.DimName.{DimName}
 use Rattle.replication.specs.declared.names.Names.{Names}
 use Rattle.replication.specs.Answer.{AreNames}
+use Rattle.replication.specs.Names.{placed_dimension}
+use Rattle.replication.specs.Places.{select}
 use Rattle.replication.proofs.PointsLaws.{found}
+use Rattle.replication.proofs.Wholes.{place-within}
 use Rattle.field_codec.specs.Lists.{IsText}
 use Rattle.entry_codec.proofs.Lengths.{id-length}
 use Rattle.link_frames.specs.DataForm.{has_id, AreApart as ApartNames}
 use Rattle.link_frames.specs.DataForm.{is_chart as may_be_sent, same_chart as same_name, same_dimension as same_dimension_name}
 use Rattle.link_frames.specs.Fields.{FitsChart, FitsDimension, FitNames}
-use Rattle.link_frames.proofs.PlacesLaw.{distinct-map}
-use Rattle.agent_core.specs.Asking.{AreInUtf8, HasChart, HaveCharts, IsChartInUtf8, IsDimensionInUtf8}
-use Rattle.agent_core.specs.Copies.{chart_name, dimension_name, names_of}
+use Rattle.link_frames.proofs.PlacesLaw.{all-stays, distinct-map, distinct-stays, length-stays, place-le, place-same}
+use Rattle.agent_core.specs.Asking.{AreInUtf8, HasChart, IsChartInUtf8, IsDimensionInUtf8}
+use Rattle.agent_core.specs.Copies.{chart_name, dimension_name}
+use Rattle.agent_core.specs.Used.{chart_number}
 use Rattle.agent_core.specs.Rules.{HasLimits}
 use Rattle.agent_core.proofs.LimitLemmas.{IsGrid}
-use Rattle.agent_core.proofs.NamedLemmas.{item-there}
-use Rattle.agent_core.proofs.PointLemmas.{mapped-more}
+use Rattle.agent_core.proofs.SideRegistry.{position-within}
 
 -- ---- each in its place
-
--- one more of a list, by its place
-pub named-more : {A B : Type 0} (f : A → B) (xs : List A) (n : ℕ) (y : B) (old new : List B) → n < length xs → IfSome (slice_get xs n) (λ x. y ≡ f x)
-    → new ≡ old ++ y ∷ [] → old ≡ map f (take n xs) → new ≡ map f (take (n + 1) xs)
-named-more f xs n y old new within is pushed before =
-    let there = item-there xs n within in
-    let y_is : y ≡ f there.0 = subst (λ found. IfSome found (λ x. y ≡ f x)) there.1 is in
-    mapped-more f xs n there.0 old new within (get_or_from_slice_get xs n there.0 there.0 there.1) (pushed ∙ ap (λ y. old ++ y ∷ []) y_is) before
 
 -- a chart with a number is there
 pub chart-there : (registry : Registry) (found : Option OpenDim) (chart : ℕ) → IfSome found (λ dimension. chart_of registry dimension.chart ≡ Some chart) → IfSome found (HasChart registry)
 chart-there registry None chart owner = tt
 chart-there registry (Some dimension) chart owner = sym (list_any-position (is_chart dimension.chart) registry.charts) ∙ ap is_some owner
-
--- what holds of each of the first, and of one more
-pub holds-more : {A : Type 0} (P : A → Type 0) (xs : List A) (n : ℕ) → n < length xs → IfSome (slice_get xs n) P → AllByRecursion P (take n xs) → AllByRecursion P (take (n + 1) xs)
-holds-more P xs n within is before =
-    let there = item-there xs n within in
-    let one : P there.0 = subst (λ found. IfSome found P) there.1 is in
-    let next : take (n + 1) xs ≡ take n xs ++ there.0 ∷ [] = take_more xs n there.0 within ∙ ap (λ x. take n xs ++ x ∷ []) (get_or_from_slice_get xs n there.0 there.0 there.1) in
-    subst (AllByRecursion P) (sym next) (all-append P (take n xs) (there.0 ∷ []) before (one, tt))
 
 -- ---- so that a frame may have them
 distinct-from_apart : {A : Type 0} (same : A → A → Bool) (xs : List A) → AreApart same xs → IsDistinct same xs
@@ -66,13 +52,10 @@ distinct-from_apart {A} same (x ∷ xs) apart = (others xs apart.0, distinct-fro
     others [] none = tt
     others (y ∷ ys) none = let parts = or_false (same x y) (list_any (same x) ys) none in (parts.0, others ys parts.1)
 
-place-within : {A : Type 0} (p : A → Bool) (xs : List A) → list_any p xs ≡ true → position_or_len p xs < length xs
-place-within p xs any = let there = found p xs any in slice_get_within xs (position_or_len p xs) there.0 there.1.0
-
 -- two charts that are there have one place just where they have one id
-place-same : (charts : List ChartDef) (a b : List ℕ) → list_any (is_chart a) charts ≡ true → list_any (is_chart b) charts ≡ true
+chart-same : (charts : List ChartDef) (a b : List ℕ) → list_any (is_chart a) charts ≡ true → list_any (is_chart b) charts ≡ true
     → (position_or_len (is_chart a) charts == position_or_len (is_chart b) charts) ≡ bytes_eq a b
-place-same charts a b at_a at_b =
+chart-same charts a b at_a at_b =
     elim (cases_Bool (bytes_eq a b)) [
       | inl same ↦ eq-eqb (position_or_len (is_chart a) charts) (position_or_len (is_chart b) charts) (ap (λ (id : List ℕ). position_or_len (is_chart id) charts) (same_text a b same)) ∙ sym same
       | inr other ↦ ne_eqb (position_or_len (is_chart a) charts) (position_or_len (is_chart b) charts) (λ e. true≢false (sym (bytes_eq_same a b (one_id e)) ∙ other)) ∙ sym other
@@ -133,7 +116,7 @@ dimension-id def keeps =
     let second = and_parts (is_id def.id && is_short def.name) (is_factor def.multiplier) first.0 in
     (and_parts (is_id def.id) (is_short def.name) second.0).0
 
--- the names of all series may be sent
+-- names that may be sent
 pub record MayName (names : Names) : Type 0 where
   pub fields : FitNames names
   pub charts : list_all may_be_sent names.charts ≡ true
@@ -143,54 +126,74 @@ pub record MayName (names : Names) : Type 0 where
   pub few_dimensions : length names.dimensions ≤ 65536
   pub whole : AreNames names
 
-module _ (registry : Registry) where
+module _ (registry : Registry) (charts : ℕ → Bool) where
+  -- what is told of a dimension where only these charts are told of
+  abbrev pub told : OpenDim → DimName
+  told dimension = placed_dimension charts (dimension_name registry dimension)
+
+  -- its chart is there, and is told of
+  abbrev pub Stays : OpenDim → Type 0
+  Stays dimension = HasChart registry dimension × (charts (chart_number registry dimension) ≡ true)
+
   abbrev Keeps : OpenDim → Type 0
   Keeps dimension = dimension_keeps_limits dimension.def ≡ true
 
-  dimensions-fit : length registry.charts ≤ 4096 → (ds : List OpenDim) → AllByRecursion Keeps ds → AllByRecursion (HasChart registry) ds → AllByRecursion IsDimensionInUtf8 (map (dimension_name registry) ds)
-      → AllByRecursion FitsDimension (map (dimension_name registry) ds)
-  dimensions-fit few [] keep owned utf8 = tt
-  dimensions-fit few (d ∷ ds) keep owned utf8 = (
+  number-within : (d : OpenDim) → HasChart registry d → chart_number registry d < length registry.charts
+  number-within d owned = position-within (is_chart d.chart) registry.charts owned
+
+  dimensions-fit : length registry.charts ≤ 4096 → (ds : List OpenDim) → AllByRecursion Keeps ds → AllByRecursion Stays ds → AllByRecursion IsDimensionInUtf8 (map told ds)
+      → AllByRecursion FitsDimension (map told ds)
+  dimensions-fit few [] keep stay utf8 = tt
+  dimensions-fit few (d ∷ ds) keep stay utf8 = (
     record {
-      chart = omega (arith, few, place-within (is_chart d.chart) registry.charts owned.0);
+      chart = omega (arith, few, number-within d stay.0.0, place-le charts 0 (chart_number registry d));
       id = text-is d.def.id (id-length d.def.id (dimension-id d.def keep.0)) utf8.0;
     },
-    dimensions-fit few ds keep.1 owned.1 utf8.1,
+    dimensions-fit few ds keep.1 stay.1 utf8.1,
   )
 
-  dimensions-ids : (ds : List OpenDim) → AllByRecursion Keeps ds → list_all has_id (map (dimension_name registry) ds) ≡ true
+  dimensions-ids : (ds : List OpenDim) → AllByRecursion Keeps ds → list_all has_id (map told ds) ≡ true
   dimensions-ids [] keep = refl
-  dimensions-ids (d ∷ ds) keep = and_from (is_id d.def.id) (list_all has_id (map (dimension_name registry) ds)) (dimension-id d.def keep.0) (dimensions-ids ds keep.1)
+  dimensions-ids (d ∷ ds) keep = and_from (is_id d.def.id) (list_all has_id (map told ds)) (dimension-id d.def keep.0) (dimensions-ids ds keep.1)
 
-  dimensions-owned : (ds : List OpenDim) → AllByRecursion (HasChart registry) ds → AllByRecursion (λ (name : DimName). name.chart < length (map chart_name registry.charts)) (map (dimension_name registry) ds)
-  dimensions-owned [] owned = tt
-  dimensions-owned (d ∷ ds) owned =
-      (omega (arith, length-map registry.charts chart_name, place-within (is_chart d.chart) registry.charts owned.0), dimensions-owned ds owned.1)
+  dimensions-owned : (ds : List OpenDim) → AllByRecursion Stays ds → AllByRecursion (λ (name : DimName). name.chart < length (map chart_name (select charts 0 registry.charts))) (map told ds)
+  dimensions-owned [] stay = tt
+  dimensions-owned (d ∷ ds) stay = (
+    omega (arith, length-map (select charts 0 registry.charts) chart_name, place-within charts (chart_number registry d) registry.charts stay.0.1 (number-within d stay.0.0)),
+    dimensions-owned ds stay.1,
+  )
 
-  pub names-sent : AreApart same_chart registry.charts → AreApart same_dimension registry.dimensions → HasLimits registry → HaveCharts registry → AreInUtf8 (names_of registry) → MayName (names_of registry)
-  unfolding names_of
-  names-sent apart_charts apart_dimensions limits owned utf8 =
-      let grids = recursion_from_All IsGrid registry.charts limits.grids in
-      let keep = recursion_from_All (λ (def : ChartDef). chart_keeps_limits def ≡ true) registry.charts limits.charts in
-      let dimensions = recursion_from_All Keeps registry.dimensions limits.dimensions in
+  -- what is told of some series and their charts
+  abbrev pub told_of : (ℕ → Bool) → Names
+  told_of series = record { charts = map chart_name (select charts 0 registry.charts); dimensions = map told (select series 0 registry.dimensions) }
+
+  pub names-sent : AreApart same_chart registry.charts → AreApart same_dimension registry.dimensions → HasLimits registry → (series : ℕ → Bool) → AllByRecursion Stays (select series 0 registry.dimensions)
+      → AreInUtf8 (told_of series) → MayName (told_of series)
+  names-sent apart_charts apart_dimensions limits series stay utf8 =
+      let some_charts = select charts 0 registry.charts in
+      let some_dimensions = select series 0 registry.dimensions in
+      let KeepsChart : ChartDef → Type 0 = λ def. chart_keeps_limits def ≡ true in
+      let grids = all-stays IsGrid charts 0 registry.charts (recursion_from_All IsGrid registry.charts limits.grids) in
+      let keep = all-stays KeepsChart charts 0 registry.charts (recursion_from_All KeepsChart registry.charts limits.charts) in
+      let dimensions = all-stays Keeps series 0 registry.dimensions (recursion_from_All Keeps registry.dimensions limits.dimensions) in
+      let few_charts : length (map chart_name some_charts) ≤ 4096 = omega (arith, length-map some_charts chart_name, length-stays charts 0 registry.charts, limits.few_charts) in
+      let few : length (map told some_dimensions) ≤ 65536 = omega (arith, length-map some_dimensions told, length-stays series 0 registry.dimensions, limits.few) in
       record {
         fields = record {
-          charts = record { count = omega (arith, length-map registry.charts chart_name, limits.few_charts); each = charts-fit registry.charts grids keep utf8.charts };
-          dimensions = record {
-            count = omega (arith, length-map registry.dimensions (dimension_name registry), limits.few);
-            each = dimensions-fit limits.few_charts registry.dimensions dimensions owned utf8.dimensions;
-          };
+          charts = record { count = omega (arith, few_charts); each = charts-fit some_charts grids keep utf8.charts };
+          dimensions = record { count = omega (arith, few); each = dimensions-fit limits.few_charts some_dimensions dimensions stay utf8.dimensions };
         };
-        charts = charts-sent registry.charts grids keep;
-        ids = dimensions-ids registry.dimensions dimensions;
+        charts = charts-sent some_charts grids keep;
+        ids = dimensions-ids some_dimensions dimensions;
         apart = record {
-          charts = distinct-map same_chart same_name chart_name (λ (def : ChartDef). chart_keeps_limits def ≡ true) registry.charts (λ a b keeps_a keeps_b. refl) keep
-              (distinct-from_apart same_chart registry.charts apart_charts);
-          dimensions = distinct-map same_dimension same_dimension_name (dimension_name registry) (HasChart registry) registry.dimensions
-              (λ a b at_a at_b. ap (λ (same : Bool). same && bytes_eq a.def.id b.def.id) (place-same registry.charts a.chart b.chart at_a at_b)) owned
-              (distinct-from_apart same_dimension registry.dimensions apart_dimensions);
+          charts = distinct-map same_chart same_name chart_name KeepsChart some_charts (λ a b keeps_a keeps_b. refl) keep
+              (distinct-stays same_chart charts 0 registry.charts (distinct-from_apart same_chart registry.charts apart_charts));
+          dimensions = distinct-map same_dimension same_dimension_name told Stays some_dimensions
+              (λ a b at_a at_b. ap (λ (same : Bool). same && bytes_eq a.def.id b.def.id)
+              (place-same charts (chart_number registry a) (chart_number registry b) at_a.1 at_b.1 ∙ chart-same registry.charts a.chart b.chart at_a.0 at_b.0)) stay
+              (distinct-stays same_dimension series 0 registry.dimensions (distinct-from_apart same_dimension registry.dimensions apart_dimensions));
         };
-        few_charts = omega (arith, length-map registry.charts chart_name, limits.few_charts);
-        few_dimensions = omega (arith, length-map registry.dimensions (dimension_name registry), limits.few);
-        whole = dimensions-owned registry.dimensions owned;
+        few_charts = few_charts;
+        few_dimensions = few;
+        whole = dimensions-owned some_dimensions stay;
       }

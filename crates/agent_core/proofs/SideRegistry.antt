@@ -78,16 +78,16 @@ picked-all P pick made each [] n all = refl
 picked-all P pick made each (x ∷ xs) n all = λ i. cons_option (each n x all.0 i) (picked-all P pick made each xs (n + 1) all.1 i)
 
 -- ---- the place of a chart
-place-within : {A : Type 0} (p : A → Bool) (xs : List A) → list_any p xs ≡ true → position_or_len p xs < length xs
-place-within p [] any = absurd (true≢false (sym any))
-place-within {A} p (x ∷ xs) any = by (p x) any (place-within p xs)
+pub position-within : {A : Type 0} (p : A → Bool) (xs : List A) → list_any p xs ≡ true → position_or_len p xs < length xs
+position-within p [] any = absurd (true≢false (sym any))
+position-within {A} p (x ∷ xs) any = by (p x) any (position-within p xs)
   where
     by : (b : Bool) → (b || list_any p xs) ≡ true → (list_any p xs ≡ true → position_or_len p xs < length xs) → cond (not b) (1 + position_or_len p xs) 0 < length (x ∷ xs)
     by true any rest = omega arith
     by false any rest = omega (arith, rest any)
 
 place-there : {A : Type 0} (p : A → Bool) (xs : List A) → list_any p xs ≡ true → position p xs ≡ Some (position_or_len p xs)
-place-there p xs any = ap (λ (b : Bool). cond b (Some (position_or_len p xs)) None) (lt-ltb (position_or_len p xs) (length xs) (place-within p xs any))
+place-there p xs any = ap (λ (b : Bool). cond b (Some (position_or_len p xs)) None) (lt-ltb (position_or_len p xs) (length xs) (position-within p xs any))
 
 -- ---- a registry as a history has it
 abbrev pub HasOwners : Registry → Type 0

@@ -32,9 +32,6 @@ pub record AreInUtf8 (names : Names) : Type 0 where
 abbrev pub HasChart : Registry → OpenDim → Type 0
 HasChart registry dimension = list_any (is_chart dimension.chart) registry.charts ≡ true
 
-abbrev pub HaveCharts : Registry → Type 0
-HaveCharts registry = AllByRecursion (HasChart registry) registry.dimensions
-
 -- ---- beats
 
 -- words of so many series, whose numbers rise, and each a storage number

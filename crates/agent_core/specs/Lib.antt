@@ -26,3 +26,4 @@ pub mod Sound
 pub mod Stands
 pub mod Steps
 pub mod Storing
+pub mod Used

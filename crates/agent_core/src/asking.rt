@@ -1,9 +1,10 @@
 //! What a history answers to a parent that asks for its beats.
 //!
 //! The answer is a frame whatever database it is of: a point whose word is no storage number, that is of no series or
-//! out of order is left out, and so is a beat without points. A history has no such points and beats.
+//! out of order is left out, and so is a beat without points. A history has no such points and beats. Of the names of
+//! its registry only those are copied that the beats use.
 
-ghost use Rattle.std.specs.Prelude.{◌≡◌, ℕ, ◌^◌, ◌<◌, ◌++◌, ◌&&◌, nat_le, nat_lt, None, List, length, map, slice_get, IfOk, IfErr, IfSome, IsTrue, OnOk};
+ghost use Rattle.std.specs.Prelude.{◌≡◌, ℕ, ◌^◌, ◌<◌, ◌++◌, ◌&&◌, nat_le, nat_lt, None, List, length, map, IfOk, IfErr, IfSome, IsTrue, OnOk};
 ghost use Rattle.std.specs.List.{AllByRecursion};
 ghost use Rattle.storage_number.specs.Word.{is_word};
 ghost use Rattle.host_model.specs.Past.{Event};
@@ -13,6 +14,7 @@ ghost use Rattle.history.specs.Regular.{AreApart};
 ghost use Rattle.beat_tiers.specs.Above.{RiseAbove};
 ghost use Rattle.tier_settings.specs.declared.settings.Settings.{Settings as ASettings};
 ghost use Rattle.field_codec.specs.Lists.{IsShortListOf};
+ghost use Rattle.replication.specs.declared.ask.Ask.{Ask as AnAsk};
 ghost use Rattle.replication.specs.Answer.{data_of, from_of};
 ghost use Rattle.replication.specs.Copies.{RisesFrom};
 ghost use Rattle.replication.specs.Names.{beat_moment};
@@ -20,93 +22,21 @@ ghost use Rattle.link_frames.specs.declared.frame.Frame.TheVariants as frame;
 ghost use Rattle.link_frames.specs.Children.{KeepsRules};
 ghost use Rattle.link_frames.specs.Fields.{FitsBeat, FitsWord};
 ghost use Rattle.link_frames.specs.Frames.{HasSpelling};
-ghost use Rattle.agent_core.specs.Asking.{beat_with, AreInUtf8, AreSendable, HasChart, HaveCharts, IsChartInUtf8, IsDimensionInUtf8, IsSendable};
-ghost use Rattle.agent_core.specs.Copies.{chart_name, data_of_history, dimension_name, names_of, sent_beat, sent_word};
+ghost use Rattle.agent_core.specs.Asking.{beat_with, AreSendable, IsSendable};
+ghost use Rattle.agent_core.specs.Copies.{data_of_history, names_of, sent_beat, sent_word};
 ghost use Rattle.agent_core.specs.Stands.{HoldsHistory};
 ghost use Rattle.agent_core.specs.Rules.{HasLimits};
 
 use crate::fault::{AgentFault, store_fault};
+use crate::used::{placed_beats, used_names, used_series};
 use chart_registry::Registry;
-use fixed_num::Text;
-use history::ChartDef;
 use host_model::Host;
 use replication::{
-    Ask, BEAT_LIMIT, Beat, BeatList, ChartName, ChartNameList, Child, CopyFault, Data, DimName,
-    DimNameList, Names, SeriesWord, SeriesWordList,
+    Ask, BEAT_LIMIT, Beat, BeatList, Child, CopyFault, Data, Names, SeriesWord, SeriesWordList,
 };
 use std::alloc::Global;
 use storage_number::is_word;
 use store_core::{KeptBeat, KeptBeatList, KeptPoint, Store};
-
-/// What is told of a chart.
-fn chart_name(alloc: Global, def: &ChartDef) -> Result<ChartName, CopyFault>
-    ensures name { IfOk result (λ name. name ≡ chart_name def.now) }
-    ensures texts { IfOk result IsChartInUtf8 }
-{
-    Ok(ChartName {
-        id: Text::from_str(alloc, def.id.as_str())?,
-        context: Text::from_str(alloc, def.context.as_str())?,
-        update_every: def.update_every,
-    })
-}
-
-/// What is told of all charts.
-fn chart_names(alloc: Global, registry: &Registry) -> Result<ChartNameList, CopyFault>
-    ensures names { IfOk result (λ names. names ≡ map chart_name registry.now.charts) }
-    ensures texts { IfOk result (AllByRecursion IsChartInUtf8) }
-{
-    let mut names = ChartNameList::new(alloc);
-    for number in 0..registry.charts() {
-        let name = chart_name(alloc, registry.chart(number))?;
-        names.push(name)?;
-    }
-    Ok(names)
-}
-
-/// What is told of the dimension with this number.
-fn dimension_name(alloc: Global, registry: &Registry, series: u32) -> Result<DimName, CopyFault>
-    requires { series < length registry.now.dimensions }
-    ensures name { IfOk result (λ name. IfSome (slice_get registry.now.dimensions series)
-        (λ dimension. name ≡ dimension_name registry.now dimension)) }
-    ensures text { IfOk result IsDimensionInUtf8 }
-    ensures owned { IfSome (slice_get registry.now.dimensions series) (HasChart registry.now) }
-{
-    let chart = registry.owner(series);
-    let def = registry.dimension(series);
-    Ok(DimName {
-        chart,
-        id: Text::from_str(alloc, def.id.as_str())?,
-        hidden: def.hidden,
-    })
-}
-
-/// What is told of all dimensions.
-fn dimension_names(alloc: Global, registry: &Registry) -> Result<DimNameList, CopyFault>
-    ensures names { IfOk result (λ names.
-        names ≡ map (dimension_name registry.now) registry.now.dimensions) }
-    ensures texts { IfOk result (AllByRecursion IsDimensionInUtf8) }
-    ensures owned { IfOk result (λ _. HaveCharts registry.now) }
-{
-    let mut names = DimNameList::new(alloc);
-    for series in 0..registry.dimensions() {
-        let name = dimension_name(alloc, registry, series)?;
-        names.push(name)?;
-    }
-    Ok(names)
-}
-
-/// The names of all series.
-#[tactic(auto, unfolding(crate::specs::Copies::names_of))]
-fn names_of(alloc: Global, registry: &Registry) -> Result<Names, CopyFault>
-    ensures names { IfOk result (λ names. names ≡ names_of registry.now) }
-    ensures texts { IfOk result AreInUtf8 }
-    ensures owned { IfOk result (λ _. HaveCharts registry.now) }
-{
-    Ok(Names {
-        charts: chart_names(alloc, registry)?,
-        dimensions: dimension_names(alloc, registry)?,
-    })
-}
 
 /// Whether a point may be sent behind others, where its series may be from `least` on and below `series`.
 fn may_follow(least: u32, series: u32, point: &KeptPoint) -> bool
@@ -166,7 +96,7 @@ fn sent_beats(alloc: Global, series: u32, kept: &[KeptBeat]) -> Result<BeatList,
     Ok(beats)
 }
 
-/// The names of all series, and the beats that may be sent.
+/// The beats that may be sent, with the names that they use and the new places of their series.
 fn sent(
     alloc: Global,
     registry: &Registry,
@@ -176,15 +106,21 @@ fn sent(
     requires dimensions { AreApart same_dimension registry.now.dimensions }
     requires limits { HasLimits registry.now }
     requires rises { RiseAbove 0 kept.now }
-    ensures names { IfOk result (λ sent. sent.0 ≡ names_of registry.now) }
-    ensures all { IfOk result (λ sent.
+
+    // An answer is the same as from the names of all series.
+    ensures same { IfOk result (λ sent.
         AllByRecursion (IsSendable (length registry.now.dimensions)) (map sent_beat kept.now)
-        → sent.1 ≡ map sent_beat kept.now) }
+        → (child floor : ℕ) (ask : AnAsk) → data_of child floor sent.0 sent.1 ask
+        ≡ data_of child floor (names_of registry.now) (map sent_beat kept.now) ask) }
     ensures rules { IfOk result (λ sent. KeepsRules sent.0 sent.1) }
 {
-    let names = names_of(alloc, registry)?;
-    let beats = sent_beats(alloc, registry.dimensions(), kept.as_slice())?;
-    Ok((names, beats))
+    let sendable = sent_beats(alloc, registry.dimensions(), kept.as_slice())?;
+    let beats = sendable.as_slice();
+    let used = used_series(alloc, beats)?;
+    let series = used.as_slice();
+    let names = used_names(alloc, registry, series)?;
+    let placed = placed_beats(alloc, series, beats)?;
+    Ok((names, placed))
 }
 
 /// The answer of a history with this number, floor and registry, by the first of its kept beats above where the

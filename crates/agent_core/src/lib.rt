@@ -33,6 +33,7 @@ mod replaying;
 mod reply;
 mod side;
 mod storing;
+mod used;
 
 pub use agent::Agent;
 pub use alarm_core::{Event, EventList, Latest, Log, Status, write_event};
