@@ -103,7 +103,8 @@ fn new_dimensions(registry: &Registry, names: &Names) -> usize
 fn fills(counts: &mut [u16; PLACES], place: usize, known: u32) -> bool
     requires within { place < MOST_CHARTS }
     requires few { known ≤ MOST_DIMENSIONS_OF_CHART }
-    ensures full { result ≡ nat_lt MOST_DIMENSIONS_OF_CHART (known + slice_index counts.old place + 1) }
+    ensures full { result
+        ≡ nat_lt MOST_DIMENSIONS_OF_CHART (known + slice_index counts.old place + 1) }
     ensures counted { result ≡ false
         → counts.new ≡ set counts.old place (slice_index counts.old place + 1) }
 {

@@ -82,6 +82,7 @@ pub fn answers_are_frames()
 /// body has at most 2^24 bytes. It does nothing.
 pub fn one_beat()
     ensures { (message : Data) → IsData message → length message.beats ≡ 1
-        → length message.names.charts ≤ MOST_CHARTS → length message.names.dimensions ≤ MOST_DIMENSIONS
+        → length message.names.charts ≤ MOST_CHARTS
+        → length message.names.dimensions ≤ MOST_DIMENSIONS
         → length (body_bytes (frame.Data message)) ≤ body_limit }
 {}

@@ -69,7 +69,8 @@ impl RecordPage {
             × (self.new ≡ with_more self.old (item ∷ []))) }
         ensures refused { IfErr result (IsRefused self.old moment) }
         ensures err { OnErr result (self.new ≡ self.old) }
-        ensures succeeds { IsNext self.old moment → length self.old.items < MOST_RECORDS → IsOk result }
+        ensures succeeds { IsNext self.old moment → length self.old.items < MOST_RECORDS
+            → IsOk result }
     {
         let len = self.records.len();
         if len == MOST_RECORDS {
