@@ -18,13 +18,13 @@ ghost use Rattle.store_core.specs.Counts.{raised};
 ghost use Rattle.store_core.specs.Damaged.{IsDamagedIn};
 ghost use Rattle.store_core.specs.Store.{is_due, IsReady, OpensAt};
 ghost use Rattle.store_core.specs.Stored.{Stored as AStored};
-ghost use Rattle.agent_core.specs.Answers.{floor_of_history, kept_of_history, reply_of};
+ghost use Rattle.agent_core.specs.Answers.{floor_of_history};
 ghost use Rattle.agent_core.specs.Agent.{left_in};
 ghost use Rattle.alarm_core.specs.UpTo.{IsUpTo};
 ghost use Rattle.agent_core.specs.Alarms.{events_at, DefinesNothing, IsSteppingOf};
-ghost use Rattle.agent_core.specs.Calls.{Beats, Creates, Keeps, Lines, Logs, Opens, Queries, ReadsAsBefore, SetsHealth};
+ghost use Rattle.agent_core.specs.Calls.{Beats, Creates, Lines, Logs, Opens, ReadsAsBefore, SetsHealth};
 ghost use Rattle.agent_core.specs.Fed.{IsFed};
-ghost use Rattle.agent_core.specs.Faults.{fault_after, HealthRefusedBy, IsCreating, IsOpening, IsReading, IsUnreplayed, LeavesAll, RefusedBy, Reopens};
+ghost use Rattle.agent_core.specs.Faults.{fault_after, HealthRefusedBy, IsCreating, IsOpening, IsUnreplayed, LeavesAll, RefusedBy, Reopens};
 ghost use Rattle.agent_core.specs.Health.{health_refusal};
 ghost use Rattle.agent_core.specs.Stands.{HoldsHistory, StandsForHealth, StandsForHistory, StandsForNew, StandsForOneOf};
 ghost use Rattle.agent_core.specs.Left.{AwaitsAlarms, IsLeftBy};
@@ -42,9 +42,9 @@ ghost use Rattle.agent_core.specs.Keeping.{KeepsStore};
 ghost use Rattle.agent_core.specs.Kept.{Follows};
 
 mod copies;
+mod questions;
 
 use crate::alarming::{Stepping, follow};
-use crate::answering;
 use crate::fault::{AgentFault, store_fault};
 use crate::keeping::{add, add_health, defines_some, make_room};
 use crate::left::Left;
@@ -55,13 +55,12 @@ use alarm_core::Log;
 use beat_entries::{BeatFault, define_beat, judge_beat};
 use chart_registry::Registry;
 use collect_block::{Feed, Step};
-use fixed_num::Text;
 use health_config::{Config, ConfigFault};
 use history::{BlockFault, Line, NumberedBeat, OpenBeat};
 use host_model::Host;
 use std::alloc::Global;
 use std::marker::Model;
-use store_core::{Kept, Store, Why};
+use store_core::{Store, Why};
 use tier_settings::Settings;
 
 /// The agent of one history, with the host that its database is on. Each call on it is handed that host,
@@ -683,84 +682,6 @@ impl Agent {
         match self.left.alarms.log() {
             Ok(log) => Ok(log),
             Err(_) => Err(AgentFault::Memory),
-        }
-    }
-
-    /// The reply to a query, whose text is what follows the first word of a QUERY line.
-    ///
-    /// It is a table over the points of the history, or the line `ERROR n` of the first of these refusals: 1 fewer
-    /// than five words, an open quote or more than 256 words of a pattern, 2 a bad number, 3 no such chart, 4 no
-    /// such group, 5 more than 10,000 windows. Nothing is stored, and the disk is not asked. After `Memory` the
-    /// agent must be opened again.
-    pub fn query<H: Host>(&mut self, host: &mut H, text: &str) -> Result<Text, AgentFault>
-        requires { AgentIsReady H.honest (H.seen host.old).past self.old }
-        ensures { Queries H.honest (H.seen host.old) self.old text.now
-            result (H.seen host.new) self.new }
-    {
-        self.reply(host, text)
-    }
-
-    fn reply<H: Host>(&mut self, host: &mut H, text: &str) -> Result<Text, AgentFault>
-        requires { AgentIsReady H.honest (H.seen host.old).past self.old }
-        ensures answered { IfOk result (λ reply. (set : ASettings) (h : List HistoryBeat)
-            → IsAgentOf (H.seen host.old).past self.old set h → reply ≡ reply_of set h text.now) }
-        ensures host { H.seen host.new ≡ H.seen host.old }
-        ensures done { OnOk result (self.new ≡ self.old) }
-        ensures unchanged { IfErr result (λ fault. LeavesAll fault → self.new ≡ self.old) }
-        ensures faults { IfErr result IsReading }
-        ensures fault { self.new.fault ≡ fault_after self.old.fault result }
-        ensures reopens { Reopens self.old.fault result }
-        ensures stays { self.new ≡ record self.old { fault = self.new.fault } }
-        ensures cause { HasCause (H.seen host.old).disk_faults (H.seen host.new).disk_faults
-            (IsErrOf result AgentFault.DiskFault) }
-    {
-        if let Some(cause) = self.fault {
-            return Err(AgentFault::Reopen(cause));
-        }
-        match answering::reply(self.alloc, &mut self.store, &self.left.registry, host, text) {
-            Ok(reply) => Ok(reply),
-            Err(fault) => {
-                self.fault = fault.cause();
-                Err(fault)
-            }
-        }
-    }
-
-    /// The beats with points that are kept, the earliest first, with the number of those before them. The disk is
-    /// not asked.
-    ///
-    /// After `Memory` the agent must be opened again.
-    pub fn kept<H: Host>(&mut self, host: &mut H) -> Result<Kept, AgentFault>
-        requires { AgentIsReady H.honest (H.seen host.old).past self.old }
-        ensures { Keeps H.honest (H.seen host.old) self.old
-            result (H.seen host.new) self.new }
-    {
-        self.kept_beats(host)
-    }
-
-    fn kept_beats<H: Host>(&mut self, host: &mut H) -> Result<Kept, AgentFault>
-        requires { AgentIsReady H.honest (H.seen host.old).past self.old }
-        ensures answered { IfOk result (λ kept. (set : ASettings) (h : List HistoryBeat)
-            → IsAgentOf (H.seen host.old).past self.old set h → kept ≡ kept_of_history set h) }
-        ensures host { H.seen host.new ≡ H.seen host.old }
-        ensures done { OnOk result (self.new ≡ self.old) }
-        ensures unchanged { IfErr result (λ fault. LeavesAll fault → self.new ≡ self.old) }
-        ensures faults { IfErr result IsReading }
-        ensures fault { self.new.fault ≡ fault_after self.old.fault result }
-        ensures reopens { Reopens self.old.fault result }
-        ensures stays { self.new ≡ record self.old { fault = self.new.fault } }
-        ensures cause { HasCause (H.seen host.old).disk_faults (H.seen host.new).disk_faults
-            (IsErrOf result AgentFault.DiskFault) }
-    {
-        if let Some(cause) = self.fault {
-            return Err(AgentFault::Reopen(cause));
-        }
-        match answering::kept(&mut self.store, host) {
-            Ok(kept) => Ok(kept),
-            Err(fault) => {
-                self.fault = fault.cause();
-                Err(fault)
-            }
         }
     }
 
